@@ -1,0 +1,67 @@
+-- Names that are one, and names among others.
+use Rattle.std.proofs.Common.{◌≡◌, ◌⊎◌, inl, inr, Bool, true, false, List, [], ◌∷◌, ◌++◌, refl, sym, ap, cond}
+use Rattle.std.specs.Prelude.{◌==◌, ◌&&◌, ◌||◌, not, Option, Some, None}
+use Rattle.std.specs.List.{list_any}
+use Rattle.std.proofs.lemmas.Bool.{and_parts, eqb-true, eq-eqb}
+use Rattle.rt_ids.specs.declared.names.JobId.{JobId}
+use Rattle.rt_ids.specs.Journal.{with_last}
+use Rattle.rt_ids.specs.Lines.{names_but, names_but_for}
+use Rattle.rt_ids.specs.Names.{same_name, is_name}
+
+abbrev pub among : JobId → List JobId → Bool
+among name names = list_any (same_name name) names
+
+from_parts : (a b : JobId) → a.from ≡ b.from → a.to ≡ b.to → a.number ≡ b.number → a ≡ b
+from_parts a b p q r = λ i. record { from = p i; to = q i; number = r i }
+
+pub one_name : (a b : JobId) → same_name a b ≡ true → a ≡ b
+one_name a b same =
+    let ends = and_parts (a.from == b.from && a.to == b.to) (a.number == b.number) same in
+    let links = and_parts (a.from == b.from) (a.to == b.to) ends.0 in
+    from_parts a b (eqb-true a.from b.from links.0) (eqb-true a.to b.to links.1) (eqb-true a.number b.number ends.1)
+
+pub same_as_itself : (a : JobId) → same_name a a ≡ true
+same_as_itself a = rw (eq-eqb a.from a.from refl, eq-eqb a.to a.to refl, eq-eqb a.number a.number refl)
+
+pub is_name-some : (name : JobId) (list_told : Option JobId) → is_name name list_told ≡ true → list_told ≡ Some name
+is_name-some name None list_told = cc
+is_name-some name (Some other) list_told = ap Some (sym (one_name name other list_told))
+
+-- who is there after one more came
+pub among-with_last : (name : JobId) (names : List JobId) (more : Option JobId) → among name (with_last names more) ≡ true →
+    (among name names ≡ true) ⊎ (more ≡ Some name)
+among-with_last name names None there = inl there
+among-with_last name [] (Some other) there = inr (is_name-some name (Some other) (one_there (same_name name other) there))
+  where
+    one_there : (test : Bool) → (test || false) ≡ true → test ≡ true
+    one_there true there = refl
+    one_there false there = there
+among-with_last name (first ∷ names) (Some other) there =
+    by_first (same_name name first) there (among-with_last name names (Some other))
+  where
+    by_first : (test : Bool) → (test || among name (names ++ other ∷ [])) ≡ true →
+        (among name (names ++ other ∷ []) ≡ true → (among name names ≡ true) ⊎ (Some other ≡ Some name)) →
+        ((test || among name names) ≡ true) ⊎ (Some other ≡ Some name)
+    by_first true there rest = inl refl
+    by_first false there rest = rest there
+
+-- who is there after one went
+pub among-names_but_for : (name : JobId) (gone : Option JobId) (names : List JobId) → among name (names_but_for gone names) ≡ true →
+    (among name names ≡ true) × (is_name name gone ≡ false)
+among-names_but_for name None names there = (there, refl)
+among-names_but_for name (Some other) [] there = cc
+among-names_but_for name (Some other) (first ∷ names) there =
+    by_tests (same_name other first) refl (same_name name first) refl there (among-names_but_for name (Some other) names)
+  where
+    by_tests : (dropped : Bool) → same_name other first ≡ dropped → (here : Bool) → same_name name first ≡ here →
+        among name (cond (not dropped) (first ∷ names_but other names) (names_but other names)) ≡ true →
+        (among name (names_but other names) ≡ true → (among name names ≡ true) × (same_name name other ≡ false)) →
+        ((here || among name names) ≡ true) × (same_name name other ≡ false)
+    by_tests true at_other true at_name there rest = (refl, (rest there).1)
+    by_tests true at_other false at_name there rest = rest there
+    by_tests false at_other true at_name there rest = (refl, apart (same_name name other) refl)
+      where
+        apart : (test : Bool) → same_name name other ≡ test → test ≡ false
+        apart false same = refl
+        apart true same = rw (← one_name name other same, at_name) at at_other
+    by_tests false at_other false at_name there rest = rest (rw at_name at there)

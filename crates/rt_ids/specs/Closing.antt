@@ -1,0 +1,40 @@
+-- Modes of queues and cores, gates, and when a core is drained.
+use Rattle.std.specs.Prelude.{◌≡◌, ℕ, ◌==◌, if◌then◌else◌, Option, Some, None, IsTrue, length, ◌≤◌}
+use Rattle.rt_ids.specs.declared.note.Note.{Note}
+use Rattle.rt_ids.specs.declared.note.Note.TheVariants.{QueueClosed, CoreClosed, Shut}
+use Rattle.rt_ids.specs.declared.order.Mode.{Mode}
+use Rattle.rt_ids.specs.Journal.{Journal, latest_told}
+use Rattle.rt_ids.specs.Filters.{delivered_names}
+use Rattle.rt_ids.specs.Work.{has_work}
+
+-- the mode in which a note closes this queue
+abbrev pub mode_told : {T : Type 0} → ℕ → Note T → Option Mode
+mode_told queue (QueueClosed other mode) = if queue == other then Some mode else None
+mode_told queue _ = None
+
+-- the mode in which a note closes the core
+abbrev pub core_mode_told : {T : Type 0} → Note T → Option Mode
+core_mode_told (CoreClosed mode) = Some mode
+core_mode_told _ = None
+
+-- the final count with which a note shuts the gate of this sender
+abbrev pub count_told : {T : Type 0} → ℕ → Note T → Option ℕ
+count_told sender (Shut other count) = if sender == other then Some count else None
+count_told sender _ = None
+
+-- the mode of a queue, if it is closed
+abbrev pub queue_mode : {T : Type 0} → ℕ → Journal T → Option Mode
+queue_mode queue = latest_told (mode_told queue)
+
+-- the mode of the core, if it is closed
+abbrev pub core_mode : {T : Type 0} → Journal T → Option Mode
+core_mode = latest_told core_mode_told
+
+-- the final count of a gate, if it is shut
+abbrev pub final_count : {T : Type 0} → ℕ → Journal T → Option ℕ
+final_count sender = latest_told (count_told sender)
+
+-- every gate is shut and all behind it delivered, and no queue has work
+pub record IsDrained {T : Type 0} (cores : ℕ) (journal : Journal T) : Type 0 where
+  pub delivered_all : (sender : ℕ) → sender ≤ cores → final_count sender journal ≡ Some (length (delivered_names sender journal))
+  pub idle : (queue : ℕ) → IsTrue (has_work queue journal) → ⊥

@@ -1,0 +1,76 @@
+-- What a core answers to a delivery: whether a job enters, what a command is answered, and what follows the answer.
+use Rattle.std.specs.Prelude.{◌≡◌, ◌⊎◌, ℕ, ◌+◌, Bool, true, false, nat_le, if◌then◌else◌, Option, Some, None, [], ◌∷◌, length}
+use Rattle.rt_ids.specs.declared.names.JobId.{JobId}
+use Rattle.rt_ids.specs.declared.note.Note.{Note}
+use Rattle.rt_ids.specs.declared.note.Note.TheVariants as notes
+use Rattle.rt_ids.specs.declared.order.Order.{Order}
+use Rattle.rt_ids.specs.declared.order.Order.TheVariants.{Job, Create, SetShares}
+use Rattle.rt_ids.specs.declared.order.Mode.{Mode}
+use Rattle.rt_ids.specs.declared.order.Mode.TheVariants.{Return}
+use Rattle.rt_ids.specs.declared.order.Reason.{Reason}
+use Rattle.rt_ids.specs.declared.order.Reason.TheVariants as why
+use Rattle.rt_ids.specs.declared.order.Answer.{Answer}
+use Rattle.rt_ids.specs.declared.order.Answer.TheVariants as answers
+use Rattle.rt_ids.specs.Journal.{Journal, list_told, or_else}
+use Rattle.rt_ids.specs.Closing.{queue_mode, core_mode}
+
+-- the queue that a note says was created
+abbrev pub queue_created : {T : Type 0} → Note T → Option ℕ
+queue_created (notes.Created queue weight) = Some queue
+queue_created _ = None
+
+-- queue 0 is there from the opening, and the others are numbered in the order of their creation
+abbrev pub last_queue : {T : Type 0} → Journal T → ℕ
+last_queue journal = length (list_told queue_created journal)
+
+abbrev pub reason_if_closed : Option Mode → Reason → Option Reason
+reason_if_closed None reason = None
+reason_if_closed (Some mode) reason = Some reason
+
+abbrev pub reason_if_returning : Option Mode → Reason → Option Reason
+reason_if_returning (Some Return) reason = Some reason
+reason_if_returning _ reason = None
+
+-- why a job that is delivered to this queue goes back: no such queue, a closed queue, a core that hands back
+abbrev pub refusal : {T : Type 0} → ℕ → Journal T → Option Reason
+refusal queue journal =
+    if nat_le queue (last_queue journal)
+    then or_else (reason_if_closed (queue_mode queue journal) why.QueueClosed) (reason_if_returning (core_mode journal) why.CoreClosing)
+    else Some why.NoQueue
+
+-- why a pick of this queue hands its job back
+abbrev pub return_reason : {T : Type 0} → ℕ → Journal T → Option Reason
+return_reason queue journal =
+    or_else (reason_if_returning (queue_mode queue journal) why.QueueReturned) (reason_if_returning (core_mode journal) why.CoreReturned)
+
+-- a creation: refused where the core is closed, else where it has 256 queues; else there was no memory, or the next queue is there
+abbrev pub IsCreationAnswer : Option Mode → Bool → ℕ → Answer → Type 0
+IsCreationAnswer (Some mode) full next answer = answer ≡ answers.CoreClosing
+IsCreationAnswer None true next answer = answer ≡ answers.TooMany
+IsCreationAnswer None false next answer = (answer ≡ answers.NoMemory) ⊎ (answer ≡ answers.Created next)
+
+-- what a command may be answered
+abbrev pub IsAnswer : {T : Type 0} → Order (Unit {0}) → Answer → Journal T → Type 0
+IsAnswer (Job queue task) answer before = ⊥
+IsAnswer (Create weight) answer before =
+    IsCreationAnswer (core_mode before) (nat_le 255 (last_queue before)) (last_queue before + 1) answer
+IsAnswer (SetShares queue weight) answer before =
+    answer ≡ (if nat_le queue (last_queue before) then answers.SharesSet else answers.NoQueue)
+
+-- the note of what a command did, by its answer
+abbrev pub effect_note : {T : Type 0} → Order (Unit {0}) → Answer → Option (Note T)
+effect_note (Create weight) (answers.Created queue) = Some (notes.Created queue weight)
+effect_note (SetShares queue weight) answers.SharesSet = Some (notes.SharesSet queue weight)
+effect_note _ _ = None
+
+-- whether an answer has an effect
+abbrev pub has_effect : Answer → Bool
+has_effect (answers.Created queue) = true
+has_effect answers.SharesSet = true
+has_effect answers.Closed = true
+has_effect _ = false
+
+-- the answer that is the last note, if it has an effect
+abbrev pub answer_due : {T : Type 0} → Journal T → Option Answer
+answer_due (notes.Answered name answer ∷ before) = if has_effect answer then Some answer else None
+answer_due _ = None

@@ -1,0 +1,23 @@
+-- Laws of lawful journals.
+use Rattle.std.specs.Prelude.{ℕ, ◌≤◌}
+use Rattle.rt_ids.specs.declared.note.Note.{Note}
+use Rattle.rt_ids.specs.declared.note.Note.TheVariants.{Pick}
+use Rattle.rt_ids.specs.Journal.{Journal, EachNote}
+use Rattle.rt_ids.specs.Runtimes.{floor}
+use Rattle.rt_ids.specs.Assembly.{Assembly}
+use Rattle.rt_ids.specs.Clauses.{StartsRight, StandsInOrder}
+use Rattle.rt_ids.specs.Lawful.{MayStand}
+
+abbrev pub IsNoLowerPick : {T : Type 0} → Note T → Journal T → Type 0
+IsNoLowerPick (Pick queue runtime) before = floor before ≤ runtime
+IsNoLowerPick _ before = Unit {0}
+
+-- no pick of a lawful journal is lower than one before it
+abbrev pub PicksNeverFall : Type 0
+PicksNeverFall = (actor cap : ℕ) (journal : Journal ℕ) → EachNote (MayStand actor cap) journal → EachNote IsNoLowerPick journal
+
+-- each start and each resume of a lawful journal is of an accepted job that is inside, and no job starts twice
+abbrev pub StartsOnce : Type 0
+StartsOnce =
+    (actor cap : ℕ) (assembly : Assembly ℕ) (journal : Journal ℕ) → EachNote (MayStand actor cap) journal →
+    EachNote (StandsInOrder assembly) journal → EachNote (StartsRight assembly) journal

@@ -1,0 +1,16 @@
+pub mod Keys
+pub mod Names
+pub mod Journal
+pub mod Filters
+pub mod Work
+pub mod Runtimes
+pub mod Lines
+pub mod Picks
+pub mod Closing
+pub mod Assembly
+pub mod Clauses
+pub mod Sound
+pub mod Outstanding
+pub mod Commands
+pub mod Lawful
+pub mod Laws

@@ -1,0 +1,18 @@
+-- Which queue a core may pick.
+use Rattle.std.specs.Prelude.{◌≡◌, ℕ, [], IsTrue}
+use Rattle.rt_ids.specs.Keys.{KeyAtMost}
+use Rattle.rt_ids.specs.Journal.{Journal}
+use Rattle.rt_ids.specs.Work.{has_work}
+use Rattle.rt_ids.specs.Runtimes.{virtual_runtime}
+use Rattle.rt_ids.specs.Lines.{jobs_out}
+
+-- a queue may run if it has work and no job of the core is out
+pub record IsEligible {T : Type 0} (queue : ℕ) (journal : Journal T) : Type 0 where
+  pub work : IsTrue (has_work queue journal)
+  pub nobody_out : jobs_out journal ≡ []
+
+-- a pick is right at an eligible queue, at its virtual runtime, where no eligible queue has a lesser pair (virtual runtime, number)
+pub record IsRightPick {T : Type 0} (queue runtime : ℕ) (before : Journal T) : Type 0 where
+  pub at : runtime ≡ virtual_runtime queue before
+  pub eligible : IsEligible queue before
+  pub least : (other : ℕ) → IsEligible other before → KeyAtMost runtime queue (virtual_runtime other before) other

@@ -1,0 +1,13 @@
+//! The plain words of the executor: numbers and names, orders, outcomes, tickets and the notes of a journal.
+#![tactic(auto)]
+
+pub mod laws;
+pub mod names;
+pub mod note;
+pub mod order;
+pub mod stats;
+
+pub use names::{ActorNo, CoreNo, JobId, Key, QueueNo, Ticket, TicketError};
+pub use note::{Note, OutcomeNote};
+pub use order::{Answer, Envelope, Mode, Order, Outcome, Reason, SendError};
+pub use stats::{CoreStats, QueueStats};

@@ -1,0 +1,74 @@
+//! The notes of a journal: what an actor did, each note one line of the journal's text.
+
+use crate::names::{ActorNo, JobId, QueueNo};
+use crate::order::{Answer, Mode, Order, Reason};
+use rt_shares::Shares;
+use std::alloc::AllocError;
+
+/// What became of a submission, without its task.
+#[derive(Copy, PartialEq, Eq, Debug)]
+pub enum OutcomeNote<T> {
+    Finished(T),
+    Returned(Reason),
+    Answered(Answer),
+}
+
+/// One note of an actor's journal. Times are nanoseconds.
+#[derive(Copy, PartialEq, Eq, Debug)]
+pub enum Note<T> {
+    /// A send was accepted.
+    Sent(JobId, Order<()>),
+    /// A job was delivered and entered the queue.
+    Took(JobId, QueueNo),
+    /// A job was delivered and goes back.
+    Back(JobId, Reason),
+    /// A command was delivered. The note of its effect follows.
+    Answered(JobId, Answer),
+    /// A queue was created, at the opening or by command.
+    Created(QueueNo, Shares),
+    /// A queue got shares by command.
+    SharesSet(QueueNo, Shares),
+    /// A queue was closed by command.
+    QueueClosed(QueueNo, Mode),
+    /// The core was closed, by command or by itself.
+    CoreClosed(Mode),
+    /// The queue was picked, at its virtual runtime before the poll.
+    Pick(QueueNo, u128),
+    /// The job is polled for the first time.
+    Start(JobId),
+    /// The job is polled again.
+    Resume(JobId),
+    /// The poll took that time, and the job wants another one.
+    Yield(JobId, u64),
+    /// The poll took that time, and the job is done with the answer.
+    Done(JobId, u64, T),
+    /// A pick hands the job back.
+    Returned(JobId, Reason),
+    /// The gate of that sender was shut, with its final count.
+    Shut(ActorNo, u64),
+    /// An outcome was collected.
+    Collected(JobId, OutcomeNote<T>),
+    /// An outcome was redeemed.
+    Redeemed(JobId, OutcomeNote<T>),
+    /// A submission was detached.
+    Detached(JobId),
+}
+
+/// Fills the unused places of an array of notes, and says nothing.
+impl<T> Default for Note<T> {
+    fn default() -> Self {
+        Note::CoreClosed(Mode::Finish)
+    }
+}
+
+impl<T: Copy> Clone for OutcomeNote<T> {
+    fn clone(&self) -> Result<Self, AllocError> {
+        Ok(*self)
+    }
+}
+
+impl<T: Copy> Clone for Note<T> {
+    fn clone(&self) -> Result<Self, AllocError> {
+        Ok(*self)
+    }
+}

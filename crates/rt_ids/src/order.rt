@@ -1,0 +1,101 @@
+//! Orders and envelopes, outcomes, and why an order is refused.
+
+use crate::names::{JobId, QueueNo};
+use rt_shares::Shares;
+use std::alloc::AllocError;
+
+/// How a queue or a core closes.
+#[derive(Clone, Copy, PartialEq, Eq, Debug)]
+pub enum Mode {
+    /// What is inside runs on.
+    Finish,
+    /// Each later pick hands a job back.
+    Return,
+}
+
+/// Why a job is handed back.
+#[derive(Clone, Copy, PartialEq, Eq, Debug)]
+pub enum Reason {
+    /// At delivery: the core has no queue of that number.
+    NoQueue,
+    /// At delivery: the queue is closed.
+    QueueClosed,
+    /// At delivery: the core is closed and hands back what it holds.
+    CoreClosing,
+    /// At a pick: the queue is closed and hands back what it holds.
+    QueueReturned,
+    /// At a pick: the core is closed and hands back what it holds.
+    CoreReturned,
+}
+
+/// What a command is answered.
+#[derive(Clone, Copy, PartialEq, Eq, Debug)]
+pub enum Answer {
+    /// The queue was created under this number.
+    Created(QueueNo),
+    /// The core has as many queues as it may.
+    TooMany,
+    /// The core found no memory for the queue, and nothing changed.
+    NoMemory,
+    /// The core is closed, so it creates no queue.
+    CoreClosing,
+    /// The queue has the shares from now on.
+    SharesSet,
+    /// The core has no queue of that number.
+    NoQueue,
+    /// The queue or the core is closed, or closed more strictly than before.
+    Closed,
+    /// It was closed before, and nothing changed.
+    AlreadyClosed,
+}
+
+/// A job for a queue, or a command.
+#[derive(Copy, PartialEq, Eq, Debug, Drop)]
+pub enum Order<J> {
+    /// A job for a queue.
+    Job(QueueNo, J),
+    /// Create a queue with these shares.
+    Create(Shares),
+    /// Give a queue these shares.
+    SetShares(QueueNo, Shares),
+}
+
+/// An accepted order on its way, under its name.
+#[derive(PartialEq, Eq, Debug, Drop)]
+pub struct Envelope<J> {
+    pub name: JobId,
+    pub order: Order<J>,
+}
+
+/// What became of a submission.
+#[derive(PartialEq, Eq, Debug, Drop)]
+pub enum Outcome<J, T> {
+    /// The job is done, with its answer.
+    Finished(T),
+    /// The job is handed back, in its order.
+    Returned(Reason, Order<J>),
+    /// The command was carried out, or refused by the core.
+    Answered(Answer),
+}
+
+/// Why an order was not accepted. The order comes back.
+///
+/// A link tries the first three in this order; a desk tries the last one before them.
+#[derive(PartialEq, Eq, Debug, Drop)]
+pub enum SendError<J> {
+    /// The gate is shut; the number is that of the last order that was accepted.
+    Closed(Order<J>, u64),
+    /// As many submissions are outstanding as the link may have.
+    Full(Order<J>),
+    /// The last number of the link was given.
+    Spent(Order<J>),
+    /// There is no core of that number.
+    NoCore(Order<J>),
+}
+
+// By hand: a derived `clone` of a generic enum takes the check many times as long.
+impl<J: Copy> Clone for Order<J> {
+    fn clone(&self) -> Result<Self, AllocError> {
+        Ok(*self)
+    }
+}
