@@ -1,0 +1,32 @@
+-- What a step says.
+use Rattle.std.specs.Prelude.{ℕ, Bool, true, false, Option}
+use Rattle.rt_jobs.specs.declared.job.Step.{Step}
+use Rattle.rt_jobs.specs.declared.job.Step.TheVariants.{Done, Yield}
+
+-- whether a poll answered
+abbrev pub is_done_step : {T : Type 0} → Step T → Bool
+is_done_step (Done out) = true
+is_done_step Yield = false
+
+-- a fact of the answer, if there is one
+abbrev pub IfDone : {T : Type 0} → Step T → (T → Type 0) → Type 0
+IfDone (Done out) fact = fact out
+IfDone Yield fact = Unit {0}
+
+-- a fact, if the job wants another poll
+abbrev pub OnYield : {T : Type 0} → Step T → Type 0 → Type 0
+OnYield (Done out) fact = Unit {0}
+OnYield Yield fact = fact
+
+-- to have the same task is an equivalence
+pub record IsSameTask {J : Type 0} (same : J → J → Type 0) : Type 0 where
+  pub itself : (a : J) → same a a
+  pub back : (a b : J) → same a b → same b a
+  pub along : (a b c : J) → same a b → same b c → same a c
+
+-- a job after one poll, and as it was before
+pub record AfterPoll (J T : Type 0) : Type 0 where
+  pub job : J
+  pub step : Step T
+  pub told : Option ℕ
+  pub before : J
