@@ -1,0 +1,35 @@
+//! Events of the model, each one atomic step of one actor, and what the actor is told.
+
+use rt_ids::{ActorNo, CoreNo, Order, SendError, Ticket};
+
+/// One step of one actor.
+#[derive(PartialEq, Eq, Debug, Drop)]
+pub enum Event<J> {
+    /// The actor sends the order to the core.
+    Send(ActorNo, CoreNo, Order<J>),
+    /// The core takes the next submission of the actor.
+    Deliver(CoreNo, ActorNo),
+    /// The core picks a queue and polls its first job once. The time, in nanoseconds, counts where the job tells none of its own.
+    Turn(CoreNo, u64),
+}
+
+/// What an event came to.
+#[derive(PartialEq, Eq, Debug, Drop)]
+pub enum Reply<J> {
+    /// The order was accepted, under the name of the ticket.
+    Sent(Ticket),
+    /// The order was refused, and comes back.
+    NotSent(SendError<J>),
+    /// The new notes of the actor's journal say what was done.
+    Noted,
+    /// There is nothing to deliver.
+    Empty,
+    /// No queue has work.
+    Idle,
+    /// All turns of the core are used.
+    Spent,
+    /// An actor or a core of the event doesn't exist. The event comes back.
+    NoActor(Event<J>),
+    /// The actor's journal has too few notes free. The event comes back.
+    NoRoom(Event<J>),
+}

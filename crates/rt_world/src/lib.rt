@@ -1,0 +1,6 @@
+//! The cores of one executor as a model: a list of events, and the journals that they leave.
+#![tactic(auto)]
+
+pub mod event;
+
+pub use event::{Event, Reply};
