@@ -1,5 +1,5 @@
--- In a lawful journal no job stands twice in a line, nor in a line while it is out. So the turn takes the first of the line.
-use Rattle.std.proofs.Common.{◌≡◌, ℕ, inl, inr, Bool, true, false, List, [], ◌∷◌, ◌++◌, refl, sym, ◌∙◌, cond}
+-- In a lawful journal no job stands twice in a line, nor in a line while it is out.
+use Rattle.std.proofs.Common.{◌≡◌, ℕ, inl, inr, Bool, true, false, List, [], ◌∷◌, ◌++◌, refl, sym, ◌∙◌, ap, cond}
 use Rattle.std.specs.Prelude.{◌==◌, Option, Some, None, not}
 use Rattle.std.proofs.lemmas.Bool.{true≢false, or_parts}
 use Rattle.rt_ids.specs.declared.names.JobId.{JobId}
@@ -10,19 +10,20 @@ use Rattle.rt_ids.specs.Lawful.{MayFollow, MayStand}
 use Rattle.rt_ids.specs.Lines.{line, jobs_out, name_joining, name_leaving, name_polled, name_settled, names_but_for, names_but}
 use Rattle.rt_ids.specs.Names.{same_name, is_name, is_number}
 use Rattle.rt_ids.specs.Work.{queue_of}
-use Rattle.rt_ids.proofs.NameLemmas.{among, same_as_itself, among-with_last, among-names_but_for}
-use Rattle.rt_ids.proofs.StartsOnce.{Known, known_of, alone_out, not_old}
+use Rattle.rt_ids.proofs.NameLemmas.{among, one_name, same_as_itself, among-with_last, among-names_but_for}
+use Rattle.rt_ids.proofs.JobsOut.{alone_out}
+use Rattle.rt_ids.proofs.Known.{Known, known_of, not_old}
 
 -- a test that isn't true
-false_from : (test : Bool) → (test ≡ true → ⊥) → test ≡ false
+pub false_from : (test : Bool) → (test ≡ true → ⊥) → test ≡ false
 false_from true never = absurd (never refl)
 false_from false never = refl
 
-abbrev Distinct : List JobId → Type 0
+abbrev pub Distinct : List JobId → Type 0
 Distinct [] = Unit {0}
 Distinct (first ∷ rest) = (among first rest ≡ false) × Distinct rest
 
-names_but-other : (gone : JobId) (names : List JobId) → among gone names ≡ false → names_but gone names ≡ names
+pub names_but-other : (gone : JobId) (names : List JobId) → among gone names ≡ false → names_but gone names ≡ names
 names_but-other gone [] apart = refl
 names_but-other gone (first ∷ names) apart =
     let parts = or_parts (same_name gone first) (among gone names) apart in
@@ -31,6 +32,13 @@ names_but-other gone (first ∷ names) apart =
 -- the first goes, and the rest stays as it was
 pub names_but-first : (name : JobId) (others : List JobId) → Distinct (name ∷ others) → names_but name (name ∷ others) ≡ others
 names_but-first name others distinct = rw (same_as_itself name, names_but-other name others distinct.0)
+
+-- the others of a line are other names than its first
+pub not_first : (first other : JobId) (rest : List JobId) → Distinct (first ∷ rest) → among other rest ≡ true → same_name other first ≡ false
+not_first first other rest distinct there = false_from _ not_same
+  where
+    not_same : same_name other first ≡ true → ⊥
+    not_same same = true≢false (sym there ∙ ap (λ name. among name rest) (one_name other first same) ∙ distinct.0)
 
 distinct-names_but : (gone : JobId) (names : List JobId) → Distinct names → Distinct (names_but gone names)
 distinct-names_but gone [] distinct = tt
@@ -89,7 +97,7 @@ module _ {T : Type 0} (actor cap : ℕ) (before : Journal T) (known : Known befo
       by_test false came = cc
       by_test true came =
           let one : name ≡ other = cc in
-          apart.not_waiting queue other (alone_out actor cap other before law) (rw one at there)
+          apart.not_waiting queue other (alone_out other before law) (rw one at there)
   not_there queue name _ law came there = cc
 
   not_out : (queue : ℕ) (name : JobId) (note : Note T) → MayFollow actor cap note before → name_joining queue note before ≡ Some name →
@@ -152,12 +160,3 @@ pub apart_of : {T : Type 0} (actor cap : ℕ) (journal : Journal T) → EachNote
 apart_of actor cap [] notes = record { distinct = λ queue. tt; not_waiting = λ queue name outside inside. true≢false (sym outside) }
 apart_of actor cap (note ∷ before) notes =
     stays_apart actor cap before (known_of actor cap before notes.1) (apart_of actor cap before notes.1) note notes.0.may_follow
-
--- the turn takes the first of the line
-pub line-turn : {T : Type 0} (actor cap queue runtime : ℕ) (name : JobId) (others : List JobId) (before : Journal T) →
-    EachNote (MayStand actor cap) before → line queue before ≡ name ∷ others →
-    (line queue (Start name ∷ Pick queue runtime ∷ before) ≡ others) × (line queue (Resume name ∷ Pick queue runtime ∷ before) ≡ others)
-line-turn actor cap queue runtime name others before notes first =
-    let distinct = rw first at ((apart_of actor cap before notes).distinct queue) in
-    let left : names_but name (line queue before) ≡ others = rw first (names_but-first name others distinct) in
-    (left, left)

@@ -1,8 +1,11 @@
 -- Laws of lawful journals.
-use Rattle.std.specs.Prelude.{ℕ, ◌≤◌}
+use Rattle.std.specs.Prelude.{◌≡◌, ℕ, ◌+◌, ◌≤◌, length}
 use Rattle.rt_ids.specs.declared.note.Note.{Note}
 use Rattle.rt_ids.specs.declared.note.Note.TheVariants.{Pick}
 use Rattle.rt_ids.specs.Journal.{Journal, EachNote}
+use Rattle.rt_ids.specs.Names.{is_number}
+use Rattle.rt_ids.specs.Work.{entered_count, left_count, number_if}
+use Rattle.rt_ids.specs.Lines.{line, queue_out}
 use Rattle.rt_ids.specs.Runtimes.{floor}
 use Rattle.rt_ids.specs.Assembly.{Assembly}
 use Rattle.rt_ids.specs.Clauses.{StartsRight, StandsInOrder}
@@ -21,3 +24,8 @@ abbrev pub StartsOnce : Type 0
 StartsOnce =
     (actor cap : ℕ) (assembly : Assembly ℕ) (journal : Journal ℕ) → EachNote (MayStand actor cap) journal →
     EachNote (StandsInOrder assembly) journal → EachNote (StartsRight assembly) journal
+
+-- what entered a queue has left it, waits in its line, or is out
+abbrev pub IsCounted : {T : Type 0} → ℕ → Journal T → Type 0
+IsCounted queue journal =
+    entered_count queue journal ≡ left_count queue journal + length (line queue journal) + number_if (is_number queue (queue_out journal))
