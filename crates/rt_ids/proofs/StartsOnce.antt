@@ -4,7 +4,7 @@ use Rattle.std.specs.Prelude.{Option, Some, None, is_some}
 use Rattle.rt_ids.specs.declared.names.JobId.{JobId}
 use Rattle.rt_ids.specs.declared.note.Note.{Note}
 use Rattle.rt_ids.specs.declared.note.Note.TheVariants.{Took, Start, Resume}
-use Rattle.rt_ids.specs.Assembly.{Assembly, order_of}
+use Rattle.rt_ids.specs.Assembly.{Assembly, order_of, IsAcceptedJob}
 use Rattle.rt_ids.specs.Clauses.{StartsRight, StandsInOrder, CanBePolled}
 use Rattle.rt_ids.specs.Journal.{Journal, EachNote, or_else}
 use Rattle.rt_ids.specs.Lawful.{MayFollow, MayStand, IsTurnOf}
@@ -36,6 +36,13 @@ pub is_some-some : (o : Option ℕ) → is_some o ≡ true → (n : ℕ) × (o �
 is_some-some None some = cc
 is_some-some (Some n) some = (n, refl)
 
+-- a job that is inside was accepted
+pub accepted_inside : {T : Type 0} (assembly : Assembly T) (name : JobId) (before : Journal T) → EachNote (StandsInOrder assembly) before →
+    IsInside name before → IsAcceptedJob name assembly
+accepted_inside assembly name before order inside =
+    let its = is_some-some (queue_of name before) inside.entered in
+    (its.0, sent_there assembly name its.0 before order its.1)
+
 -- Clause 1 of soundness: each start and each resume is of an accepted job that is inside, and no job starts twice.
 pub starts_right : {T : Type 0} (actor cap : ℕ) (assembly : Assembly T) (journal : Journal T) → EachNote (MayStand actor cap) journal →
     EachNote (StandsInOrder assembly) journal → EachNote (StartsRight assembly) journal
@@ -44,13 +51,11 @@ starts_right {T} actor cap assembly (note ∷ before) notes order =
     (by_note note notes.0.may_follow, starts_right actor cap assembly before notes.1 order.1)
   where
     polled_inside : (name : JobId) → IsInside name before → CanBePolled assembly name before
-    polled_inside name inside =
-        let its = is_some-some (queue_of name before) inside.entered in
-        record {
-          is_accepted = (its.0, sent_there assembly name its.0 before order.1 its.1);
-          has_entered = inside.entered;
-          has_not_ended = inside.going_on;
-        }
+    polled_inside name inside = record {
+      is_accepted = accepted_inside assembly name before order.1 inside;
+      has_entered = inside.entered;
+      has_not_ended = inside.going_on;
+    }
 
     in_turn : (name : JobId) (queue : ℕ) → IsTurnOf name queue before → IsInside name before
     in_turn name queue turn =
