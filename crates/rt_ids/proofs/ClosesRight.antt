@@ -1,4 +1,4 @@
--- Closes: nothing of a lawful journal closes a queue, a core or a gate by now, so nothing enters after a close.
+-- Closes: nothing in a lawful journal closes a queue, a core or a gate yet, so nothing enters after a close.
 use Rattle.std.proofs.Common.{◌≡◌, ℕ, Bool, true, false, [], ◌∷◌, refl, cond}
 use Rattle.std.specs.Prelude.{Option, Some, None, nat_le}
 use Rattle.rt_ids.specs.declared.note.Note.{Note}
@@ -13,6 +13,7 @@ use Rattle.rt_ids.specs.Commands.{refusal, last_queue, reason_if_closed, reason_
 use Rattle.rt_ids.specs.Journal.{Journal, EachNote, latest_told, or_else}
 use Rattle.rt_ids.specs.Lawful.{MayFollow, MayStand}
 
+-- no close is told
 pub record NothingClosed {T : Type 0} (journal : Journal T) : Type 0 where
   pub core_open : core_mode journal ≡ None
   pub no_return : latest_told return_told journal ≡ None
@@ -25,6 +26,7 @@ open_queue true None returning enters = refl
 open_queue true (Some mode) returning enters = cc
 open_queue false mode returning enters = cc
 
+-- a job enters an open queue alone
 pub queue_mode-entered : {T : Type 0} (queue : ℕ) (journal : Journal T) → refusal queue journal ≡ None → queue_mode queue journal ≡ None
 queue_mode-entered queue journal enters =
     open_queue (nat_le queue (last_queue journal)) (queue_mode queue journal) (reason_if_returning (core_mode journal) why.CoreClosing) enters
@@ -36,18 +38,22 @@ module _ {T : Type 0} (actor cap : ℕ) where
   never_told says silent [] notes = refl
   never_told says silent (note ∷ before) notes = rw (silent note before notes.0.may_follow) (never_told says silent before notes.1)
 
+  -- no note that may stand closes the core
   core_mode_told-none : (note : Note T) (before : Journal T) → MayFollow actor cap note before → core_mode_told note ≡ None
   core_mode_told-none (CoreClosed mode) before law = absurd law
   core_mode_told-none _ before law = refl
 
+  -- nor in mode `Return`
   return_told-none : (note : Note T) (before : Journal T) → MayFollow actor cap note before → return_told note ≡ None
   return_told-none (CoreClosed mode) before law = absurd law
   return_told-none _ before law = refl
 
+  -- no note that may stand shuts a gate
   count_told-none : (sender : ℕ) (note : Note T) (before : Journal T) → MayFollow actor cap note before → count_told sender note ≡ None
   count_told-none sender (Shut other count) before law = absurd law
   count_told-none sender _ before law = refl
 
+  -- so a lawful journal tells no close
   pub nothing_closed : (journal : Journal T) → EachNote (MayStand actor cap) journal → NothingClosed journal
   nothing_closed journal notes = record {
     core_open = never_told core_mode_told core_mode_told-none journal notes;
@@ -55,6 +61,7 @@ module _ {T : Type 0} (actor cap : ℕ) where
     gates_open = λ sender. never_told (count_told sender) (count_told-none sender) journal notes;
   }
 
+  -- the third clause of soundness
   pub closes_right : (assembly : Assembly T) (core : ℕ) (journal : Journal T) → EachNote (MayStand actor cap) journal → EachNote (RespectsCloses assembly core) journal
   closes_right assembly core [] notes = tt
   closes_right assembly core (note ∷ before) notes = (by_note note notes.0.may_follow, closes_right assembly core before notes.1)

@@ -28,6 +28,7 @@ queue_of_first-stays (name ∷ names) note before stays = stays name (rw (same_a
 pub queue_out-alone : {T : Type 0} (name : JobId) (journal : Journal T) → jobs_out journal ≡ name ∷ [] → queue_out journal ≡ queue_of name journal
 queue_out-alone name journal alone = rw alone
 
+-- where nobody is out, there is no such queue
 pub queue_out-nobody : {T : Type 0} (journal : Journal T) → jobs_out journal ≡ [] → queue_out journal ≡ None
 queue_out-nobody journal nobody = rw nobody
 
@@ -57,6 +58,7 @@ module _ {T : Type 0} (actor cap : ℕ) where
           let left = names_but-turn_elsewhere actor cap before notes queue picked name turn.others turn.first (eqb-false queue picked other) in
           rw left (omega arith)
 
+  -- what entered a queue has left it, waits in its line, or is out
   pub counts_agree : (queue : ℕ) (journal : Journal T) → EachNote (MayStand actor cap) journal → IsCounted queue journal
   counts_agree queue [] notes = refl
   counts_agree queue (note ∷ before) notes = by_note note notes.0.may_follow (counts_agree queue before notes.1)

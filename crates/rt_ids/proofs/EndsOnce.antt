@@ -25,6 +25,7 @@ module _ {T : Type 0} (actor cap : ℕ) where
       subst (λ one. IsOld one (Answered other answer ∷ before)) (sym (one_name name other now)) (next_old actor cap other before _ law.0 refl)
   answering_old name _ before law now = cc
 
+  -- each command that was answered was delivered
   pub answered_old : (name : JobId) (journal : Journal T) → EachNote (MayStand actor cap) journal → is_told name_answered name journal ≡ true → IsOld name journal
   answered_old name [] notes told = absurd (true≢false (sym told))
   answered_old name (note ∷ before) notes told =
@@ -37,6 +38,7 @@ module _ {T : Type 0} (actor cap : ℕ) where
   next_not_old : (name : JobId) (before : Journal T) → IsNextDelivered actor name before → IsOld name before → ⊥
   next_not_old name before next old = true≢false (sym (same_as_itself name) ∙ not_old actor cap name name before next old)
 
+  -- the fourth clause of soundness, note by note
   pub ends_once : (assembly : Assembly T) (journal : Journal T) → EachNote (MayStand actor cap) journal → EachNote (DeliversAsSent assembly) journal →
       EachNote (StandsInOrder assembly) journal → EachNote (EndsOnce assembly) journal
   ends_once assembly [] notes sent order = tt

@@ -22,6 +22,7 @@ alone_out name before alone = rw (alone, same_as_itself name)
 pub jobs_out-start : {T : Type 0} (name : JobId) (before : Journal T) → jobs_out before ≡ [] → jobs_out (Start name ∷ before) ≡ name ∷ []
 jobs_out-start name before nobody = rw nobody
 
+-- and so does a later one
 pub jobs_out-resume : {T : Type 0} (name : JobId) (before : Journal T) → jobs_out before ≡ [] → jobs_out (Resume name ∷ before) ≡ name ∷ []
 jobs_out-resume name before nobody = rw nobody
 
@@ -29,9 +30,11 @@ jobs_out-resume name before nobody = rw nobody
 pub names_but-alone : {T : Type 0} (name : JobId) (before : Journal T) → jobs_out before ≡ name ∷ [] → names_but name (jobs_out before) ≡ []
 names_but-alone name before alone = rw (alone, same_as_itself name)
 
+-- whether its job yields
 pub jobs_out-yield : {T : Type 0} (name : JobId) (time : ℕ) (before : Journal T) → jobs_out before ≡ name ∷ [] → jobs_out (Yield name time ∷ before) ≡ []
 jobs_out-yield name time before alone = names_but-alone name before alone
 
+-- or is done
 pub jobs_out-done : {T : Type 0} (name : JobId) (time : ℕ) (value : T) (before : Journal T) → jobs_out before ≡ name ∷ [] →
     jobs_out (Done name time value ∷ before) ≡ []
 jobs_out-done name time value before alone = names_but-alone name before alone

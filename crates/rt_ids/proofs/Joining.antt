@@ -15,6 +15,7 @@ use Rattle.rt_ids.proofs.OrderRight.{in_order}
 use Rattle.rt_ids.proofs.PicksRight.{picks_right}
 use Rattle.rt_ids.proofs.StartsOnce.{starts_right}
 
+-- all five clauses, of each actor by its own journal
 pub joining_is_sound : {T : Type 0} (assembly : Assembly T) →
     ((actor : ℕ) → actor ≤ assembly.cores → IsLawful actor assembly.cap (journal_of actor assembly)) → LinksAgree assembly → IsSound assembly
 joining_is_sound assembly lawful agree = record {
@@ -34,7 +35,7 @@ joining_is_sound assembly lawful agree = record {
     order : (actor : ℕ) → actor ≤ assembly.cores → EachNote (StandsInOrder assembly) (journal_of actor assembly)
     order actor within = in_order actor assembly.cap assembly _ (lawful actor within).notes (agree.as_sent actor within)
 
-    -- by now no gate is shut, so no core is drained
+    -- no gate is shut yet, so no core is drained
     not_drained : (core : ℕ) → core < assembly.cores → IsDrained assembly.cores (journal_of core assembly) → ⊥
     not_drained core within drained =
         let open_gate = (nothing_closed core assembly.cap (journal_of core assembly) (lawful core (omega arith)).notes).gates_open 0 in

@@ -24,6 +24,7 @@ pub record IsInside {T : Type 0} (name : JobId) (journal : Journal T) : Type 0 w
   pub entered : is_some (queue_of name journal) ≡ true
   pub going_on : is_told name_ended name journal ≡ false
 
+-- what a lawful journal tells of its jobs
 pub record Known {T : Type 0} (journal : Journal T) : Type 0 where
   pub line_queue : (queue : ℕ) (name : JobId) → among name (line queue journal) ≡ true → queue_of name journal ≡ Some queue
   pub line_inside : (queue : ℕ) (name : JobId) → among name (line queue journal) ≡ true → IsInside name journal
@@ -31,6 +32,7 @@ pub record Known {T : Type 0} (journal : Journal T) : Type 0 where
   pub entered_old : (name : JobId) → is_some (queue_of name journal) ≡ true → IsOld name journal
   pub ended_old : (name : JobId) → is_told name_ended name journal ≡ true → IsOld name journal
 
+-- a job that was delivered stays delivered
 pub still_old : {T : Type 0} (name : JobId) (note : Note T) (before : Journal T) → IsOld name before → IsOld name (note ∷ before)
 still_old name note before old =
     omega (arith, grows (delivered_names name.from before) (name_delivered name.from note))
@@ -47,6 +49,7 @@ module _ {T : Type 0} (actor cap : ℕ) where
           let late : other.number ≤ length (delivered_names other.from before) = rw one at old in
           absurd (omega (arith, next.next))
 
+  -- a job that was delivered does not enter again
   pub not_entering : (name : JobId) (note : Note T) (before : Journal T) → MayFollow actor cap note before → IsOld name before → queue_entered name note ≡ None
   not_entering name (Took other queue) before law old = rw (not_old name other before law.0 old)
   not_entering name _ before law old = refl
@@ -59,6 +62,7 @@ module _ {T : Type 0} (actor cap : ℕ) where
   not_ending name (Returned other reason) before law old stays = stays
   not_ending name _ before law old stays = refl
 
+  -- a job is old from its delivery on
   pub next_old : (other : JobId) (before : Journal T) (more : Option JobId) → IsNextDelivered actor other before →
       more ≡ if_from other.from other other → other.number ≤ length (with_last (delivered_names other.from before) more)
   next_old other before more next says =
@@ -66,6 +70,7 @@ module _ {T : Type 0} (actor cap : ℕ) where
       says
       (omega (arith, next.next, one_longer (delivered_names other.from before) other (other.from == other.from) (eq-eqb other.from other.from refl)))
 
+  -- who enters was delivered just now
   taking_old : (name : JobId) (note : Note T) (before : Journal T) → MayFollow actor cap note before → (queue : ℕ) → queue_entered name note ≡ Some queue →
       IsOld name (note ∷ before)
   taking_old name (Took other into) before law queue took = by_test (same_name name other) refl took
@@ -80,6 +85,7 @@ module _ {T : Type 0} (actor cap : ℕ) where
   pub first_in_line : (name : JobId) (queue : ℕ) (before : Journal T) → IsTurnOf name queue before → among name (line queue before) ≡ true
   first_in_line name queue before turn = rw (turn.first, same_as_itself name)
 
+  -- who ends was delivered, before or just now
   ending_old : (name : JobId) (note : Note T) (before : Journal T) → MayFollow actor cap note before → Known before →
       is_name name (name_ended note) ≡ true → IsOld name (note ∷ before)
   ending_old name (Done other time value) before law known same =
@@ -100,6 +106,7 @@ module _ {T : Type 0} (actor cap : ℕ) where
       queue_of name (note ∷ before) ≡ queue_of name before
   queue_stays name note before law old = rw (not_entering name note before law old)
 
+  -- a job stays inside until a note ends it
   stays_inside : (name : JobId) (note : Note T) (before : Journal T) → MayFollow actor cap note before → Known before → IsInside name before →
       is_name name (name_ended note) ≡ false → IsInside name (note ∷ before)
   stays_inside name note before law known inside stays = record {
@@ -117,6 +124,7 @@ module _ {T : Type 0} (actor cap : ℕ) where
       absurd (true≢false (sym there ∙ ap (among name) (nobody_out actor cap before notes law.0 law.1.picked)))
   out_not_ending name _ before law notes old there stays = refl
 
+  -- a job of this queue that is inside after the note
   record Comes (queue : ℕ) (name : JobId) (note : Note T) (before : Journal T) : Type 0 where
     its_queue : queue_of name (note ∷ before) ≡ Some queue
     inside : IsInside name (note ∷ before)
@@ -160,6 +168,7 @@ module _ {T : Type 0} (actor cap : ℕ) where
               )
   coming queue name _ before law known came = cc
 
+  -- who is polled is inside
   polling : (name : JobId) (note : Note T) (before : Journal T) → MayFollow actor cap note before → Known before →
       name_polled note ≡ Some name → IsInside name (note ∷ before)
   polling name (Start other) before law known same =
@@ -173,6 +182,7 @@ module _ {T : Type 0} (actor cap : ℕ) where
   polling name _ before law known same = cc
 
   module _ (note : Note T) (before : Journal T) (law : MayFollow actor cap note before) (notes : EachNote (MayStand actor cap) before) (known : Known before) where
+    -- who stands in a line after the note is of its queue and inside
     line_comes : (queue : ℕ) (name : JobId) → among name (line queue (note ∷ before)) ≡ true → Comes queue name note before
     line_comes queue name there =
         elim (among-with_last name (names_but_for (name_leaving note) (line queue before)) (name_joining queue note before) there)
@@ -187,6 +197,7 @@ module _ {T : Type 0} (actor cap : ℕ) where
               inside = stays_inside name note before law known inside (not_ending name note before law old was.1);
             }
 
+    -- who is out after the note is inside
     out_comes : (name : JobId) → among name (jobs_out (note ∷ before)) ≡ true → IsInside name (note ∷ before)
     out_comes name there =
         elim (among-with_last name (names_but_for (or_else (name_settled note) (name_polled note)) (jobs_out before)) (name_polled note) there) [
@@ -200,6 +211,7 @@ module _ {T : Type 0} (actor cap : ℕ) where
             let old = known.entered_old name inside.entered in
             stays_inside name note before law known inside (out_not_ending name note before law notes old was.0 was.1)
 
+    -- who entered by then was delivered
     entered_comes : (name : JobId) → is_some (queue_of name (note ∷ before)) ≡ true → IsOld name (note ∷ before)
     entered_comes name there = by_entered (queue_entered name note) refl there
       where
@@ -207,11 +219,13 @@ module _ {T : Type 0} (actor cap : ℕ) where
         by_entered None took there = still_old name note before (known.entered_old name there)
         by_entered (Some queue) took there = taking_old name note before law queue took
 
+    -- who ended by then was delivered
     ended_comes : (name : JobId) → is_told name_ended name (note ∷ before) ≡ true → IsOld name (note ∷ before)
     ended_comes name there =
         elim (or_cases (is_name name (name_ended note)) (is_told name_ended name before) there)
         [ inl now ↦ ending_old name note before law known now | inr was ↦ still_old name note before (known.ended_old name was) ]
 
+    -- each note keeps all five
     stays_known : Known (note ∷ before)
     stays_known = record {
       line_queue = λ queue name there. (line_comes queue name there).its_queue;
@@ -221,6 +235,7 @@ module _ {T : Type 0} (actor cap : ℕ) where
       ended_old = ended_comes;
     }
 
+  -- they hold of each lawful journal
   pub known_of : (journal : Journal T) → EachNote (MayStand actor cap) journal → Known journal
   known_of [] notes = record {
     line_queue = λ queue name there. absurd (true≢false (sym there));

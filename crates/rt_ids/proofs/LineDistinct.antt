@@ -19,10 +19,12 @@ pub false_from : (test : Bool) → (test ≡ true → ⊥) → test ≡ false
 false_from true never = absurd (never refl)
 false_from false never = refl
 
+-- no name stands twice
 abbrev pub Distinct : List JobId → Type 0
 Distinct [] = Unit {0}
 Distinct (first ∷ rest) = (among first rest ≡ false) × Distinct rest
 
+-- without a name that is not there the names are the same
 pub names_but-other : (gone : JobId) (names : List JobId) → among gone names ≡ false → names_but gone names ≡ names
 names_but-other gone [] apart = refl
 names_but-other gone (first ∷ names) apart =
@@ -40,6 +42,7 @@ not_first first other rest distinct there = false_from _ not_same
     not_same : same_name other first ≡ true → ⊥
     not_same same = true≢false (sym there ∙ ap (λ name. among name rest) (one_name other first same) ∙ distinct.0)
 
+-- fewer names are distinct too
 distinct-names_but : (gone : JobId) (names : List JobId) → Distinct names → Distinct (names_but gone names)
 distinct-names_but gone [] distinct = tt
 distinct-names_but gone (first ∷ names) distinct = by_test (same_name gone first) (distinct-names_but gone names distinct.1)
@@ -51,10 +54,12 @@ distinct-names_but gone (first ∷ names) distinct = by_test (same_name gone fir
     by_test true rest = rest
     by_test false rest = (still_apart, rest)
 
+-- also where none goes
 distinct-names_but_for : (gone : Option JobId) (names : List JobId) → Distinct names → Distinct (names_but_for gone names)
 distinct-names_but_for None names distinct = distinct
 distinct-names_but_for (Some gone) names distinct = distinct-names_but gone names distinct
 
+-- and with one more that was not there
 distinct-one_more : (names : List JobId) (name : JobId) → Distinct names → among name names ≡ false → Distinct (names ++ name ∷ [])
 distinct-one_more [] name distinct apart = (refl, tt)
 distinct-one_more (first ∷ names) name distinct apart =
@@ -70,11 +75,13 @@ distinct-one_more (first ∷ names) name distinct apart =
               true≢false (sym (rw one (same_as_itself first)) ∙ (or_parts (same_name name first) (among name names) apart).0)
         ]
 
+-- if one comes at all
 distinct-with_last : (names : List JobId) (more : Option JobId) → Distinct names → ((name : JobId) → more ≡ Some name → among name names ≡ false) →
     Distinct (with_last names more)
 distinct-with_last names None distinct apart = distinct
 distinct-with_last names (Some name) distinct apart = distinct-one_more names name distinct (apart name refl)
 
+-- no name stands twice in a line, and none that is out stands in one
 pub record Apart {T : Type 0} (journal : Journal T) : Type 0 where
   pub distinct : (queue : ℕ) → Distinct (line queue journal)
   pub not_waiting : (queue : ℕ) (name : JobId) → among name (jobs_out journal) ≡ true → among name (line queue journal) ≡ true → ⊥
@@ -100,6 +107,7 @@ module _ {T : Type 0} (actor cap : ℕ) (before : Journal T) (known : Known befo
           apart.not_waiting queue other (alone_out other before law) (rw one at there)
   not_there queue name _ law came there = cc
 
+  -- who comes to a line is not out from then on
   not_out : (queue : ℕ) (name : JobId) (note : Note T) → MayFollow actor cap note before → name_joining queue note before ≡ Some name →
       among name (jobs_out before) ≡ true → is_name name (or_else (name_settled note) (name_polled note)) ≡ false → ⊥
   not_out queue name (Took other into) law came there stays = by_test (queue == into) came
@@ -129,11 +137,13 @@ module _ {T : Type 0} (actor cap : ℕ) (before : Journal T) (known : Known befo
       true≢false (sym (rw one (same_as_itself other)) ∙ stays)
   polled_goes name _ same stays = cc
 
+  -- who is polled comes to no line
   polled_comes : (queue : ℕ) (name : JobId) (note : Note T) → name_polled note ≡ Some name → name_joining queue note before ≡ Some name → ⊥
   polled_comes queue name (Start other) same came = cc
   polled_comes queue name (Resume other) same came = cc
   polled_comes queue name _ same came = cc
 
+  -- each note keeps both
   stays_apart : (note : Note T) → MayFollow actor cap note before → Apart (note ∷ before)
   stays_apart note law = record {
     distinct = λ queue.
@@ -156,6 +166,7 @@ module _ {T : Type 0} (actor cap : ℕ) (before : Journal T) (known : Known befo
         ];
   }
 
+-- they hold of each lawful journal
 pub apart_of : {T : Type 0} (actor cap : ℕ) (journal : Journal T) → EachNote (MayStand actor cap) journal → Apart journal
 apart_of actor cap [] notes = record { distinct = λ queue. tt; not_waiting = λ queue name outside inside. true≢false (sym outside) }
 apart_of actor cap (note ∷ before) notes =

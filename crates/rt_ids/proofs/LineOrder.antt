@@ -35,6 +35,7 @@ pub record IsAhead {T : Type 0} (other name : JobId) (queue : ℕ) (journal : Jo
   pub same_sender : other.from ≡ name.from
   pub same_queue : queue_of other journal ≡ Some queue
 
+-- lines rise, and stand above what has started
 pub record LinesRise {T : Type 0} (journal : Journal T) : Type 0 where
   pub rising : (queue : ℕ) → Rising journal (line queue journal)
   pub started_below : (queue : ℕ) (name other : JobId) → among name (line queue journal) ≡ true → IsAhead other name queue journal → other.number < name.number
@@ -48,6 +49,7 @@ or_other : (test rest : Bool) → test ≡ false → (test || rest) ≡ true →
 or_other true rest off either = cc
 or_other false rest off either = either
 
+-- a later note leaves fewer that have not started
 rising-later : {T : Type 0} (note : Note T) (before : Journal T) (names : List JobId) → Rising before names → Rising (note ∷ before) names
 rising-later note before [] rise = tt
 rising-later note before (first ∷ rest) rise = (
@@ -63,6 +65,7 @@ rising-later note before (first ∷ rest) rise = (
   rising-later note before rest rise.1,
 )
 
+-- fewer names rise too
 rising-names_but : {T : Type 0} (journal : Journal T) (gone : JobId) (names : List JobId) → Rising journal names → Rising journal (names_but gone names)
 rising-names_but journal gone [] rise = tt
 rising-names_but {T} journal gone (first ∷ names) rise = by_test (same_name gone first) (rising-names_but journal gone names rise.1)
@@ -71,10 +74,12 @@ rising-names_but {T} journal gone (first ∷ names) rise = by_test (same_name go
     by_test true rest = rest
     by_test false rest = ((λ other there new. rise.0 other (among-names_but_for other (Some gone) names there).0 new), rest)
 
+-- also where none goes
 rising-names_but_for : {T : Type 0} (journal : Journal T) (gone : Option JobId) (names : List JobId) → Rising journal names → Rising journal (names_but_for gone names)
 rising-names_but_for journal None names rise = rise
 rising-names_but_for journal (Some gone) names rise = rising-names_but journal gone names rise
 
+-- and with one more at the end that is above all of its sender
 rising-one_more : {T : Type 0} (journal : Journal T) (names : List JobId) (name : JobId) → Rising journal names →
     ((first : JobId) → among first names ≡ true → AreNew first name journal → first.number < name.number) → Rising journal (names ++ name ∷ [])
 rising-one_more journal [] name rise above = ((λ other there new. absurd (true≢false (sym there))), tt)
@@ -91,6 +96,7 @@ rising-one_more {T} journal (first ∷ names) name rise above =
               (above first (or_left (same_name first first) (among first names) (same_as_itself first))) new
         ]
 
+-- if one comes at all
 rising-with_last : {T : Type 0} (journal : Journal T) (names : List JobId) (more : Option JobId) → Rising journal names →
     ((name : JobId) → more ≡ Some name → (first : JobId) → among first names ≡ true → AreNew first name journal → first.number < name.number) →
     Rising journal (with_last names more)
@@ -145,6 +151,7 @@ module _ {T : Type 0} (actor cap : ℕ) (before : Journal T) (known : Known befo
       rw one below
   start_below queue name other _ law rise now waits stays new same_sender same_queue = cc
 
+  -- each note keeps both
   rise_after : (note : Note T) → MayFollow actor cap note before → LinesRise before → LinesRise (note ∷ before)
   rise_after note law rise = record {
     rising = λ queue.
@@ -180,6 +187,7 @@ module _ {T : Type 0} (actor cap : ℕ) (before : Journal T) (known : Known befo
                 | inr told ↦ rise.started_below queue name other was.0 (record { started = told; new = new; same_sender = ahead.same_sender; same_queue = same_queue (started_old other told) })
               ]
 
+-- they hold of each lawful journal
 pub rise_of : {T : Type 0} (actor cap : ℕ) (journal : Journal T) → EachNote (MayStand actor cap) journal → LinesRise journal
 rise_of actor cap [] notes = record { rising = λ queue. tt; started_below = λ queue name other there ahead. absurd (true≢false (sym there)) }
 rise_of actor cap (note ∷ before) notes =

@@ -25,6 +25,7 @@ line-stays queue note before stays nobody = rw (stays, nobody)
 pub line-took : {T : Type 0} (queue : ℕ) (name : JobId) (before : Journal T) → line queue (Took name queue ∷ before) ≡ line queue before ++ name ∷ []
 line-took queue name before = rw (eq-eqb queue queue refl)
 
+-- the other lines stay
 pub line-took_elsewhere : {T : Type 0} (queue into : ℕ) (name : JobId) (before : Journal T) → (queue ≡ into → ⊥) →
     line queue (Took name into ∷ before) ≡ line queue before
 line-took_elsewhere queue into name before other = rw (ne_eqb queue into other)
@@ -34,6 +35,7 @@ pub line-yield : {T : Type 0} (queue time : ℕ) (name : JobId) (before : Journa
     line queue (Yield name time ∷ before) ≡ line queue before ++ name ∷ []
 line-yield queue time name before its = rw (its, eq-eqb queue queue refl)
 
+-- the other lines stay
 pub line-yield_elsewhere : {T : Type 0} (queue into time : ℕ) (name : JobId) (before : Journal T) → queue_of name before ≡ Some into → (queue ≡ into → ⊥) →
     line queue (Yield name time ∷ before) ≡ line queue before
 line-yield_elsewhere queue into time name before its other = rw (its, ne_eqb queue into other)
@@ -77,6 +79,7 @@ module _ {T : Type 0} (actor cap : ℕ) (before : Journal T) (notes : EachNote (
       let left = names_but-turn queue name others first in
       record { started = left; resumed = left; returned = λ reason. left }
 
+  -- the other lines stay
   pub line-turn_elsewhere : (queue picked runtime : ℕ) (name : JobId) (others : List JobId) → line picked before ≡ name ∷ others → (queue ≡ picked → ⊥) →
       TurnLeaves queue picked runtime name (line queue before) before
   line-turn_elsewhere queue picked runtime name others first other =

@@ -10,6 +10,7 @@ use Rattle.rt_ids.specs.Lawful.{MayFollow, MayStand}
 use Rattle.rt_ids.proofs.Known.{known_of, first_in_line}
 use Rattle.rt_ids.proofs.LineOrder.{rise_of}
 
+-- the second clause of soundness, note by note
 pub in_order : {T : Type 0} (actor cap : ℕ) (assembly : Assembly T) (journal : Journal T) → EachNote (MayStand actor cap) journal →
     EachNote (DeliversAsSent assembly) journal → EachNote (StandsInOrder assembly) journal
 in_order actor cap assembly [] notes sent = tt

@@ -41,6 +41,7 @@ module _ {T : Type 0} (actor cap : ℕ) where
       by_test false = was
   shares-in_range_next queue _ before law was = was
 
+  -- in each lawful journal
   pub shares-in_range : (queue : ℕ) (journal : Journal T) → EachNote (MayStand actor cap) journal → InRange (shares queue journal)
   shares-in_range queue [] notes = record { positive = omega arith; bounded = omega arith }
   shares-in_range queue (note ∷ before) notes = shares-in_range_next queue note before notes.0.may_follow (shares-in_range queue before notes.1)
@@ -74,6 +75,7 @@ module _ {T : Type 0} (actor cap : ℕ) where
   runtime_picked-bounded bound (Pick queue runtime) before law below = let at_queue = below queue in omega (arith, law.at)
   runtime_picked-bounded bound _ before law below = omega arith
 
+  -- the floor and all virtual runtimes are at most this
   record IsBounded (bound : ℕ) (journal : Journal T) : Type 0 where
     of_floor : floor journal ≤ bound
     of_queues : (queue : ℕ) → virtual_runtime queue journal ≤ bound
@@ -124,6 +126,7 @@ module _ {T : Type 0} (actor cap : ℕ) where
       let fewer = settled_below journal notes in
       omega arith
 
+  -- and so is the floor
   pub floor-bounded : (journal : Journal T) → EachNote (MayStand actor cap) journal → floor journal ≤ turns journal * 2 ^ 50
   floor-bounded journal notes =
       let low = (bounded_by_settled journal notes).of_floor in

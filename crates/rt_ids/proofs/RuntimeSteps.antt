@@ -24,9 +24,11 @@ module _ {T : Type 0} (queue : ℕ) (before : Journal T) where
       virtual_runtime queue (Took name queue ∷ before) ≡ max (virtual_runtime queue before) (floor before)
   virtual_runtime-took_idle name idle = rw (eq-eqb queue queue refl, idle) (omega arith)
 
+  -- one with work stays where it is
   pub virtual_runtime-took_busy : (name : JobId) → has_work queue before ≡ true → virtual_runtime queue (Took name queue ∷ before) ≡ virtual_runtime queue before
   virtual_runtime-took_busy name busy = rw (eq-eqb queue queue refl, busy) (omega arith)
 
+  -- and so does each other queue
   pub virtual_runtime-took_elsewhere : (name : JobId) (into : ℕ) → (queue ≡ into → ⊥) →
       virtual_runtime queue (Took name into ∷ before) ≡ virtual_runtime queue before
   virtual_runtime-took_elsewhere name into other = rw (ne_eqb queue into other) (omega arith)
@@ -36,14 +38,17 @@ module _ {T : Type 0} (queue : ℕ) (before : Journal T) where
       virtual_runtime queue (Yield name time ∷ before) ≡ virtual_runtime queue before + charge time (shares queue before)
   virtual_runtime-yield name time its = rw (its, eq-eqb queue queue refl) (omega arith)
 
+  -- another queue pays nothing
   pub virtual_runtime-yield_elsewhere : (name : JobId) (time other : ℕ) → queue_of name before ≡ Some other → (queue ≡ other → ⊥) →
       virtual_runtime queue (Yield name time ∷ before) ≡ virtual_runtime queue before
   virtual_runtime-yield_elsewhere name time other its apart = rw (its, ne_eqb queue other apart) (omega arith)
 
+  -- so does the last poll of a job
   pub virtual_runtime-done : (name : JobId) (time : ℕ) (value : T) → queue_of name before ≡ Some queue →
       virtual_runtime queue (Done name time value ∷ before) ≡ virtual_runtime queue before + charge time (shares queue before)
   virtual_runtime-done name time value its = rw (its, eq-eqb queue queue refl) (omega arith)
 
+  -- another queue pays nothing
   pub virtual_runtime-done_elsewhere : (name : JobId) (time : ℕ) (value : T) (other : ℕ) → queue_of name before ≡ Some other → (queue ≡ other → ⊥) →
       virtual_runtime queue (Done name time value ∷ before) ≡ virtual_runtime queue before
   virtual_runtime-done_elsewhere name time value other its apart = rw (its, ne_eqb queue other apart) (omega arith)
@@ -52,15 +57,19 @@ module _ {T : Type 0} (queue : ℕ) (before : Journal T) where
   pub shares-stays : (note : Note T) → shares_told queue note ≡ None → shares queue (note ∷ before) ≡ shares queue before
   shares-stays note none = rw none
 
+  -- a creation gives them
   pub shares-created : (weight : ℕ) → shares queue (Created queue weight ∷ before) ≡ weight
   shares-created weight = rw (eq-eqb queue queue refl)
 
+  -- to no other queue
   pub shares-created_elsewhere : (other weight : ℕ) → (queue ≡ other → ⊥) → shares queue (Created other weight ∷ before) ≡ shares queue before
   shares-created_elsewhere other weight apart = rw (ne_eqb queue other apart)
 
+  -- a later command gives them
   pub shares-set : (weight : ℕ) → shares queue (SharesSet queue weight ∷ before) ≡ weight
   shares-set weight = rw (eq-eqb queue queue refl)
 
+  -- to no other queue
   pub shares-set_elsewhere : (other weight : ℕ) → (queue ≡ other → ⊥) → shares queue (SharesSet other weight ∷ before) ≡ shares queue before
   shares-set_elsewhere other weight apart = rw (ne_eqb queue other apart)
 

@@ -32,6 +32,7 @@ sent_there {T} assembly name queue (note ∷ before) order here = by_note note o
             subst (λ n. order_of n assembly ≡ Some (Job queue tt)) (sym (one_name name other same)) (sent ∙ ap (λ q. Some (Job q tt)) one)
     by_note _ sent rest here = rest here
 
+-- what is there is a number
 pub is_some-some : (o : Option ℕ) → is_some o ≡ true → (n : ℕ) × (o ≡ Some n)
 is_some-some None some = cc
 is_some-some (Some n) some = (n, refl)

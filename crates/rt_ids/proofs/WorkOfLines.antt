@@ -18,6 +18,7 @@ more_than left entered inside counted = by_test (nat_lt 0 inside) refl
     by_test true some = lt-ltb left entered (omega (arith, ltb-true 0 inside some))
     by_test false none = le-ltb left entered (omega (arith, ltb-false 0 inside none))
 
+-- names that are some have a first
 first_of_some : (names : List JobId) → nat_lt 0 (length names) ≡ true → (name : JobId) × (others : List JobId) × (names ≡ name ∷ others)
 first_of_some [] some = absurd (true≢false (sym some))
 first_of_some (name ∷ others) some = (name, others, refl)
