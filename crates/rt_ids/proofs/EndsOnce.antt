@@ -1,6 +1,6 @@
 -- Outcomes: in a lawful journal whose deliveries are as sent, no job ends twice, none is done before it started, and no command is answered twice.
 use Rattle.std.proofs.Common.{◌≡◌, ℕ, inl, inr, true, false, [], ◌∷◌, refl, sym, ◌∙◌, subst}
-use Rattle.std.proofs.lemmas.Bool.{or_cases, true≢false}
+use Rattle.std.proofs.lemmas.Bool.{or_cases, true≢false, false_from_ne_true}
 use Rattle.rt_ids.specs.declared.names.JobId.{JobId}
 use Rattle.rt_ids.specs.declared.note.Note.{Note}
 use Rattle.rt_ids.specs.declared.note.Note.TheVariants.{Back, Answered, Done, Returned, Collected, Redeemed}
@@ -13,7 +13,6 @@ use Rattle.rt_ids.specs.Lawful.{MayFollow, MayStand, IsNextDelivered}
 use Rattle.rt_ids.specs.Names.{is_name}
 use Rattle.rt_ids.proofs.JobsOut.{alone_out}
 use Rattle.rt_ids.proofs.Known.{IsOld, known_of, first_in_line, next_old, not_old, still_old}
-use Rattle.rt_ids.proofs.LineDistinct.{false_from}
 use Rattle.rt_ids.proofs.NameLemmas.{one_name, same_as_itself}
 use Rattle.rt_ids.proofs.Starts.{started_of}
 use Rattle.rt_ids.proofs.StartsOnce.{accepted_inside}
@@ -54,9 +53,9 @@ module _ {T : Type 0} (actor cap : ℕ) where
           let inside = (known_of actor cap before notes.1).line_inside law.0 name (first_in_line actor cap name law.0 before law.1) in
           (accepted_inside assembly name before order.1 inside, inside.going_on)
       by_note (Back name reason) law as_sent =
-          (as_sent, false_from _ (λ ended. next_not_old name before law.0 ((known_of actor cap before notes.1).ended_old name ended)))
+          (as_sent, false_from_ne_true _ (λ ended. next_not_old name before law.0 ((known_of actor cap before notes.1).ended_old name ended)))
       by_note (Answered name answer) law as_sent =
-          (as_sent, false_from _ (λ answered. next_not_old name before law.0 (answered_old name before notes.1 answered)))
+          (as_sent, false_from_ne_true _ (λ answered. next_not_old name before law.0 (answered_old name before notes.1 answered)))
       by_note (Collected name outcome) law as_sent = absurd law
       by_note (Redeemed name outcome) law as_sent = absurd law
       by_note _ law as_sent = tt

@@ -1,7 +1,7 @@
 -- In a lawful journal no job stands twice in a line, nor in a line while it is out.
 use Rattle.std.proofs.Common.{◌≡◌, ℕ, inl, inr, Bool, true, false, List, [], ◌∷◌, ◌++◌, refl, sym, ◌∙◌, ap, cond}
 use Rattle.std.specs.Prelude.{◌==◌, Option, Some, None, not}
-use Rattle.std.proofs.lemmas.Bool.{true≢false, or_parts}
+use Rattle.std.proofs.lemmas.Bool.{true≢false, or_parts, false_from_ne_true}
 use Rattle.rt_ids.specs.declared.names.JobId.{JobId}
 use Rattle.rt_ids.specs.declared.note.Note.{Note}
 use Rattle.rt_ids.specs.declared.note.Note.TheVariants.{Took, Pick, Start, Resume, Yield}
@@ -13,11 +13,6 @@ use Rattle.rt_ids.specs.Work.{queue_of}
 use Rattle.rt_ids.proofs.NameLemmas.{among, one_name, same_as_itself, among-with_last, among-names_but_for}
 use Rattle.rt_ids.proofs.JobsOut.{alone_out}
 use Rattle.rt_ids.proofs.Known.{Known, known_of, not_old}
-
--- a test that isn't true
-pub false_from : (test : Bool) → (test ≡ true → ⊥) → test ≡ false
-false_from true never = absurd (never refl)
-false_from false never = refl
 
 -- no name stands twice
 abbrev pub Distinct : List JobId → Type 0
@@ -37,7 +32,7 @@ names_but-first name others distinct = rw (same_as_itself name, names_but-other 
 
 -- the others of a line are other names than its first
 pub not_first : (first other : JobId) (rest : List JobId) → Distinct (first ∷ rest) → among other rest ≡ true → same_name other first ≡ false
-not_first first other rest distinct there = false_from _ not_same
+not_first first other rest distinct there = false_from_ne_true _ not_same
   where
     not_same : same_name other first ≡ true → ⊥
     not_same same = true≢false (sym there ∙ ap (λ name. among name rest) (one_name other first same) ∙ distinct.0)
@@ -48,7 +43,7 @@ distinct-names_but gone [] distinct = tt
 distinct-names_but gone (first ∷ names) distinct = by_test (same_name gone first) (distinct-names_but gone names distinct.1)
   where
     still_apart : among first (names_but gone names) ≡ false
-    still_apart = false_from _ (λ there. true≢false (sym (among-names_but_for first (Some gone) names there).0 ∙ distinct.0))
+    still_apart = false_from_ne_true _ (λ there. true≢false (sym (among-names_but_for first (Some gone) names there).0 ∙ distinct.0))
 
     by_test : (same : Bool) → Distinct (names_but gone names) → Distinct (cond (not same) (first ∷ names_but gone names) (names_but gone names))
     by_test true rest = rest
@@ -64,7 +59,7 @@ distinct-one_more : (names : List JobId) (name : JobId) → Distinct names → a
 distinct-one_more [] name distinct apart = (refl, tt)
 distinct-one_more (first ∷ names) name distinct apart =
     let parts = or_parts (same_name name first) (among name names) apart in
-    (false_from _ not_there, distinct-one_more names name distinct.1 parts.1)
+    (false_from_ne_true _ not_there, distinct-one_more names name distinct.1 parts.1)
   where
     not_there : among first (names ++ name ∷ []) ≡ true → ⊥
     not_there there =
@@ -149,7 +144,7 @@ module _ {T : Type 0} (actor cap : ℕ) (before : Journal T) (known : Known befo
     distinct = λ queue.
         distinct-with_last (names_but_for (name_leaving note) (line queue before)) (name_joining queue note before)
         (distinct-names_but_for (name_leaving note) (line queue before) (apart.distinct queue))
-        (λ name came. false_from _ (λ there. not_there queue name note law came (among-names_but_for name (name_leaving note) (line queue before) there).0));
+        (λ name came. false_from_ne_true _ (λ there. not_there queue name note law came (among-names_but_for name (name_leaving note) (line queue before) there).0));
     not_waiting = λ queue name outside inside.
         elim (among-with_last name (names_but_for (or_else (name_settled note) (name_polled note)) (jobs_out before)) (name_polled note) outside) [
           | inl was_out ↦

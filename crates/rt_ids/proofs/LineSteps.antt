@@ -1,7 +1,7 @@
 -- What each kind of note does to the lines of a lawful journal.
 use Rattle.std.proofs.Common.{◌≡◌, ℕ, true, false, List, [], ◌∷◌, ◌++◌, refl, sym, ◌∙◌}
 use Rattle.std.specs.Prelude.{Some, None}
-use Rattle.std.proofs.lemmas.Bool.{eq-eqb, ne_eqb}
+use Rattle.std.proofs.lemmas.Bool.{eq-eqb, ne_eqb, false_from_ne_true}
 use Rattle.std.proofs.lemmas.Option.{same_Some}
 use Rattle.rt_ids.specs.declared.names.JobId.{JobId}
 use Rattle.rt_ids.specs.declared.note.Note.{Note}
@@ -13,7 +13,7 @@ use Rattle.rt_ids.specs.Lines.{line, jobs_out, name_joining, name_leaving, names
 use Rattle.rt_ids.specs.Work.{queue_of}
 use Rattle.rt_ids.proofs.JobsOut.{alone_out}
 use Rattle.rt_ids.proofs.Known.{known_of}
-use Rattle.rt_ids.proofs.LineDistinct.{false_from, names_but-first, names_but-other, apart_of}
+use Rattle.rt_ids.proofs.LineDistinct.{names_but-first, names_but-other, apart_of}
 use Rattle.rt_ids.proofs.NameLemmas.{among, same_as_itself}
 
 -- a note that brings nobody and takes nobody leaves a line as it was
@@ -51,7 +51,7 @@ module _ {T : Type 0} (actor cap : ℕ) (before : Journal T) (notes : EachNote (
   pub line-done : (queue time : ℕ) (value : T) (name : JobId) → jobs_out before ≡ name ∷ [] → line queue (Done name time value ∷ before) ≡ line queue before
   line-done queue time value name alone =
       names_but-other name (line queue before)
-      (false_from _ (λ there. (apart_of actor cap before notes).not_waiting queue name (alone_out name before alone) there))
+      (false_from_ne_true _ (λ there. (apart_of actor cap before notes).not_waiting queue name (alone_out name before alone) there))
 
   -- the first of a line goes, and the others stay as they were
   pub names_but-turn : (queue : ℕ) (name : JobId) (others : List JobId) → line queue before ≡ name ∷ others → names_but name (line queue before) ≡ others
@@ -62,7 +62,7 @@ module _ {T : Type 0} (actor cap : ℕ) (before : Journal T) (notes : EachNote (
   -- the first of a line stands in no other line
   pub names_but-turn_elsewhere : (queue picked : ℕ) (name : JobId) (others : List JobId) → line picked before ≡ name ∷ others → (queue ≡ picked → ⊥) →
       names_but name (line queue before) ≡ line queue before
-  names_but-turn_elsewhere queue picked name others first other = names_but-other name (line queue before) (false_from _ not_there)
+  names_but-turn_elsewhere queue picked name others first other = names_but-other name (line queue before) (false_from_ne_true _ not_there)
     where
       there_too : among name (line picked before) ≡ true
       there_too = rw (first, same_as_itself name)

@@ -6,6 +6,9 @@ use Rattle.rt_ids.specs.declared.names.JobId.{JobId}
 use Rattle.rt_ids.specs.Journal.{Journal, EachNote}
 use Rattle.rt_ids.specs.Lawful.{MayStand}
 use Rattle.rt_ids.specs.Lines.{line, jobs_out, queue_out}
+use Rattle.rt_ids.specs.Keys.{KeyAtMost}
+use Rattle.rt_ids.specs.Picks.{IsRightPick}
+use Rattle.rt_ids.specs.Runtimes.{virtual_runtime}
 use Rattle.rt_ids.specs.Names.{is_number}
 use Rattle.rt_ids.specs.Work.{has_work, left_count, entered_count, queue_of, number_if}
 use Rattle.rt_ids.proofs.Counts.{counts_agree, queue_out-alone}
@@ -57,3 +60,17 @@ module _ {T : Type 0} (actor cap queue : ℕ) (journal : Journal T) (notes : Eac
   -- where nobody is out, work has a first in its line
   pub first_of_work : has_work queue journal ≡ true → jobs_out journal ≡ [] → (name : JobId) × (others : List JobId) × (line queue journal ≡ name ∷ others)
   first_of_work work nobody = first_of_some (line queue journal) (sym (has_work-nobody_out nobody) ∙ work)
+
+-- where nobody is out, a pick is right at a queue with a line whose key is at most that of each other queue with a line
+pub right_pick_of_lines : {T : Type 0} (actor cap queue : ℕ) (journal : Journal T) → EachNote (MayStand actor cap) journal →
+    jobs_out journal ≡ [] → (name : JobId) (others : List JobId) → line queue journal ≡ name ∷ others →
+    ((other : ℕ) (first : JobId) (rest : List JobId) → line other journal ≡ first ∷ rest →
+    KeyAtMost (virtual_runtime queue journal) queue (virtual_runtime other journal) other) →
+    IsRightPick queue (virtual_runtime queue journal) journal
+right_pick_of_lines actor cap queue journal notes nobody name others first least = record {
+  at = refl;
+  eligible = record { work = work_of_line actor cap queue journal notes name others first; nobody_out = nobody };
+  least = λ other ready.
+      let front = first_of_work actor cap other journal notes ready.work nobody in
+      least other front.0 front.1 front.2;
+}
