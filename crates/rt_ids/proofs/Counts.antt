@@ -1,7 +1,7 @@
 -- The jobs that entered a queue have left it, wait in its line, or are out. So a queue has work where its line is not empty or its job is out.
-use Rattle.std.proofs.Common.{◌≡◌, ℕ, ◌+◌, ◌<◌, ◌⊎◌, inl, inr, Bool, true, false, List, [], ◌∷◌, length, refl, sym, ◌∙◌, ap, arith}
-use Rattle.std.specs.Prelude.{◌==◌, Option, Some, None, is_some, nat_lt}
-use Rattle.std.proofs.lemmas.Bool.{ltb-true, lt-ltb, le-ltb, eqb-true, eqb-false, true≢false}
+use Rattle.std.proofs.Common.{◌≡◌, ℕ, ◌+◌, Bool, true, false, List, [], ◌∷◌, length, refl, ap, arith}
+use Rattle.std.specs.Prelude.{◌==◌, Some, None}
+use Rattle.std.proofs.lemmas.Bool.{eqb-true, eqb-false}
 use Rattle.rt_ids.specs.declared.names.JobId.{JobId}
 use Rattle.rt_ids.specs.declared.note.Note.{Note}
 use Rattle.rt_ids.specs.declared.note.Note.TheVariants.{Took, Start, Resume, Yield, Done, Returned}
@@ -10,8 +10,8 @@ use Rattle.rt_ids.specs.Lawful.{MayFollow, MayStand, IsTurnOf}
 use Rattle.rt_ids.specs.Laws.{IsCounted}
 use Rattle.rt_ids.specs.Lines.{line, jobs_out, names_but, queue_of_first, queue_out}
 use Rattle.rt_ids.specs.Names.{is_number}
-use Rattle.rt_ids.specs.Work.{has_work, left_count, entered_count, queue_of, number_if}
-use Rattle.rt_ids.proofs.JobsOut.{alone_out, nobody_out, jobs_out-start, jobs_out-resume, names_but-alone}
+use Rattle.rt_ids.specs.Work.{queue_of, number_if}
+use Rattle.rt_ids.proofs.JobsOut.{nobody_out, jobs_out-start, jobs_out-resume, names_but-alone}
 use Rattle.rt_ids.proofs.Known.{Known, known_of, queue_stays, first_in_line}
 use Rattle.rt_ids.proofs.LineSteps.{names_but-turn, names_but-turn_elsewhere, line-done}
 use Rattle.rt_ids.proofs.NameLemmas.{among, same_as_itself}

@@ -1,12 +1,11 @@
 -- Outcomes: in a lawful journal whose deliveries are as sent, no job ends twice, none is done before it started, and no command is answered twice.
-use Rattle.std.proofs.Common.{◌≡◌, ℕ, inl, inr, true, false, [], ◌∷◌, refl, sym, ◌∙◌, subst}
+use Rattle.std.proofs.Common.{◌≡◌, ℕ, inl, inr, true, [], ◌∷◌, refl, sym, ◌∙◌, subst}
 use Rattle.std.proofs.lemmas.Bool.{or_cases, true≢false, false_from_ne_true}
 use Rattle.rt_ids.specs.declared.names.JobId.{JobId}
 use Rattle.rt_ids.specs.declared.note.Note.{Note}
 use Rattle.rt_ids.specs.declared.note.Note.TheVariants.{Back, Answered, Done, Returned, Collected, Redeemed}
 use Rattle.rt_ids.specs.Assembly.{Assembly}
 use Rattle.rt_ids.specs.Clauses.{StandsInOrder, EndsOnce, name_answered}
-use Rattle.rt_ids.specs.Filters.{name_ended}
 use Rattle.rt_ids.specs.Journal.{Journal, EachNote, is_told}
 use Rattle.rt_ids.specs.Joining.{DeliversAsSent}
 use Rattle.rt_ids.specs.Lawful.{MayFollow, MayStand, IsNextDelivered}

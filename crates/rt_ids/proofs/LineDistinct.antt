@@ -4,7 +4,7 @@ use Rattle.std.specs.Prelude.{◌==◌, Option, Some, None, not}
 use Rattle.std.proofs.lemmas.Bool.{true≢false, or_parts, false_from_ne_true}
 use Rattle.rt_ids.specs.declared.names.JobId.{JobId}
 use Rattle.rt_ids.specs.declared.note.Note.{Note}
-use Rattle.rt_ids.specs.declared.note.Note.TheVariants.{Took, Pick, Start, Resume, Yield}
+use Rattle.rt_ids.specs.declared.note.Note.TheVariants.{Took, Start, Resume, Yield}
 use Rattle.rt_ids.specs.Journal.{Journal, EachNote, with_last, or_else}
 use Rattle.rt_ids.specs.Lawful.{MayFollow, MayStand}
 use Rattle.rt_ids.specs.Lines.{line, jobs_out, name_joining, name_leaving, name_polled, name_settled, names_but_for, names_but}

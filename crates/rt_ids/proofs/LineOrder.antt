@@ -1,15 +1,15 @@
 -- In each line of a lawful journal the jobs of one sender that have not started stand by rising number, above all of that queue that have.
 use Rattle.std.proofs.Common.{◌≡◌, ℕ, ◌<◌, ◌⊎◌, inl, inr, Bool, true, false, List, [], ◌∷◌, ◌++◌, refl, sym, ◌∙◌, ap, subst, arith, cond}
-use Rattle.std.specs.Prelude.{◌==◌, ◌||◌, Option, Some, None, not, is_some}
+use Rattle.std.specs.Prelude.{◌==◌, ◌||◌, Option, Some, None, not}
 use Rattle.std.proofs.lemmas.Bool.{or_cases, or_parts, or_left, or_right, true≢false}
 use Rattle.std.proofs.lemmas.Option.{same_Some}
 use Rattle.rt_ids.specs.declared.names.JobId.{JobId}
 use Rattle.rt_ids.specs.declared.note.Note.{Note}
-use Rattle.rt_ids.specs.declared.note.Note.TheVariants.{Took, Start, Resume, Yield}
+use Rattle.rt_ids.specs.declared.note.Note.TheVariants.{Took, Start, Yield}
 use Rattle.rt_ids.specs.Filters.{name_started}
-use Rattle.rt_ids.specs.Journal.{Journal, EachNote, with_last, is_told, or_else}
+use Rattle.rt_ids.specs.Journal.{Journal, EachNote, with_last, is_told}
 use Rattle.rt_ids.specs.Lawful.{MayFollow, MayStand}
-use Rattle.rt_ids.specs.Lines.{line, jobs_out, name_joining, name_leaving, name_polled, name_settled, names_but_for, names_but}
+use Rattle.rt_ids.specs.Lines.{line, name_joining, name_leaving, names_but_for, names_but}
 use Rattle.rt_ids.specs.Names.{same_name, is_name, is_number}
 use Rattle.rt_ids.specs.Work.{queue_of}
 use Rattle.rt_ids.proofs.JobsOut.{alone_out}

@@ -1,17 +1,17 @@
 -- A settled poll costs less than 2^50, and each was picked: so after n turns a virtual runtime is at most n * 2^50.
-use Rattle.std.proofs.Common.{◌≡◌, ℕ, ◌+◌, ◌-◌, ◌*◌, ◌/◌, ◌^◌, ◌<◌, ◌≤◌, Bool, true, false, List, [], ◌∷◌, length, refl, ap, arith, cond}
-use Rattle.std.specs.Prelude.{◌==◌, ◌&&◌, Some, None, is_some, not, max, min, unwrap_or}
+use Rattle.std.proofs.Common.{◌≡◌, ℕ, ◌+◌, ◌-◌, ◌*◌, ◌^◌, ◌<◌, ◌≤◌, Bool, true, false, [], ◌∷◌, length, ap, arith, cond}
+use Rattle.std.specs.Prelude.{◌==◌, ◌&&◌, Some, None, is_some, not, unwrap_or}
 use Rattle.std.proofs.Math.Nat.{div-lt_iff_lt-mul}
 use Rattle.rt_shares.specs.Charge.{InRange, charge, clamped}
 use Rattle.rt_ids.specs.declared.note.Note.{Note}
-use Rattle.rt_ids.specs.declared.note.Note.TheVariants.{Created, SharesSet, Pick, Start, Resume, Yield, Done, Returned}
+use Rattle.rt_ids.specs.declared.note.Note.TheVariants.{Created, SharesSet, Pick, Start, Resume, Yield, Done}
 use Rattle.rt_ids.specs.Clauses.{queue_just_picked}
 use Rattle.rt_ids.specs.Journal.{Journal, EachNote}
 use Rattle.rt_ids.specs.Lawful.{MayFollow, MayStand, takes_turn}
 use Rattle.rt_ids.specs.Lines.{jobs_out, name_settled}
 use Rattle.rt_ids.specs.Names.{is_number}
 use Rattle.rt_ids.specs.Picks.{turns}
-use Rattle.rt_ids.specs.Runtimes.{virtual_runtime, floor, shares, shares_told, place_noted, charge_noted, runtime_picked}
+use Rattle.rt_ids.specs.Runtimes.{virtual_runtime, floor, shares, place_noted, charge_noted, runtime_picked}
 use Rattle.rt_ids.specs.Work.{has_work, queue_of, queue_joined, number_if}
 use Rattle.rt_ids.proofs.JobsOut.{nobody_out, jobs_out-start, jobs_out-resume, names_but-alone}
 

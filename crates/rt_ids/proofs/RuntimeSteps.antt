@@ -1,5 +1,5 @@
 -- What each kind of note does to the virtual runtime and the shares of a queue, and to the floor.
-use Rattle.std.proofs.Common.{◌≡◌, ℕ, ◌+◌, ◌≤◌, true, false, ◌∷◌, refl, arith}
+use Rattle.std.proofs.Common.{◌≡◌, ℕ, ◌+◌, true, false, ◌∷◌, refl, arith}
 use Rattle.std.specs.Prelude.{Some, None, max}
 use Rattle.std.proofs.lemmas.Bool.{eq-eqb, ne_eqb}
 use Rattle.rt_shares.specs.Charge.{charge}

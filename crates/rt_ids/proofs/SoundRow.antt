@@ -1,7 +1,7 @@
 -- A core that creates a queue on command and runs a job in it is lawful, its links agree, and so it is sound: the law of joining is about something.
 use Rattle.std.proofs.Common.{◌≡◌, ℕ, suc, zero, ◌<◌, ◌≤◌, inr, Bool, true, false, [], ◌∷◌, refl, sym, ◌∙◌, arith, eqb-true}
 use Rattle.std.proofs.lemmas.Bool.{true≢false}
-use Rattle.std.specs.Prelude.{Some, ◌==◌, map}
+use Rattle.std.specs.Prelude.{◌==◌, map}
 use Rattle.rt_ids.specs.declared.names.JobId.{JobId}
 use Rattle.rt_ids.specs.declared.note.Note.TheVariants.{Sent, Answered, Created, Took, Pick, Start, Yield, Resume, Done}
 use Rattle.rt_ids.specs.declared.order.Answer.TheVariants as answers
