@@ -8,21 +8,26 @@ use Rattle.rt_ids.specs.Journal.{with_last}
 use Rattle.rt_ids.specs.Lines.{names_but, names_but_for}
 use Rattle.rt_ids.specs.Names.{same_name, is_name}
 
+-- whether a name stands in a list
 abbrev pub among : JobId → List JobId → Bool
 among name names = list_any (same_name name) names
 
+-- names with the same parts are one
 from_parts : (a b : JobId) → a.from ≡ b.from → a.to ≡ b.to → a.number ≡ b.number → a ≡ b
 from_parts a b p q r = λ i. record { from = p i; to = q i; number = r i }
 
+-- names that the test takes for one are one
 pub one_name : (a b : JobId) → same_name a b ≡ true → a ≡ b
 one_name a b same =
     let ends = and_parts (a.from == b.from && a.to == b.to) (a.number == b.number) same in
     let links = and_parts (a.from == b.from) (a.to == b.to) ends.0 in
     from_parts a b (eqb-true a.from b.from links.0) (eqb-true a.to b.to links.1) (eqb-true a.number b.number ends.1)
 
+-- a name is itself
 pub same_as_itself : (a : JobId) → same_name a a ≡ true
 same_as_itself a = rw (eq-eqb a.from a.from refl, eq-eqb a.to a.to refl, eq-eqb a.number a.number refl)
 
+-- what the test takes for a name is that name
 pub is_name-some : (name : JobId) (list_told : Option JobId) → is_name name list_told ≡ true → list_told ≡ Some name
 is_name-some name None list_told = cc
 is_name-some name (Some other) list_told = ap Some (sym (one_name name other list_told))

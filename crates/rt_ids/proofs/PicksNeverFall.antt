@@ -51,6 +51,7 @@ module _ {T : Type 0} (actor cap queue : ℕ) where
                 omega arith
           ]
 
+  -- a queue with work stands at or above the floor
   pub floor_below : (journal : Journal T) → EachNote (MayStand actor cap) journal → has_work queue journal ≡ true → floor journal ≤ virtual_runtime queue journal
   floor_below [] notes work = omega arith
   floor_below (note ∷ before) notes work =

@@ -1,6 +1,6 @@
 -- The definitions, computed on small journals.
 use Rattle.std.proofs.Common.{◌≡◌, ℕ, [], ◌∷◌, refl, false}
-use Rattle.std.specs.Prelude.{reverse, map}
+use Rattle.std.specs.Prelude.{reverse, map, Some, None}
 use Rattle.rt_ids.specs.declared.names.JobId.{JobId}
 use Rattle.rt_ids.specs.declared.note.Note.TheVariants.{Sent, Took, Created, QueueClosed, Answered, Pick, Start, Resume, Yield, Done, Returned}
 use Rattle.rt_ids.specs.declared.note.OutcomeNote.TheVariants.{Finished}
@@ -10,7 +10,8 @@ use Rattle.rt_ids.specs.declared.order.Reason.TheVariants as reason
 use Rattle.rt_ids.specs.declared.order.Answer.TheVariants as answer
 use Rattle.rt_ids.specs.Filters.{accepted_orders, delivered_names, given_outcomes, starts, finishes, returns}
 use Rattle.rt_ids.specs.Journal.{Journal, at_place}
-use Rattle.rt_ids.specs.Lines.{jobs_out, line}
+use Rattle.rt_ids.specs.Lines.{jobs_out, line, queue_out}
+use Rattle.rt_ids.specs.Picks.{turns}
 use Rattle.rt_ids.specs.Runtimes.{virtual_runtime, floor, shares}
 use Rattle.rt_ids.specs.Work.{has_work}
 
@@ -52,6 +53,11 @@ two_queues =
 two_queues-end : (virtual_runtime 0 two_queues ≡ 90) × (virtual_runtime 1 two_queues ≡ 180) × (floor two_queues ≡ 120) × (shares 1 two_queues ≡ 500)
 unfolding two_queues job
 two_queues-end = (refl, refl, refl, refl)
+
+-- six picks, and while job 1 is out the queue out is its own
+two_queues-turns : (turns two_queues ≡ 6) × (queue_out (at_place 7 two_queues) ≡ Some 0) × (queue_out two_queues ≡ None)
+unfolding two_queues job
+two_queues-turns = (refl, refl, refl)
 
 -- at the second pick of queue 0
 two_queues-middle : (virtual_runtime 0 (at_place 11 two_queues) ≡ 30) × (virtual_runtime 1 (at_place 11 two_queues) ≡ 60) × (line 0 (at_place 11 two_queues) ≡ job 1 ∷ []) × (jobs_out (at_place 11 two_queues) ≡ [])

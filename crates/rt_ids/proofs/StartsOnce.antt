@@ -1,258 +1,21 @@
 -- In a lawful journal each job that starts has entered, has not ended, and starts once.
-use Rattle.std.proofs.Common.{◌≡◌, ℕ, ◌+◌, ◌≤◌, inl, inr, Bool, true, false, List, [], ◌∷◌, length, refl, sym, ◌∙◌, ap, subst, arith, cond}
-use Rattle.std.specs.Prelude.{◌==◌, Option, Some, None, is_some}
-use Rattle.std.proofs.lemmas.List.{length-append}
-use Rattle.std.proofs.lemmas.Bool.{or_cases, eqb-true, eq-eqb, true≢false}
+use Rattle.std.proofs.Common.{◌≡◌, ℕ, Bool, true, false, [], ◌∷◌, refl, sym, ◌∙◌, ap, subst, cond}
+use Rattle.std.specs.Prelude.{Option, Some, None, is_some}
 use Rattle.rt_ids.specs.declared.names.JobId.{JobId}
 use Rattle.rt_ids.specs.declared.note.Note.{Note}
-use Rattle.rt_ids.specs.declared.note.Note.TheVariants.{Took, Back, Pick, Start, Resume, Yield, Done, Returned}
-use Rattle.rt_ids.specs.Assembly.{Assembly, order_of}
-use Rattle.rt_ids.specs.Clauses.{queue_just_picked, StartsRight, StandsInOrder, CanBePolled}
-use Rattle.rt_ids.specs.Filters.{delivered_names, name_delivered, if_from, name_ended}
-use Rattle.rt_ids.specs.Journal.{Journal, EachNote, with_last, is_told, or_else}
-use Rattle.rt_ids.specs.Lawful.{MayFollow, MayStand, IsTurnOf, IsNextDelivered}
-use Rattle.rt_ids.specs.Lines.{line, jobs_out, name_joining, name_leaving, name_polled, name_settled, names_but_for}
-use Rattle.rt_ids.specs.Names.{same_name, is_name, is_number}
+use Rattle.rt_ids.specs.declared.note.Note.TheVariants.{Took, Start, Resume}
+use Rattle.rt_ids.specs.Assembly.{Assembly, order_of, IsAcceptedJob}
+use Rattle.rt_ids.specs.Clauses.{StartsRight, StandsInOrder, CanBePolled}
+use Rattle.rt_ids.specs.Journal.{Journal, EachNote, or_else}
+use Rattle.rt_ids.specs.Lawful.{MayFollow, MayStand, IsTurnOf}
+use Rattle.rt_ids.specs.Names.{same_name}
 use Rattle.rt_ids.specs.Work.{queue_of, queue_entered}
 use Rattle.rt_ids.specs.declared.order.Order.TheVariants.{Job}
-use Rattle.rt_ids.proofs.NameLemmas.{among, one_name, same_as_itself, among-with_last, among-names_but_for}
-
--- the job was delivered before
-abbrev pub IsOld : {T : Type 0} → JobId → Journal T → Type 0
-IsOld name journal = name.number ≤ length (delivered_names name.from journal)
-
--- the job is inside: it entered, and has not ended
-pub record IsInside {T : Type 0} (name : JobId) (journal : Journal T) : Type 0 where
-  pub entered : is_some (queue_of name journal) ≡ true
-  pub going_on : is_told name_ended name journal ≡ false
-
-pub record Known {T : Type 0} (journal : Journal T) : Type 0 where
-  pub line_queue : (queue : ℕ) (name : JobId) → among name (line queue journal) ≡ true → queue_of name journal ≡ Some queue
-  pub line_inside : (queue : ℕ) (name : JobId) → among name (line queue journal) ≡ true → IsInside name journal
-  pub out_inside : (name : JobId) → among name (jobs_out journal) ≡ true → IsInside name journal
-  pub entered_old : (name : JobId) → is_some (queue_of name journal) ≡ true → IsOld name journal
-  pub ended_old : (name : JobId) → is_told name_ended name journal ≡ true → IsOld name journal
-
--- the list of those delivered only grows
-grows : {A : Type 0} (items : List A) (more : Option A) → length items ≤ length (with_last items more)
-grows items None = omega arith
-grows items (Some item) = omega (arith, length-append items (item ∷ []))
-
-still_old : {T : Type 0} (name : JobId) (note : Note T) (before : Journal T) → IsOld name before → IsOld name (note ∷ before)
-still_old name note before old =
-    omega (arith, grows (delivered_names name.from before) (name_delivered name.from note))
-
-one_longer : {A : Type 0} (items : List A) (item : A) (test : Bool) → test ≡ true → length (with_last items (cond test (Some item) None)) ≡ length items + 1
-one_longer items item true passed = length-append items (item ∷ [])
-one_longer items item false passed = cc
-
-module _ {T : Type 0} (actor cap : ℕ) where
-  -- a job that is delivered now was not delivered before
-  pub not_old : (name other : JobId) (before : Journal T) → IsNextDelivered actor other before → IsOld name before → same_name name other ≡ false
-  not_old name other before next old = by_test (same_name name other) refl
-    where
-      by_test : (test : Bool) → same_name name other ≡ test → test ≡ false
-      by_test false same = refl
-      by_test true same =
-          let one : name ≡ other = one_name name other same in
-          let late : other.number ≤ length (delivered_names other.from before) = rw one at old in
-          absurd (omega (arith, next.next))
-
-  not_entering : (name : JobId) (note : Note T) (before : Journal T) → MayFollow actor cap note before → IsOld name before → queue_entered name note ≡ None
-  not_entering name (Took other queue) before law old = rw (not_old name other before law.0 old)
-  not_entering name _ before law old = refl
-
-  -- what a note ends is neither inside and staying, nor out and staying
-  not_ending : (name : JobId) (note : Note T) (before : Journal T) → MayFollow actor cap note before → IsOld name before →
-      is_name name (name_leaving note) ≡ false → is_name name (name_ended note) ≡ false
-  not_ending name (Back other reason) before law old stays = not_old name other before law.0 old
-  not_ending name (Done other time value) before law old stays = stays
-  not_ending name (Returned other reason) before law old stays = stays
-  not_ending name _ before law old stays = refl
-
-  next_old : (other : JobId) (before : Journal T) (more : Option JobId) → IsNextDelivered actor other before →
-      more ≡ if_from other.from other other → other.number ≤ length (with_last (delivered_names other.from before) more)
-  next_old other before more next says =
-      rw
-      says
-      (omega (arith, next.next, one_longer (delivered_names other.from before) other (other.from == other.from) (eq-eqb other.from other.from refl)))
-
-  taking_old : (name : JobId) (note : Note T) (before : Journal T) → MayFollow actor cap note before → (queue : ℕ) → queue_entered name note ≡ Some queue →
-      IsOld name (note ∷ before)
-  taking_old name (Took other into) before law queue took = by_test (same_name name other) refl took
-    where
-      by_test : (test : Bool) → same_name name other ≡ test → cond test (Some into) None ≡ Some queue → IsOld name (Took other into ∷ before)
-      by_test false same took = cc
-      by_test true same took =
-          subst (λ one. IsOld one (Took other into ∷ before)) (sym (one_name name other same)) (next_old other before _ law.0 refl)
-  taking_old name _ before law queue took = cc
-
-  -- the job of a turn stands in the line of its queue
-  first_in_line : (name : JobId) (queue : ℕ) (before : Journal T) → IsTurnOf name queue before → among name (line queue before) ≡ true
-  first_in_line name queue before turn = rw (turn.first, same_as_itself name)
-
-  pub alone_out : (name : JobId) (before : Journal T) → jobs_out before ≡ name ∷ [] → among name (jobs_out before) ≡ true
-  alone_out name before alone = rw (alone, same_as_itself name)
-
-  ending_old : (name : JobId) (note : Note T) (before : Journal T) → MayFollow actor cap note before → Known before →
-      is_name name (name_ended note) ≡ true → IsOld name (note ∷ before)
-  ending_old name (Done other time value) before law known same =
-      subst (λ one. IsOld one (Done other time value ∷ before)) (sym (one_name name other same))
-      (still_old other (Done other time value) before (known.entered_old other (known.out_inside other (alone_out other before law)).entered))
-  ending_old name (Returned other reason) before law known same =
-      subst (λ one. IsOld one (Returned other reason ∷ before)) (sym (one_name name other same))
-      (
-      still_old other (Returned other reason) before
-      (known.entered_old other (known.line_inside law.0 other (first_in_line other law.0 before law.1)).entered)
-      )
-  ending_old name (Back other reason) before law known same =
-      subst (λ one. IsOld one (Back other reason ∷ before)) (sym (one_name name other same)) (next_old other before _ law.0 refl)
-  ending_old name _ before law known same = cc
-
-  -- the queue of a job that was delivered before stays
-  queue_stays : (name : JobId) (note : Note T) (before : Journal T) → MayFollow actor cap note before → IsOld name before →
-      queue_of name (note ∷ before) ≡ queue_of name before
-  queue_stays name note before law old = rw (not_entering name note before law old)
-
-  stays_inside : (name : JobId) (note : Note T) (before : Journal T) → MayFollow actor cap note before → Known before → IsInside name before →
-      is_name name (name_ended note) ≡ false → IsInside name (note ∷ before)
-  stays_inside name note before law known inside stays = record {
-    entered = rw (queue_stays name note before law (known.entered_old name inside.entered)) inside.entered;
-    going_on = rw (stays, inside.going_on);
-  }
-
-  -- behind a pick nobody is out
-  nobody_out : (before : Journal T) → EachNote (MayStand actor cap) before → (queue : ℕ) → queue_just_picked before ≡ Some queue → jobs_out before ≡ []
-  nobody_out [] notes queue picked = cc
-  nobody_out (Pick other runtime ∷ before) notes queue picked = notes.0.may_follow.eligible.nobody_out
-  nobody_out (_ ∷ before) notes queue picked = cc
-
-  -- whom a note leaves out, it does not end
-  out_not_ending : (name : JobId) (note : Note T) (before : Journal T) → MayFollow actor cap note before → EachNote (MayStand actor cap) before →
-      IsOld name before → among name (jobs_out before) ≡ true → is_name name (or_else (name_settled note) (name_polled note)) ≡ false →
-      is_name name (name_ended note) ≡ false
-  out_not_ending name (Back other reason) before law notes old there stays = not_old name other before law.0 old
-  out_not_ending name (Done other time value) before law notes old there stays = stays
-  out_not_ending name (Returned other reason) before law notes old there stays =
-      absurd (true≢false (sym there ∙ ap (among name) (nobody_out before notes law.0 law.1.picked)))
-  out_not_ending name _ before law notes old there stays = refl
-
-  record Comes (queue : ℕ) (name : JobId) (note : Note T) (before : Journal T) : Type 0 where
-    its_queue : queue_of name (note ∷ before) ≡ Some queue
-    inside : IsInside name (note ∷ before)
-
-  -- who comes to the tail of a line, is of its queue and inside
-  coming : (queue : ℕ) (name : JobId) (note : Note T) (before : Journal T) → MayFollow actor cap note before → Known before →
-      name_joining queue note before ≡ Some name → Comes queue name note before
-  coming queue name (Took other into) before law known came = by_test (queue == into) refl came
-    where
-      not_ended : (test : Bool) → is_told name_ended other before ≡ test → test ≡ false
-      not_ended false ending = refl
-      not_ended true ending = absurd (omega (arith, law.0.next, known.ended_old other ending))
-
-      by_test : (test : Bool) → (queue == into) ≡ test → cond test (Some other) None ≡ Some name → Comes queue name (Took other into) before
-      by_test false same came = cc
-      by_test true same came =
-          let one : other ≡ name = cc in
-          subst (λ x. Comes queue x (Took other into) before) one
-          (
-          record {
-            its_queue = rw (same_as_itself other, eqb-true queue into same);
-            inside = record { entered = rw (same_as_itself other); going_on = not_ended (is_told name_ended other before) refl };
-          }
-          )
-  coming queue name (Yield other time) before law known came = by_test (queue_of other before) refl came
-    where
-      by_test : (its : Option ℕ) → queue_of other before ≡ its → cond (is_number queue its) (Some other) None ≡ Some name → Comes queue name (Yield other time) before
-      by_test None at came = cc
-      by_test (Some into) at came = by_number (queue == into) refl came
-        where
-          by_number : (test : Bool) → (queue == into) ≡ test → cond test (Some other) None ≡ Some name → Comes queue name (Yield other time) before
-          by_number false same came = cc
-          by_number true same came =
-              let one : other ≡ name = cc in
-              subst (λ x. Comes queue x (Yield other time) before) one
-              (
-              record {
-                its_queue = at ∙ ap Some (sym (eqb-true queue into same));
-                inside = stays_inside other (Yield other time) before law known (known.out_inside other (alone_out other before law)) refl;
-              }
-              )
-  coming queue name _ before law known came = cc
-
-  polling : (name : JobId) (note : Note T) (before : Journal T) → MayFollow actor cap note before → Known before →
-      name_polled note ≡ Some name → IsInside name (note ∷ before)
-  polling name (Start other) before law known same =
-      let one : other ≡ name = cc in
-      subst (λ x. IsInside x (Start other ∷ before)) one
-      (stays_inside other (Start other) before law known (known.line_inside law.0 other (first_in_line other law.0 before law.1)) refl)
-  polling name (Resume other) before law known same =
-      let one : other ≡ name = cc in
-      subst (λ x. IsInside x (Resume other ∷ before)) one
-      (stays_inside other (Resume other) before law known (known.line_inside law.0 other (first_in_line other law.0 before law.1)) refl)
-  polling name _ before law known same = cc
-
-  module _ (note : Note T) (before : Journal T) (law : MayFollow actor cap note before) (notes : EachNote (MayStand actor cap) before) (known : Known before) where
-    line_comes : (queue : ℕ) (name : JobId) → among name (line queue (note ∷ before)) ≡ true → Comes queue name note before
-    line_comes queue name there =
-        elim (among-with_last name (names_but_for (name_leaving note) (line queue before)) (name_joining queue note before) there)
-        [ inl was ↦ stayed (among-names_but_for name (name_leaving note) (line queue before) was) | inr came ↦ coming queue name note before law known came ]
-      where
-        stayed : (among name (line queue before) ≡ true) × (is_name name (name_leaving note) ≡ false) → Comes queue name note before
-        stayed was =
-            let inside = known.line_inside queue name was.0 in
-            let old = known.entered_old name inside.entered in
-            record {
-              its_queue = queue_stays name note before law old ∙ known.line_queue queue name was.0;
-              inside = stays_inside name note before law known inside (not_ending name note before law old was.1);
-            }
-
-    out_comes : (name : JobId) → among name (jobs_out (note ∷ before)) ≡ true → IsInside name (note ∷ before)
-    out_comes name there =
-        elim (among-with_last name (names_but_for (or_else (name_settled note) (name_polled note)) (jobs_out before)) (name_polled note) there) [
-          | inl was ↦ stayed (among-names_but_for name (or_else (name_settled note) (name_polled note)) (jobs_out before) was)
-          | inr came ↦ polling name note before law known came
-        ]
-      where
-        stayed : (among name (jobs_out before) ≡ true) × (is_name name (or_else (name_settled note) (name_polled note)) ≡ false) → IsInside name (note ∷ before)
-        stayed was =
-            let inside = known.out_inside name was.0 in
-            let old = known.entered_old name inside.entered in
-            stays_inside name note before law known inside (out_not_ending name note before law notes old was.0 was.1)
-
-    entered_comes : (name : JobId) → is_some (queue_of name (note ∷ before)) ≡ true → IsOld name (note ∷ before)
-    entered_comes name there = by_entered (queue_entered name note) refl there
-      where
-        by_entered : (into : Option ℕ) → queue_entered name note ≡ into → is_some (or_else into (queue_of name before)) ≡ true → IsOld name (note ∷ before)
-        by_entered None took there = still_old name note before (known.entered_old name there)
-        by_entered (Some queue) took there = taking_old name note before law queue took
-
-    ended_comes : (name : JobId) → is_told name_ended name (note ∷ before) ≡ true → IsOld name (note ∷ before)
-    ended_comes name there =
-        elim (or_cases (is_name name (name_ended note)) (is_told name_ended name before) there)
-        [ inl now ↦ ending_old name note before law known now | inr was ↦ still_old name note before (known.ended_old name was) ]
-
-    stays_known : Known (note ∷ before)
-    stays_known = record {
-      line_queue = λ queue name there. (line_comes queue name there).its_queue;
-      line_inside = λ queue name there. (line_comes queue name there).inside;
-      out_inside = out_comes;
-      entered_old = entered_comes;
-      ended_old = ended_comes;
-    }
-
-  pub known_of : (journal : Journal T) → EachNote (MayStand actor cap) journal → Known journal
-  known_of [] notes = record {
-    line_queue = λ queue name there. absurd (true≢false (sym there));
-    line_inside = λ queue name there. absurd (true≢false (sym there));
-    out_inside = λ name there. absurd (true≢false (sym there));
-    entered_old = λ name there. absurd (true≢false (sym there));
-    ended_old = λ name there. absurd (true≢false (sym there));
-  }
-  known_of (note ∷ before) notes = stays_known note before notes.0.may_follow notes.1 (known_of before notes.1)
+use Rattle.rt_ids.proofs.Known.{IsInside, known_of, first_in_line}
+use Rattle.rt_ids.proofs.NameLemmas.{one_name}
 
 -- a job that entered was sent to the queue that it entered
-sent_there : {T : Type 0} (assembly : Assembly T) (name : JobId) (queue : ℕ) (journal : Journal T) → EachNote (StandsInOrder assembly) journal →
+pub sent_there : {T : Type 0} (assembly : Assembly T) (name : JobId) (queue : ℕ) (journal : Journal T) → EachNote (StandsInOrder assembly) journal →
     queue_of name journal ≡ Some queue → order_of name assembly ≡ Some (Job queue tt)
 sent_there assembly name queue [] order here = cc
 sent_there {T} assembly name queue (note ∷ before) order here = by_note note order.0 (sent_there assembly name queue before order.1) here
@@ -269,9 +32,17 @@ sent_there {T} assembly name queue (note ∷ before) order here = by_note note o
             subst (λ n. order_of n assembly ≡ Some (Job queue tt)) (sym (one_name name other same)) (sent ∙ ap (λ q. Some (Job q tt)) one)
     by_note _ sent rest here = rest here
 
-is_some-some : (o : Option ℕ) → is_some o ≡ true → (n : ℕ) × (o ≡ Some n)
+-- what is there is a number
+pub is_some-some : (o : Option ℕ) → is_some o ≡ true → (n : ℕ) × (o ≡ Some n)
 is_some-some None some = cc
 is_some-some (Some n) some = (n, refl)
+
+-- a job that is inside was accepted
+pub accepted_inside : {T : Type 0} (assembly : Assembly T) (name : JobId) (before : Journal T) → EachNote (StandsInOrder assembly) before →
+    IsInside name before → IsAcceptedJob name assembly
+accepted_inside assembly name before order inside =
+    let its = is_some-some (queue_of name before) inside.entered in
+    (its.0, sent_there assembly name its.0 before order its.1)
 
 -- Clause 1 of soundness: each start and each resume is of an accepted job that is inside, and no job starts twice.
 pub starts_right : {T : Type 0} (actor cap : ℕ) (assembly : Assembly T) (journal : Journal T) → EachNote (MayStand actor cap) journal →
@@ -281,13 +52,11 @@ starts_right {T} actor cap assembly (note ∷ before) notes order =
     (by_note note notes.0.may_follow, starts_right actor cap assembly before notes.1 order.1)
   where
     polled_inside : (name : JobId) → IsInside name before → CanBePolled assembly name before
-    polled_inside name inside =
-        let its = is_some-some (queue_of name before) inside.entered in
-        record {
-          is_accepted = (its.0, sent_there assembly name its.0 before order.1 its.1);
-          has_entered = inside.entered;
-          has_not_ended = inside.going_on;
-        }
+    polled_inside name inside = record {
+      is_accepted = accepted_inside assembly name before order.1 inside;
+      has_entered = inside.entered;
+      has_not_ended = inside.going_on;
+    }
 
     in_turn : (name : JobId) (queue : ℕ) → IsTurnOf name queue before → IsInside name before
     in_turn name queue turn =

@@ -1,6 +1,5 @@
 -- What a core answers to a delivery: whether a job enters, what a command is answered, and what follows the answer.
-use Rattle.std.specs.Prelude.{◌≡◌, ◌⊎◌, ℕ, ◌+◌, Bool, true, false, nat_le, if◌then◌else◌, Option, Some, None, [], ◌∷◌, length}
-use Rattle.rt_ids.specs.declared.names.JobId.{JobId}
+use Rattle.std.specs.Prelude.{◌≡◌, ◌⊎◌, ℕ, ◌+◌, Bool, true, false, nat_le, if◌then◌else◌, Option, Some, None, ◌∷◌, length}
 use Rattle.rt_ids.specs.declared.note.Note.{Note}
 use Rattle.rt_ids.specs.declared.note.Note.TheVariants as notes
 use Rattle.rt_ids.specs.declared.order.Order.{Order}

@@ -1,9 +1,13 @@
 -- Laws of lawful journals.
-use Rattle.std.specs.Prelude.{ℕ, ◌≤◌}
+use Rattle.std.specs.Prelude.{◌≡◌, ℕ, ◌+◌, ◌*◌, ◌^◌, ◌≤◌, true, length}
 use Rattle.rt_ids.specs.declared.note.Note.{Note}
 use Rattle.rt_ids.specs.declared.note.Note.TheVariants.{Pick}
 use Rattle.rt_ids.specs.Journal.{Journal, EachNote}
-use Rattle.rt_ids.specs.Runtimes.{floor}
+use Rattle.rt_ids.specs.Names.{is_number}
+use Rattle.rt_ids.specs.Work.{has_work, entered_count, left_count, number_if}
+use Rattle.rt_ids.specs.Lines.{line, queue_out}
+use Rattle.rt_ids.specs.Runtimes.{floor, virtual_runtime}
+use Rattle.rt_ids.specs.Picks.{turns}
 use Rattle.rt_ids.specs.Assembly.{Assembly}
 use Rattle.rt_ids.specs.Clauses.{StartsRight, StandsInOrder}
 use Rattle.rt_ids.specs.Lawful.{MayStand}
@@ -21,3 +25,23 @@ abbrev pub StartsOnce : Type 0
 StartsOnce =
     (actor cap : ℕ) (assembly : Assembly ℕ) (journal : Journal ℕ) → EachNote (MayStand actor cap) journal →
     EachNote (StandsInOrder assembly) journal → EachNote (StartsRight assembly) journal
+
+-- what entered a queue has left it, waits in its line, or is out
+abbrev pub IsCounted : {T : Type 0} → ℕ → Journal T → Type 0
+IsCounted queue journal =
+    entered_count queue journal ≡ left_count queue journal + length (line queue journal) + number_if (is_number queue (queue_out journal))
+
+-- in a lawful journal all that entered is counted so
+abbrev pub JobsAreCounted : Type 0
+JobsAreCounted = (actor cap queue : ℕ) (journal : Journal ℕ) → EachNote (MayStand actor cap) journal → IsCounted queue journal
+
+-- in a lawful journal a queue with work stands at or above the floor
+abbrev pub WorkIsAboveFloor : Type 0
+WorkIsAboveFloor =
+    (actor cap queue : ℕ) (journal : Journal ℕ) → EachNote (MayStand actor cap) journal →
+    has_work queue journal ≡ true → floor journal ≤ virtual_runtime queue journal
+
+-- a turn costs less than 2^50, so that after n turns of a lawful journal each virtual runtime is at most n * 2^50
+abbrev pub NoRuntimeWraps : Type 0
+NoRuntimeWraps =
+    (actor cap queue : ℕ) (journal : Journal ℕ) → EachNote (MayStand actor cap) journal → virtual_runtime queue journal ≤ turns journal * 2 ^ 50

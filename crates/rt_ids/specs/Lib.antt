@@ -13,4 +13,5 @@ pub mod Sound
 pub mod Outstanding
 pub mod Commands
 pub mod Lawful
+pub mod Joining
 pub mod Laws

@@ -52,3 +52,12 @@ name_leaving _ = None
 abbrev pub line : {T : Type 0} → ℕ → Journal T → List JobId
 line queue [] = []
 line queue (note ∷ before) = with_last (names_but_for (name_leaving note) (line queue before)) (name_joining queue note before)
+
+-- the queue of the first of these jobs, if there is one
+abbrev pub queue_of_first : {T : Type 0} → List JobId → Journal T → Option ℕ
+queue_of_first [] journal = None
+queue_of_first (name ∷ names) journal = queue_of name journal
+
+-- the queue of the job that is out
+abbrev pub queue_out : {T : Type 0} → Journal T → Option ℕ
+queue_out journal = queue_of_first (jobs_out journal) journal

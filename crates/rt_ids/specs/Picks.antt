@@ -1,5 +1,7 @@
 -- Which queue a core may pick.
-use Rattle.std.specs.Prelude.{◌≡◌, ℕ, [], IsTrue}
+use Rattle.std.specs.Prelude.{◌≡◌, ℕ, ◌+◌, [], ◌∷◌, IsTrue}
+use Rattle.rt_ids.specs.declared.note.Note.{Note}
+use Rattle.rt_ids.specs.declared.note.Note.TheVariants.{Pick}
 use Rattle.rt_ids.specs.Keys.{KeyAtMost}
 use Rattle.rt_ids.specs.Journal.{Journal}
 use Rattle.rt_ids.specs.Work.{has_work}
@@ -16,3 +18,13 @@ pub record IsRightPick {T : Type 0} (queue runtime : ℕ) (before : Journal T) :
   pub at : runtime ≡ virtual_runtime queue before
   pub eligible : IsEligible queue before
   pub least : (other : ℕ) → IsEligible other before → KeyAtMost runtime queue (virtual_runtime other before) other
+
+-- one for a pick
+abbrev pub pick_count : {T : Type 0} → Note T → ℕ
+pick_count (Pick queue runtime) = 1
+pick_count _ = 0
+
+-- a journal has as many turns as picks
+abbrev pub turns : {T : Type 0} → Journal T → ℕ
+turns [] = 0
+turns (note ∷ before) = turns before + pick_count note

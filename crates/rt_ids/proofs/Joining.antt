@@ -1,0 +1,41 @@
+-- The law of joining: lawful journals whose links agree are sound together.
+use Rattle.std.proofs.Common.{ℕ, ◌<◌, ◌≤◌, sym, ◌∙◌, arith}
+use Rattle.std.proofs.lemmas.Option.{none-some}
+use Rattle.rt_ids.specs.Assembly.{Assembly, journal_of}
+use Rattle.rt_ids.specs.Clauses.{StandsInOrder}
+use Rattle.rt_ids.specs.Closing.{IsDrained}
+use Rattle.rt_ids.specs.Journal.{EachNote}
+use Rattle.rt_ids.specs.Joining.{LinksAgree}
+use Rattle.rt_ids.specs.Lawful.{IsLawful}
+use Rattle.rt_ids.specs.Sound.{IsSound}
+use Rattle.rt_ids.proofs.ClosesRight.{closes_right, nothing_closed}
+use Rattle.rt_ids.proofs.EndsOnce.{ends_once}
+use Rattle.rt_ids.proofs.OrderRight.{in_order}
+use Rattle.rt_ids.proofs.PicksRight.{picks_right}
+use Rattle.rt_ids.proofs.StartsOnce.{starts_right}
+
+-- all five clauses, of each actor by its own journal
+pub joining_is_sound : {T : Type 0} (assembly : Assembly T) →
+    ((actor : ℕ) → actor ≤ assembly.cores → IsLawful actor assembly.cap (journal_of actor assembly)) → LinksAgree assembly → IsSound assembly
+joining_is_sound assembly lawful agree = record {
+  starts = record { notes = λ actor within. starts_right actor assembly.cap assembly _ (lawful actor within).notes (order actor within) };
+  order = record { notes = order; deliveries = agree.deliveries; collections = agree.collections };
+  closes = record { notes = λ core within. closes_right core assembly.cap assembly core _ (lawful core (omega arith)).notes };
+  outcomes = record {
+    notes = λ actor within. ends_once actor assembly.cap assembly _ (lawful actor within).notes (agree.as_sent actor within) (order actor within);
+    all_ended = λ core within drained. absurd (not_drained core within drained);
+  };
+  picks = record {
+    notes = λ core within. picks_right core assembly.cap _ (lawful core (omega arith)).notes;
+    last_followed = λ core within. (lawful core (omega arith)).no_pick;
+  };
+}
+  where
+    order : (actor : ℕ) → actor ≤ assembly.cores → EachNote (StandsInOrder assembly) (journal_of actor assembly)
+    order actor within = in_order actor assembly.cap assembly _ (lawful actor within).notes (agree.as_sent actor within)
+
+    -- no gate is shut yet, so no core is drained
+    not_drained : (core : ℕ) → core < assembly.cores → IsDrained assembly.cores (journal_of core assembly) → ⊥
+    not_drained core within drained =
+        let open_gate = (nothing_closed core assembly.cap (journal_of core assembly) (lawful core (omega arith)).notes).gates_open 0 in
+        none-some _ (sym open_gate ∙ drained.delivered_all 0 (omega arith))
