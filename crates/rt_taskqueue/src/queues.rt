@@ -94,12 +94,13 @@ impl<J: Drop, A: Allocator + Clone> Queues<J, A> {
         ensures joins { ChangesLine self.old self.new queue (waiting_of queue self.old ++ (name, false, job) ∷ []) }
         ensures limits { IsWithinLimits self.new }
     {
-        self.jobs.push_reserved(Waiting {
+        let admitted = Waiting {
             queue,
             name,
             started: false,
             job,
-        });
+        };
+        self.jobs.push_reserved(admitted);
     }
 
     /// Takes the job at the head, with its name and whether it was started.
@@ -123,12 +124,13 @@ impl<J: Drop, A: Allocator + Clone> Queues<J, A> {
         ensures joins { ChangesLine self.old self.new queue (waiting_of queue self.old ++ (name, true, job) ∷ []) }
         ensures limits { IsWithinLimits self.new }
     {
-        self.jobs.push_reserved(Waiting {
+        let yielded = Waiting {
             queue,
             name,
             started: true,
             job,
-        });
+        };
+        self.jobs.push_reserved(yielded);
     }
 
     /// Whether no job waits in this queue.
@@ -152,7 +154,8 @@ impl<J: Drop, A: Allocator + Clone> Queues<J, A> {
         requires exists { queue < queue_count self.now }
         ensures { result ≡ shares_of queue self.now }
     {
-        self.shares[queue.0 as usize]
+        let place = queue.0 as usize;
+        self.shares[place]
     }
 
     /// Gives this queue other shares.
