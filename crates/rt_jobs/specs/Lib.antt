@@ -1,2 +1,4 @@
 pub mod Steps
 pub mod Ready
+pub mod Same
+pub mod Scripts

@@ -2,5 +2,9 @@
 #![tactic(auto)]
 
 pub mod job;
+pub mod poll;
+pub mod script;
 
 pub use job::{Job, Ran, Step, Task};
+pub use poll::Poll;
+pub use script::{MOST_POLLS, ScriptJob};
