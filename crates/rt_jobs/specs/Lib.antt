@@ -4,3 +4,4 @@ pub mod Same
 pub mod Scripts
 pub mod Bodies
 pub mod Ranges
+pub mod Example

@@ -4,6 +4,7 @@
 pub mod any;
 pub mod boxed;
 pub mod called;
+pub mod example;
 pub mod job;
 pub mod once;
 pub mod poll;
