@@ -3,7 +3,9 @@
 //! Where a program knows its kinds of work, such an enum is the best job to use: it needs no box, its answers are exact,
 //! and every type that keeps facts of jobs can be named at it.
 
-use crate::job::{Job, Step, Task};
+ghost use Rattle.std.specs.Prelude.{◌≡◌, false, IfOk, IfErr};
+
+use crate::job::{Job, Ran, Step, Task};
 
 /// The work of a program.
 #[derive(Debug, Drop)]
@@ -75,4 +77,24 @@ impl Job for Work {
         *self = Work::Ended;
         Step::Done(answer)
     }
+}
+
+/// Polls a job until it is done, at most so often. Where it isn't done by then, it comes back and can be polled on.
+pub fn drive<J: Job>(job: J, most: u32) -> Result<J::Out, J>
+    requires open { J.done job ≡ false }
+    requires ready { J.CanPoll job }
+    ensures answers { IfOk result (J.Answers job) }
+    ensures same { IfErr result (J.SameTask job) }
+    ensures open { IfErr result (λ back. J.done back ≡ false) }
+    ensures ready { IfErr result J.CanPoll }
+{
+    let mut job = job;
+    for _polled in 0..most {
+        let (back, step, _told) = Ran::poll(job).into_parts();
+        match step {
+            Step::Done(out) => return Ok(out),
+            Step::Yield => job = back,
+        }
+    }
+    Err(job)
 }
