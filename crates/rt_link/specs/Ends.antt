@@ -39,11 +39,12 @@ module _ {J T : Type 0} where
     pub behind : out.got ≤ length out.seen
     pub within : out.got ≤ length out.sent
 
-  -- the receiver's end, at any time: it has taken what it has seen, and given outcomes to what it has taken, once each
+  -- the receiver's end, at any time: it has taken what it has seen, given outcomes to what it has taken, once each, and at most `capacity` wait for theirs
   pub record SoundIn (inward : Inward J T) : Type 0 where
     pub numbered : inward.base + length inward.seen < 2 ^ 63
     pub behind : inward.taken ≤ length inward.seen
     pub within : length inward.given ≤ inward.taken
+    pub room : length inward.seen ≤ length inward.given + inward.capacity
     pub named : AreNamed inward.base inward.taken inward.given
 
   -- the two ends of one link: each has seen a beginning of the other's list, and once the gate is shut the receiver has seen all

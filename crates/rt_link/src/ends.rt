@@ -118,7 +118,8 @@ pub trait InEnd<J: Task> {
         ensures link { link self.new ≡ link self.old }
         ensures named { AreNamed (inward self.old).base (inward self.old).taken (inward self.old).given }
         ensures takes { Takes (inward self.old) (inward self.new) result }
-        ensures ready { IfSome result (λ e. HasReadyJob J.done J.CanPoll e.order) };
+        ensures sound { SoundIn (inward self.new) }
+        ensures ready { IfSome result (λ envelope. HasReadyJob J.done J.CanPoll envelope.order) };
 
     /// Gives the outcome of the order of this number, which was taken and has none yet.
     fn give(&mut self, number: u64, outcome: Outcome<J, J::Out>)
