@@ -2,5 +2,9 @@
 #![tactic(auto)]
 
 pub mod ends;
+mod history;
+pub mod plain;
 
 pub use ends::{InEnd, Inward, OutEnd, Outward};
+pub use history::History;
+pub use plain::{LAST_NUMBER, PlainLink, Whole};
