@@ -1,0 +1,5 @@
+pub mod Fits
+pub mod Ends
+pub mod Calls
+pub mod Whole
+pub mod Plain

@@ -1,0 +1,63 @@
+-- A link as a whole, where both ends see all.
+use Rattle.std.specs.Prelude.{◌≡◌, ℕ, ◌+◌, ◌^◌, ◌<◌, ◌≤◌, false, [], length}
+use Rattle.rt_ids.specs.declared.order.Order.{Order}
+use Rattle.rt_ids.specs.declared.order.Outcome.{Outcome}
+use Rattle.rt_link.specs.declared.ends.Outward.{Outward}
+use Rattle.rt_link.specs.declared.ends.Inward.{Inward}
+use Rattle.rt_link.specs.declared.plain.Whole.{Whole}
+use Rattle.rt_link.specs.Ends.{AreOf, AreNamed, AreReady}
+
+module _ {J T : Type 0} where
+  -- the sender's end, which sees all that was given
+  abbrev pub out_of : Whole J T → Outward J T
+  out_of link = record {
+    from = link.from;
+    to = link.to;
+    base = link.base;
+    capacity = link.capacity;
+    sent = link.sent;
+    seen = link.given;
+    got = link.got;
+    closed = link.shut;
+  }
+
+  -- the receiver's end, which sees all that was sent
+  abbrev pub inward_of : Whole J T → Inward J T
+  inward_of link = record {
+    from = link.from;
+    to = link.to;
+    base = link.base;
+    capacity = link.capacity;
+    seen = link.sent;
+    taken = link.taken;
+    given = link.given;
+    shut = link.shut;
+  }
+
+  -- a link that was just opened
+  abbrev pub fresh : ℕ → ℕ → ℕ → ℕ → Whole J T
+  fresh from to capacity base = record {
+    from = from;
+    to = to;
+    base = base;
+    capacity = capacity;
+    sent = [];
+    taken = 0;
+    given = [];
+    got = 0;
+    redeemed = 0;
+    shut = false;
+  }
+
+  -- the law of a link: numbers end at the last one; at most `capacity` are sent and not redeemed; what is redeemed was got, what is got was given,
+  -- what is given was taken, and what is taken was sent; each outcome fits the order of its number, and each order that was sent was ready
+  pub record IsLink (fits : Order J → Outcome J T → Type 0) (ready : Order J → Type 0) (link : Whole J T) : Type 0 where
+    pub numbered : link.base + length link.sent < 2 ^ 63
+    pub room : length link.sent ≤ link.redeemed + link.capacity
+    pub redeemed_got : link.redeemed ≤ link.got
+    pub got_given : link.got ≤ length link.given
+    pub given_taken : length link.given ≤ link.taken
+    pub taken_sent : link.taken ≤ length link.sent
+    pub named : AreNamed link.base link.taken link.given
+    pub fitting : AreOf fits link.base link.sent link.given
+    pub ready_orders : AreReady ready link.sent

@@ -1,0 +1,10 @@
+//! A link from an actor to a core: orders one way, outcomes back.
+#![tactic(auto)]
+
+pub mod ends;
+mod history;
+pub mod plain;
+
+pub use ends::{InEnd, Inward, OutEnd, Outward};
+pub use history::History;
+pub use plain::{LAST_NUMBER, PlainLink, Whole};
