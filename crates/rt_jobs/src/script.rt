@@ -59,7 +59,7 @@ impl ScriptJob {
         ensures fresh { IfSome result (λ job. job.polled ≡ 0) }
     {
         let (last, early) = polls.split_last()?;
-        let Poll::Done(told, value) = *last else {
+        let Poll::Done(last_told, answer) = *last else {
             return None;
         };
         if early.len() > MOST_YIELDS {
@@ -74,8 +74,8 @@ impl ScriptJob {
         }
         Some(ScriptJob {
             yields,
-            last_told: told,
-            answer: value,
+            last_told,
+            answer,
             polled: 0,
         })
     }
