@@ -2,6 +2,7 @@ pub mod Steps
 pub mod Ready
 pub mod Same
 pub mod Scripts
+pub mod Kept
 pub mod Bodies
 pub mod Ranges
 pub mod Example

@@ -82,13 +82,13 @@ impl OnceBox {
             least: 0,
             greatest: u64::MAX,
         };
-        OnceBox { range, call }
+        OnceBox::within(range, call)
     }
 
     /// A call that gives a number within the range.
     pub fn within(range: Range, call: Box<dyn FnOnce() -> u64 + Send>) -> OnceBox
         requires callable { IsAlwaysCallable call }
-        requires within { (out : ℕ) → post call out → IsWithin range out }
+        requires within { (out : ℕ) → post call out → out < 2 ^ 64 → IsWithin range out }
         ensures call { result.call ≡ call }
         ensures range { result.range ≡ range }
     {

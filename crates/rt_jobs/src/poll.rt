@@ -17,7 +17,7 @@ impl Default for Poll {
 }
 
 /// A poll that yields, as a script job keeps it. It decides the size of a script job, which has room for 63 of them.
-#[derive(Clone, Copy, Debug)]
+#[derive(Clone, Copy, PartialEq, Eq, Debug)]
 pub(crate) struct Yielding {
     /// The nanoseconds that it tells.
     pub(crate) told: u64,

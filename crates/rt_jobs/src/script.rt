@@ -19,7 +19,7 @@ const MOST_YIELDS: usize = 63;
 ///
 /// A contract sees the list of its polls, and how many of them were made. Each poll tells its own time.
 /// The last poll stands by itself, so that the answer is stored once. A job takes no memory but its own bytes.
-#[derive(Drop)]
+#[derive(PartialEq, Eq, Debug, Drop)]
 pub struct ScriptJob {
     yields: ArrayVec<Yielding, MOST_YIELDS>,
     last_told: u64,
@@ -30,12 +30,27 @@ pub struct ScriptJob {
 impl Model for ScriptJob {
     ghost use Rattle.std.specs.Prelude.{◌≤◌, length};
     ghost use Rattle.rt_jobs.specs.Scripts.{Script, script_polls};
+    ghost use Rattle.rt_jobs.specs.Kept.{kept_yields, last_time, last_value, kept_yields-script_polls, last_time-script_polls, last_value-script_polls};
 
     ghost Value = { Script };
 
     ghost view = { λ job. record { polls = script_polls job.yields.items job.last_told job.answer; polled = job.polled } };
 
     ghost invariant = { λ job. job.polled ≤ length (script_polls job.yields.items job.last_told job.answer) };
+
+    ghost inverse = { λ script. record {
+      yields = record { items = kept_yields script.polls };
+      last_told = last_time script.polls;
+      answer = last_value script.polls;
+      polled = script.polled;
+    } };
+
+    ghost inverse_ok = { λ job within i. record {
+      yields = record { items = kept_yields-script_polls job.yields.items job.last_told job.answer i };
+      last_told = last_time-script_polls job.yields.items job.last_told job.answer i;
+      answer = last_value-script_polls job.yields.items job.last_told job.answer i;
+      polled = job.polled;
+    } };
 }
 
 impl ScriptJob {
@@ -59,7 +74,7 @@ impl ScriptJob {
         ensures fresh { IfSome result (λ job. job.polled ≡ 0) }
     {
         let (last, early) = polls.split_last()?;
-        let Poll::Done(told, value) = *last else {
+        let Poll::Done(last_told, answer) = *last else {
             return None;
         };
         if early.len() > MOST_YIELDS {
@@ -74,8 +89,8 @@ impl ScriptJob {
         }
         Some(ScriptJob {
             yields,
-            last_told: told,
-            answer: value,
+            last_told,
+            answer,
             polled: 0,
         })
     }

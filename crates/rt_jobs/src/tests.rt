@@ -1,4 +1,4 @@
-ghost use Rattle.std.specs.Prelude.{◌≡◌, false, IfOk};
+ghost use Rattle.std.specs.Prelude.{◌≡◌, false, Some, IfOk};
 ghost use Rattle.rt_jobs.specs.Steps.{IfDone};
 ghost use Rattle.rt_jobs.specs.Example.{MayAnswer};
 ghost use Rattle.rt_jobs.specs.Ranges.{IsWithin};
@@ -76,6 +76,32 @@ fn a_script_job_does_its_words(rt: HostRuntime) -> Result<(), Fail> {
     assert_eq!(rt; times.as_slice(), [Some(1)].as_slice());
     assert_eq!(rt; answer, Some(0));
     Ok(())
+}
+
+/// Polls a script job of two words: each poll does its own word.
+fn two_words(first: u64, second: u64, value: u64) -> (Option<u64>, Option<u64>, u64)
+    ensures first { result.0 ≡ Some first }
+    ensures second { result.1 ≡ Some second }
+    ensures value { result.2 ≡ value }
+{
+    let words = [Poll::Yield(first), Poll::Done(second, value)];
+    let Some(job) = ScriptJob::try_new(&words) else {
+        return (None, None, 0);
+    };
+    let (job, step, first_told) = Ran::poll(job).into_parts();
+    if let Step::Done(_) = step {
+        return (None, None, 0);
+    }
+    let (_job, step, second_told) = Ran::poll(job).into_parts();
+    match step {
+        Step::Done(out) => (first_told, second_told, out),
+        Step::Yield => (None, None, 0),
+    }
+}
+
+#[test]
+fn the_second_poll_does_the_second_word(rt: HostRuntime) {
+    assert_eq!(rt; two_words(3, 4, 5), (Some(3), Some(4), 5));
 }
 
 #[test]
