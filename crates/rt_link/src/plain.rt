@@ -1,6 +1,6 @@
 //! A link within one thread.
 
-ghost use Rattle.std.specs.Prelude.{◌≡◌, ◌+◌, ◌-◌, ◌^◌, ◌<◌, [], ◌∷◌, ◌++◌, length, slice_get, IfOk, IfSome};
+ghost use Rattle.std.specs.Prelude.{◌≡◌, ◌+◌, ◌-◌, ◌^◌, ◌<◌, [], ◌∷◌, ◌++◌, length, slice_get, IfOk, IfSome, OnSome};
 ghost use Rattle.rt_jobs.specs.Ready.{HasReadyJob};
 ghost use Rattle.rt_link.specs.Calls.{Sends, Collects, Takes, Shuts, MayGive, final_of};
 ghost use Rattle.rt_link.specs.Ends.{AreNamed, AreOf, SoundIn, SoundOut};
@@ -132,7 +132,7 @@ impl<J: Task> OutEnd<J> for PlainLink<J> {
         if self.shut {
             return Err(SendError::Closed(order, last));
         }
-        if self.count - self.redeemed == self.capacity {
+        if self.outstanding() == self.capacity {
             return Err(SendError::Full(order));
         }
         if last == LAST_NUMBER {
@@ -151,6 +151,7 @@ impl<J: Task> OutEnd<J> for PlainLink<J> {
         ensures collects { Collects (out_of self.old) (out_of self.new) result }
         ensures sound_out { SoundOut (out_of self.new) self.new.redeemed }
         ensures named { AreOf (Fits J.SameTask J.Answers) self.new.base self.new.sent self.new.given }
+        ensures earned { OnSome result (self.new.redeemed < self.new.got) }
         ensures next { result ≡ slice_get self.old.given self.old.got }
         ensures others { self.new ≡ record self.old { got = self.new.got } }
         ensures law { IsLink (Fits J.SameTask J.Answers) (HasReadyJob J.done J.CanPoll) self.new }
@@ -166,7 +167,8 @@ impl<J: Task> OutEnd<J> for PlainLink<J> {
 
     fn credit(&mut self)
         requires { self.old.redeemed < self.old.got }
-        ensures { self.new ≡ record self.old { redeemed = self.old.redeemed + 1 } }
+        ensures redeemed { self.new ≡ record self.old { redeemed = self.old.redeemed + 1 } }
+        ensures law { IsLink (Fits J.SameTask J.Answers) (HasReadyJob J.done J.CanPoll) self.new }
     {
         self.redeemed += 1;
     }
@@ -243,3 +245,6 @@ impl<J: Task> InEnd<J> for PlainLink<J> {
         }
     }
 }
+
+#[cfg(test)]
+mod tests;
