@@ -4,6 +4,7 @@ use Rattle.rt_ids.specs.declared.order.Order.{Order}
 use Rattle.rt_ids.specs.declared.order.Outcome.{Outcome}
 use Rattle.rt_ids.specs.declared.order.SendError.{SendError}
 use Rattle.rt_ids.specs.declared.order.SendError.TheVariants.{Closed, Full, Spent, NoCore}
+use Rattle.rt_link.specs.declared.ends.Inward.{Inward}
 use Rattle.rt_link.specs.declared.ends.Outward.{Outward}
 use Rattle.rt_link.specs.declared.plain.Whole.{Whole}
 use Rattle.rt_link.specs.Ends.{StartsWith, SoundOut, SoundIn, Joined}
@@ -67,6 +68,16 @@ module _ {J T : Type 0} where
     where
       build : Outward J T → ℕ → ℕ → Whole J T
       build o r t = record { from = o.from; to = o.to; base = o.base; capacity = o.capacity; sent = o.sent; taken = t; given = o.seen; got = o.got; redeemed = r; shut = o.closed }
+
+  -- and those of the receiver's end change nothing that the sender's end alone counts
+  pub same_by_inward : (now then : Whole J T) → inward_of now ≡ inward_of then → now.got ∷ now.redeemed ∷ [] ≡ then.got ∷ then.redeemed ∷ [] → now ≡ then
+  same_by_inward now then inward kept =
+      let got : now.got ≡ then.got = cc in
+      let redeemed : now.redeemed ≡ then.redeemed = cc in
+      ap (λ (i : Inward J T). build i now.got now.redeemed) inward ∙ (ap (λ g. build (inward_of then) g now.redeemed) got ∙ ap (build (inward_of then) then.got) redeemed)
+    where
+      build : Inward J T → ℕ → ℕ → Whole J T
+      build i g r = record { from = i.from; to = i.to; base = i.base; capacity = i.capacity; sent = i.seen; taken = i.taken; given = i.given; got = g; redeemed = r; shut = i.shut }
 
   -- a send keeps what is true of a sender's end
   pub SoundOut-Sends : (old new : Outward J T) (redeemed : ℕ) (order : Order J) (result : Result ℕ (SendError J))

@@ -43,15 +43,20 @@ pub struct Whole<J, T> {
     pub shut: bool,
 }
 
-/// A link whose two ends are one value.
+/// A link whose two ends are one value, for one thread. Both ends see all.
+///
+/// Its memory is taken at the opening: a place of each buffer for each submission that may be outstanding.
 #[derive(Drop)]
 pub struct PlainLink<J: Task> {
+    /// What was sent and not taken.
     orders: HeapCircularBuffer<Order<J>, Global>,
+    /// What was given and not got.
     outcomes: HeapCircularBuffer<(u64, Outcome<J, J::Out>), Global>,
     from: ActorNo,
     to: CoreNo,
     base: u64,
     capacity: u64,
+    /// How many were sent.
     count: u64,
     taken: u64,
     got: u64,
@@ -76,14 +81,22 @@ impl<J: Task> Model for PlainLink<J> {
 }
 
 impl<J: Task> PlainLink<J> {
-    /// Opens a link. At most `capacity` submissions are outstanding at any time.
+    /// Opens a link on which at most `capacity` submissions are outstanding at any time.
+    ///
+    /// # Errors
+    ///
+    /// Want of memory, and of nothing else.
     pub fn open(alloc: Global, from: ActorNo, to: CoreNo, capacity: u16) -> Result<Self, AllocError>
         ensures { IfOk result (λ link. link ≡ fresh from to capacity 0) }
     {
         Self::open_after(alloc, from, to, capacity, 0)
     }
 
-    /// Opens a link as if that many submissions had been accepted and redeemed.
+    /// Opens a link as if that many submissions had been accepted and redeemed: its first number is one more.
+    ///
+    /// # Errors
+    ///
+    /// Want of memory, and of nothing else.
     pub fn open_after(
         alloc: Global,
         from: ActorNo,
