@@ -1,20 +1,18 @@
--- What follows from what an end of a link knows, for those who hold one.
-use Rattle.std.proofs.Common.{◌≡◌, ℕ, ◌+◌, ◌-◌, ◌<◌, ◌≤◌, List, [], ◌∷◌, ◌++◌, length, length-append, length-take, take, Option, Some, Result, Ok, Err, refl, sym, ap, ◌∙◌, subst, arith}
-use Rattle.std.specs.Prelude.{slice_get, IfSome}
-use Rattle.rt_ids.specs.declared.order.Envelope.{Envelope}
+-- What a law of a link gives to those who hold it, and what an end's calls keep.
+use Rattle.std.proofs.Common.{◌≡◌, ℕ, ◌+◌, ◌-◌, ◌^◌, ◌<◌, ◌≤◌, List, [], ◌∷◌, ◌++◌, length, length-append, length-take, take, Result, Ok, Err, refl, sym, ap, ◌∙◌, subst, arith}
 use Rattle.rt_ids.specs.declared.order.Order.{Order}
 use Rattle.rt_ids.specs.declared.order.Outcome.{Outcome}
 use Rattle.rt_ids.specs.declared.order.SendError.{SendError}
 use Rattle.rt_ids.specs.declared.order.SendError.TheVariants.{Closed, Full, Spent, NoCore}
-use Rattle.rt_link.specs.declared.ends.Outward.{Outward}
 use Rattle.rt_link.specs.declared.ends.Inward.{Inward}
+use Rattle.rt_link.specs.declared.ends.Outward.{Outward}
 use Rattle.rt_link.specs.declared.plain.Whole.{Whole}
 use Rattle.rt_link.specs.Ends.{StartsWith, SoundOut, SoundIn, Joined}
-use Rattle.rt_link.specs.Calls.{Sends, Takes}
+use Rattle.rt_link.specs.Calls.{Sends}
 use Rattle.rt_link.specs.Whole.{out_of, inward_of, IsLink}
 use Rattle.rt_link.proofs.Lists.{StartsWith-self, StartsWith-take}
 
-module _ {J T : Type 0} (fits : Order J → Outcome J T → Type 0) (ready : Order J → Type 0) (link : Whole J T) (l : IsLink fits ready link) where
+module _ {J T : Type 0} {fits : Order J → Outcome J T → Type 0} {ready : Order J → Type 0} {link : Whole J T} (l : IsLink fits ready link) where
   pub SoundOut-IsLink : SoundOut (out_of link) link.redeemed
   SoundOut-IsLink = record {
     numbered = l.numbered;
@@ -60,3 +58,54 @@ module _ {J T : Type 0} (fits : Order J → Outcome J T → Type 0) (ready : Ord
   -- what was got is a beginning of what was given
   pub got-IsLink : StartsWith link.given (take link.got link.given) × (length (take link.got link.given) ≡ link.got)
   got-IsLink = (StartsWith-take link.got link.given, omega (arith, l.got_given, length-take link.got link.given))
+
+module _ {J T : Type 0} where
+  -- the calls of the sender's end change nothing else, so the link is known by that end, its credits and what was taken
+  pub same_by_out : (now then : Whole J T) → out_of now ≡ out_of then → now.redeemed ≡ then.redeemed → now.taken ∷ [] ≡ then.taken ∷ [] → now ≡ then
+  same_by_out now then out redeemed kept =
+      let taken : now.taken ≡ then.taken = cc in
+      ap (λ (o : Outward J T). build o now.redeemed now.taken) out ∙ (ap (λ r. build (out_of then) r now.taken) redeemed ∙ ap (build (out_of then) then.redeemed) taken)
+    where
+      build : Outward J T → ℕ → ℕ → Whole J T
+      build o r t = record { from = o.from; to = o.to; base = o.base; capacity = o.capacity; sent = o.sent; taken = t; given = o.seen; got = o.got; redeemed = r; shut = o.closed }
+
+  -- and those of the receiver's end change nothing that the sender's end alone counts
+  pub same_by_inward : (now then : Whole J T) → inward_of now ≡ inward_of then → now.got ∷ now.redeemed ∷ [] ≡ then.got ∷ then.redeemed ∷ [] → now ≡ then
+  same_by_inward now then inward kept =
+      let got : now.got ≡ then.got = cc in
+      let redeemed : now.redeemed ≡ then.redeemed = cc in
+      ap (λ (i : Inward J T). build i now.got now.redeemed) inward ∙ (ap (λ g. build (inward_of then) g now.redeemed) got ∙ ap (build (inward_of then) then.got) redeemed)
+    where
+      build : Inward J T → ℕ → ℕ → Whole J T
+      build i g r = record { from = i.from; to = i.to; base = i.base; capacity = i.capacity; sent = i.seen; taken = i.taken; given = i.given; got = g; redeemed = r; shut = i.shut }
+
+  -- a send keeps what is true of a sender's end
+  pub SoundOut-Sends : (old new : Outward J T) (redeemed : ℕ) (order : Order J) (result : Result ℕ (SendError J))
+      → SoundOut old redeemed → Sends old redeemed order new result → SoundOut new redeemed
+  SoundOut-Sends old new redeemed order (Ok number) s sends =
+      let longer : length (old.sent ++ order ∷ []) ≡ length old.sent + 1 = length-append old.sent (order ∷ []) in
+      let room : length old.sent < redeemed + old.capacity = sends.1 in
+      let named : number ≡ old.base + length old.sent + 1 = sends.2 in
+      let low : number < 2 ^ 63 = sends.3 in
+      subst (λ o. SoundOut o redeemed) (sym sends.4) record {
+        numbered = omega arith;
+        room = omega arith;
+        credits = s.credits;
+        behind = s.behind;
+        within = omega (arith, s.within);
+      }
+  SoundOut-Sends old new redeemed order (Err (Closed back final)) s sends =
+      subst (λ o. SoundOut o redeemed) (sym sends.2) record { numbered = s.numbered; room = s.room; credits = s.credits; behind = s.behind; within = s.within }
+  SoundOut-Sends old new redeemed order (Err (Full back)) s sends = subst (λ o. SoundOut o redeemed) (sym sends.3) s
+  SoundOut-Sends old new redeemed order (Err (Spent back)) s sends = subst (λ o. SoundOut o redeemed) (sym sends.4) s
+  SoundOut-Sends old new redeemed order (Err (NoCore back)) s sends = absurd sends
+
+  -- so does a credit
+  pub SoundOut-credit : (out : Outward J T) (redeemed : ℕ) → SoundOut out redeemed → redeemed < out.got → SoundOut out (redeemed + 1)
+  SoundOut-credit out redeemed s more = record {
+    numbered = s.numbered;
+    room = omega (arith, s.room);
+    credits = omega arith;
+    behind = s.behind;
+    within = s.within;
+  }

@@ -31,7 +31,7 @@ module _ {A : Type 0} where
   first : (list : List A) (n capacity : ℕ) (held : Buffer A) → held ≡ buffer (drop n list) capacity → slice_get held.items 0 ≡ slice_get list n
   first list n capacity held is = ap (λ (b : Buffer A). slice_get b.items 0) is ∙ slice_get-drop n list 0 n (omega arith)
 
-module _ {J T : Type 0} (fits : Order J → Outcome J T → Type 0) (ready : Order J → Type 0) (p : Inside J T) (kept : IsPlain fits ready p) where
+module _ {J T : Type 0} {fits : Order J → Outcome J T → Type 0} {ready : Order J → Type 0} {p : Inside J T} (kept : IsPlain fits ready p) where
   pub IsPlain-send : (order : Order J) (sent : History (Order J)) (orders : Buffer (Order J)) → ready order → sent.items ≡ p.sent.items ++ order ∷ []
       → orders ≡ buffer (p.orders.items ++ order ∷ []) p.orders.capacity → p.base + p.count + 1 < 2 ^ 63 → p.count < p.redeemed + p.capacity
       → IsPlain fits ready (record p { sent = sent; orders = orders; count = p.count + 1 })
@@ -40,7 +40,7 @@ module _ {J T : Type 0} (fits : Order J → Outcome J T → Type 0) (ready : Ord
       let long : length (p.sent.items ++ order ∷ []) ≡ length p.sent.items + 1 = length-append p.sent.items (order ∷ []) in
       let long' : length sent.items ≡ length (p.sent.items ++ order ∷ []) = ap length longer in record {
         link = subst (λ (l : List (Order J)). IsLink fits ready (record (whole_of p) { sent = l })) (sym longer)
-            (IsLink-send fits ready (whole_of p) kept.link order is_ready (omega arith) (omega arith));
+            (IsLink-send kept.link order is_ready (omega arith) (omega arith));
         count_is = omega arith;
         orders_are = push p.sent.items order p.taken p.capacity p.orders orders kept.link.taken_sent kept.orders_are pushed
             ∙ ap (λ (l : List (Order J)). buffer (drop p.taken l) p.capacity) (sym longer);
@@ -50,7 +50,7 @@ module _ {J T : Type 0} (fits : Order J → Outcome J T → Type 0) (ready : Ord
   pub IsPlain-take : (orders : Buffer (Order J)) → orders ≡ buffer (drop 1 p.orders.items) p.orders.capacity → p.taken < length p.sent.items
       → IsPlain fits ready (record p { orders = orders; taken = p.taken + 1 })
   IsPlain-take orders popped more = record {
-    link = IsLink-take fits ready (whole_of p) kept.link more;
+    link = IsLink-take kept.link more;
     count_is = kept.count_is;
     orders_are = pop p.sent.items p.taken p.capacity p.orders orders kept.orders_are popped;
     outcomes_are = kept.outcomes_are;
@@ -59,7 +59,7 @@ module _ {J T : Type 0} (fits : Order J → Outcome J T → Type 0) (ready : Ord
   pub IsPlain-collect : (outcomes : Buffer (ℕ × Outcome J T)) → outcomes ≡ buffer (drop 1 p.outcomes.items) p.outcomes.capacity → p.got < length p.given.items
       → IsPlain fits ready (record p { outcomes = outcomes; got = p.got + 1 })
   IsPlain-collect outcomes popped more = record {
-    link = IsLink-collect fits ready (whole_of p) kept.link more;
+    link = IsLink-collect kept.link more;
     count_is = kept.count_is;
     orders_are = kept.orders_are;
     outcomes_are = pop p.given.items p.got p.capacity p.outcomes outcomes kept.outcomes_are popped;
@@ -75,7 +75,7 @@ module _ {J T : Type 0} (fits : Order J → Outcome J T → Type 0) (ready : Ord
     -- an outcome that may be given finds a place
     pub room_to_give : length p.outcomes.items < p.outcomes.capacity
     room_to_give =
-        let awaits : length p.given.items < p.taken = IsLink-awaits fits ready (whole_of p) kept.link number outcome may in
+        let awaits : length p.given.items < p.taken = IsLink-awaits kept.link number outcome may in
         let held : length p.outcomes.items ≡ length (drop p.got p.given.items) = ap (λ (b : Buffer (ℕ × Outcome J T)). length b.items) kept.outcomes_are in
         let places : p.outcomes.capacity ≡ p.capacity = ap (λ (b : Buffer (ℕ × Outcome J T)). b.capacity) kept.outcomes_are in
         omega (arith, length-drop p.got p.given.items, kept.link.taken_sent, kept.link.room, kept.link.redeemed_got, kept.link.got_given)
@@ -84,7 +84,7 @@ module _ {J T : Type 0} (fits : Order J → Outcome J T → Type 0) (ready : Ord
         → outcomes ≡ buffer (p.outcomes.items ++ (number, outcome) ∷ []) p.outcomes.capacity → IsPlain fits ready (record p { given = given; outcomes = outcomes })
     IsPlain-give given outcomes longer pushed = record {
       link = subst (λ (l : List (ℕ × Outcome J T)). IsLink fits ready (record (whole_of p) { given = l })) (sym longer)
-          (IsLink-give fits ready (whole_of p) kept.link number outcome may);
+          (IsLink-give kept.link number outcome may);
       count_is = kept.count_is;
       orders_are = kept.orders_are;
       outcomes_are = push p.given.items (number, outcome) p.got p.capacity p.outcomes outcomes kept.link.got_given kept.outcomes_are pushed

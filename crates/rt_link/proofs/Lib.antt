@@ -6,3 +6,4 @@ pub mod WholeLaws
 pub mod Fields
 pub mod Seen
 pub mod EndFacts
+pub mod Gifts

@@ -3,6 +3,7 @@ use Rattle.std.proofs.Common.{◌≡◌, ℕ, zero, suc, ◌+◌, ◌<◌, ◌�
 use Rattle.std.specs.Prelude.{slice_get}
 use Rattle.std.proofs.lemmas.List.{take-append-drop}
 use Rattle.circular_buffer.proofs.Places.{slice_get-append_left}
+use Rattle.rt_ids.specs.Assembly.{IsPrefix}
 use Rattle.rt_link.specs.Ends.{StartsWith}
 
 module _ {A : Type 0} where
@@ -11,6 +12,10 @@ module _ {A : Type 0} where
 
   pub StartsWith-take : (n : ℕ) (xs : List A) → StartsWith xs (take n xs)
   StartsWith-take n xs = (drop n xs, sym (take-append-drop n xs))
+
+  -- the same, said of the beginning
+  pub IsPrefix-StartsWith : (whole front : List A) → StartsWith whole front → IsPrefix front whole
+  IsPrefix-StartsWith whole front s = (s.0, sym s.1)
 
   pub StartsWith-append : (whole front more : List A) → StartsWith whole front → StartsWith (whole ++ more) front
   StartsWith-append whole front more s = (s.0 ++ more, ap (λ (z : List A). z ++ more) s.1 ∙ append_assoc front s.0 more)

@@ -7,7 +7,7 @@ use Rattle.rt_link.specs.Calls.{MayGive}
 use Rattle.rt_link.specs.Whole.{fresh, inward_of, IsLink}
 use Rattle.rt_link.proofs.Numbers.{AreNamed-append, AreNamed-wider, AreNamed-room, AreOf-append, AreOf-starts, AreReady-append}
 
-module _ {J T : Type 0} (fits : Order J → Outcome J T → Type 0) (ready : Order J → Type 0) where
+module _ {J T : Type 0} {fits : Order J → Outcome J T → Type 0} {ready : Order J → Type 0} where
   pub IsLink-fresh : (from to capacity base : ℕ) → base < 2 ^ 63 → IsLink fits ready (fresh from to capacity base)
   IsLink-fresh from to capacity base low = record {
     numbered = omega arith;
@@ -21,7 +21,7 @@ module _ {J T : Type 0} (fits : Order J → Outcome J T → Type 0) (ready : Ord
     ready_orders = λ i x e. absurd cc;
   }
 
-  module _ (link : Whole J T) (l : IsLink fits ready link) where
+  module _ {link : Whole J T} (l : IsLink fits ready link) where
     pub IsLink-send : (order : Order J) → ready order → link.base + length link.sent + 1 < 2 ^ 63 → length link.sent < link.redeemed + link.capacity
         → IsLink fits ready (record link { sent = link.sent ++ order ∷ [] })
     IsLink-send order is_ready below room =

@@ -51,7 +51,7 @@ pub struct Inward<J, T> {
 
 /// The end that sends orders and collects their outcomes.
 pub trait OutEnd<J: Task> {
-    ghost use Rattle.std.specs.Prelude.{◌+◌, ◌-◌, ◌<◌, length};
+    ghost use Rattle.std.specs.Prelude.{◌+◌, ◌-◌, ◌<◌, length, OnSome};
     ghost use Rattle.rt_jobs.specs.Ready.{HasReadyJob};
     ghost use Rattle.rt_link.specs.declared.ends.Outward.{Outward};
     ghost use Rattle.rt_link.specs.Calls.{Sends, Collects};
@@ -79,10 +79,13 @@ pub trait OutEnd<J: Task> {
         ensures sends { Sends (out self.old) (redeemed self.old) order (out self.new) result };
 
     /// The next outcome and the number of its order. `None`: all that this end sees is got.
+    ///
+    /// An outcome earns a credit.
     fn collect(&mut self) -> Option<(u64, Outcome<J, J::Out>)>
         ensures link { link self.new ≡ link self.old }
         ensures redeemed { redeemed self.new ≡ redeemed self.old }
         ensures collects { Collects (out self.old) (out self.new) result }
+        ensures earned { OnSome result (redeemed self.new < (out self.new).got) }
         ensures sound { SoundOut (out self.new) (redeemed self.new) }
         ensures named { AreOf (Fits J.SameTask J.Answers) (out self.new).base (out self.new).sent (out self.new).seen };
 

@@ -1,6 +1,6 @@
 //! A link within one thread.
 
-ghost use Rattle.std.specs.Prelude.{◌≡◌, ◌+◌, ◌-◌, ◌^◌, ◌<◌, [], ◌∷◌, ◌++◌, length, slice_get, IfOk, IfSome};
+ghost use Rattle.std.specs.Prelude.{◌≡◌, ◌+◌, ◌-◌, ◌^◌, ◌<◌, [], ◌∷◌, ◌++◌, length, slice_get, IfOk, IfSome, OnSome};
 ghost use Rattle.rt_jobs.specs.Ready.{HasReadyJob};
 ghost use Rattle.rt_link.specs.Calls.{Sends, Collects, Takes, Shuts, MayGive, final_of};
 ghost use Rattle.rt_link.specs.Ends.{AreNamed, AreOf, SoundIn, SoundOut};
@@ -43,15 +43,20 @@ pub struct Whole<J, T> {
     pub shut: bool,
 }
 
-/// A link whose two ends are one value.
+/// A link whose two ends are one value, for one thread. Both ends see all.
+///
+/// Its memory is taken at the opening: a place of each buffer for each submission that may be outstanding.
 #[derive(Drop)]
 pub struct PlainLink<J: Task> {
+    /// What was sent and not taken.
     orders: HeapCircularBuffer<Order<J>, Global>,
+    /// What was given and not got.
     outcomes: HeapCircularBuffer<(u64, Outcome<J, J::Out>), Global>,
     from: ActorNo,
     to: CoreNo,
     base: u64,
     capacity: u64,
+    /// How many were sent.
     count: u64,
     taken: u64,
     got: u64,
@@ -76,14 +81,22 @@ impl<J: Task> Model for PlainLink<J> {
 }
 
 impl<J: Task> PlainLink<J> {
-    /// Opens a link. At most `capacity` submissions are outstanding at any time.
+    /// Opens a link on which at most `capacity` submissions are outstanding at any time.
+    ///
+    /// # Errors
+    ///
+    /// Want of memory, and of nothing else.
     pub fn open(alloc: Global, from: ActorNo, to: CoreNo, capacity: u16) -> Result<Self, AllocError>
         ensures { IfOk result (λ link. link ≡ fresh from to capacity 0) }
     {
         Self::open_after(alloc, from, to, capacity, 0)
     }
 
-    /// Opens a link as if that many submissions had been accepted and redeemed.
+    /// Opens a link as if that many submissions had been accepted and redeemed: its first number is one more.
+    ///
+    /// # Errors
+    ///
+    /// Want of memory, and of nothing else.
     pub fn open_after(
         alloc: Global,
         from: ActorNo,
@@ -132,7 +145,7 @@ impl<J: Task> OutEnd<J> for PlainLink<J> {
         if self.shut {
             return Err(SendError::Closed(order, last));
         }
-        if self.count - self.redeemed == self.capacity {
+        if self.outstanding() == self.capacity {
             return Err(SendError::Full(order));
         }
         if last == LAST_NUMBER {
@@ -151,6 +164,7 @@ impl<J: Task> OutEnd<J> for PlainLink<J> {
         ensures collects { Collects (out_of self.old) (out_of self.new) result }
         ensures sound_out { SoundOut (out_of self.new) self.new.redeemed }
         ensures named { AreOf (Fits J.SameTask J.Answers) self.new.base self.new.sent self.new.given }
+        ensures earned { OnSome result (self.new.redeemed < self.new.got) }
         ensures next { result ≡ slice_get self.old.given self.old.got }
         ensures others { self.new ≡ record self.old { got = self.new.got } }
         ensures law { IsLink (Fits J.SameTask J.Answers) (HasReadyJob J.done J.CanPoll) self.new }
@@ -166,7 +180,8 @@ impl<J: Task> OutEnd<J> for PlainLink<J> {
 
     fn credit(&mut self)
         requires { self.old.redeemed < self.old.got }
-        ensures { self.new ≡ record self.old { redeemed = self.old.redeemed + 1 } }
+        ensures redeemed { self.new ≡ record self.old { redeemed = self.old.redeemed + 1 } }
+        ensures law { IsLink (Fits J.SameTask J.Answers) (HasReadyJob J.done J.CanPoll) self.new }
     {
         self.redeemed += 1;
     }
@@ -243,3 +258,6 @@ impl<J: Task> InEnd<J> for PlainLink<J> {
         }
     }
 }
+
+#[cfg(test)]
+mod tests;

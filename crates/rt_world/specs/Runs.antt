@@ -1,0 +1,33 @@
+-- Runs: events, one after another, each with the notes of its step and the reply of its actor. Links show all that was sent.
+use Rattle.std.specs.Prelude.{◌≡◌, ℕ, Option, List, [], ◌∷◌}
+use Rattle.rt_jobs.specs.declared.job.Step.{Step}
+use Rattle.rt_world.specs.declared.event.Event.{Event}
+use Rattle.rt_world.specs.declared.event.Event.TheVariants.{Send, Deliver, Turn}
+use Rattle.rt_world.specs.declared.event.Reply.{Reply}
+use Rattle.rt_world.specs.declared.event.Reply.TheVariants as reply
+use Rattle.rt_world.specs.State.{WorldView, IsNearlyFull}
+use Rattle.rt_world.specs.Sends.{actor_of, AreThere, Sends}
+use Rattle.rt_world.specs.Deliveries.{Delivers}
+use Rattle.rt_world.specs.Turns.{Turns}
+
+-- the words of a task: the polls that it made before, what a poll owes, and what may answer it
+module _ {J T : Type 0} (made : J → ℕ) (polls : J → ℕ → Step T → Option ℕ → Type 0) (answers : J → T → Type 0) where
+  -- the step of an event whose actors exist, and for which the journal has room
+  abbrev pub Steps : Event J → WorldView J T → WorldView J T → Reply J → Type 0
+  Steps (Send sender core order) old new answer = Sends sender core order old new answer
+  Steps (Deliver core sender) old new answer = Delivers core sender old new answer
+  Steps (Turn core spent) old new answer = Turns made polls answers core spent old new answer
+
+  -- one event: first it is asked whether its actors exist, then whether the journal has room
+  abbrev pub Happens : Event J → WorldView J T → WorldView J T → Reply J → Type 0
+  Happens event old new (reply.NoActor back) = (back ≡ event) × (AreThere old.cores event → ⊥) × (new ≡ old)
+  Happens event old new (reply.NoRoom back) =
+      (back ≡ event) × AreThere old.cores event × IsNearlyFull (actor_of event) old × (new ≡ old)
+  Happens event old new answer =
+      AreThere old.cores event × (IsNearlyFull (actor_of event) old → ⊥) × Steps event old new answer
+
+  -- events, one after another
+  abbrev pub IsRun : List (Event J) → WorldView J T → WorldView J T → Type 0
+  IsRun [] old new = new ≡ old
+  IsRun (event ∷ events) old new =
+      (between : WorldView J T) × (answer : Reply J) × Happens event old between answer × IsRun events between new

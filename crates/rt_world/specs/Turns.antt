@@ -1,0 +1,64 @@
+-- Turns: the right pick, and one poll of the first job of its line.
+use Rattle.std.specs.Prelude.{◌≡◌, ◌⊎◌, ℕ, ◌+◌, ◌-◌, ◌^◌, Option, Some, None, true, false, unwrap_or, Bool, List, [], ◌∷◌}
+use Rattle.rt_ids.specs.declared.names.JobId.{JobId}
+use Rattle.rt_ids.specs.declared.note.Note.TheVariants as writes
+use Rattle.rt_ids.specs.declared.order.Order.TheVariants.{Job}
+use Rattle.rt_ids.specs.declared.note.Note.{Note}
+use Rattle.rt_ids.specs.Names.{is_name}
+use Rattle.rt_ids.specs.Journal.{Journal, is_told}
+use Rattle.rt_ids.specs.Filters.{name_started}
+use Rattle.rt_ids.specs.Work.{has_work, number_if}
+use Rattle.rt_ids.specs.Lines.{line, name_settled}
+use Rattle.rt_ids.specs.Picks.{IsRightPick, turns}
+use Rattle.rt_ids.specs.Commands.{return_reason}
+use Rattle.rt_jobs.specs.declared.job.Step.{Step}
+use Rattle.rt_jobs.specs.declared.job.Step.TheVariants as step
+use Rattle.rt_jobs.specs.Steps.{IfDone}
+use Rattle.rt_world.specs.declared.event.Reply.{Reply}
+use Rattle.rt_world.specs.declared.event.Reply.TheVariants as reply
+use Rattle.rt_world.specs.State.{WorldView, journal_at, order_under, noted}
+
+-- how often the job was polled
+abbrev pub polls_made : {T : Type 0} → JobId → Journal T → ℕ
+polls_made name [] = 0
+polls_made name (note ∷ before) = polls_made name before + number_if (is_name name (name_settled note))
+
+abbrev pub poll_note : {T : Type 0} → JobId → Bool → Note T
+poll_note name false = writes.Start name
+poll_note name true = writes.Resume name
+
+abbrev pub settle_note : {T : Type 0} → JobId → ℕ → Step T → Note T
+settle_note name time (step.Done out) = writes.Done name time out
+settle_note name time step.Yield = writes.Yield name time
+
+-- the words of a task: the polls that it made before, what a poll owes, and what may answer it
+module _ {J T : Type 0} (made : J → ℕ) (polls : J → ℕ → Step T → Option ℕ → Type 0) (answers : J → T → Type 0) where
+  -- the right pick, and the first job of that line is polled once: the poll owes what the task says of it, counted from the job as it was sent
+  pub record IsPoll (core spent : ℕ) (old new : WorldView J T) : Type 0 where
+    pub queue : ℕ
+    pub runtime : ℕ
+    pub right : IsRightPick queue runtime (journal_at core old)
+    pub name : JobId
+    pub others : List JobId
+    pub first : line queue (journal_at core old) ≡ name ∷ others
+    pub kept : return_reason queue (journal_at core old) ≡ None
+    pub job : J
+    pub task : order_under name old ≡ Some (Job queue job)
+    pub step : Step T
+    pub told : Option ℕ
+    pub owed : polls job (made job + polls_made name (journal_at core old)) step told
+    pub answered : IfDone step (answers job)
+    pub notes : new ≡ noted core
+        (
+        settle_note name (unwrap_or told spent) step
+        ∷ poll_note name (is_told name_started name (journal_at core old))
+        ∷ writes.Pick queue runtime ∷ []
+        ) old
+
+  -- Turn: a poll; nothing where no queue has work, and nothing where all turns are used
+  abbrev pub Turns : ℕ → ℕ → WorldView J T → WorldView J T → Reply J → Type 0
+  Turns core spent old new reply.Noted = IsPoll core spent old new
+  Turns core spent old new reply.Idle = ((queue : ℕ) → has_work queue (journal_at core old) ≡ false) × (new ≡ old)
+  Turns core spent old new reply.Spent =
+      (turns (journal_at core old) ≡ 2 ^ 64 - 1) × ((queue : ℕ) × (has_work queue (journal_at core old) ≡ true)) × (new ≡ old)
+  Turns core spent old new _ = ⊥
