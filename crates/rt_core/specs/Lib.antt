@@ -1,0 +1,4 @@
+pub mod State
+pub mod Deliveries
+pub mod Turns
+pub mod Answers

@@ -1,0 +1,8 @@
+//! One core: its task queues, which of them runs next, and what each poll costs.
+#![tactic(auto)]
+
+pub mod delivery;
+pub mod turn;
+
+pub use delivery::Delivered;
+pub use turn::{PickError, Settled, Turn};
