@@ -8,14 +8,14 @@ use Rattle.rt_ids.specs.declared.order.Order.TheVariants.{Job, Create, SetShares
 use Rattle.rt_ids.specs.declared.order.Reason.TheVariants as why
 use Rattle.rt_ids.specs.declared.order.Answer.{Answer}
 use Rattle.rt_ids.specs.declared.order.Answer.TheVariants as answers
-use Rattle.rt_taskqueue.specs.declared.create_error.CreateError.{CreateError}
-use Rattle.rt_taskqueue.specs.declared.create_error.CreateError.TheVariants.{TooMany, Memory}
-use Rattle.rt_taskqueue.specs.Queues.{QueuesView, queue_count, waiting_of, shares_of, ChangesLine, ChangesShares}
+use Rattle.rt_taskqueue.specs.declared.queues.CreateError.{CreateError}
+use Rattle.rt_taskqueue.specs.declared.queues.CreateError.TheVariants.{TooMany, Memory}
+use Rattle.rt_taskqueue.specs.Queues.{QueuesView, queue_count, waiting_of, shares_of, ChangesLine, ChangesShares, AddsQueue}
 use Rattle.rt_core.specs.declared.delivery.Delivered.{Delivered}
 use Rattle.rt_core.specs.declared.delivery.Delivered.TheVariants.{Took, Back, Answered}
 use Rattle.rt_core.specs.State.{CoreView, no_tally, tally_of, entry_runtime}
 
-module _ {J T : Type 0} where
+module _ {J : Type 0} where
   -- the delivery is counted
   abbrev pub counted : JobId → CoreView J → List ℕ
   counted name view = slice_set view.delivered name.from name.number
@@ -33,7 +33,7 @@ module _ {J T : Type 0} where
   -- a queue is made, with the next number and no job
   pub record Creates (old : CoreView J) (weight : ℕ) (new : CoreView J) : Type 0 where
     pub few : queue_count old.queues < 256
-    pub queues : new.queues ≡ record old.queues { queues = old.queues.queues ++ record { shares = weight; waiting = [] } ∷ [] }
+    pub added : AddsQueue old.queues new.queues (queue_count old.queues) weight
     pub rest : new ≡ record old { queues = new.queues; tallies = old.tallies ++ no_tally ∷ []; delivered = new.delivered }
 
   -- a queue gets shares
@@ -42,16 +42,17 @@ module _ {J T : Type 0} where
     pub shares : ChangesShares old.queues new.queues queue weight
     pub rest : new ≡ record old { queues = new.queues; delivered = new.delivered }
 
+  -- the delivery is counted, and nothing else changes
+  abbrev pub CountsAlone : CoreView J → JobId → CoreView J → Type 0
+  CountsAlone old name new = new ≡ record old { delivered = counted name old }
+
+module _ {J T : Type 0} where
   -- what a creation does, by what it answers, with its notes
   abbrev pub CreatesQueue : CoreView J → ℕ → Result ℕ CreateError → CoreView J → List (Note T) → Type 0
   CreatesQueue old weight (Ok queue) new written =
       (queue ≡ queue_count old.queues) × Creates old weight new × (new.delivered ≡ old.delivered) × (written ≡ notes.Created queue weight ∷ [])
   CreatesQueue old weight (Err TooMany) new written = (queue_count old.queues ≡ 256) × (new ≡ old) × (written ≡ [])
   CreatesQueue old weight (Err Memory) new written = (queue_count old.queues < 256) × (new ≡ old) × (written ≡ [])
-
-  -- the delivery is counted, and nothing else changes
-  abbrev pub CountsAlone : CoreView J → JobId → CoreView J → Type 0
-  CountsAlone old name new = new ≡ record old { delivered = counted name old }
 
   -- what a delivery does to the core, by what it answers, with its notes in their order
   abbrev pub Delivers : CoreView J → JobId → Order J → Delivered J → CoreView J → List (Note T) → Type 0

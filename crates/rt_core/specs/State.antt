@@ -28,6 +28,11 @@ pub record CoreView (J : Type 0) : Type 0 where
   pub out : Option (JobOut J)
   pub delivered : List ℕ
 
+-- whether there is any
+abbrev pub is_any : {A : Type 0} → List A → Bool
+is_any [] = false
+is_any (_ ∷ _) = true
+
 module _ {J : Type 0} where
   abbrev pub tally_of : ℕ → CoreView J → Tally
   tally_of queue view = unwrap_or (slice_get view.tallies queue) no_tally
@@ -43,10 +48,6 @@ module _ {J : Type 0} where
   abbrev pub queue_out : Option (JobOut J) → Option ℕ
   queue_out None = None
   queue_out (Some job) = Some job.queue
-
-  abbrev pub is_any : {A : Type 0} → List A → Bool
-  is_any [] = false
-  is_any (_ ∷ _) = true
 
   -- a queue has work if a job waits in it, or the job that is out is of it
   abbrev pub is_working : ℕ → CoreView J → Bool

@@ -17,7 +17,7 @@ use Rattle.rt_core.specs.declared.turn.Settled.{Settled}
 use Rattle.rt_core.specs.declared.turn.Settled.TheVariants.{Yielded, Finished}
 use Rattle.rt_core.specs.State.{CoreView, JobOut, tally_of, runtime_of}
 
-module _ {J T : Type 0} where
+module _ {J : Type 0} where
   -- the queue has a job at the head, and no queue with a job has a lesser pair (virtual runtime, number)
   pub record IsNext (view : CoreView J) (queue : ℕ) : Type 0 where
     pub free : view.out ≡ None
@@ -37,6 +37,19 @@ module _ {J T : Type 0} where
         out = Some (record { name = name; queue = queue; job = job });
       }
 
+  -- the queue of the job that was out is charged for the time, under the shares that it has now
+  abbrev pub settled_view : CoreView J → JobOut J → ℕ → ℕ → QueuesView J → CoreView J
+  settled_view old job time done queues = record old {
+    queues = queues;
+    tallies = slice_set old.tallies job.queue (record (tally_of job.queue old) {
+      runtime = (tally_of job.queue old).runtime + charge time (shares_of job.queue old.queues);
+      time = (tally_of job.queue old).time + clamped time;
+      finished = (tally_of job.queue old).finished + done;
+    });
+    out = None;
+  }
+
+module _ {J T : Type 0} where
   -- what a pick does, by what it answers, with its notes in their order
   abbrev pub Picks : CoreView J → Result (Turn J) PickError → CoreView J → List (Note T) → Type 0
   Picks old (Ok (Start name queue job)) new written =
@@ -49,18 +62,6 @@ module _ {J T : Type 0} where
   Picks old (Err Busy) new written = (old.out ≡ None → ⊥) × (new ≡ old) × (written ≡ [])
   Picks old (Err Spent) new written =
       (old.out ≡ None) × (old.turns ≡ 2 ^ 64 - 1) × ((queue : ℕ) × (waiting_of queue old.queues ≡ [] → ⊥)) × (new ≡ old) × (written ≡ [])
-
-  -- the queue of the job that was out is charged for the time, under the shares that it has now
-  abbrev pub settled_view : CoreView J → JobOut J → ℕ → ℕ → QueuesView J → CoreView J
-  settled_view old job time done queues = record old {
-    queues = queues;
-    tallies = slice_set old.tallies job.queue (record (tally_of job.queue old) {
-      runtime = (tally_of job.queue old).runtime + charge time (shares_of job.queue old.queues);
-      time = (tally_of job.queue old).time + clamped time;
-      finished = (tally_of job.queue old).finished + done;
-    });
-    out = None;
-  }
 
   -- what settling the poll of the job that was out does, by the poll's step; the told time counts, else the time handed in
   abbrev pub Settles : CoreView J → JobOut J → AfterPoll J T → ℕ → Step T → Settled T → CoreView J → List (Note T) → Type 0
