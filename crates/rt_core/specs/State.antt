@@ -1,5 +1,5 @@
 -- What a core is, as its callers see it.
-use Rattle.std.specs.Prelude.{◌≡◌, ℕ, ◌+◌, ◌*◌, ◌^◌, ◌≤◌, ◌||◌, Bool, true, false, Option, Some, None, is_some, unwrap_or, slice_get, replicate, List, [], ◌∷◌, if◌then◌else◌}
+use Rattle.std.specs.Prelude.{◌≡◌, ℕ, ◌+◌, ◌*◌, ◌^◌, ◌≤◌, ◌||◌, Bool, true, false, Option, Some, None, is_some, slice_index_or, replicate, List, [], ◌∷◌, if◌then◌else◌}
 use Rattle.rt_shares.specs.Charge.{placed}
 use Rattle.rt_ids.specs.declared.names.JobId.{JobId}
 use Rattle.rt_ids.specs.Names.{is_number}
@@ -35,7 +35,7 @@ is_any (_ ∷ _) = true
 
 module _ {J : Type 0} where
   abbrev pub tally_of : ℕ → CoreView J → Tally
-  tally_of queue view = unwrap_or (slice_get view.tallies queue) no_tally
+  tally_of queue view = slice_index_or view.tallies queue no_tally
 
   -- the virtual runtime of a queue
   abbrev pub runtime_of : ℕ → CoreView J → ℕ
@@ -43,7 +43,7 @@ module _ {J : Type 0} where
 
   -- how many submissions of a sender were delivered
   abbrev pub delivered_of : ℕ → CoreView J → ℕ
-  delivered_of sender view = unwrap_or (slice_get view.delivered sender) 0
+  delivered_of sender view = slice_index_or view.delivered sender 0
 
   abbrev pub queue_out : Option (JobOut J) → Option ℕ
   queue_out None = None
