@@ -2,3 +2,5 @@ pub mod State
 pub mod Deliveries
 pub mod Turns
 pub mod Answers
+pub mod Rising
+pub mod Places

@@ -2,6 +2,10 @@
 #![tactic(auto)]
 
 pub mod delivery;
+#[doc(hidden)]
+pub mod ready;
+#[doc(hidden)]
+pub mod tally;
 pub mod turn;
 
 pub use delivery::Delivered;
