@@ -1,0 +1,4 @@
+pub mod Lines
+pub mod PlainLemmas
+pub mod Changes
+pub mod QueuesLemmas

@@ -1,0 +1,9 @@
+//! The task queues of a core: each has its shares and a line of jobs that wait in it.
+#![tactic(auto)]
+
+mod queues;
+// A crate can name the queues in a contract only if the types of their fields are exported.
+#[doc(hidden)]
+pub mod waiting;
+
+pub use queues::{CreateError, Queues};

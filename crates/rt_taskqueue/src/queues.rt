@@ -1,0 +1,166 @@
+//! All task queues of a core.
+ghost use Rattle.std.specs.Prelude.{◌≡◌, ◌<◌, ◌≤◌, ◌↔◌, [], ◌∷◌, ◌++◌, true, false, drop, length, IsTrue, IfOk, OnErr, IfSome, IfNone, OnSome};
+ghost use Rattle.rt_taskqueue.specs.Queues.{queue_count, shares_of, waiting_of, held_count, first_queue, IsWithinLimits, ChangesLine, ChangesShares, AddsQueue};
+
+use crate::waiting::{Waiting, head_place, line_length};
+use rt_ids::{JobId, QueueNo};
+use rt_shares::Shares;
+use std::alloc::{AllocError, Allocator};
+use std::marker::Model;
+
+/// The number of a queue fits a byte.
+const MOST_QUEUES: usize = 256;
+
+/// Why no queue was created.
+#[derive(Clone, Copy, PartialEq, Eq, Debug, thiserror::Error)]
+pub enum CreateError {
+    /// There are 256 queues. This is tried first.
+    #[error("256 queues exist already")]
+    TooMany,
+    /// The allocator refused what the queue needs.
+    #[error("no memory for one more queue")]
+    Memory,
+}
+
+/// The task queues of a core, numbered from 0, with room for so many jobs in all of them together.
+///
+/// Only `open` and `try_create` take memory.
+#[derive(Drop)]
+pub struct Queues<J, A: Allocator> {
+    jobs: Vec<Waiting<J>, A>,
+    shares: Vec<Shares, A>,
+    room: usize,
+}
+
+impl<J, A: Allocator> Model for Queues<J, A> {
+    ghost use Rattle.rt_taskqueue.specs.Queues.{QueuesView};
+
+    ghost Value = { QueuesView J };
+
+    ghost use Rattle.std.specs.Prelude.{vec_capacity};
+    ghost use Rattle.rt_taskqueue.specs.Plain.{plain_view, IsPlain};
+
+    ghost view = { λ q. plain_view q.room q.jobs.items q.shares.items };
+
+    ghost invariant = { λ q. IsPlain q.room (vec_capacity q.jobs) (vec_capacity q.shares) q.jobs.items q.shares.items };
+}
+
+impl<J: Drop, A: Allocator + Clone> Queues<J, A> {
+    /// Opens queue 0, with the default shares, and takes the memory for this many jobs and for all queues.
+    pub fn open(alloc: A, room: usize) -> Result<Self, AllocError>
+        ensures opened { IfOk result (λ queues. queues ≡ first_queue room) }
+    {
+        let mut shares = Vec::with_capacity(alloc.clone()?, MOST_QUEUES)?;
+        let jobs = Vec::with_capacity(alloc, room)?;
+        shares.push_reserved(Shares::default());
+        Ok(Queues { jobs, shares, room })
+    }
+
+    /// Creates a queue under the next number.
+    pub fn try_create(&mut self, shares: Shares) -> Result<QueueNo, CreateError>
+        ensures created { IfOk result (λ queue. AddsQueue self.old self.new queue shares) }
+        ensures too_many { (result ≡ Err CreateError.TooMany) ↔ (queue_count self.old ≡ 256) }
+        ensures refused { OnErr result (self.new ≡ self.old) }
+        ensures limits { IsWithinLimits self.new }
+    {
+        let count = self.shares.len();
+        if count == MOST_QUEUES {
+            return Err(CreateError::TooMany);
+        }
+        self.shares.push_reserved(shares);
+        Ok(QueueNo(count as u8))
+    }
+
+    /// How many queues there are.
+    pub fn queue_count(&self) -> u16
+        ensures value { result ≡ queue_count self.now }
+        ensures limits { IsWithinLimits self.now }
+    {
+        self.shares.len() as u16
+    }
+
+    /// Whether one more job may join.
+    pub fn has_room(&self) -> bool
+        ensures value { IsTrue result ↔ (held_count self.now < self.now.room) }
+        ensures limits { IsWithinLimits self.now }
+    {
+        self.jobs.len() < self.room
+    }
+
+    /// A job that was never started joins the tail.
+    pub fn admit(&mut self, queue: QueueNo, name: JobId, job: J)
+        requires exists { queue < queue_count self.old }
+        requires room { held_count self.old < self.old.room }
+        ensures joins { ChangesLine self.old self.new queue (waiting_of queue self.old ++ (name, false, job) ∷ []) }
+        ensures limits { IsWithinLimits self.new }
+    {
+        self.jobs.push_reserved(Waiting {
+            queue,
+            name,
+            started: false,
+            job,
+        });
+    }
+
+    /// Takes the job at the head, with its name and whether it was started.
+    pub fn pop_front(&mut self, queue: QueueNo) -> Option<(JobId, bool, J)>
+        requires exists { queue < queue_count self.old }
+        ensures empty { IfNone result (waiting_of queue self.old ≡ []) }
+        ensures unchanged { IfNone result (self.new ≡ self.old) }
+        ensures head { IfSome result (λ front. waiting_of queue self.old ≡ front ∷ waiting_of queue self.new) }
+        ensures rest { OnSome result (ChangesLine self.old self.new queue (drop 1 (waiting_of queue self.old))) }
+        ensures limits { IsWithinLimits self.new }
+    {
+        let place = head_place(&self.jobs, queue)?;
+        let front = self.jobs.remove(place);
+        Some((front.name, front.started, front.job))
+    }
+
+    /// A job that was started joins the tail again.
+    pub fn push_back(&mut self, queue: QueueNo, name: JobId, job: J)
+        requires exists { queue < queue_count self.old }
+        requires room { held_count self.old < self.old.room }
+        ensures joins { ChangesLine self.old self.new queue (waiting_of queue self.old ++ (name, true, job) ∷ []) }
+        ensures limits { IsWithinLimits self.new }
+    {
+        self.jobs.push_reserved(Waiting {
+            queue,
+            name,
+            started: true,
+            job,
+        });
+    }
+
+    /// Whether no job waits in this queue.
+    pub fn is_empty(&self, queue: QueueNo) -> bool
+        requires exists { queue < queue_count self.now }
+        ensures { IsTrue result ↔ (waiting_of queue self.now ≡ []) }
+    {
+        head_place(&self.jobs, queue).is_none()
+    }
+
+    /// How many jobs wait in this queue.
+    pub fn count(&self, queue: QueueNo) -> usize
+        requires exists { queue < queue_count self.now }
+        ensures { result ≡ length (waiting_of queue self.now) }
+    {
+        line_length(&self.jobs, queue)
+    }
+
+    /// The shares of this queue.
+    pub fn shares(&self, queue: QueueNo) -> Shares
+        requires exists { queue < queue_count self.now }
+        ensures { result ≡ shares_of queue self.now }
+    {
+        self.shares[queue.0 as usize]
+    }
+
+    /// Gives this queue other shares.
+    pub fn set_shares(&mut self, queue: QueueNo, shares: Shares)
+        requires exists { queue < queue_count self.old }
+        ensures given { ChangesShares self.old self.new queue shares }
+        ensures limits { IsWithinLimits self.new }
+    {
+        self.shares[queue.0 as usize] = shares;
+    }
+}
