@@ -1,5 +1,5 @@
 //! The keys of the queues that may be picked, in rising order.
-ghost use Rattle.std.specs.Prelude.{◌≡◌, [], IfOk};
+ghost use Rattle.std.specs.Prelude.{◌≡◌, ◌<◌, ◌≤◌, [], length, IfOk};
 ghost use Rattle.rt_core.specs.Rising.{stands_before, inserted, first_key, later_keys, LacksQueue, IsTimeline};
 ghost use Rattle.rt_core.specs.Places.{place_of};
 
@@ -44,7 +44,8 @@ impl<A: Allocator> Ready<A> {
 
     /// Puts the key in its place.
     pub fn insert(&mut self, key: Key)
-        requires { LacksQueue key.queue self.old }
+        requires number { key.queue < 256 }
+        requires new { LacksQueue key.queue self.old }
         ensures { self.new ≡ inserted key self.old }
     {
         let place = place_of(&self.keys, &key);
@@ -81,7 +82,8 @@ fn is_before(one: &Key, other: &Key) -> bool
 
 /// The place of the key among keys that rise.
 fn place_of(keys: &[Key], key: &Key) -> usize
-    ensures { result ≡ place_of key.now keys.now }
+    ensures value { result ≡ place_of key.now keys.now }
+    ensures within { result ≤ length keys.now }
 {
     for (i, other) in keys.iter().enumerate() {
         if is_before(key, other) {
