@@ -1,1 +1,4 @@
 pub mod Keys
+pub mod Listed
+pub mod Entries
+pub mod Fits

@@ -4,3 +4,5 @@ pub mod Turns
 pub mod Answers
 pub mod Rising
 pub mod Places
+pub mod Inside
+pub mod Steps
