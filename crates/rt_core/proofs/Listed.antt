@@ -17,7 +17,7 @@ eqb-apart a b apart = elim (eqb_tells a b) [ inl same ↦ absurd (apart same.1) 
 lacking_if : (queue : ℕ) (key : Key) (later : List Key) (test : Bool) → eqb queue key.queue ≡ test → (runtime_listed queue later ≡ None → LacksQueue queue later) →
     cond test (Some key.vr) (runtime_listed queue later) ≡ None → LacksQueue queue (key ∷ later)
 lacking_if queue key later true e more none = cc
-lacking_if queue key later false e more none = ((λ same. elim (eqb_tells queue key.queue) [ inl yes ↦ true≢false (sym yes.0 ∙ e) | inr no ↦ no.1 (sym same) ]), more none)
+lacking_if queue key later false e more none = ((λ same. elim (eqb_tells queue key.queue) [ inl equal ↦ true≢false (sym equal.0 ∙ e) | inr differ ↦ differ.1 (sym same) ]), more none)
 
 pub LacksQueue-from_none : (queue : ℕ) (keys : List Key) → runtime_listed queue keys ≡ None → LacksQueue queue keys
 LacksQueue-from_none queue [] none = tt

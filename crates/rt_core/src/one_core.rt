@@ -237,9 +237,9 @@ impl<J: Task, A: Allocator + Clone> Core<J, A> {
         let took = Note::Took(name, queue);
         if self.has_work(queue) {
             self.join(name, queue, job);
-        } else {
-            self.activate(name, queue, job);
+            return (Delivered::Took, one_note(took));
         }
+        self.activate(name, queue, job);
         (Delivered::Took, one_note(took))
     }
 
@@ -398,12 +398,13 @@ impl<J: Task, A: Allocator + Clone> Core<J, A> {
         let tally = self.tallies[place(queue)].charged(time, &shares, 1);
         self.tallies[place(queue)] = tally;
         self.inside -= 1;
-        if !self.queues.is_empty(queue) {
-            self.ready.insert(Key {
-                vr: tally.runtime,
-                queue,
-            });
+        if self.queues.is_empty(queue) {
+            return out.name;
         }
+        self.ready.insert(Key {
+            vr: tally.runtime,
+            queue,
+        });
         out.name
     }
 }

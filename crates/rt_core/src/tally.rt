@@ -32,11 +32,13 @@ impl Tally {
         requires runtime { self.runtime + 2 ^ 50 ≤ 2 ^ 128 }
         requires time { self.time + 2 ^ 40 ≤ 2 ^ 128 }
         requires finished { self.finished + done < 2 ^ 64 }
-        ensures { result ≡ record self {
+        ensures value { result ≡ record self {
             runtime = self.runtime + spec.charge time shares.now;
             time = self.time + spec.clamped time;
             finished = self.finished + done;
         } }
+        ensures charge { result.runtime < self.runtime + 2 ^ 50 }
+        ensures clamped { result.time < self.time + 2 ^ 40 }
     {
         Tally {
             runtime: self.runtime + u128::from(charge(time, shares)),
