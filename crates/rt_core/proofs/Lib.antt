@@ -5,4 +5,7 @@ pub mod Fits
 pub mod Parts
 pub mod Settling
 pub mod Picking
+pub mod Counting
+pub mod Charging
 pub mod Outcomes
+pub mod PollsSettled

@@ -102,3 +102,14 @@ module _ {J : Type 0} where
         tallies = rw (turns, polls, tallies) after;
         floor = rw (turns, polls, floor) (omega (arith, within.floor));
       }
+
+  -- a key is left: a job waits
+  pub work_if_key : (view : CoreView J) (keys : List Key) → is_some (first_key keys) ≡ true → view.out ≡ None → IsListed view keys →
+      (queue : ℕ) × (waiting_of queue view.queues ≡ [] → ⊥)
+  work_if_key view [] some free listed = cc
+  work_if_key view (key ∷ later) some free listed =
+      (key.queue, some_from_is_any (waiting_of key.queue view.queues) (first_waits view (key ∷ later) key refl listed free))
+
+pub none_if_not_some : {A : Type 0} (value : Option A) → is_some value ≡ false → value ≡ None
+none_if_not_some None none = refl
+none_if_not_some (Some inner) none = cc
