@@ -57,9 +57,9 @@ module _ {J : Type 0} where
   -- also of a queue that there isn't
   pub tally_fits : (view : CoreView J) (queue : ℕ) → IsWithinTurns view → FitsTurns view.turns (unsettled_count view) (tally_of queue view)
   tally_fits view queue within = elim (cases_lt queue (length view.tallies)) [
-      | inl there ↦ All-get_or (FitsTurns view.turns (unsettled_count view)) view.tallies queue no_tally there within.tallies
-      | inr past ↦ rw (get_or_past view.tallies queue no_tally past) (no_tally_fits view.turns (unsettled_count view) view.floor within.floor)
-    ]
+    | inl there ↦ All-get_or (FitsTurns view.turns (unsettled_count view)) view.tallies queue no_tally there within.tallies
+    | inr past ↦ rw (get_or_past view.tallies queue no_tally past) (no_tally_fits view.turns (unsettled_count view) view.floor within.floor)
+  ]
 
   pub IsBounded-from_turns : (view : CoreView J) → IsWithinTurns view → IsBounded view
   IsBounded-from_turns view within = λ queue. let fits = (tally_fits view queue within).runtime in omega arith

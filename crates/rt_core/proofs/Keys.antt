@@ -131,7 +131,7 @@ below_if_among queue (key ∷ later) each among =
 pub length-lt_if_lacking : (key : Key) (keys : List Key) → key.queue < 256 → LacksQueue key.queue keys → IsTimeline keys → length keys < 256
 length-lt_if_lacking key keys fits lacks timeline =
     let all : length (queues_of (key ∷ keys)) ≤ 256 =
-        length-le_from_distinct_below (queues_of (key ∷ keys)) 256 (IsDistinct-queues_of (key ∷ keys) (lacks, timeline.distinct)) (λ queue among. below_if_among queue (key ∷ keys) (fits, timeline.numbers) among) in
+    length-le_from_distinct_below (queues_of (key ∷ keys)) 256 (IsDistinct-queues_of (key ∷ keys) (lacks, timeline.distinct)) (λ queue among. below_if_among queue (key ∷ keys) (fits, timeline.numbers) among) in
     omega (arith, length-map keys (λ (one : Key). one.queue))
 
 -- no key is left of the queue whose key was first

@@ -20,16 +20,18 @@ module _ {J : Type 0} where
   -- a queue is created, and then the delivery is counted
   pub delivers_created : (old : CoreView J) (weight : ℕ) (mid new : CoreView J) (name : JobId) → Creates old weight mid → mid.delivered ≡ old.delivered →
       CountsAlone mid name new → Creates old weight new × (new.delivered ≡ counted name old)
-  delivers_created old weight mid new name creates same counts =
-      (record {
-        few = creates.few;
-        added = subst (λ (queues : QueuesView J). AddsQueue old.queues queues (queue_count old.queues) weight) (sym (ap (λ (view : CoreView J). view.queues) counts)) creates.added;
-        rest = counts ∙ ap (λ (view : CoreView J). record view { delivered = counted name mid }) creates.rest
-            ∙ (λ i. record old { queues = queues_back i; tallies = old.tallies ++ no_tally ∷ []; delivered = delivered_back i });
-      },
-      ap (λ (view : CoreView J). view.delivered) counts ∙ ap (λ (before : List ℕ). slice_set before name.from name.number) same)
+  delivers_created old weight mid new name creates same counts = (
+    record {
+      few = creates.few;
+      added = subst (λ (queues : QueuesView J). AddsQueue old.queues queues (queue_count old.queues) weight) (sym (ap (λ (view : CoreView J). view.queues) counts)) creates.added;
+      rest = counts ∙ ap (λ (view : CoreView J). record view { delivered = counted name mid }) creates.rest
+          ∙ (λ i. record old { queues = queues_back i; tallies = old.tallies ++ no_tally ∷ []; delivered = delivered_back i });
+    },
+    ap (λ (view : CoreView J). view.delivered) counts ∙ ap (λ (before : List ℕ). slice_set before name.from name.number) same,
+  )
     where
       queues_back : mid.queues ≡ new.queues
       queues_back = sym (ap (λ (view : CoreView J). view.queues) counts)
+
       delivered_back : counted name mid ≡ new.delivered
       delivered_back = sym (ap (λ (view : CoreView J). view.delivered) counts)

@@ -64,7 +64,7 @@ module _ {J : Type 0} where
       may other (inl same) =
           let any : is_any (waiting_of queue new.queues) ≡ true = ap is_any changes.changed ∙ is_any-push (waiting_of queue old.queues) (name, false, job) in
           let here : (is_any (waiting_of queue new.queues) && not (is_number queue (queue_out old.out))) ≡ may_run queue old =
-              and_not_same (is_any (waiting_of queue old.queues)) (is_any (waiting_of queue new.queues)) (is_number queue (queue_out old.out)) work any in
+          and_not_same (is_any (waiting_of queue old.queues)) (is_any (waiting_of queue new.queues)) (is_number queue (queue_out old.out)) work any in
           ap (λ number. may_run number new) same ∙ ap (λ (held : Option (JobOut J)). is_any (waiting_of queue new.queues) && not (is_number queue (queue_out held))) out ∙ here ∙ ap (λ number. may_run number old) (sym same)
 
   -- a job enters a queue without work
@@ -82,12 +82,16 @@ module _ {J : Type 0} where
     where
       parts : (is_any (waiting_of key.queue old.queues) ≡ false) × (is_number key.queue (queue_out old.out) ≡ false)
       parts = both_false (is_any (waiting_of key.queue old.queues)) (is_number key.queue (queue_out old.out)) idle
+
       any : is_any (waiting_of key.queue new.queues) ≡ true
       any = ap is_any changes.changed ∙ is_any-push (waiting_of key.queue old.queues) (name, false, job)
+
       may : may_run key.queue new ≡ true
       may = (λ i. any i && not (is_number key.queue (queue_out (out i)))) ∙ ap not parts.1
+
       here : entry_of new key.queue ≡ Some key.vr
       here = entry_of-some new key.queue may ∙ ap Some (runtime_of-set_same old new key.queue tally tallies within ∙ runtime)
+
       others : (other : ℕ) → other ≢ key.queue → entry_of new other ≡ entry_of old other
       others other apart =
           entry_of-same old new other (may_run-same old new other (changes.others other apart) out) (runtime_of-set_other old new key.queue other tally tallies apart)
@@ -113,5 +117,6 @@ module _ {J : Type 0} where
     where
       unsettled_of : Option (JobOut J) → ℕ
       unsettled_of held = number_if (is_some held)
+
       exists_still : IfSome new.out (λ job. job.queue < queue_count new.queues)
       exists_still = subst (λ (held : Option (JobOut J)). IfSome held (λ job. job.queue < queue_count new.queues)) (sym out) (subst (λ count. IfSome old.out (λ job. job.queue < count)) (sym changes.same_count) counted.out)

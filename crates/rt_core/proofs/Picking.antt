@@ -39,9 +39,9 @@ none_says false runtime is = refl
 -- a queue in which a job waits exists
 pub exists_if_waiting : {J : Type 0} (queues : QueuesView J) (queue : ℕ) → is_any (waiting_of queue queues) ≡ true → queue < queue_count queues
 exists_if_waiting queues queue any = elim (cases_lt queue (queue_count queues)) [
-    | inl there ↦ there
-    | inr past ↦ absurd (true≢false (sym any ∙ ap (λ found. is_any found.waiting) (get_or_past queues.queues queue no_queue past)))
-  ]
+  | inl there ↦ there
+  | inr past ↦ absurd (true≢false (sym any ∙ ap (λ found. is_any found.waiting) (get_or_past queues.queues queue no_queue past)))
+]
 
 module _ {J : Type 0} where
   -- what the first key says of its queue
@@ -62,7 +62,7 @@ module _ {J : Type 0} where
       free = free;
       least = λ other some.
           let is : runtime_listed other keys ≡ Some (runtime_of other view) =
-              listed.at other ∙ entry_of-some view other (may_run-free view other true free (is_any-from_some (waiting_of other view.queues) some)) in
+          listed.at other ∙ entry_of-some view other (may_run-free view other true free (is_any-from_some (waiting_of other view.queues) some)) in
           let all : runtime_listed other (key ∷ later_keys keys) ≡ Some (runtime_of other view) = subst (λ ks. runtime_listed other ks ≡ Some (runtime_of other view)) (keys_are keys key first) is in
           let rising : IsRising (key ∷ later_keys keys) = subst IsRising (keys_are keys key first) timeline.rising in
           subst (λ runtime. KeyAtMost runtime key.queue (runtime_of other view) other) (sym first_runtime) (least_of_listed key (later_keys keys) other (runtime_of other view) rising all);
@@ -97,7 +97,7 @@ module _ {J : Type 0} where
       let polls : unsettled_count new ≡ 1 = ap (λ (held : Option (JobOut J)). number_if (is_some held)) is_out in
       let before : All (FitsTurns old.turns 0) old.tallies = subst (λ count. All (FitsTurns old.turns count) old.tallies) none within.tallies in
       let after : All (FitsTurns (old.turns + 1) 1) (slice_set old.tallies queue tally) =
-          All-set (FitsTurns (old.turns + 1) 1) old.tallies queue tally fits (All-weaker (FitsTurns old.turns 0) (FitsTurns (old.turns + 1) 1) (other_fits old.turns) old.tallies before) in
+      All-set (FitsTurns (old.turns + 1) 1) old.tallies queue tally fits (All-weaker (FitsTurns old.turns 0) (FitsTurns (old.turns + 1) 1) (other_fits old.turns) old.tallies before) in
       record {
         tallies = rw (turns, polls, tallies) after;
         floor = rw (turns, polls, floor) (omega (arith, within.floor));

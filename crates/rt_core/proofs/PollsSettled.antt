@@ -15,13 +15,13 @@ use Rattle.rt_core.specs.Steps.{YieldsOut, FinishesOut}
 use Rattle.rt_core.specs.Answers.{IsTaskOut, AnswersOut}
 
 module _ {J T : Type 0} (old : CoreView J) (ran : AfterPoll J T) (spent : ℕ) (name : JobId) (time : ℕ) (new : CoreView J) (written : List (Note T))
-  (counts : time ≡ unwrap_or ran.told spent) where
+    (counts : time ≡ unwrap_or ran.told spent) where
   pub settles_yield : (job : J) → ran.step ≡ step.Yield → job ≡ ran.job → YieldsOut old name job time new → written ≡ notes.Yield name time ∷ [] →
       SettlesOut old ran spent Yielded new written
   settles_yield job was after yields note =
       let out = yields.out in
       let line : ChangesLine old.queues new.queues out.queue (waiting_of out.queue old.queues ++ (out.name, true, ran.job) ∷ []) =
-          subst (λ (last : JobId × Bool × J). ChangesLine old.queues new.queues out.queue (waiting_of out.queue old.queues ++ last ∷ [])) (λ i. (yields.named i, true, after i)) yields.line in
+      subst (λ (last : JobId × Bool × J). ChangesLine old.queues new.queues out.queue (waiting_of out.queue old.queues ++ last ∷ [])) (λ i. (yields.named i, true, after i)) yields.line in
       let rest : new ≡ settled_view old out (unwrap_or ran.told spent) 0 new.queues = yields.rest ∙ ap (λ counted. settled_view old out counted 0 new.queues) counts in
       let noted : written ≡ notes.Yield out.name (unwrap_or ran.told spent) ∷ [] = note ∙ (λ i. notes.Yield (yields.named i) (counts i) ∷ []) in
       (out, yields.was_out, subst (λ (one : Step T). Settles old out ran spent one Yielded new written) (sym was) (line, rest, noted))

@@ -25,8 +25,8 @@ module _ {J : Type 0} where
   pub out_entry : (view : CoreView J) (out : JobOut J) → view.out ≡ Some out → entry_of view out.queue ≡ None
   out_entry view out is =
       let none : may_run out.queue view ≡ false =
-          ap (λ (held : Option (JobOut J)). is_any (waiting_of out.queue view.queues) && not (is_number out.queue (queue_out held))) is
-          ∙ ap (λ test. is_any (waiting_of out.queue view.queues) && not test) (eqb-self out.queue) ∙ and_false (is_any (waiting_of out.queue view.queues)) in
+      ap (λ (held : Option (JobOut J)). is_any (waiting_of out.queue view.queues) && not (is_number out.queue (queue_out held))) is
+      ∙ ap (λ test. is_any (waiting_of out.queue view.queues) && not test) (eqb-self out.queue) ∙ and_false (is_any (waiting_of out.queue view.queues)) in
       entry_of-none view out.queue none
 
   -- the others are listed alike, whether this job is out or none is
@@ -47,8 +47,8 @@ module _ {J : Type 0} where
       and_true false = refl
 
   module _ (old new : CoreView J) (keys : List Key) (out : JobOut J) (tally : Tally) (was_out : old.out ≡ Some out) (free : new.out ≡ None)
-    (lines : (other : ℕ) → other ≢ out.queue → waiting_of other new.queues ≡ waiting_of other old.queues)
-    (tallies : new.tallies ≡ slice_set old.tallies out.queue tally) (listed : IsListed old keys) where
+      (lines : (other : ℕ) → other ≢ out.queue → waiting_of other new.queues ≡ waiting_of other old.queues)
+      (tallies : new.tallies ≡ slice_set old.tallies out.queue tally) (listed : IsListed old keys) where
     others : (other : ℕ) → other ≢ out.queue → entry_of new other ≡ entry_of old other
     others other apart =
         entry_of-same old new other (sym (may_run-other old new out other was_out free apart (sym (lines other apart)))) (runtime_of-set_other old new out.queue other tally tallies apart)
@@ -58,7 +58,7 @@ module _ {J : Type 0} where
         IsListed new (inserted (record { vr = tally.runtime; queue = out.queue }) keys)
     IsListed-again within any =
         let here : entry_of new out.queue ≡ Some tally.runtime =
-            entry_of-some new out.queue (may_run-free new out.queue true free any) ∙ ap Some (runtime_of-set_same old new out.queue tally tallies within) in
+        entry_of-some new out.queue (may_run-free new out.queue true free any) ∙ ap Some (runtime_of-set_same old new out.queue tally tallies within) in
         IsListed-inserted old new keys (record { vr = tally.runtime; queue = out.queue }) (out_entry old out was_out) here others listed
 
     -- no job waits in its queue
@@ -79,7 +79,7 @@ module _ {J : Type 0} where
       let none : unsettled_count new ≡ 0 = ap (λ (held : Option (JobOut J)). number_if (is_some held)) free in
       let before : All (FitsTurns old.turns 1) old.tallies = subst (λ count. All (FitsTurns old.turns count) old.tallies) polls within.tallies in
       let after : All (FitsTurns old.turns 0) (slice_set old.tallies queue tally) =
-          All-set (FitsTurns old.turns 0) old.tallies queue tally fits (All-weaker (FitsTurns old.turns 1) (FitsTurns old.turns 0) (settled_fits old.turns) old.tallies before) in
+      All-set (FitsTurns old.turns 0) old.tallies queue tally fits (All-weaker (FitsTurns old.turns 1) (FitsTurns old.turns 0) (settled_fits old.turns) old.tallies before) in
       record {
         tallies = rw (turns, none, tallies) after;
         floor = rw (turns, none, floor) (omega (arith, within.floor, polls));

@@ -25,10 +25,10 @@ module _ {J : Type 0} where
     pub exists : queue < queue_count old.queues
     pub line : ChangesLine old.queues new.queues queue (waiting_of queue old.queues ++ (name, false, job) ∷ [])
     pub rest : new ≡ record old {
-        queues = new.queues;
-        tallies = slice_set old.tallies queue (record (tally_of queue old) { runtime = entry_runtime queue old });
-        delivered = counted name old;
-      }
+      queues = new.queues;
+      tallies = slice_set old.tallies queue (record (tally_of queue old) { runtime = entry_runtime queue old });
+      delivered = counted name old;
+    }
 
   -- a queue is made, with the next number and no job
   pub record Creates (old : CoreView J) (weight : ℕ) (new : CoreView J) : Type 0 where

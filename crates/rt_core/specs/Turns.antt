@@ -30,12 +30,12 @@ module _ {J : Type 0} where
     pub first : waiting_of queue old.queues ≡ (name, was_started, job) ∷ others
     pub line : ChangesLine old.queues new.queues queue others
     pub rest : new ≡ record old {
-        queues = new.queues;
-        tallies = slice_set old.tallies queue (record (tally_of queue old) { selected = (tally_of queue old).selected + 1 });
-        floor = max old.floor (runtime_of queue old);
-        turns = old.turns + 1;
-        out = Some (record { name = name; queue = queue; job = job });
-      }
+      queues = new.queues;
+      tallies = slice_set old.tallies queue (record (tally_of queue old) { selected = (tally_of queue old).selected + 1 });
+      floor = max old.floor (runtime_of queue old);
+      turns = old.turns + 1;
+      out = Some (record { name = name; queue = queue; job = job });
+    }
 
   -- the queue of the job that was out is charged for the time, under the shares that it has now
   abbrev pub settled_view : CoreView J → JobOut J → ℕ → ℕ → QueuesView J → CoreView J

@@ -162,9 +162,15 @@ impl<J: Task, A: Allocator + Clone> Core<J, A> {
         let picked = Note::Pick(queue, vr);
         let polled = name;
         if started {
-            (Ok(Turn::Resume(name, queue, job)), two_notes(picked, Note::Resume(polled)))
+            (
+                Ok(Turn::Resume(name, queue, job)),
+                two_notes(picked, Note::Resume(polled)),
+            )
         } else {
-            (Ok(Turn::Start(name, queue, job)), two_notes(picked, Note::Start(polled)))
+            (
+                Ok(Turn::Start(name, queue, job)),
+                two_notes(picked, Note::Start(polled)),
+            )
         }
     }
 
@@ -186,7 +192,10 @@ impl<J: Task, A: Allocator + Clone> Core<J, A> {
             }
             Step::Done(answer) => {
                 let name = self.finish_out(time);
-                (Settled::Finished(answer), one_note(Note::Done(name, time, answer)))
+                (
+                    Settled::Finished(answer),
+                    one_note(Note::Done(name, time, answer)),
+                )
             }
         }
     }
@@ -215,12 +224,7 @@ impl<J: Task, A: Allocator + Clone> Core<J, A> {
         !self.queues.is_empty(queue) || is_of_queue(&self.out, queue)
     }
 
-    fn deliver_job(
-        &mut self,
-        name: JobId,
-        queue: QueueNo,
-        job: J,
-    ) -> (Delivered<J>, Notes<J::Out>)
+    fn deliver_job(&mut self, name: JobId, queue: QueueNo, job: J) -> (Delivered<J>, Notes<J::Out>)
     where
         J::Out: Copy,
         requires room { inside_count self.old < self.old.queues.room }
@@ -232,7 +236,10 @@ impl<J: Task, A: Allocator + Clone> Core<J, A> {
         if !self.has_queue(queue) {
             self.count(&name);
             let back = Note::Back(name, Reason::NoQueue);
-            return (Delivered::Back(Reason::NoQueue, Order::Job(queue, job)), one_note(back));
+            return (
+                Delivered::Back(Reason::NoQueue, Order::Job(queue, job)),
+                one_note(back),
+            );
         }
         let took = Note::Took(name, queue);
         if self.has_work(queue) {
@@ -277,11 +284,7 @@ impl<J: Task, A: Allocator + Clone> Core<J, A> {
         self.ready.insert(Key { vr, queue });
     }
 
-    fn deliver_create(
-        &mut self,
-        name: JobId,
-        shares: Shares,
-    ) -> (Delivered<J>, Notes<J::Out>)
+    fn deliver_create(&mut self, name: JobId, shares: Shares) -> (Delivered<J>, Notes<J::Out>)
     where
         J::Out: Copy,
         requires { name.from ≤ self.old.cores }
@@ -327,7 +330,10 @@ impl<J: Task, A: Allocator + Clone> Core<J, A> {
         self.delivered[usize::from(name.from.0)] = name.number;
         self.queues.set_shares(queue, shares);
         let answered = Note::Answered(name, Answer::SharesSet);
-        (Delivered::Answered(Answer::SharesSet), two_notes(answered, Note::SharesSet(queue, shares)))
+        (
+            Delivered::Answered(Answer::SharesSet),
+            two_notes(answered, Note::SharesSet(queue, shares)),
+        )
     }
 
     /// Takes out the first job of the queue of least key, with that key and whether the job was started.

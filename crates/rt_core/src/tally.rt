@@ -33,9 +33,9 @@ impl Tally {
         requires time { self.time + 2 ^ 40 ≤ 2 ^ 128 }
         requires finished { self.finished + done < 2 ^ 64 }
         ensures value { result ≡ record self {
-            runtime = self.runtime + spec.charge time shares.now;
-            time = self.time + spec.clamped time;
-            finished = self.finished + done;
+          runtime = self.runtime + spec.charge time shares.now;
+          time = self.time + spec.clamped time;
+          finished = self.finished + done;
         } }
         ensures charge { result.runtime < self.runtime + 2 ^ 50 }
         ensures clamped { result.time < self.time + 2 ^ 40 }

@@ -33,9 +33,9 @@ invariant_of-self g c =
     let was = c.index_mut-tally.result.now in
     let tally : Tally = record { runtime = c.placed-vr.result; selected = was.selected; time = was.time; finished = was.finished } in
     let before : FitsTurns inside.turns polls was =
-        subst (FitsTurns inside.turns polls) (sym c.index_mut-tally.ensures.value) (core.turns.tallies c.place.result was there) in
+    subst (FitsTurns inside.turns polls) (sym c.index_mut-tally.ensures.value) (core.turns.tallies c.place.result was there) in
     let fits : FitsTurns inside.turns polls tally =
-        subst (λ runtime. FitsTurns inside.turns polls (record was { runtime = runtime })) (sym c.placed-vr.ensures) (placed_fits inside.turns polls inside.floor was false before core.turns.floor) in
+    subst (λ runtime. FitsTurns inside.turns polls (record was { runtime = runtime })) (sym c.placed-vr.ensures) (placed_fits inside.turns polls inside.floor was false before core.turns.floor) in
     rw c.insert.ensures (record {
       counted = IsCounted-enters _ _ _ _ _ c.args.queue c.args.name c.args.job c.admit.ensures.joins c.admit.ensures.limits space refl refl (length-set _ _ _) (length-set _ _ _) core.counted;
       listed = IsListed-activates _ _ _ (record { vr = c.placed-vr.result; queue = c.args.queue }) tally c.args.name c.args.job c.admit.ensures.joins refl

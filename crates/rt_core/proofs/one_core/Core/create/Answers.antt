@@ -41,7 +41,8 @@ returns-in-Ok-clause-creates g c =
         rest = λ i. core_view inside.core inside.cores c.try_create.new.self (c.push_reserved.ensures.items i) inside.floor inside.turns (job_out inside.out) inside.delivered.items;
       },
       refl,
-      c.one_note.ensures)
+      c.one_note.ensures,
+    )
 
 pub returns-in-Ok-clause-bounded : goal.returns-in-Ok-clause-bounded
 returns-in-Ok-clause-bounded g c =

@@ -22,11 +22,12 @@ pub returns-clause-delivers : goal.returns-clause-delivers
 returns-clause-delivers g c =
     let inside = c.self.inside in
     let exists : c.args.queue < queue_count inside.queues =
-        subst (λ (view : CoreView g.row.J.Denot). c.args.queue < queue_count view.queues) (sym c.self.view_is) (c.has_queue.ensures.0 c.if-not-has_queue.false) in
+    subst (λ (view : CoreView g.row.J.Denot). c.args.queue < queue_count view.queues) (sym c.self.view_is) (c.has_queue.ensures.0 c.if-not-has_queue.false) in
     rw (← c.self.view_is) (
       record { exists = exists; shares = c.set_shares.ensures.given; rest = refl },
       (let v = c.name.view_is in search rules),
-      c.two_notes.ensures)
+      c.two_notes.ensures,
+    )
 
 pub returns-clause-bounded : goal.returns-clause-bounded
 returns-clause-bounded g c =

@@ -36,7 +36,7 @@ invariant_of-self g c =
     let head = c.in-Some-pop_front.ensures.head in
     let others = waiting_of key.queue c.pop_front.new.self in
     let changes : ChangesLine inside.queues c.pop_front.new.self key.queue others =
-        subst (λ line. ChangesLine inside.queues c.pop_front.new.self key.queue line) (ap (drop 1) head) c.in-Some-pop_front.ensures.rest in
+    subst (λ line. ChangesLine inside.queues c.pop_front.new.self key.queue line) (ap (drop 1) head) c.in-Some-pop_front.ensures.rest in
     let exists = exists_if_waiting inside.queues key.queue (first_waits old inside.ready key first core.listed free) in
     let within : key.queue < length inside.tallies.items = omega (arith, core.counted.tallies, exists) in
     let there : c.place.result < length inside.tallies.items = omega (arith, c.place.ensures) in
@@ -44,17 +44,17 @@ invariant_of-self g c =
     let was = c.index_mut.result.now in
     let tally : Tally = record { runtime = was.runtime; selected = was.selected + 1; time = was.time; finished = was.finished } in
     let before : FitsTurns inside.turns 0 was =
-        subst (FitsTurns inside.turns 0) (sym c.index_mut.ensures.value) (subst (λ polls. FitsTurns inside.turns polls (slice_index_or inside.tallies.items c.place.result was)) none (core.turns.tallies c.place.result was there)) in
+    subst (FitsTurns inside.turns 0) (sym c.index_mut.ensures.value) (subst (λ polls. FitsTurns inside.turns polls (slice_index_or inside.tallies.items c.place.result was)) none (core.turns.tallies c.place.result was there)) in
     let low : key.vr ≤ inside.turns * 2 ^ 50 =
-        let fits = (tally_fits old key.queue core.turns).runtime in
-        let is = first_runtime old inside.ready key first core.listed in
-        omega arith in
+    let fits = (tally_fits old key.queue core.turns).runtime in
+    let is = first_runtime old inside.ready key first core.listed in
+    omega arith in
     rw c.take_least.ensures.value (record {
       counted = IsCounted-picks _ _ _ _ _ out (name, c.in-Some-pop_front.started, c.in-Some-pop_front.job) others head changes c.pop_front.ensures.limits exists refl free refl (length-set _ _ _) refl core.counted;
       listed = IsListed-picks old _ _ key out tally first c.least.ensures.ordered free refl refl changes.others (ap (λ at. slice_set inside.tallies.items at tally) c.place.ensures) core.listed;
       pollable =
           let all : All (λ waiting. IsReady g.J.Task.done g.J.Task.CanPoll waiting.2) ((name, c.in-Some-pop_front.started, c.in-Some-pop_front.job) ∷ others) =
-              subst (λ line. All (λ waiting. IsReady g.J.Task.done g.J.Task.CanPoll waiting.2) line) head (core.pollable.at key.queue) in
+          subst (λ line. All (λ waiting. IsReady g.J.Task.done g.J.Task.CanPoll waiting.2) line) head (core.pollable.at key.queue) in
           IsPollable-changed _ _ old _ key.queue others changes (All-tail (λ waiting. IsReady g.J.Task.done g.J.Task.CanPoll waiting.2) _ others all) core.pollable;
       turns = IsWithinTurns-picks old _ out c.place.result key.vr tally free refl refl c.max-self-inside.ensures low refl (picked_fits inside.turns was before) core.turns;
     })
@@ -74,7 +74,7 @@ returns-clause-takes g c =
     let was = c.index_mut.result.now in
     let read = tally_read inside.tallies.items c.place.result key.queue was c.place.ensures there c.index_mut.ensures.value in
     let tallies = ap (λ at. slice_set inside.tallies.items at (record was { selected = was.selected + 1 })) c.place.ensures
-        ∙ ap (λ (tally : Tally). slice_set inside.tallies.items key.queue (record tally { selected = tally.selected + 1 })) read in
+    ∙ ap (λ (tally : Tally). slice_set inside.tallies.items key.queue (record tally { selected = tally.selected + 1 })) read in
     let floor = c.max-self-inside.ensures ∙ ap (max inside.floor) (sym (first_runtime old inside.ready key first core.listed)) in
     rw (← c.self.view_is) (record {
       next = first_is_next old inside.ready key first core.listed free c.least.ensures.ordered;

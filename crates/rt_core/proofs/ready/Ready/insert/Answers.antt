@@ -16,12 +16,12 @@ invariant_of-self g c =
     let keys = c.self.inside.keys.items in
     let lacks : LacksQueue c.args.key.queue keys = rw c.self.view_is c.requires.new in
     let is : c.insert.new.self.items ≡ inserted c.args.key keys =
-        c.in-Ok.ensures.items ∙ ap (λ place. insert keys place c.args.key) (c.place_of-place.ensures.value ∙ ap (place_of c.args.key) c.deref.ensures.value) ∙ insert-place_of c.args.key keys in
+    c.in-Ok.ensures.items ∙ ap (λ place. insert keys place c.args.key) (c.place_of-place.ensures.value ∙ ap (place_of c.args.key) c.deref.ensures.value) ∙ insert-place_of c.args.key keys in
     (rw is (IsTimeline-inserted c.args.key keys c.requires.number lacks c.self.invariant.0), omega (arith, c.insert.ensures.capacity))
 
 pub returns : goal.returns
 returns g c =
     let keys = c.self.inside.keys.items in
     let is : c.insert.new.self.items ≡ inserted c.args.key keys =
-        c.in-Ok.ensures.items ∙ ap (λ place. insert keys place c.args.key) (c.place_of-place.ensures.value ∙ ap (place_of c.args.key) c.deref.ensures.value) ∙ insert-place_of c.args.key keys in
+    c.in-Ok.ensures.items ∙ ap (λ place. insert keys place c.args.key) (c.place_of-place.ensures.value ∙ ap (place_of c.args.key) c.deref.ensures.value) ∙ insert-place_of c.args.key keys in
     is ∙ ap (inserted c.args.key) c.self.view_is
