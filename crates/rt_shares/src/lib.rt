@@ -82,3 +82,11 @@ pub fn placed(runtime: u128, floor: u128) -> u128
 {
     runtime.max(floor)
 }
+
+/// The time of a poll that counts: at least 1 ns, at most 2^40 - 1 ns.
+pub fn clamped(time: u64) -> u64
+    ensures value { result ≡ spec.clamped time }
+    ensures bounded { result < 2 ^ 40 }
+{
+    time.min(LONGEST).max(1)
+}

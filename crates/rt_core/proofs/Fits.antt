@@ -1,0 +1,65 @@
+-- No count of a core outgrows its turns.
+use Rattle.std.proofs.Common.{◌≡◌, inl, inr, ℕ, ◌+◌, ◌*◌, ◌^◌, ◌<◌, ◌≤◌, Bool, true, false, cond, List, [], ◌∷◌, ◌++◌, length, max, refl, sym, ap, ◌∙◌, arith}
+use Rattle.std.specs.Prelude.{All, slice_index_or, slice_set}
+use Rattle.std.proofs.lemmas.Bool.{cases_lt}
+use Rattle.std.proofs.lemmas.List.{get_or_past}
+use Rattle.std.proofs.lemmas.List.Elements.{All-set, All-push, All-weaker, All-get_or}
+use Rattle.rt_core.specs.declared.tally.Tally.{Tally}
+use Rattle.rt_core.specs.State.{CoreView, no_tally, tally_of, runtime_of, IsBounded}
+use Rattle.rt_core.specs.Inside.{FitsTurns, IsWithinTurns, unsettled_count}
+
+pub no_tally_fits : (turns unsettled floor : ℕ) → floor + unsettled * 2 ^ 50 ≤ turns * 2 ^ 50 → FitsTurns turns unsettled no_tally
+no_tally_fits turns unsettled floor low = record { runtime = omega arith; selected = omega arith; time = omega arith; finished = omega arith }
+
+-- a queue is placed, or not
+pub placed_fits : (turns unsettled floor : ℕ) (tally : Tally) (working : Bool) → FitsTurns turns unsettled tally → floor + unsettled * 2 ^ 50 ≤ turns * 2 ^ 50 →
+    FitsTurns turns unsettled (record tally { runtime = cond working tally.runtime (max tally.runtime floor) })
+placed_fits turns unsettled floor tally true fits low = record { runtime = fits.runtime; selected = fits.selected; time = fits.time; finished = fits.finished }
+placed_fits turns unsettled floor tally false fits low =
+    record { runtime = omega (arith, fits.runtime); selected = fits.selected; time = fits.time; finished = fits.finished }
+
+-- one more turn is made, and its poll is out
+pub picked_fits : (turns : ℕ) (tally : Tally) → FitsTurns turns 0 tally → FitsTurns (turns + 1) 1 (record tally { selected = tally.selected + 1 })
+picked_fits turns tally fits = record {
+  runtime = omega (arith, fits.runtime);
+  selected = omega (arith, fits.selected);
+  time = omega (arith, fits.time);
+  finished = omega (arith, fits.finished);
+}
+
+pub other_fits : (turns : ℕ) (tally : Tally) → FitsTurns turns 0 tally → FitsTurns (turns + 1) 1 tally
+other_fits turns tally fits = record {
+  runtime = omega (arith, fits.runtime);
+  selected = omega (arith, fits.selected);
+  time = omega (arith, fits.time);
+  finished = omega (arith, fits.finished);
+}
+
+-- the poll that is out is settled
+pub charged_fits : (turns : ℕ) (tally charged : Tally) → FitsTurns turns 1 tally → charged.runtime ≤ tally.runtime + 2 ^ 50 → charged.selected ≡ tally.selected →
+    charged.time ≤ tally.time + 2 ^ 40 → charged.finished ≤ tally.finished + 1 → FitsTurns turns 0 charged
+charged_fits turns tally charged fits runtime selected time finished = record {
+  runtime = omega (arith, fits.runtime);
+  selected = omega (arith, fits.selected);
+  time = omega (arith, fits.time);
+  finished = omega (arith, fits.finished);
+}
+
+pub settled_fits : (turns : ℕ) (tally : Tally) → FitsTurns turns 1 tally → FitsTurns turns 0 tally
+settled_fits turns tally fits = record {
+  runtime = omega (arith, fits.runtime);
+  selected = fits.selected;
+  time = omega (arith, fits.time);
+  finished = omega (arith, fits.finished);
+}
+
+module _ {J : Type 0} where
+  -- also of a queue that there isn't
+  pub tally_fits : (view : CoreView J) (queue : ℕ) → IsWithinTurns view → FitsTurns view.turns (unsettled_count view) (tally_of queue view)
+  tally_fits view queue within = elim (cases_lt queue (length view.tallies)) [
+    | inl there ↦ All-get_or (FitsTurns view.turns (unsettled_count view)) view.tallies queue no_tally there within.tallies
+    | inr past ↦ rw (get_or_past view.tallies queue no_tally past) (no_tally_fits view.turns (unsettled_count view) view.floor within.floor)
+  ]
+
+  pub IsBounded-from_turns : (view : CoreView J) → IsWithinTurns view → IsBounded view
+  IsBounded-from_turns view within = λ queue. let fits = (tally_fits view queue within).runtime in omega arith

@@ -1,0 +1,11 @@
+pub mod Keys
+pub mod Listed
+pub mod Entries
+pub mod Fits
+pub mod Parts
+pub mod Settling
+pub mod Picking
+pub mod Counting
+pub mod Charging
+pub mod Outcomes
+pub mod PollsSettled

@@ -1,0 +1,37 @@
+-- What a delivered command came to, from what its parts did.
+use Rattle.std.proofs.Common.{◌≡◌, ℕ, List, [], ◌∷◌, ◌++◌, Result, Ok, Err, sym, ap, ◌∙◌, subst}
+use Rattle.std.specs.Prelude.{slice_set}
+use Rattle.rt_ids.specs.declared.names.JobId.{JobId}
+use Rattle.rt_ids.specs.declared.note.Note.{Note}
+use Rattle.rt_taskqueue.specs.Queues.{QueuesView, queue_count, AddsQueue}
+use Rattle.rt_taskqueue.specs.declared.queues.CreateError.{CreateError}
+use Rattle.rt_taskqueue.specs.declared.queues.CreateError.TheVariants.{TooMany, Memory}
+use Rattle.rt_core.specs.State.{CoreView, no_tally}
+use Rattle.rt_core.specs.Deliveries.{Creates, CreatesQueue, CountsAlone, counted}
+
+module _ {J T : Type 0} where
+  pub same_cores : (old : CoreView J) (weight : ℕ) (made : Result ℕ CreateError) (new : CoreView J) (written : List (Note T)) →
+      CreatesQueue old weight made new written → new.cores ≡ old.cores
+  same_cores old weight (Ok queue) new written creates = ap (λ (view : CoreView J). view.cores) creates.1.rest
+  same_cores old weight (Err TooMany) new written creates = ap (λ (view : CoreView J). view.cores) creates.1
+  same_cores old weight (Err Memory) new written creates = ap (λ (view : CoreView J). view.cores) creates.1
+
+module _ {J : Type 0} where
+  -- a queue is created, and then the delivery is counted
+  pub delivers_created : (old : CoreView J) (weight : ℕ) (mid new : CoreView J) (name : JobId) → Creates old weight mid → mid.delivered ≡ old.delivered →
+      CountsAlone mid name new → Creates old weight new × (new.delivered ≡ counted name old)
+  delivers_created old weight mid new name creates same counts = (
+    record {
+      few = creates.few;
+      added = subst (λ (queues : QueuesView J). AddsQueue old.queues queues (queue_count old.queues) weight) (sym (ap (λ (view : CoreView J). view.queues) counts)) creates.added;
+      rest = counts ∙ ap (λ (view : CoreView J). record view { delivered = counted name mid }) creates.rest
+          ∙ (λ i. record old { queues = queues_back i; tallies = old.tallies ++ no_tally ∷ []; delivered = delivered_back i });
+    },
+    ap (λ (view : CoreView J). view.delivered) counts ∙ ap (λ (before : List ℕ). slice_set before name.from name.number) same,
+  )
+    where
+      queues_back : mid.queues ≡ new.queues
+      queues_back = sym (ap (λ (view : CoreView J). view.queues) counts)
+
+      delivered_back : counted name mid ≡ new.delivered
+      delivered_back = sym (ap (λ (view : CoreView J). view.delivered) counts)

@@ -1,0 +1,122 @@
+-- What holds inside a core, part by part, after each step.
+use Rattle.std.proofs.Common.{◌≡◌, ◌≢◌, inl, inr, ℕ, ◌+◌, ◌*◌, ◌^◌, ◌<◌, ◌≤◌, Bool, true, false, cond, List, [], ◌∷◌, ◌++◌, length, max, Option, Some, None, refl, sym, ap, ◌∙◌, subst, arith, eqb, length-append, length-set}
+use Rattle.std.specs.Prelude.{◌⊎◌, ◌&&◌, ◌||◌, not, is_some, All, IfSome, slice_index_or, slice_set}
+use Rattle.std.proofs.lemmas.Bool.{cases_eq}
+use Rattle.std.proofs.lemmas.List.Elements.{All-set, All-push, All-tail, All-head, All-weaker, All-get_or, All-same}
+use Rattle.rt_ids.specs.declared.names.JobId.{JobId}
+use Rattle.rt_ids.specs.declared.names.Key.{Key}
+use Rattle.rt_ids.specs.Names.{is_number}
+use Rattle.rt_ids.specs.Work.{number_if}
+use Rattle.rt_jobs.specs.Ready.{IsReady}
+use Rattle.rt_taskqueue.specs.Queues.{QueuesView, waiting_of, queue_count, held_count, ChangesLine, IsWithinLimits}
+use Rattle.rt_core.specs.declared.tally.Tally.{Tally}
+use Rattle.rt_core.specs.State.{CoreView, JobOut, no_tally, is_any, queue_out, tally_of, runtime_of, is_working, inside_count}
+use Rattle.rt_core.specs.Rising.{inserted, IsTimeline}
+use Rattle.rt_core.specs.Inside.{runtime_listed, may_run, unsettled_count, FitsTurns, IsCounted, IsListed, IsPollable, IsWithinTurns}
+use Rattle.rt_core.proofs.Listed.{eqb-self, eqb-apart}
+use Rattle.rt_core.proofs.Entries.{is_any-push, entry_of, may_run-same, entry_of-same, entry_of-none, entry_of-some, runtime_of-set_other, runtime_of-set_same, IsListed-kept, IsListed-inserted, IsListed-taken}
+use Rattle.rt_core.proofs.Fits.{tally_fits, other_fits, settled_fits}
+
+both_false : (any out : Bool) → (any || out) ≡ false → (any ≡ false) × (out ≡ false)
+both_false true out e = cc
+both_false false out e = (refl, e)
+
+-- a queue that has work runs no sooner and no later for one job more
+and_not_same : (any more out : Bool) → (any || out) ≡ true → more ≡ true → (more && not out) ≡ (any && not out)
+and_not_same true more out work is = ap (λ test. test && not out) is
+and_not_same false more true work true_more = rw true_more
+and_not_same false more false work is = cc
+
+module _ {J : Type 0} where
+  -- one line changes
+  pub IsPollable-changed : (done : J → Bool) (can_poll : J → Type 0) (old new : CoreView J) (queue : ℕ) (line : List (JobId × Bool × J)) → ChangesLine old.queues new.queues queue line →
+      All (λ waiting. IsReady done can_poll waiting.2) line → IsPollable done can_poll old → IsPollable done can_poll new
+  IsPollable-changed done can_poll old new queue line changes each pollable = record { at = λ other. by_queue other (cases_eq other queue) }
+    where
+      by_queue : (other : ℕ) → (other ≡ queue) ⊎ (other ≡ queue → ⊥) → All (λ waiting. IsReady done can_poll waiting.2) (waiting_of other new.queues)
+      by_queue other (inl same) =
+          All-same (λ waiting. IsReady done can_poll waiting.2) (waiting_of other new.queues) line (ap (λ number. waiting_of number new.queues) same ∙ changes.changed) each
+      by_queue other (inr apart) =
+          All-same (λ waiting. IsReady done can_poll waiting.2) (waiting_of other new.queues) (waiting_of other old.queues) (changes.others other apart) (pollable.at other)
+
+  pub IsPollable-pushed : (done : J → Bool) (can_poll : J → Type 0) (old new : CoreView J) (queue : ℕ) (name : JobId) (started : Bool) (job : J) →
+      ChangesLine old.queues new.queues queue (waiting_of queue old.queues ++ (name, started, job) ∷ []) →
+      IsReady done can_poll job → IsPollable done can_poll old → IsPollable done can_poll new
+  IsPollable-pushed done can_poll old new queue name started job changes ready pollable =
+      IsPollable-changed done can_poll old new queue (waiting_of queue old.queues ++ (name, started, job) ∷ []) changes
+      (All-push (λ waiting. IsReady done can_poll waiting.2) (waiting_of queue old.queues) (name, started, job) (pollable.at queue) ready) pollable
+
+  pub IsPollable-same : (done : J → Bool) (can_poll : J → Type 0) (old new : CoreView J) → ((queue : ℕ) → waiting_of queue new.queues ≡ waiting_of queue old.queues) →
+      IsPollable done can_poll old → IsPollable done can_poll new
+  IsPollable-same done can_poll old new same pollable = record {
+    at = λ queue. All-same (λ waiting. IsReady done can_poll waiting.2) (waiting_of queue new.queues) (waiting_of queue old.queues) (same queue) (pollable.at queue);
+  }
+
+  -- a job enters a queue that has work
+  pub IsListed-joins : (old new : CoreView J) (keys : List Key) (queue : ℕ) (name : JobId) (job : J) →
+      ChangesLine old.queues new.queues queue (waiting_of queue old.queues ++ (name, false, job) ∷ []) →
+      new.out ≡ old.out → new.tallies ≡ old.tallies → is_working queue old ≡ true → IsListed old keys → IsListed new keys
+  IsListed-joins old new keys queue name job changes out tallies work listed =
+      IsListed-kept old new keys (λ other. entry_of-same old new other (may other (cases_eq other queue)) (λ i. (slice_index_or (tallies i) other no_tally).runtime)) listed
+    where
+      may : (other : ℕ) → (other ≡ queue) ⊎ (other ≡ queue → ⊥) → may_run other new ≡ may_run other old
+      may other (inr apart) = may_run-same old new other (changes.others other apart) out
+      may other (inl same) =
+          let any : is_any (waiting_of queue new.queues) ≡ true = ap is_any changes.changed ∙ is_any-push (waiting_of queue old.queues) (name, false, job) in
+          let here : (is_any (waiting_of queue new.queues) && not (is_number queue (queue_out old.out))) ≡ may_run queue old =
+          and_not_same (is_any (waiting_of queue old.queues)) (is_any (waiting_of queue new.queues)) (is_number queue (queue_out old.out)) work any in
+          ap (λ number. may_run number new) same ∙ ap (λ (held : Option (JobOut J)). is_any (waiting_of queue new.queues) && not (is_number queue (queue_out held))) out ∙ here ∙ ap (λ number. may_run number old) (sym same)
+
+  -- a job enters a queue without work
+  pub idle_entry : (view : CoreView J) (queue : ℕ) → is_working queue view ≡ false → entry_of view queue ≡ None
+  idle_entry view queue idle =
+      let parts = both_false (is_any (waiting_of queue view.queues)) (is_number queue (queue_out view.out)) idle in
+      entry_of-none view queue (ap (λ test. test && not (is_number queue (queue_out view.out))) parts.0)
+
+  pub IsListed-activates : (old new : CoreView J) (keys : List Key) (key : Key) (tally : Tally) (name : JobId) (job : J) →
+      ChangesLine old.queues new.queues key.queue (waiting_of key.queue old.queues ++ (name, false, job) ∷ []) →
+      new.out ≡ old.out → new.tallies ≡ slice_set old.tallies key.queue tally → key.queue < length old.tallies → tally.runtime ≡ key.vr →
+      is_working key.queue old ≡ false → IsListed old keys → IsListed new (inserted key keys)
+  IsListed-activates old new keys key tally name job changes out tallies within runtime idle listed =
+      IsListed-inserted old new keys key (idle_entry old key.queue idle) here others listed
+    where
+      parts : (is_any (waiting_of key.queue old.queues) ≡ false) × (is_number key.queue (queue_out old.out) ≡ false)
+      parts = both_false (is_any (waiting_of key.queue old.queues)) (is_number key.queue (queue_out old.out)) idle
+
+      any : is_any (waiting_of key.queue new.queues) ≡ true
+      any = ap is_any changes.changed ∙ is_any-push (waiting_of key.queue old.queues) (name, false, job)
+
+      may : may_run key.queue new ≡ true
+      may = (λ i. any i && not (is_number key.queue (queue_out (out i)))) ∙ ap not parts.1
+
+      here : entry_of new key.queue ≡ Some key.vr
+      here = entry_of-some new key.queue may ∙ ap Some (runtime_of-set_same old new key.queue tally tallies within ∙ runtime)
+
+      others : (other : ℕ) → other ≢ key.queue → entry_of new other ≡ entry_of old other
+      others other apart =
+          entry_of-same old new other (may_run-same old new other (changes.others other apart) out) (runtime_of-set_other old new key.queue other tally tallies apart)
+
+  -- the counts as a job enters
+  pub IsCounted-enters : (old new : CoreView J) (inside room places queue : ℕ) (name : JobId) (job : J) →
+      ChangesLine old.queues new.queues queue (waiting_of queue old.queues ++ (name, false, job) ∷ []) → IsWithinLimits new.queues → inside < room →
+      new.cores ≡ old.cores → new.out ≡ old.out → length new.tallies ≡ length old.tallies → length new.delivered ≡ length old.delivered →
+      IsCounted old inside room places → IsCounted new (inside + 1) room places
+  IsCounted-enters old new inside room places queue name job changes limits space cores out tallies delivered counted = record {
+    limits = limits;
+    tallies = tallies ∙ counted.tallies ∙ sym changes.same_count;
+    senders = delivered ∙ counted.senders ∙ ap (λ n. n + 1) (sym cores);
+    all_inside =
+        let one : length (waiting_of queue old.queues ++ (name, false, job) ∷ []) ≡ length (waiting_of queue old.queues) + 1 = length-append (waiting_of queue old.queues) ((name, false, job) ∷ []) in
+        let polls : unsettled_count new ≡ unsettled_count old = λ i. unsettled_of (out i) in
+        omega (arith, changes.held, counted.all_inside);
+    within_room = omega arith;
+    same_room = counted.same_room ∙ sym changes.same_room;
+    reserved = counted.reserved;
+    out = exists_still;
+  }
+    where
+      unsettled_of : Option (JobOut J) → ℕ
+      unsettled_of held = number_if (is_some held)
+
+      exists_still : IfSome new.out (λ job. job.queue < queue_count new.queues)
+      exists_still = subst (λ (held : Option (JobOut J)). IfSome held (λ job. job.queue < queue_count new.queues)) (sym out) (subst (λ count. IfSome old.out (λ job. job.queue < count)) (sym changes.same_count) counted.out)

@@ -1,0 +1,115 @@
+-- What holds inside a core as a job is taken out.
+use Rattle.std.proofs.Common.{◌≡◌, ◌≢◌, inl, inr, ℕ, ◌+◌, ◌*◌, ◌^◌, ◌<◌, ◌≤◌, Bool, true, false, cond, List, [], ◌∷◌, length, max, Option, Some, None, refl, sym, ap, ◌∙◌, subst, arith}
+use Rattle.std.specs.Prelude.{All, is_some, slice_index_or, slice_set}
+use Rattle.std.proofs.lemmas.Bool.{cases_lt, true≢false}
+use Rattle.std.proofs.lemmas.List.{get_or_past}
+use Rattle.std.proofs.lemmas.List.Elements.{All-set, All-weaker}
+use Rattle.rt_ids.specs.declared.names.Key.{Key}
+use Rattle.rt_ids.specs.Keys.{KeyAtMost}
+use Rattle.rt_ids.specs.Work.{number_if}
+use Rattle.rt_taskqueue.specs.Queues.{QueuesView, waiting_of, queue_count, no_queue}
+use Rattle.rt_core.specs.declared.tally.Tally.{Tally}
+use Rattle.rt_core.specs.State.{CoreView, JobOut, is_any, runtime_of}
+use Rattle.rt_core.specs.Turns.{IsNext}
+use Rattle.rt_core.specs.Rising.{IsRising, IsTimeline, first_key, later_keys}
+use Rattle.rt_core.specs.Inside.{runtime_listed, may_run, unsettled_count, FitsTurns, IsListed, IsWithinTurns}
+use Rattle.rt_core.proofs.Listed.{listed-least, least_of_listed}
+use Rattle.rt_core.proofs.Entries.{entry_of, entry_of-same, entry_of-none, entry_of-some, runtime_of-set_other, IsListed-taken, is_any-from_some, some_from_is_any, none_from_is_any}
+use Rattle.rt_core.proofs.Settling.{may_run-free, may_run-other, out_entry}
+use Rattle.rt_core.proofs.Fits.{other_fits}
+
+-- the first key and the others
+pub keys_are : (keys : List Key) (key : Key) → first_key keys ≡ Some key → keys ≡ key ∷ later_keys keys
+keys_are [] key first = cc
+keys_are (other ∷ later) key first = let same : other ≡ key = cc in ap (λ one. one ∷ later) same
+
+no_keys : (keys : List Key) → first_key keys ≡ None → keys ≡ []
+no_keys [] none = refl
+no_keys (key ∷ later) none = cc
+
+-- what an entry says
+entry_says : (test : Bool) (runtime value : ℕ) → cond test (Some runtime) None ≡ Some value → (test ≡ true) × (runtime ≡ value)
+entry_says true runtime value is = (refl, cc)
+entry_says false runtime value is = cc
+
+none_says : (test : Bool) (runtime : ℕ) → cond test (Some runtime) None ≡ None → test ≡ false
+none_says true runtime is = cc
+none_says false runtime is = refl
+
+-- a queue in which a job waits exists
+pub exists_if_waiting : {J : Type 0} (queues : QueuesView J) (queue : ℕ) → is_any (waiting_of queue queues) ≡ true → queue < queue_count queues
+exists_if_waiting queues queue any = elim (cases_lt queue (queue_count queues)) [
+  | inl there ↦ there
+  | inr past ↦ absurd (true≢false (sym any ∙ ap (λ found. is_any found.waiting) (get_or_past queues.queues queue no_queue past)))
+]
+
+module _ {J : Type 0} where
+  -- what the first key says of its queue
+  module _ (view : CoreView J) (keys : List Key) (key : Key) (first : first_key keys ≡ Some key) (listed : IsListed view keys) where
+    first_entry : entry_of view key.queue ≡ Some key.vr
+    first_entry = sym (listed.at key.queue) ∙ ap (λ all. runtime_listed key.queue all) (keys_are keys key first) ∙ listed-least key (later_keys keys)
+
+    pub first_runtime : runtime_of key.queue view ≡ key.vr
+    first_runtime = (entry_says (may_run key.queue view) (runtime_of key.queue view) key.vr first_entry).1
+
+    pub first_waits : view.out ≡ None → is_any (waiting_of key.queue view.queues) ≡ true
+    first_waits free =
+        sym (may_run-free view key.queue (is_any (waiting_of key.queue view.queues)) free refl) ∙ (entry_says (may_run key.queue view) (runtime_of key.queue view) key.vr first_entry).0
+
+    -- its queue is next
+    pub first_is_next : view.out ≡ None → IsTimeline keys → IsNext view key.queue
+    first_is_next free timeline = record {
+      free = free;
+      least = λ other some.
+          let is : runtime_listed other keys ≡ Some (runtime_of other view) =
+          listed.at other ∙ entry_of-some view other (may_run-free view other true free (is_any-from_some (waiting_of other view.queues) some)) in
+          let all : runtime_listed other (key ∷ later_keys keys) ≡ Some (runtime_of other view) = subst (λ ks. runtime_listed other ks ≡ Some (runtime_of other view)) (keys_are keys key first) is in
+          let rising : IsRising (key ∷ later_keys keys) = subst IsRising (keys_are keys key first) timeline.rising in
+          subst (λ runtime. KeyAtMost runtime key.queue (runtime_of other view) other) (sym first_runtime) (least_of_listed key (later_keys keys) other (runtime_of other view) rising all);
+    }
+
+  -- no key is left: no job waits
+  pub idle_if_no_key : (view : CoreView J) (keys : List Key) → first_key keys ≡ None → view.out ≡ None → IsListed view keys →
+      (queue : ℕ) → waiting_of queue view.queues ≡ []
+  idle_if_no_key view keys none free listed queue =
+      let nothing : entry_of view queue ≡ None = sym (listed.at queue) ∙ ap (λ all. runtime_listed queue all) (no_keys keys none) in
+      none_from_is_any (waiting_of queue view.queues)
+      (sym (may_run-free view queue (is_any (waiting_of queue view.queues)) free refl) ∙ none_says (may_run queue view) (runtime_of queue view) nothing)
+
+  -- the first job of the first queue is out
+  pub IsListed-picks : (old new : CoreView J) (keys : List Key) (key : Key) (out : JobOut J) (tally : Tally) → first_key keys ≡ Some key → IsTimeline keys →
+      old.out ≡ None → new.out ≡ Some out → out.queue ≡ key.queue →
+      ((other : ℕ) → other ≢ key.queue → waiting_of other new.queues ≡ waiting_of other old.queues) →
+      new.tallies ≡ slice_set old.tallies key.queue tally → IsListed old keys → IsListed new (later_keys keys)
+  IsListed-picks old new keys key out tally first timeline free is_out same lines tallies listed =
+      IsListed-taken old new key (later_keys keys) (subst IsTimeline (keys_are keys key first) timeline)
+      (ap (λ queue. entry_of new queue) (sym same) ∙ out_entry new out is_out) others (subst (IsListed old) (keys_are keys key first) listed)
+    where
+      others : (other : ℕ) → other ≢ key.queue → entry_of new other ≡ entry_of old other
+      others other apart =
+          entry_of-same old new other (may_run-other new old out other is_out free (λ is. apart (is ∙ same)) (lines other apart)) (runtime_of-set_other old new key.queue other tally tallies apart)
+
+  pub IsWithinTurns-picks : (old new : CoreView J) (out : JobOut J) (queue runtime : ℕ) (tally : Tally) → old.out ≡ None → new.out ≡ Some out → new.turns ≡ old.turns + 1 →
+      new.floor ≡ max old.floor runtime → runtime ≤ old.turns * 2 ^ 50 → new.tallies ≡ slice_set old.tallies queue tally → FitsTurns (old.turns + 1) 1 tally →
+      IsWithinTurns old → IsWithinTurns new
+  IsWithinTurns-picks old new out queue runtime tally free is_out turns floor low tallies fits within =
+      let none : unsettled_count old ≡ 0 = ap (λ (held : Option (JobOut J)). number_if (is_some held)) free in
+      let polls : unsettled_count new ≡ 1 = ap (λ (held : Option (JobOut J)). number_if (is_some held)) is_out in
+      let before : All (FitsTurns old.turns 0) old.tallies = subst (λ count. All (FitsTurns old.turns count) old.tallies) none within.tallies in
+      let after : All (FitsTurns (old.turns + 1) 1) (slice_set old.tallies queue tally) =
+      All-set (FitsTurns (old.turns + 1) 1) old.tallies queue tally fits (All-weaker (FitsTurns old.turns 0) (FitsTurns (old.turns + 1) 1) (other_fits old.turns) old.tallies before) in
+      record {
+        tallies = rw (turns, polls, tallies) after;
+        floor = rw (turns, polls, floor) (omega (arith, within.floor));
+      }
+
+  -- a key is left: a job waits
+  pub work_if_key : (view : CoreView J) (keys : List Key) → is_some (first_key keys) ≡ true → view.out ≡ None → IsListed view keys →
+      (queue : ℕ) × (waiting_of queue view.queues ≡ [] → ⊥)
+  work_if_key view [] some free listed = cc
+  work_if_key view (key ∷ later) some free listed =
+      (key.queue, some_from_is_any (waiting_of key.queue view.queues) (first_waits view (key ∷ later) key refl listed free))
+
+pub none_if_not_some : {A : Type 0} (value : Option A) → is_some value ≡ false → value ≡ None
+none_if_not_some None none = refl
+none_if_not_some (Some inner) none = cc

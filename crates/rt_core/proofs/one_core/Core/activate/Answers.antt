@@ -1,0 +1,45 @@
+use Rattle.std.proofs.Common.{◌≡◌, ◌<◌, true, false, refl, sym, ◌∙◌, ap, subst, arith, length, length-set}
+use Rattle.std.specs.Prelude.{slice_set}
+use Rattle.std.proofs.lemmas.List.Elements.{All-set}
+use Rattle.rt_ids.specs.declared.names.Key.{Key}
+use Rattle.rt_taskqueue.specs.Queues.{queue_count}
+use Rattle.rt_core.specs.declared.tally.Tally.{Tally}
+use Rattle.rt_core.specs.State.{CoreView, inside_count, is_working}
+use Rattle.rt_core.specs.Inside.{core_view, job_out, unsettled_count, FitsTurns}
+use Rattle.rt_core.proofs.Listed.{LacksQueue-from_none}
+use Rattle.rt_core.proofs.Fits.{placed_fits}
+use Rattle.rt_core.proofs.Parts.{IsCounted-enters, IsListed-activates, IsPollable-pushed, idle_entry}
+use Rattle.rt_core.proofs.one_core.Core.activate.Goals as goal
+
+pub insert-requires-clause-new : goal.insert-requires-clause-new
+insert-requires-clause-new g c =
+    let inside = c.self.inside in
+    let old = core_view inside.core inside.cores inside.queues inside.tallies.items inside.floor inside.turns (job_out inside.out) inside.delivered.items in
+    let idle = subst (λ (view : CoreView g.row.J.Denot). is_working c.args.queue view ≡ false) (sym c.self.view_is) c.requires.idle in
+    LacksQueue-from_none c.args.queue inside.ready (c.self.invariant.listed.at c.args.queue ∙ idle_entry old c.args.queue idle)
+
+pub invariant_of-self : goal.invariant_of-self
+invariant_of-self g c =
+    let inside = c.self.inside in
+    let core = c.self.invariant in
+    let back = sym c.self.view_is in
+    let polls = unsettled_count (core_view inside.core inside.cores inside.queues inside.tallies.items inside.floor inside.turns (job_out inside.out) inside.delivered.items) in
+    let idle = subst (λ (view : CoreView g.row.J.Denot). is_working c.args.queue view ≡ false) back c.requires.idle in
+    let room = subst (λ (view : CoreView g.row.J.Denot). inside_count view < view.queues.room) back c.requires.room in
+    let exists = subst (λ (view : CoreView g.row.J.Denot). c.args.queue < queue_count view.queues) back c.requires.exists in
+    let space : inside.inside < inside.room = omega (arith, core.counted.all_inside, core.counted.same_room, room) in
+    let within : c.args.queue < length inside.tallies.items = omega (arith, core.counted.tallies, exists) in
+    let there : c.place.result < length inside.tallies.items = omega (arith, c.place.ensures) in
+    let was = c.index_mut-tally.result.now in
+    let tally : Tally = record { runtime = c.placed-vr.result; selected = was.selected; time = was.time; finished = was.finished } in
+    let before : FitsTurns inside.turns polls was =
+    subst (FitsTurns inside.turns polls) (sym c.index_mut-tally.ensures.value) (core.turns.tallies c.place.result was there) in
+    let fits : FitsTurns inside.turns polls tally =
+    subst (λ runtime. FitsTurns inside.turns polls (record was { runtime = runtime })) (sym c.placed-vr.ensures) (placed_fits inside.turns polls inside.floor was false before core.turns.floor) in
+    rw c.insert.ensures (record {
+      counted = IsCounted-enters _ _ _ _ _ c.args.queue c.args.name c.args.job c.admit.ensures.joins c.admit.ensures.limits space refl refl (length-set _ _ _) (length-set _ _ _) core.counted;
+      listed = IsListed-activates _ _ _ (record { vr = c.placed-vr.result; queue = c.args.queue }) tally c.args.name c.args.job c.admit.ensures.joins refl
+          (ap (λ at. slice_set inside.tallies.items at tally) c.place.ensures) within refl idle core.listed;
+      pollable = IsPollable-pushed _ _ _ _ c.args.queue c.args.name false c.args.job c.admit.ensures.joins c.requires.ready core.pollable;
+      turns = record { tallies = All-set (FitsTurns inside.turns polls) inside.tallies.items c.place.result tally fits core.turns.tallies; floor = core.turns.floor };
+    })

@@ -1,0 +1,77 @@
+-- What a delivery does: a job enters its queue or goes back, a command is carried out and answered.
+use Rattle.std.specs.Prelude.{◌≡◌, ◌⊎◌, ℕ, ◌+◌, ◌<◌, ◌≤◌, List, [], ◌∷◌, ◌++◌, slice_set, false, Result, Ok, Err}
+use Rattle.rt_ids.specs.declared.names.JobId.{JobId}
+use Rattle.rt_ids.specs.declared.note.Note.{Note}
+use Rattle.rt_ids.specs.declared.note.Note.TheVariants as notes
+use Rattle.rt_ids.specs.declared.order.Order.{Order}
+use Rattle.rt_ids.specs.declared.order.Order.TheVariants.{Job, Create, SetShares}
+use Rattle.rt_ids.specs.declared.order.Reason.TheVariants as why
+use Rattle.rt_ids.specs.declared.order.Answer.{Answer}
+use Rattle.rt_ids.specs.declared.order.Answer.TheVariants as answers
+use Rattle.rt_taskqueue.specs.declared.queues.CreateError.{CreateError}
+use Rattle.rt_taskqueue.specs.declared.queues.CreateError.TheVariants.{TooMany, Memory}
+use Rattle.rt_taskqueue.specs.Queues.{QueuesView, queue_count, waiting_of, shares_of, ChangesLine, ChangesShares, AddsQueue}
+use Rattle.rt_core.specs.declared.delivery.Delivered.{Delivered}
+use Rattle.rt_core.specs.declared.delivery.Delivered.TheVariants.{Took, Back, Answered}
+use Rattle.rt_core.specs.State.{CoreView, no_tally, tally_of, entry_runtime}
+
+module _ {J : Type 0} where
+  -- the delivery is counted
+  abbrev pub counted : JobId → CoreView J → List ℕ
+  counted name view = slice_set view.delivered name.from name.number
+
+  -- the job enters at the tail, and the queue is placed
+  pub record Enters (old : CoreView J) (name : JobId) (queue : ℕ) (job : J) (new : CoreView J) : Type 0 where
+    pub exists : queue < queue_count old.queues
+    pub line : ChangesLine old.queues new.queues queue (waiting_of queue old.queues ++ (name, false, job) ∷ [])
+    pub rest : new ≡ record old {
+      queues = new.queues;
+      tallies = slice_set old.tallies queue (record (tally_of queue old) { runtime = entry_runtime queue old });
+      delivered = counted name old;
+    }
+
+  -- a queue is made, with the next number and no job
+  pub record Creates (old : CoreView J) (weight : ℕ) (new : CoreView J) : Type 0 where
+    pub few : queue_count old.queues < 256
+    pub added : AddsQueue old.queues new.queues (queue_count old.queues) weight
+    pub rest : new ≡ record old { queues = new.queues; tallies = old.tallies ++ no_tally ∷ []; delivered = new.delivered }
+
+  -- a queue gets shares
+  pub record Weighs (old : CoreView J) (queue weight : ℕ) (new : CoreView J) : Type 0 where
+    pub exists : queue < queue_count old.queues
+    pub shares : ChangesShares old.queues new.queues queue weight
+    pub rest : new ≡ record old { queues = new.queues; delivered = new.delivered }
+
+  -- the delivery is counted, and nothing else changes
+  abbrev pub CountsAlone : CoreView J → JobId → CoreView J → Type 0
+  CountsAlone old name new = new ≡ record old { delivered = counted name old }
+
+module _ {J T : Type 0} where
+  -- what a creation does, by what it answers, with its notes
+  abbrev pub CreatesQueue : CoreView J → ℕ → Result ℕ CreateError → CoreView J → List (Note T) → Type 0
+  CreatesQueue old weight (Ok queue) new written =
+      (queue ≡ queue_count old.queues) × Creates old weight new × (new.delivered ≡ old.delivered) × (written ≡ notes.Created queue weight ∷ [])
+  CreatesQueue old weight (Err TooMany) new written = (queue_count old.queues ≡ 256) × (new ≡ old) × (written ≡ [])
+  CreatesQueue old weight (Err Memory) new written = (queue_count old.queues < 256) × (new ≡ old) × (written ≡ [])
+
+  -- what a delivery does to the core, by what it answers, with its notes in their order
+  abbrev pub Delivers : CoreView J → JobId → Order J → Delivered J → CoreView J → List (Note T) → Type 0
+  Delivers old name (Job queue job) Took new written =
+      Enters old name queue job new × (written ≡ notes.Took name queue ∷ [])
+  Delivers old name (Job queue job) (Back reason order) new written =
+      (queue_count old.queues ≤ queue) × (reason ≡ why.NoQueue) × (order ≡ Job queue job)
+      × CountsAlone old name new × (written ≡ notes.Back name reason ∷ [])
+  Delivers old name (Create weight) (Answered (answers.Created queue)) new written =
+      (queue ≡ queue_count old.queues) × Creates old weight new × (new.delivered ≡ counted name old)
+      × (written ≡ notes.Answered name (answers.Created queue) ∷ notes.Created queue weight ∷ [])
+  -- a core that has 256 queues says so; else there was no memory
+  Delivers old name (Create weight) (Answered answers.TooMany) new written =
+      (queue_count old.queues ≡ 256) × CountsAlone old name new × (written ≡ notes.Answered name answers.TooMany ∷ [])
+  Delivers old name (Create weight) (Answered answers.NoMemory) new written =
+      (queue_count old.queues < 256) × CountsAlone old name new × (written ≡ notes.Answered name answers.NoMemory ∷ [])
+  Delivers old name (SetShares queue weight) (Answered answers.SharesSet) new written =
+      Weighs old queue weight new × (new.delivered ≡ counted name old)
+      × (written ≡ notes.Answered name answers.SharesSet ∷ notes.SharesSet queue weight ∷ [])
+  Delivers old name (SetShares queue weight) (Answered answers.NoQueue) new written =
+      (queue_count old.queues ≤ queue) × CountsAlone old name new × (written ≡ notes.Answered name answers.NoQueue ∷ [])
+  Delivers old name order delivered new written = ⊥

@@ -1,0 +1,80 @@
+-- What holds inside a core.
+use Rattle.std.specs.Prelude.{◌≡◌, ℕ, ◌+◌, ◌*◌, ◌^◌, ◌<◌, ◌≤◌, ◌==◌, ◌&&◌, not, Bool, Option, Some, None, is_some, IfSome, List, [], ◌∷◌, length, All, if◌then◌else◌}
+use Rattle.rt_ids.specs.declared.names.JobId.{JobId}
+use Rattle.rt_ids.specs.declared.names.Key.{Key}
+use Rattle.rt_ids.specs.Names.{is_number}
+use Rattle.rt_ids.specs.Work.{number_if}
+use Rattle.rt_jobs.specs.Ready.{IsReady}
+use Rattle.rt_taskqueue.specs.Queues.{QueuesView, waiting_of, queue_count, IsWithinLimits}
+use Rattle.rt_core.specs.declared.out.Out.{Out}
+use Rattle.rt_core.specs.declared.tally.Tally.{Tally}
+use Rattle.rt_core.specs.State.{CoreView, JobOut, is_any, queue_out, runtime_of, inside_count}
+
+-- the job that is out, as callers see it
+abbrev pub job_out : {J : Type 0} → Option (Out J) → Option (JobOut J)
+job_out None = None
+job_out (Some out) = Some (record { name = out.name; queue = out.queue; job = out.job.value })
+
+-- the virtual runtime of a queue's key, if it is among these keys
+abbrev pub runtime_listed : ℕ → List Key → Option ℕ
+runtime_listed queue [] = None
+runtime_listed queue (key ∷ later) = if queue == key.queue then Some key.vr else runtime_listed queue later
+
+-- what is counted of a queue fits this many turns, of which so many aren't settled yet
+pub record FitsTurns (turns unsettled : ℕ) (tally : Tally) : Type 0 where
+  pub runtime : tally.runtime + unsettled * 2 ^ 50 ≤ turns * 2 ^ 50
+  pub selected : tally.selected ≤ turns
+  pub time : tally.time + unsettled * 2 ^ 40 ≤ turns * 2 ^ 40
+  pub finished : tally.finished + unsettled ≤ turns
+
+module _ {J : Type 0} where
+  -- what callers see of these fields
+  abbrev pub core_view : ℕ → ℕ → QueuesView J → List Tally → ℕ → ℕ → Option (JobOut J) → List ℕ → CoreView J
+  core_view core cores queues tallies floor turns out delivered = record {
+    core = core;
+    cores = cores;
+    queues = queues;
+    tallies = tallies;
+    floor = floor;
+    turns = turns;
+    out = out;
+    delivered = delivered;
+  }
+
+  -- a queue may be picked if a job waits in it and the job that is out isn't of it
+  abbrev pub may_run : ℕ → CoreView J → Bool
+  may_run queue view = is_any (waiting_of queue view.queues) && not (is_number queue (queue_out view.out))
+
+  -- how many polls are out
+  abbrev pub unsettled_count : CoreView J → ℕ
+  unsettled_count view = number_if (is_some view.out)
+
+  -- the counts that a core keeps beside what its callers see
+  pub record IsCounted (view : CoreView J) (inside room tally_places : ℕ) : Type 0 where
+    pub limits : IsWithinLimits view.queues
+    pub tallies : length view.tallies ≡ queue_count view.queues
+    pub senders : length view.delivered ≡ view.cores + 1
+    pub all_inside : inside ≡ inside_count view
+    pub within_room : inside ≤ room
+    pub same_room : room ≡ view.queues.room
+    pub reserved : 256 ≤ tally_places
+    pub out : IfSome view.out (λ job. job.queue < queue_count view.queues)
+
+  -- the keys are those of the queues that may be picked
+  pub record IsListed (view : CoreView J) (keys : List Key) : Type 0 where
+    pub at : (queue : ℕ) → runtime_listed queue keys ≡ (if may_run queue view then Some (runtime_of queue view) else None)
+
+  -- each job that waits may be polled
+  pub record IsPollable (done : J → Bool) (can_poll : J → Type 0) (view : CoreView J) : Type 0 where
+    pub at : (queue : ℕ) → All (λ waiting. IsReady done can_poll waiting.2) (waiting_of queue view.queues)
+
+  -- no count outgrows the turns
+  pub record IsWithinTurns (view : CoreView J) : Type 0 where
+    pub tallies : All (FitsTurns view.turns (unsettled_count view)) view.tallies
+    pub floor : view.floor + unsettled_count view * 2 ^ 50 ≤ view.turns * 2 ^ 50
+
+  pub record IsCore (done : J → Bool) (can_poll : J → Type 0) (view : CoreView J) (keys : List Key) (inside room tally_places : ℕ) : Type 0 where
+    pub counted : IsCounted view inside room tally_places
+    pub listed : IsListed view keys
+    pub pollable : IsPollable done can_poll view
+    pub turns : IsWithinTurns view

@@ -1,0 +1,19 @@
+//! One core: its task queues, which of them runs next, and what each poll costs.
+#![tactic(auto)]
+
+pub mod delivery;
+pub mod notes;
+pub mod one_core;
+// A crate can name a core in a contract only if the types of its fields are exported.
+#[doc(hidden)]
+pub mod out;
+#[doc(hidden)]
+pub mod ready;
+#[doc(hidden)]
+pub mod tally;
+pub mod turn;
+
+pub use delivery::Delivered;
+pub use notes::Notes;
+pub use one_core::Core;
+pub use turn::{PickError, Settled, Turn};

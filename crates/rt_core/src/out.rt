@@ -1,0 +1,26 @@
+//! The job that is out.
+ghost use Rattle.std.specs.Prelude.{◌≡◌};
+ghost use Rattle.rt_ids.specs.Names.{is_number};
+ghost use Rattle.rt_core.specs.State.{queue_out};
+ghost use Rattle.rt_core.specs.Inside.{job_out};
+
+use rt_ids::{JobId, QueueNo};
+use std::snapshot::Snapshot;
+
+/// The job that is out: its name, its queue, and, for proofs alone, the job as it was when it left.
+#[derive(Drop)]
+pub struct Out<J> {
+    pub name: JobId,
+    pub queue: QueueNo,
+    pub job: Snapshot<J>,
+}
+
+/// Whether a job of this queue is out.
+pub(crate) fn is_of_queue<J>(out: &Option<Out<J>>, queue: QueueNo) -> bool
+    ensures { result ≡ is_number queue (queue_out (job_out out.now)) }
+{
+    match out {
+        Some(out) => queue == out.queue,
+        None => false,
+    }
+}

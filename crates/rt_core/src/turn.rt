@@ -1,0 +1,34 @@
+//! What a pick and a settled poll came to.
+
+use rt_ids::{JobId, QueueNo};
+
+/// What a pick came to.
+#[derive(PartialEq, Eq, Debug, Drop)]
+pub enum Turn<J> {
+    /// The job is out for its first poll.
+    Start(JobId, QueueNo, J),
+    /// The job is out for a further poll.
+    Resume(JobId, QueueNo, J),
+    /// No queue has work.
+    Idle,
+}
+
+/// Why nothing was picked.
+#[derive(Clone, Copy, PartialEq, Eq, Debug, thiserror::Error)]
+pub enum PickError {
+    /// A job is out.
+    #[error("a job is out")]
+    Busy,
+    /// All turns are used, and a queue has work.
+    #[error("all turns are used")]
+    Spent,
+}
+
+/// What became of a job that was out.
+#[derive(PartialEq, Eq, Debug, Drop)]
+pub enum Settled<T> {
+    /// It waits at the tail of its queue.
+    Yielded,
+    /// It is done, with the answer.
+    Finished(T),
+}
