@@ -2,5 +2,9 @@
 #![tactic(auto)]
 
 pub mod event;
+pub mod journal;
+pub mod links;
 
 pub use event::{Event, Reply};
+pub use journal::Journal;
+pub use links::Links;
