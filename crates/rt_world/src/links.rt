@@ -30,9 +30,9 @@ impl<J: Task> Model for Links<J> {
 
     ghost Value = { List (List (Whole J J.Out)) };
 
-    ghost use Rattle.std.specs.Prelude.{map};
+    ghost use Rattle.std.specs.Prelude.{map, vec_items};
 
-    ghost view = { λ links. map (λ row. row.items) links.rows.items };
+    ghost view = { λ links. map vec_items links.rows.items };
 }
 
 impl<J: Task> Links<J> {

@@ -1,0 +1,2 @@
+pub mod LinkRows
+pub mod LinkOpening
