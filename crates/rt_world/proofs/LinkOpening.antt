@@ -5,7 +5,7 @@ use Rattle.std.proofs.lemmas.Bool.{cases_lt}
 use Rattle.std.proofs.lemmas.List.{length_push, get_or_push, get_or_append_left}
 use Rattle.rt_link.specs.declared.plain.Whole.{Whole}
 use Rattle.rt_link.specs.Whole.{fresh}
-use Rattle.rt_world.specs.Links.{no_link, row_of, link_at, IsFreshRow, AreFresh}
+use Rattle.rt_world.specs.Links.{no_link, row_of, IsFreshRow}
 
 -- a row of just opened links for each of the first senders
 pub record AreFreshRows {J T : Type 0} (senders cores cap : ℕ) (links : List (List (Whole J T))) : Type 0 where
@@ -22,8 +22,8 @@ module _ {J T : Type 0} where
             ⊎_elim
             (λ less. get_or_append_left row (last ∷ []) (no_link sender d) d (omega (arith, less, h.cores_are)) ∙ h.each_fresh d less)
             (λ past.
-                let is : d ≡ count = omega (arith, past, below) in
-                get_or_push row last (no_link sender d) d (omega (arith, is, h.cores_are)) ∙ ap (λ core. fresh sender core cap 0) (sym is))
+            let is : d ≡ count = omega (arith, past, below) in
+            get_or_push row last (no_link sender d) d (omega (arith, is, h.cores_are)) ∙ ap (λ core. fresh sender core cap 0) (sym is))
             (cases_lt d count);
       }
 
@@ -36,16 +36,8 @@ module _ {J T : Type 0} where
             ⊎_elim
             (λ less. subst (IsFreshRow s cores cap) (sym (get_or_append_left links (row ∷ []) [] s (omega (arith, less, h.rows_are)))) (h.each_row s less))
             (λ past.
-                let is : s ≡ senders = omega (arith, past, below) in
-                subst (IsFreshRow s cores cap) (sym (get_or_push links row [] s (omega (arith, is, h.rows_are))))
-                (subst (λ n. IsFreshRow n cores cap row) (sym is) fresh_row))
+            let is : s ≡ senders = omega (arith, past, below) in
+            subst (IsFreshRow s cores cap) (sym (get_or_push links row [] s (omega (arith, is, h.rows_are))))
+            (subst (λ n. IsFreshRow n cores cap row) (sym is) fresh_row))
             (cases_lt s senders);
-      }
-
-  pub AreFresh-AreFreshRows : {cores cap : ℕ} {links : List (List (Whole J T))} → AreFreshRows (cores + 1) cores cap links → AreFresh cores cap links
-  AreFresh-AreFreshRows h =
-      record {
-        rows_are = h.rows_are;
-        cores_are = λ s within. (h.each_row s (omega (arith, within))).cores_are;
-        each_fresh = λ s d within below. (h.each_row s (omega (arith, within))).each_fresh d below;
       }

@@ -58,7 +58,7 @@ module _ {J T V : Type 0} {items : V → List (Whole J T)} {rows : List V} {s d 
   pub ChangesLink-IsWrite : ChangesLink (map items rows) (map items (set rows s after_row)) s d after
   ChangesLink-IsWrite =
       let new : map items (set rows s after_row) ≡ with_link (map items rows) s d after
-          = map-set items rows s after_row ∙ ap (set (map items rows) s) (write.written ∙ ap (λ links. set links d after) (sym row_of-IsWrite)) in
+      = map-set items rows s after_row ∙ ap (set (map items rows) s) (write.written ∙ ap (λ links. set links d after) (sym row_of-IsWrite)) in
       subst (λ links. ChangesLink (map items rows) links s d after) (sym new) (ChangesLink-with_link (map items rows) s d after write.in_rows write.in_row)
 
   -- what is so of the link before and after is so of the link in its rows

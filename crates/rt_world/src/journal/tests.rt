@@ -7,8 +7,7 @@ fn notes_stand_in_their_order(rt: HostRuntime) -> Result<(), Fail> {
     let mut journal: Journal<u64> = Journal::try_with_room(rt.alloc(), 4)?;
     assert!(rt; journal.is_empty());
     assert_eq!(rt; journal.get(0), None);
-    let last: Note<u64> = Note::CoreClosed(Mode::Finish);
-    let two: [Note<u64>; 2] = [Note::Shut(ActorNo(1), 5), last];
+    let two: [Note<u64>; 2] = [Note::Shut(ActorNo(1), 5), Note::CoreClosed(Mode::Finish)];
     journal.push(Note::CoreClosed(Mode::Return));
     journal.push_all(&two);
     assert!(rt; !journal.is_empty());
@@ -16,7 +15,7 @@ fn notes_stand_in_their_order(rt: HostRuntime) -> Result<(), Fail> {
     assert_eq!(rt; journal.room(), 4);
     assert_eq!(rt; journal.free(), 1);
     assert_eq!(rt; journal.get(0), Some(Note::CoreClosed(Mode::Return)));
-    assert_eq!(rt; journal.get(2), Some(last));
+    assert_eq!(rt; journal.get(2), Some(Note::CoreClosed(Mode::Finish)));
     assert_eq!(rt; journal.get(3), None);
     Ok(())
 }
