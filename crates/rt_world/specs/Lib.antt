@@ -3,3 +3,9 @@ pub mod Sends
 pub mod Deliveries
 pub mod Turns
 pub mod Runs
+pub mod Agreement
+pub mod Journals
+pub mod Links
+pub mod Inside
+pub mod Tasks
+pub mod Opening

@@ -1,0 +1,16 @@
+pub mod LinkRows
+pub mod LinkOpening
+pub mod Kept
+pub mod KeptDeliveries
+pub mod KeptAnswers
+pub mod KeptCommands
+pub mod KeptPicks
+pub mod KeptSettles
+pub mod WorldLists
+pub mod WorldViews
+pub mod WorldAfter
+pub mod WorldSends
+pub mod WorldDeliveries
+pub mod PollsMade
+pub mod WorldDelivered
+pub mod WorldTurns

@@ -1,0 +1,407 @@
+-- A world at rest stays one as an order is accepted, and the send is the one of its event.
+use Rattle.std.proofs.Common.{◌≡◌, ℕ, ◌+◌, ◌-◌, ◌<◌, ◌≤◌, ◌^◌, Bool, true, false, List, [], ◌∷◌, ◌++◌, length, refl, sym, ◌∙◌, ap, subst, arith, get_or, set, get_or-set_same, get_or-set_other, take, cond, add-zero, length-set}
+use Rattle.std.specs.Prelude.{◌==◌, Option, Some, None, Ok, map, All, filter, count_by, not, ◌||◌, ◌&&◌}
+use Rattle.std.proofs.lemmas.Bool.{eqb-true, eqb-false, eq-eqb, ne_eqb, and_parts, true≢false}
+use Rattle.std.proofs.lemmas.List.Sums.{length-filter}
+use Rattle.std.proofs.lemmas.List.{map-set, ext_get_or, append-nil, map-append, length-append, length-map}
+use Rattle.rt_ids.specs.declared.names.JobId.{JobId}
+use Rattle.rt_ids.specs.declared.note.Note.{Note}
+use Rattle.rt_ids.specs.declared.note.Note.TheVariants as writes
+use Rattle.rt_ids.specs.declared.order.Order.{Order}
+use Rattle.rt_ids.specs.declared.order.Order.TheVariants.{Job}
+use Rattle.rt_ids.specs.declared.order.Outcome.{Outcome}
+use Rattle.rt_ids.specs.Journal.{Journal, EachNote, is_told, with_last}
+use Rattle.rt_ids.specs.Filters.{accepted_orders, delivered_names, if_to}
+use Rattle.rt_ids.specs.Assembly.{IsPrefix, order_of}
+use Rattle.rt_ids.specs.Joining.{DeliversAsSent}
+use Rattle.rt_ids.specs.Outstanding.{outstanding_count, is_outstanding, name_redeemed, name_collected, name_detached}
+use Rattle.rt_ids.specs.Lawful.{IsLawful, IsNextSent, MayFollow, MayStand}
+use Rattle.rt_jobs.specs.declared.job.Step.{Step}
+use Rattle.rt_link.specs.declared.plain.Whole.{Whole}
+use Rattle.rt_link.specs.Whole.{IsLink}
+use Rattle.rt_core.specs.State.{CoreView}
+use Rattle.rt_world.specs.State.{WorldView, order_note, journal_at, assembly_of, sent_at, with_sent}
+use Rattle.rt_world.specs.Sends.{Sends}
+use Rattle.rt_world.specs.declared.event.Reply.TheVariants as reply
+use Rattle.rt_world.specs.Turns.{polls_made}
+use Rattle.rt_taskqueue.specs.Queues.{waiting_of}
+use Rattle.rt_world.specs.Links.{link_at, row_of, no_link, ChangesLink}
+use Rattle.rt_world.specs.Inside.{Parts, core_at, notes_at, numbered_orders, world_of, IsCoreAtRest, IsLinkBetween}
+use Rattle.rt_world.specs.Tasks.{IsWorld, HasTask, OwesAfter}
+use Rattle.rt_world.specs.Agreement.{Agrees}
+use Rattle.rt_world.proofs.Kept.{plainly_stands, stays_calm, calm_sent, SameJobs}
+use Rattle.rt_world.proofs.WorldLists.{get_or-map, length-numbered, numbered-append, take-longer}
+use Rattle.rt_world.proofs.WorldAfter.{after, Keeps, notes_now, notes_elsewhere, under_stays, order_stays, world_after}
+use Rattle.rt_world.proofs.WorldViews.{journal_at-world, sent_at-world, as_sent-stays}
+
+-- all are kept that pass, and counted
+filter-all : {A : Type 0} (test : A → Bool) (items : List A) → ((item : A) → test item ≡ true) → filter test items ≡ items
+filter-all test [] all = refl
+filter-all test (item ∷ items) all =
+    ap (λ passed. cond passed (item ∷ filter test items) (filter test items)) (all item) ∙ ap (λ rest. item ∷ rest) (filter-all test items all)
+
+count_by-all : {A : Type 0} (test : A → Bool) (items : List A) → ((item : A) → test item ≡ true) → count_by test items ≡ length items
+count_by-all test items all = sym (length-filter test items) ∙ ap length (filter-all test items all)
+
+-- a lawful journal redeems and collects nothing by now, so all that was accepted is outstanding
+module _ {T : Type 0} (actor cap : ℕ) where
+  nothing_redeemed : (name : JobId) (journal : Journal T) → EachNote (MayStand actor cap) journal → is_told name_redeemed name journal ≡ false
+  nothing_redeemed name [] notes = refl
+  nothing_redeemed name (note ∷ before) notes = by_note note notes.0.may_follow (nothing_redeemed name before notes.1)
+    where
+      by_note : (note : Note T) → MayFollow actor cap note before → is_told name_redeemed name before ≡ false → is_told name_redeemed name (note ∷ before) ≡ false
+      by_note (writes.Redeemed other outcome) law rest = absurd law
+      by_note _ law rest = rest
+
+  nothing_collected : (name : JobId) (journal : Journal T) → EachNote (MayStand actor cap) journal → is_told name_collected name journal ≡ false
+  nothing_collected name [] notes = refl
+  nothing_collected name (note ∷ before) notes = by_note note notes.0.may_follow (nothing_collected name before notes.1)
+    where
+      by_note : (note : Note T) → MayFollow actor cap note before → is_told name_collected name before ≡ false → is_told name_collected name (note ∷ before) ≡ false
+      by_note (writes.Collected other outcome) law rest = absurd law
+      by_note _ law rest = rest
+
+  all_outstanding : (name : JobId) (journal : Journal T) → EachNote (MayStand actor cap) journal → is_outstanding name journal ≡ true
+  all_outstanding name journal notes =
+      rw (nothing_redeemed name journal notes, nothing_collected name journal notes) (by_test (is_told name_detached name journal))
+    where
+      by_test : (test : Bool) → not (test && false) ≡ true
+      by_test true = refl
+      by_test false = refl
+
+  pub outstanding-accepted : (core : ℕ) (journal : Journal T) → EachNote (MayStand actor cap) journal →
+      outstanding_count core journal ≡ length (accepted_orders core journal)
+  outstanding-accepted core journal notes =
+      count_by-all (λ sent. is_outstanding sent.0 journal) (accepted_orders core journal) (λ sent. all_outstanding sent.0 journal notes)
+
+module _ {J T : Type 0} (same : J → J → Type 0) (made : J → ℕ) (polls : J → ℕ → Step T → Option ℕ → Type 0)
+    (fits : Order J → Outcome J T → Type 0) (ready : Order J → Type 0)
+    (old : Parts J T) (world : IsWorld same made polls fits ready old) (sender core : ℕ) (there : sender ≤ old.cores) (core_there : core < old.cores)
+    (order : Order J) (number : ℕ) (links : List (List (Whole J T)))
+    (changes : ChangesLink old.links links sender core (link_at sender core links))
+    (sent : (link_at sender core links) ≡ record (link_at sender core old.links) { sent = (link_at sender core old.links).sent ++ order ∷ [] })
+    (credit : length (link_at sender core old.links).sent < old.cap)
+    (next : number ≡ length (link_at sender core old.links).sent + 1) (in_range : number < 2 ^ 63)
+    (law : IsLink fits ready (link_at sender core links)) where
+  abbrev name : JobId
+  name = record { from = sender; to = core; number = number }
+
+  abbrev journal : Journal T
+  journal = notes_at sender old.journals
+
+  abbrev longer : Journal T
+  longer = writes.Sent name (order_note order) ∷ journal
+
+  abbrev new : Parts J T
+  new = after same made polls fits ready old sender longer old.inside links
+
+  abbrev link : Whole J T
+  link = link_at sender core old.links
+
+  is_between : IsLinkBetween sender core old.cap link (accepted_orders core journal) (delivered_names sender (notes_at core old.journals))
+  is_between = world.between sender core there core_there
+
+  accepted_count : length (accepted_orders core journal) ≡ length link.sent
+  accepted_count = ap length is_between.all_accepted ∙ length-numbered sender core 0 link.sent
+
+  pub next_sent : IsNextSent sender old.cap name journal
+  next_sent = record {
+    sender = refl;
+    next = omega (arith, next, accepted_count);
+    in_range = in_range;
+    credit = omega (arith, outstanding-accepted sender old.cap core journal (world.lawful sender there).notes, accepted_count, credit);
+  }
+
+  lawful_longer : IsLawful sender old.cap longer
+  lawful_longer =
+      let was = world.lawful sender there in
+      record {
+        notes = (plainly_stands sender old.cap (writes.Sent name (order_note order)) journal next_sent was.no_pick was.no_answer refl tt, was.notes);
+        no_pick = refl;
+        no_answer = refl;
+        nobody_out = was.nobody_out;
+      }
+
+  rest_longer : sender < old.cores → IsCoreAtRest sender old.cores old.cap (core_at sender old.inside) longer
+  rest_longer known =
+      let was = world.at_rest sender known in
+      let view = core_at sender old.inside in
+      let same_jobs : SameJobs view view = record { lines = λ queue. refl; runtimes = λ queue. refl; the_floor = refl; out = refl } in
+      let calm = stays_calm (writes.Sent name (order_note order)) journal (calm_sent journal name (order_note order)) view view same_jobs was.agrees in
+      record {
+        agrees = record {
+          tallied = was.agrees.tallied; senders = was.agrees.senders; last = was.agrees.last;
+          lines = calm.lines; marks = calm.marks; runtimes = calm.runtimes; weights = was.agrees.weights; the_floor = calm.the_floor; out = calm.out;
+          out_exists = was.agrees.out_exists; delivered = was.agrees.delivered;
+        };
+        free = was.free;
+        cores_are = was.cores_are;
+        room = was.room;
+        inside = was.inside;
+      }
+
+  -- what each actor noted as accepted, and what each core noted as delivered
+  accepted_here : accepted_orders core (notes_at sender new.journals) ≡ accepted_orders core journal ++ (name, order_note order) ∷ []
+  accepted_here = ap (accepted_orders core) (notes_now same made polls fits ready old world sender there longer old.inside links) ∙ found (eq-eqb core core refl)
+    where
+      found : (core == core) ≡ true → accepted_orders core longer ≡ accepted_orders core journal ++ (name, order_note order) ∷ []
+      found one = rw one
+
+  accepted_there : (other : ℕ) → (other ≡ core → ⊥) → accepted_orders other (notes_at sender new.journals) ≡ accepted_orders other journal
+  accepted_there other away = ap (accepted_orders other) (notes_now same made polls fits ready old world sender there longer old.inside links) ∙ missed (ne_eqb core other (λ one. away (sym one)))
+    where
+      missed : (core == other) ≡ false → accepted_orders other longer ≡ accepted_orders other journal
+      missed one = rw one
+
+  accepted_elsewhere : (actor other : ℕ) → (actor ≡ sender → ⊥) → accepted_orders other (notes_at actor new.journals) ≡ accepted_orders other (notes_at actor old.journals)
+  accepted_elsewhere actor other away = ap (accepted_orders other) (notes_elsewhere same made polls fits ready old world sender there longer old.inside links actor away)
+
+  delivered_same : (actor other : ℕ) → delivered_names actor (notes_at other new.journals) ≡ delivered_names actor (notes_at other old.journals)
+  delivered_same actor other = by_test (other == sender) refl
+    where
+      by_test : (test : Bool) → (other == sender) ≡ test → delivered_names actor (notes_at other new.journals) ≡ delivered_names actor (notes_at other old.journals)
+      by_test true one =
+          let here : other ≡ sender = eqb-true other sender one in
+          subst (λ at. delivered_names actor (notes_at at new.journals) ≡ delivered_names actor (notes_at at old.journals)) (sym here)
+          (ap (delivered_names actor) (notes_now same made polls fits ready old world sender there longer old.inside links))
+      by_test false apart = ap (delivered_names actor) (notes_elsewhere same made polls fits ready old world sender there longer old.inside links other (eqb-false other sender apart))
+
+  accepted_prefix : (actor other : ℕ) → IsPrefix (accepted_orders other (notes_at actor old.journals)) (accepted_orders other (notes_at actor new.journals))
+  accepted_prefix actor other = by_actor (actor == sender) refl
+    where
+      by_core : (test : Bool) → (other == core) ≡ test → IsPrefix (accepted_orders other journal) (accepted_orders other (notes_at sender new.journals))
+      by_core true one =
+          let here : other ≡ core = eqb-true other core one in
+          subst (λ at. IsPrefix (accepted_orders at journal) (accepted_orders at (notes_at sender new.journals))) (sym here) ((name, order_note order) ∷ [], sym accepted_here)
+      by_core false apart = ([], append-nil (accepted_orders other journal) ∙ sym (accepted_there other (eqb-false other core apart)))
+
+      by_actor : (test : Bool) → (actor == sender) ≡ test → IsPrefix (accepted_orders other (notes_at actor old.journals)) (accepted_orders other (notes_at actor new.journals))
+      by_actor true one =
+          let here : actor ≡ sender = eqb-true actor sender one in
+          subst (λ at. IsPrefix (accepted_orders other (notes_at at old.journals)) (accepted_orders other (notes_at at new.journals))) (sym here) (by_core (other == core) refl)
+      by_actor false apart = ([], append-nil (accepted_orders other (notes_at actor old.journals)) ∙ sym (accepted_elsewhere actor other (eqb-false actor sender apart)))
+
+  sent_prefix : (actor other : ℕ) → IsPrefix (link_at actor other old.links).sent (link_at actor other links).sent
+  sent_prefix actor other = by_test (actor == sender && other == core) refl
+    where
+      by_test : (test : Bool) → (actor == sender && other == core) ≡ test → IsPrefix (link_at actor other old.links).sent (link_at actor other links).sent
+      by_test true one =
+          let both = and_parts (actor == sender) (other == core) one in
+          subst (λ at. IsPrefix (link_at at other old.links).sent (link_at at other links).sent) (sym (eqb-true actor sender both.0))
+          (subst (λ at. IsPrefix (link_at sender at old.links).sent (link_at sender at links).sent) (sym (eqb-true other core both.1)) (order ∷ [], sym (ap (λ link. link.sent) sent)))
+      by_test false apart =
+          ([], append-nil (link_at actor other old.links).sent ∙ sym (ap (λ link. link.sent) (changes.others actor other (not_both apart))))
+        where
+          not_both : (actor == sender && other == core) ≡ false → actor ≡ sender → other ≡ core → ⊥
+          not_both apart one two = true≢false (sym (rw (eq-eqb actor sender one, eq-eqb other core two)) ∙ apart)
+
+  between_here : IsLinkBetween sender core old.cap (link_at sender core links) (accepted_orders core (notes_at sender new.journals)) (delivered_names sender (notes_at core new.journals))
+  between_here =
+      subst (λ accepted. IsLinkBetween sender core old.cap (link_at sender core links) accepted (delivered_names sender (notes_at core new.journals))) (sym accepted_here)
+      (
+      subst (IsLinkBetween sender core old.cap (link_at sender core links) (accepted_orders core journal ++ (name, order_note order) ∷ [])) (sym (delivered_same sender core))
+      (
+      subst (λ now. IsLinkBetween sender core old.cap now (accepted_orders core journal ++ (name, order_note order) ∷ []) (delivered_names sender (notes_at core old.journals))) (sym sent) now_between
+      )
+      )
+    where
+      taken_within : link.taken ≤ length (map (λ order. order.0) (accepted_orders core journal))
+      taken_within =
+          let sent_taken = (world.links_law sender core there core_there).taken_sent in
+          omega (arith, sent_taken, accepted_count, length-map (accepted_orders core journal) (λ order. order.0))
+
+      now_between : IsLinkBetween sender core old.cap (record link { sent = link.sent ++ order ∷ [] }) (accepted_orders core journal ++ (name, order_note order) ∷ [])
+          (delivered_names sender (notes_at core old.journals))
+      now_between = record {
+        from = is_between.from; to = is_between.to; base = is_between.base; capacity = is_between.capacity;
+        open_gate = is_between.open_gate; nothing_redeemed = is_between.nothing_redeemed;
+        all_accepted =
+            ap (λ orders. orders ++ (name, order_note order) ∷ []) is_between.all_accepted
+            ∙ (ap (λ at. numbered_orders sender core 0 link.sent ++ (record { from = sender; to = core; number = at }, order_note order) ∷ []) (omega (arith, next))
+            ∙ sym (numbered-append sender core 0 link.sent order));
+        all_taken = is_between.all_taken;
+        in_order =
+            is_between.in_order
+            ∙ (sym (take-longer link.taken (map (λ order. order.0) (accepted_orders core journal)) name taken_within)
+            ∙ ap (take link.taken) (sym (map-append (λ order. order.0) (accepted_orders core journal) ((name, order_note order) ∷ []))));
+      }
+
+  between_now : (actor other : ℕ) → actor ≤ old.cores → other < old.cores →
+      IsLinkBetween actor other old.cap (link_at actor other links) (accepted_orders other (notes_at actor new.journals)) (delivered_names actor (notes_at other new.journals))
+  between_now actor other known other_known = by_test (actor == sender && other == core) refl
+    where
+      by_test : (test : Bool) → (actor == sender && other == core) ≡ test →
+          IsLinkBetween actor other old.cap (link_at actor other links) (accepted_orders other (notes_at actor new.journals)) (delivered_names actor (notes_at other new.journals))
+      by_test true one =
+          let both = and_parts (actor == sender) (other == core) one in
+          subst (λ at. IsLinkBetween at other old.cap (link_at at other links) (accepted_orders other (notes_at at new.journals)) (delivered_names at (notes_at other new.journals))) (sym (eqb-true actor sender both.0))
+          (subst (λ at. IsLinkBetween sender at old.cap (link_at sender at links) (accepted_orders at (notes_at sender new.journals)) (delivered_names sender (notes_at at new.journals))) (sym (eqb-true other core both.1)) between_here)
+      by_test false apart =
+          subst (λ link. IsLinkBetween actor other old.cap link (accepted_orders other (notes_at actor new.journals)) (delivered_names actor (notes_at other new.journals))) (sym (changes.others actor other (not_both apart)))
+          (
+          subst (λ accepted. IsLinkBetween actor other old.cap (link_at actor other old.links) accepted (delivered_names actor (notes_at other new.journals))) (sym (stays (actor == sender) refl))
+          (subst (IsLinkBetween actor other old.cap (link_at actor other old.links) (accepted_orders other (notes_at actor old.journals))) (sym (delivered_same actor other)) (world.between actor other known other_known))
+          )
+        where
+          not_both : (actor == sender && other == core) ≡ false → actor ≡ sender → other ≡ core → ⊥
+          not_both apart one two = true≢false (sym (rw (eq-eqb actor sender one, eq-eqb other core two)) ∙ apart)
+
+          stays : (test : Bool) → (actor == sender) ≡ test → accepted_orders other (notes_at actor new.journals) ≡ accepted_orders other (notes_at actor old.journals)
+          stays true one =
+              let here : actor ≡ sender = eqb-true actor sender one in
+              subst (λ at. accepted_orders other (notes_at at new.journals) ≡ accepted_orders other (notes_at at old.journals)) (sym here)
+              (accepted_there other (not_both apart here))
+          stays false away = accepted_elsewhere actor other (eqb-false actor sender away)
+
+  law_now : (actor other : ℕ) → actor ≤ old.cores → other < old.cores → IsLink fits ready (link_at actor other links)
+  law_now actor other known other_known = by_test (actor == sender && other == core) refl
+    where
+      by_test : (test : Bool) → (actor == sender && other == core) ≡ test → IsLink fits ready (link_at actor other links)
+      by_test true one =
+          let both = and_parts (actor == sender) (other == core) one in
+          subst (λ at. IsLink fits ready (link_at at other links)) (sym (eqb-true actor sender both.0))
+          (subst (λ at. IsLink fits ready (link_at sender at links)) (sym (eqb-true other core both.1)) law)
+      by_test false apart =
+          subst (IsLink fits ready) (sym (changes.others actor other (not_both apart))) (world.links_law actor other known other_known)
+        where
+          not_both : (actor == sender && other == core) ≡ false → actor ≡ sender → other ≡ core → ⊥
+          not_both apart one two = true≢false (sym (rw (eq-eqb actor sender one, eq-eqb other core two)) ∙ apart)
+
+  sends_keep : Keeps same made polls fits ready old world sender there longer old.inside links
+  sends_keep = record {
+    cores_are = refl;
+    rows_are = changes.same_rows;
+    links_are = changes.same_cores;
+    other_cores = λ other known away. refl;
+    accepted = accepted_prefix;
+    sent = sent_prefix;
+    lawful = lawful_longer;
+    at_rest = rest_longer;
+    between = between_now;
+    links_law = law_now;
+  }
+
+  order_known : (name : JobId) (order : Order (Unit {0})) → order_of name (assembly_of (world_of old)) ≡ Some order → order_of name (assembly_of (world_of new)) ≡ Some order
+  order_known = order_stays same made polls fits ready old world sender there longer old.inside links sends_keep
+
+  sent_as_before : EachNote (DeliversAsSent (assembly_of (world_of new))) longer
+  sent_as_before = (tt, as_sent-stays (assembly_of (world_of old)) (assembly_of (world_of new)) order_known journal (world.as_sent sender there))
+
+  polls_same : (which : JobId) → polls_made which (journal_at sender (world_of new)) ≡ polls_made which (journal_at sender (world_of old))
+  polls_same which =
+      ap (polls_made which) (journal_at-world new sender ∙ notes_now same made polls fits ready old world sender there longer old.inside links)
+      ∙ (add-zero (polls_made which journal) ∙ ap (polls_made which) (sym (journal_at-world old sender)))
+
+  tasks_kept : (queue : ℕ) → sender < old.cores → All (λ entry. HasTask same made polls (world_of new) sender queue entry.0 entry.2) (waiting_of queue (core_at sender old.inside).queues)
+  tasks_kept queue known place default within =
+      let task = world.tasks sender queue known place default within in
+      let entry = get_or (waiting_of queue (core_at sender old.inside).queues) place default in
+      record {
+        sent = task.sent;
+        task = under_stays same made polls fits ready old world sender there longer old.inside links sends_keep entry.0 (Job queue task.sent) task.task;
+        same_task = task.same_task;
+        owes = subst (λ count. OwesAfter same made polls task.sent count entry.2) (sym (polls_same entry.0)) task.owes;
+      }
+
+  -- the world is at rest again
+  pub world-sent : IsWorld same made polls fits ready new
+  world-sent = world_after same made polls fits ready old world sender there longer old.inside links sends_keep sent_as_before tasks_kept
+
+  -- the new lists of accepted orders are the old ones with one more at its place
+  pub sent-now : (world_of new).sent ≡ with_sent sender core order (world_of old)
+  sent-now = ext_get_or [] (world_of new).sent (with_sent sender core order (world_of old)) rows row
+    where
+      rows : length (world_of new).sent ≡ length (with_sent sender core order (world_of old))
+      rows =
+          length-map links (map (λ link. link.sent))
+          ∙ (changes.same_rows
+          ∙ (sym (length-map old.links (map (λ link. link.sent))) ∙ sym (length-set (world_of old).sent sender _)))
+
+      -- a row of the sender, with one more order at the core
+      row_here : map (λ link. link.sent) (row_of sender links) ≡ set (map (λ link. link.sent) (row_of sender old.links)) core (link.sent ++ order ∷ [])
+      row_here =
+          ext_get_or [] (map (λ link. link.sent) (row_of sender links)) (set (map (λ link. link.sent) (row_of sender old.links)) core (link.sent ++ order ∷ []))
+          (
+          length-map (row_of sender links) (λ link. link.sent)
+          ∙ (changes.same_cores sender
+          ∙ (sym (length-map (row_of sender old.links) (λ link. link.sent)) ∙ sym (length-set (map (λ link. link.sent) (row_of sender old.links)) core _)))
+          )
+          at_core
+        where
+          core_within : core < length (map (λ link. link.sent) (row_of sender old.links))
+          core_within = omega (arith, length-map (row_of sender old.links) (λ link. link.sent), world.all_there.links_are sender there, core_there)
+
+          at_core : (other : ℕ) → other < length (map (λ link. link.sent) (row_of sender links)) →
+              get_or (map (λ link. link.sent) (row_of sender links)) other [] ≡ get_or (set (map (λ link. link.sent) (row_of sender old.links)) core (link.sent ++ order ∷ [])) other []
+          at_core other within = by_test (other == core) refl
+            where
+              by_test : (test : Bool) → (other == core) ≡ test →
+                  get_or (map (λ link. link.sent) (row_of sender links)) other [] ≡ get_or (set (map (λ link. link.sent) (row_of sender old.links)) core (link.sent ++ order ∷ [])) other []
+              by_test true one =
+                  let here : other ≡ core = eqb-true other core one in
+                  subst (λ at. get_or (map (λ link. link.sent) (row_of sender links)) at [] ≡ get_or (set (map (λ link. link.sent) (row_of sender old.links)) core (link.sent ++ order ∷ [])) at []) (sym here)
+                  (
+                  get_or-map (λ link. link.sent) (row_of sender links) core (no_link sender core)
+                  ∙ (ap (λ link. link.sent) sent ∙ sym (get_or-set_same (map (λ link. link.sent) (row_of sender old.links)) core (link.sent ++ order ∷ []) [] core_within))
+                  )
+              by_test false apart =
+                  let away : other ≡ core → ⊥ = eqb-false other core apart in
+                  get_or-map (λ link. link.sent) (row_of sender links) other (no_link sender other)
+                  ∙ (ap (λ link. link.sent) (changes.others sender other (λ one two. away two))
+                  ∙ (sym (get_or-map (λ link. link.sent) (row_of sender old.links) other (no_link sender other))
+                  ∙ sym (get_or-set_other (map (λ link. link.sent) (row_of sender old.links)) core other (link.sent ++ order ∷ []) [] away)))
+
+      row_elsewhere : (actor : ℕ) → (actor ≡ sender → ⊥) → map (λ link. link.sent) (row_of actor links) ≡ map (λ link. link.sent) (row_of actor old.links)
+      row_elsewhere actor away =
+          ext_get_or [] (map (λ link. link.sent) (row_of actor links)) (map (λ link. link.sent) (row_of actor old.links))
+          (length-map (row_of actor links) (λ link. link.sent) ∙ (changes.same_cores actor ∙ sym (length-map (row_of actor old.links) (λ link. link.sent))))
+          (
+          λ other within.
+              get_or-map (λ link. link.sent) (row_of actor links) other (no_link actor other)
+              ∙ (ap (λ link. link.sent) (changes.others actor other (λ one two. away one))
+              ∙ sym (get_or-map (λ link. link.sent) (row_of actor old.links) other (no_link actor other)))
+          )
+
+      row : (actor : ℕ) → actor < length (world_of new).sent → get_or (world_of new).sent actor [] ≡ get_or (with_sent sender core order (world_of old)) actor []
+      row actor within = get_or-map (map (λ link. link.sent)) links actor [] ∙ by_test (actor == sender) refl
+        where
+          sender_within : sender < length (world_of old).sent
+          sender_within = omega (arith, length-map old.links (map (λ link. link.sent)), world.all_there.rows_are, there)
+
+          old_row : get_or (world_of old).sent sender [] ≡ map (λ link. link.sent) (row_of sender old.links)
+          old_row = get_or-map (map (λ link. link.sent)) old.links sender []
+
+          by_test : (test : Bool) → (actor == sender) ≡ test → map (λ link. link.sent) (row_of actor links) ≡ get_or (with_sent sender core order (world_of old)) actor []
+          by_test true one =
+              let here : actor ≡ sender = eqb-true actor sender one in
+              subst (λ at. map (λ link. link.sent) (row_of at links) ≡ get_or (with_sent sender core order (world_of old)) at []) (sym here)
+              (
+              row_here
+              ∙ (ap (λ row. set row core (link.sent ++ order ∷ [])) (sym old_row)
+              ∙ (ap (λ orders. set (get_or (world_of old).sent sender []) core (orders ++ order ∷ [])) (sym (sent_at-world old sender core))
+              ∙ sym (get_or-set_same (world_of old).sent sender (set (get_or (world_of old).sent sender []) core (sent_at sender core (world_of old) ++ order ∷ [])) [] sender_within)))
+              )
+          by_test false apart =
+              let away : actor ≡ sender → ⊥ = eqb-false actor sender apart in
+              row_elsewhere actor away
+              ∙ (sym (get_or-map (map (λ link. link.sent)) old.links actor [])
+              ∙ sym (get_or-set_other (world_of old).sent sender actor (set (get_or (world_of old).sent sender []) core (sent_at sender core (world_of old) ++ order ∷ [])) [] away))
+
+  -- the event's step is the one that the rules say
+  pub sends-now : Sends sender core order (world_of old) (world_of new) (reply.Sent name)
+  sends-now = (
+    subst (IsNextSent sender old.cap name) (sym (journal_at-world old sender)) next_sent,
+    refl,
+    λ i. record {
+      cores = old.cores;
+      cap = old.cap;
+      room = old.room;
+      journals = journals_now i;
+      sent = sent-now i;
+    },
+  )
+    where
+      journals_now : map (λ journal. journal.notes) new.journals ≡ set (world_of old).journals sender ((writes.Sent name (order_note order) ∷ []) ++ journal_at sender (world_of old))
+      journals_now =
+          map-set (λ journal. journal.notes) old.journals sender (record { notes = longer; room = old.room })
+          ∙ ap (λ notes. set (world_of old).journals sender (writes.Sent name (order_note order) ∷ notes)) (sym (journal_at-world old sender))

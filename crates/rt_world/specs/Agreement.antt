@@ -1,0 +1,38 @@
+-- When what a core tells of itself is what its journal says.
+use Rattle.std.specs.Prelude.{◌≡◌, ℕ, ◌+◌, ◌<◌, ◌≤◌, Bool, Option, Some, None, List, [], ◌∷◌, length, map, All}
+use Rattle.rt_ids.specs.declared.names.JobId.{JobId}
+use Rattle.rt_ids.specs.Journal.{Journal, is_told}
+use Rattle.rt_ids.specs.Filters.{delivered_names, name_started}
+use Rattle.rt_ids.specs.Work.{queue_of}
+use Rattle.rt_ids.specs.Runtimes.{virtual_runtime, shares, floor}
+use Rattle.rt_ids.specs.Lines.{line, jobs_out}
+use Rattle.rt_ids.specs.Commands.{last_queue}
+use Rattle.rt_taskqueue.specs.Queues.{queue_count, shares_of, waiting_of}
+use Rattle.rt_core.specs.State.{CoreView, JobOut, runtime_of, delivered_of}
+
+module _ {J : Type 0} where
+  abbrev pub names_of : List (JobId × Bool × J) → List JobId
+  names_of waiting = map (λ entry. entry.0) waiting
+
+module _ {J T : Type 0} where
+  -- each of them is marked as started exactly where the journal says that it started
+  abbrev pub AreMarked : Journal T → List (JobId × Bool × J) → Type 0
+  AreMarked journal waiting = All (λ entry. entry.1 ≡ is_told name_started entry.0 journal) waiting
+
+  -- the job that is out is the one of the journal, in its queue
+  abbrev pub IsJobOut : Option (JobOut J) → Journal T → Type 0
+  IsJobOut None journal = jobs_out journal ≡ []
+  IsJobOut (Some job) journal = (jobs_out journal ≡ job.name ∷ []) × (queue_of job.name journal ≡ Some job.queue)
+
+  pub record Agrees (core : CoreView J) (journal : Journal T) : Type 0 where
+    pub tallied : length core.tallies ≡ queue_count core.queues
+    pub senders : length core.delivered ≡ core.cores + 1
+    pub last : queue_count core.queues ≡ last_queue journal + 1
+    pub lines : (queue : ℕ) → names_of (waiting_of queue core.queues) ≡ line queue journal
+    pub marks : (queue : ℕ) → AreMarked journal (waiting_of queue core.queues)
+    pub runtimes : (queue : ℕ) → runtime_of queue core ≡ virtual_runtime queue journal
+    pub weights : (queue : ℕ) → queue < queue_count core.queues → shares_of queue core.queues ≡ shares queue journal
+    pub the_floor : core.floor ≡ floor journal
+    pub out : IsJobOut core.out journal
+    pub out_exists : (job : JobOut J) → core.out ≡ Some job → job.queue < queue_count core.queues
+    pub delivered : (sender : ℕ) → sender ≤ core.cores → delivered_of sender core ≡ length (delivered_names sender journal)

@@ -1,0 +1,42 @@
+-- A world as it opens, and the numbers that it opens with.
+use Rattle.std.specs.Prelude.{◌≡◌, ℕ, ◌+◌, ◌*◌, ◌^◌, ◌<◌, ◌≤◌, [], length}
+use Rattle.rt_ids.specs.declared.order.Order.TheVariants.{Create, SetShares}
+use Rattle.rt_ids.specs.declared.order.Order.{Order}
+use Rattle.rt_shares.specs.Charge.{InRange}
+use Rattle.rt_jobs.specs.Ready.{HasReadyJob}
+use Rattle.rt_ids.specs.Lawful.{IsOpening}
+use Rattle.rt_world.specs.declared.event.Event.{Event}
+use Rattle.rt_world.specs.declared.event.Event.TheVariants.{Send, Deliver, Turn}
+use Rattle.rt_world.specs.State.{WorldView, journal_at, sent_at}
+
+-- 1 to 16 cores, links of capacity 1 to 1024, and journals of at most 2^24 notes
+pub record IsConfig (cores cap room : ℕ) : Type 0 where
+  pub some_core : 1 ≤ cores
+  pub few_cores : cores ≤ 16
+  pub some_cap : 1 ≤ cap
+  pub low_cap : cap ≤ 1024
+  pub low_room : room ≤ 2 ^ 24
+
+-- no event has happened: nothing was sent, and the journals have the notes of creations alone
+pub record IsUnbegun {J T : Type 0} (world : WorldView J T) : Type 0 where
+  pub no_order : (sender core : ℕ) → sent_at sender core world ≡ []
+  pub opening : (actor : ℕ) → IsOpening (journal_at actor world)
+
+-- a world of these numbers in which nothing has happened and nothing was created
+pub record IsFresh {J T : Type 0} (cores cap room : ℕ) (world : WorldView J T) : Type 0 where
+  pub cores_are : world.cores ≡ cores
+  pub cap_is : world.cap ≡ cap
+  pub room_is : world.room ≡ room
+  pub no_note : (actor : ℕ) → journal_at actor world ≡ []
+  pub no_order : (sender core : ℕ) → sent_at sender core world ≡ []
+
+-- the shares that an order hands in are within their range
+abbrev pub HasShares : {J : Type 0} → Order J → Type 0
+HasShares (Create weight) = InRange weight
+HasShares (SetShares queue weight) = InRange weight
+HasShares _ = Unit {0}
+
+-- the job that an event hands in is ready
+abbrev pub HasReadyEvent : {J : Type 0} → (Order J → Type 0) → Event J → Type 0
+HasReadyEvent ready (Send sender core order) = ready order
+HasReadyEvent ready _ = Unit {0}

@@ -1,0 +1,164 @@
+//! The cores of one executor as one value, moved by events.
+
+ghost use Rattle.std.specs.Prelude.{◌≡◌, ◌↔◌, ◌≤◌, ◌<◌, ◌+◌, ◌*◌, length, IsTrue};
+ghost use Rattle.rt_jobs.specs.Ready.{HasReadyJob};
+ghost use Rattle.rt_world.specs.Opening.{HasReadyEvent};
+ghost use Rattle.rt_world.specs.State.{IsNearlyFull, journal_at};
+ghost use Rattle.rt_world.specs.Sends.{AreThere, actor_of, Sends};
+ghost use Rattle.rt_world.specs.Deliveries.{Delivers};
+ghost use Rattle.rt_world.specs.Turns.{Turns};
+ghost use Rattle.rt_world.specs.Runs.{Happens};
+
+use crate::event::{Event, Reply};
+use crate::journal::Journal;
+use crate::links::Links;
+use crate::orders::note_of;
+use rt_core::{Core, PickError, Turn};
+use rt_ids::{ActorNo, CoreNo, JobId, Note, Order, Ticket};
+use rt_jobs::{Job, Ran, Task};
+use std::alloc::{Allocator, Global};
+use std::marker::Model;
+
+/// The cores of one executor, the links between all actors, and a journal for each actor.
+#[derive(Drop)]
+pub struct World<J: Task, A: Allocator + Clone = Global> {
+    cores: u8,
+    cap: u16,
+    room: u32,
+    inside: Vec<Core<J, A>>,
+    links: Links<J>,
+    journals: Vec<Journal<J::Out>>,
+}
+
+impl<J: Task, A: Allocator + Clone> Model for World<J, A> {
+    ghost use Rattle.rt_world.specs.State.{WorldView};
+
+    ghost Value = { WorldView J J.Out };
+
+    ghost use Rattle.rt_jobs.specs.Ready.{HasReadyJob};
+    ghost use Rattle.rt_link.specs.Fits.{Fits};
+    ghost use Rattle.rt_world.specs.Inside.{world_of};
+    ghost use Rattle.rt_world.specs.Opening.{IsConfig};
+    ghost use Rattle.rt_world.specs.Tasks.{IsWorld};
+
+    ghost view = { λ w. world_of (record { cores = w.cores; cap = w.cap; room = w.room; inside = w.inside.items; links = w.links; journals = w.journals.items }) };
+
+    ghost invariant = { λ w.
+        IsConfig w.cores w.cap w.room
+        × IsWorld J.SameTask J.made J.Polls (Fits J.SameTask J.Answers) (HasReadyJob J.done J.CanPoll)
+        (record { cores = w.cores; cap = w.cap; room = w.room; inside = w.inside.items; links = w.links; journals = w.journals.items }) };
+}
+
+impl<J: Task, A: Allocator + Clone> World<J, A> {
+    /// Whether the actors and cores of the event exist.
+    fn has_actors(&self, event: &Event<J>) -> bool
+        ensures { IsTrue result ↔ AreThere self.now.cores event.now }
+    {
+        match event {
+            Event::Send(from, to, _) => from.0 <= self.cores && to.0 < self.cores,
+            Event::Deliver(core, from) => core.0 < self.cores && from.0 <= self.cores,
+            Event::Turn(core, _) => core.0 < self.cores,
+        }
+    }
+
+    /// Whether the actor's journal has fewer notes free than one event may need.
+    fn is_nearly_full(&self, actor: ActorNo) -> bool
+        requires { actor ≤ self.now.cores }
+        ensures { IsTrue result ↔ IsNearlyFull actor self.now }
+    {
+        let needed = 3 * self.cores as u32 * self.cap as u32 + 4;
+        self.journals[actor.0 as usize].free() < needed
+    }
+
+    /// Sends the order.
+    fn send(&mut self, from: ActorNo, to: CoreNo, order: Order<J>) -> Reply<J>
+    where
+        J::Out: Copy,
+        requires sender { from ≤ self.old.cores }
+        requires core { to < self.old.cores }
+        requires room { length (journal_at from self.old) + 4 ≤ self.old.room }
+        requires ready { HasReadyJob J.done J.CanPoll order }
+        ensures { Sends from to order self.old self.new result }
+    {
+        let what = note_of(&order);
+        match self.links.send(from, to, order) {
+            Ok(number) => {
+                let name = JobId { from, to, number };
+                self.journals[from.0 as usize].push(Note::Sent(name, what));
+                Reply::Sent(Ticket::named(name))
+            }
+            Err(error) => Reply::NotSent(error),
+        }
+    }
+
+    /// Takes the next submission of the actor to the core, which carries it out.
+    fn deliver(&mut self, core: CoreNo, from: ActorNo) -> Reply<J>
+    where
+        J::Out: Copy,
+        requires core { core < self.old.cores }
+        requires sender { from ≤ self.old.cores }
+        requires room { length (journal_at core self.old) + 4 ≤ self.old.room }
+        ensures { Delivers core from self.old self.new result }
+    {
+        let index = core.0 as usize;
+        let Some(envelope) = self.links.take(from, core) else {
+            return Reply::Empty;
+        };
+        // The shares of a command are within their range, which the law of its journal asks.
+        let _what = note_of(&envelope.order);
+        let (_, notes) = self.inside[index].deliver(envelope);
+        self.journals[index].push_all(notes.as_slice());
+        Reply::Noted
+    }
+}
+
+impl<J: Job, A: Allocator + Clone> World<J, A> {
+    /// Picks a queue of the core and polls its first job once.
+    fn turn(&mut self, core: CoreNo, spent: u64) -> Reply<J>
+    where
+        J::Out: Copy,
+        requires core { core < self.old.cores }
+        requires room { length (journal_at core self.old) + 4 ≤ self.old.room }
+        ensures { Turns J.made J.Polls J.Answers core spent self.old self.new result }
+    {
+        let index = core.0 as usize;
+        let (picked, pick_notes) = self.inside[index].pick();
+        let job = match picked {
+            Ok(Turn::Start(_, _, job)) => job,
+            Ok(Turn::Resume(_, _, job)) => job,
+            Ok(Turn::Idle) => return Reply::Idle,
+            Err(PickError::Spent) => return Reply::Spent,
+            Err(PickError::Busy) => unreachable!(),
+        };
+        let ran = Ran::poll(job);
+        let (_, settle_notes) = self.inside[index].settle(ran, spent);
+        self.journals[index].push_all(pick_notes.as_slice());
+        self.journals[index].push_all(settle_notes.as_slice());
+        Reply::Noted
+    }
+
+    /// One event: the reply says what it came to, and the new notes of the actor's journal what was done.
+    pub fn step(&mut self, event: Event<J>) -> Reply<J>
+    where
+        J::Out: Copy,
+        requires ready { HasReadyEvent (HasReadyJob J.done J.CanPoll) event }
+        ensures { Happens J.made J.Polls J.Answers event self.old self.new result }
+    {
+        if !self.has_actors(&event) {
+            return Reply::NoActor(event);
+        }
+        let actor = match &event {
+            Event::Send(from, _, _) => *from,
+            Event::Deliver(core, _) => ActorNo(core.0),
+            Event::Turn(core, _) => ActorNo(core.0),
+        };
+        if self.is_nearly_full(actor) {
+            return Reply::NoRoom(event);
+        }
+        match event {
+            Event::Send(from, to, order) => self.send(from, to, order),
+            Event::Deliver(core, from) => self.deliver(core, from),
+            Event::Turn(core, spent) => self.turn(core, spent),
+        }
+    }
+}
