@@ -21,7 +21,10 @@ use std::marker::Model;
 
 /// The cores of one executor, the links between all actors, and a journal for each actor.
 #[derive(Drop)]
-pub struct World<J: Task, A: Allocator + Clone = Global> {
+pub struct World<J: Task, A: Allocator + Clone = Global>
+where
+    J::Out: Copy,
+{
     cores: u8,
     cap: u16,
     room: u32,
@@ -30,7 +33,10 @@ pub struct World<J: Task, A: Allocator + Clone = Global> {
     journals: Vec<Journal<J::Out>>,
 }
 
-impl<J: Task, A: Allocator + Clone> Model for World<J, A> {
+impl<J: Task, A: Allocator + Clone> Model for World<J, A>
+where
+    J::Out: Copy,
+{
     ghost use Rattle.rt_world.specs.State.{WorldView};
 
     ghost Value = { WorldView J J.Out };
@@ -49,7 +55,10 @@ impl<J: Task, A: Allocator + Clone> Model for World<J, A> {
         (record { cores = w.cores; cap = w.cap; room = w.room; inside = w.inside.items; links = w.links; journals = w.journals.items }) };
 }
 
-impl<J: Task, A: Allocator + Clone> World<J, A> {
+impl<J: Task, A: Allocator + Clone> World<J, A>
+where
+    J::Out: Copy,
+{
     /// Whether the actors and cores of the event exist.
     fn has_actors(&self, event: &Event<J>) -> bool
         ensures { IsTrue result ↔ AreThere self.now.cores event.now }
@@ -72,8 +81,6 @@ impl<J: Task, A: Allocator + Clone> World<J, A> {
 
     /// Sends the order.
     fn send(&mut self, from: ActorNo, to: CoreNo, order: Order<J>) -> Reply<J>
-    where
-        J::Out: Copy,
         requires sender { from ≤ self.old.cores }
         requires core { to < self.old.cores }
         requires room { length (journal_at from self.old) + 4 ≤ self.old.room }
@@ -93,8 +100,6 @@ impl<J: Task, A: Allocator + Clone> World<J, A> {
 
     /// Takes the next submission of the actor to the core, which carries it out.
     fn deliver(&mut self, core: CoreNo, from: ActorNo) -> Reply<J>
-    where
-        J::Out: Copy,
         requires core { core < self.old.cores }
         requires sender { from ≤ self.old.cores }
         requires room { length (journal_at core self.old) + 4 ≤ self.old.room }
@@ -112,11 +117,12 @@ impl<J: Task, A: Allocator + Clone> World<J, A> {
     }
 }
 
-impl<J: Job, A: Allocator + Clone> World<J, A> {
+impl<J: Job, A: Allocator + Clone> World<J, A>
+where
+    J::Out: Copy,
+{
     /// Picks a queue of the core and polls its first job once.
     fn turn(&mut self, core: CoreNo, spent: u64) -> Reply<J>
-    where
-        J::Out: Copy,
         requires core { core < self.old.cores }
         requires room { length (journal_at core self.old) + 4 ≤ self.old.room }
         ensures { Turns J.made J.Polls J.Answers core spent self.old self.new result }
@@ -139,8 +145,6 @@ impl<J: Job, A: Allocator + Clone> World<J, A> {
 
     /// One event: the reply says what it came to, and the new notes of the actor's journal what was done.
     pub fn step(&mut self, event: Event<J>) -> Reply<J>
-    where
-        J::Out: Copy,
         requires ready { HasReadyEvent (HasReadyJob J.done J.CanPoll) event }
         ensures { Happens J.made J.Polls J.Answers event self.old self.new result }
     {
