@@ -4,7 +4,6 @@ use Rattle.rt_ids.specs.declared.order.Order.{Order}
 use Rattle.rt_ids.specs.declared.order.Outcome.{Outcome}
 use Rattle.rt_ids.specs.declared.order.SendError.{SendError}
 use Rattle.rt_ids.specs.declared.order.SendError.TheVariants.{Closed, Full, Spent, NoCore}
-use Rattle.rt_link.specs.declared.ends.Inward.{Inward}
 use Rattle.rt_link.specs.declared.ends.Outward.{Outward}
 use Rattle.rt_link.specs.declared.plain.Whole.{Whole}
 use Rattle.rt_link.specs.Ends.{StartsWith, SoundOut, SoundIn, Joined}
@@ -60,25 +59,6 @@ module _ {J T : Type 0} {fits : Order J → Outcome J T → Type 0} {ready : Ord
   got-IsLink = (StartsWith-take link.got link.given, omega (arith, l.got_given, length-take link.got link.given))
 
 module _ {J T : Type 0} where
-  -- the calls of the sender's end change nothing else, so the link is known by that end, its credits and what was taken
-  pub same_by_out : (now then : Whole J T) → out_of now ≡ out_of then → now.redeemed ≡ then.redeemed → now.taken ∷ [] ≡ then.taken ∷ [] → now ≡ then
-  same_by_out now then out redeemed kept =
-      let taken : now.taken ≡ then.taken = cc in
-      ap (λ (o : Outward J T). build o now.redeemed now.taken) out ∙ (ap (λ r. build (out_of then) r now.taken) redeemed ∙ ap (build (out_of then) then.redeemed) taken)
-    where
-      build : Outward J T → ℕ → ℕ → Whole J T
-      build o r t = record { from = o.from; to = o.to; base = o.base; capacity = o.capacity; sent = o.sent; taken = t; given = o.seen; got = o.got; redeemed = r; shut = o.closed }
-
-  -- and those of the receiver's end change nothing that the sender's end alone counts
-  pub same_by_inward : (now then : Whole J T) → inward_of now ≡ inward_of then → now.got ∷ now.redeemed ∷ [] ≡ then.got ∷ then.redeemed ∷ [] → now ≡ then
-  same_by_inward now then inward kept =
-      let got : now.got ≡ then.got = cc in
-      let redeemed : now.redeemed ≡ then.redeemed = cc in
-      ap (λ (i : Inward J T). build i now.got now.redeemed) inward ∙ (ap (λ g. build (inward_of then) g now.redeemed) got ∙ ap (build (inward_of then) then.got) redeemed)
-    where
-      build : Inward J T → ℕ → ℕ → Whole J T
-      build i g r = record { from = i.from; to = i.to; base = i.base; capacity = i.capacity; sent = i.seen; taken = i.taken; given = i.given; got = g; redeemed = r; shut = i.shut }
-
   -- a send keeps what is true of a sender's end
   pub SoundOut-Sends : (old new : Outward J T) (redeemed : ℕ) (order : Order J) (result : Result ℕ (SendError J))
       → SoundOut old redeemed → Sends old redeemed order new result → SoundOut new redeemed

@@ -6,4 +6,5 @@ pub mod WholeLaws
 pub mod Fields
 pub mod Seen
 pub mod EndFacts
+pub mod Framed
 pub mod Gifts

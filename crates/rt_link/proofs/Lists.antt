@@ -23,6 +23,17 @@ module _ {A : Type 0} where
   pub StartsWith-length : (whole front : List A) → StartsWith whole front → length front ≤ length whole
   StartsWith-length whole front s = let e : length whole ≡ length front + length s.0 = ap length s.1 ∙ length-append front s.0 in omega arith
 
+  -- a list of the same length that begins with another is that one
+  pub StartsWith-same : (whole front : List A) → StartsWith whole front → length whole ≡ length front → whole ≡ front
+  StartsWith-same whole front s same = s.1 ∙ (ap (λ (z : List A). front ++ z) (empty s.0 none) ∙ append-nil front)
+    where
+      empty : (xs : List A) → length xs ≡ 0 → xs ≡ []
+      empty [] e = refl
+      empty (x ∷ xs) e = absurd (omega arith)
+
+      none : length s.0 ≡ 0
+      none = let e : length whole ≡ length front + length s.0 = ap length s.1 ∙ length-append front s.0 in omega arith
+
   pub slice_get-starts : (whole front : List A) (i : ℕ) → StartsWith whole front → i < length front → slice_get whole i ≡ slice_get front i
   slice_get-starts whole front i s h = ap (λ (z : List A). slice_get z i) s.1 ∙ slice_get-append_left front s.0 i h
 

@@ -1,11 +1,16 @@
 -- A link as a whole, where both ends see all.
-use Rattle.std.specs.Prelude.{◌≡◌, ℕ, ◌+◌, ◌^◌, ◌<◌, ◌≤◌, false, [], length}
+use Rattle.std.specs.Prelude.{◌≡◌, ℕ, ◌+◌, ◌^◌, ◌<◌, ◌≤◌, Bool, true, false, List, [], ◌∷◌, length}
 use Rattle.rt_ids.specs.declared.order.Order.{Order}
 use Rattle.rt_ids.specs.declared.order.Outcome.{Outcome}
 use Rattle.rt_link.specs.declared.ends.Outward.{Outward}
 use Rattle.rt_link.specs.declared.ends.Inward.{Inward}
 use Rattle.rt_link.specs.declared.plain.Whole.{Whole}
 use Rattle.rt_link.specs.Ends.{AreOf, AreNamed, AreReady}
+
+-- 1 for a gate that is shut
+abbrev pub gate_number : Bool → ℕ
+gate_number true = 1
+gate_number false = 0
 
 module _ {J T : Type 0} where
   -- the sender's end, which sees all that was given
@@ -33,6 +38,14 @@ module _ {J T : Type 0} where
     given = link.given;
     shut = link.shut;
   }
+
+  -- what only the receiver changes, as numbers: how many orders it took, how many outcomes it gave, and whether it shut the gate
+  abbrev pub kept_by_sender : Whole J T → List ℕ
+  kept_by_sender link = link.taken ∷ length link.given ∷ gate_number link.shut ∷ []
+
+  -- what only the sender changes, as numbers: how many orders it sent, how many outcomes it got, and how many credits it gave back
+  abbrev pub kept_by_receiver : Whole J T → List ℕ
+  kept_by_receiver link = length link.sent ∷ link.got ∷ link.redeemed ∷ []
 
   -- a link that was just opened
   abbrev pub fresh : ℕ → ℕ → ℕ → ℕ → Whole J T

@@ -5,7 +5,7 @@ ghost use Rattle.rt_jobs.specs.Ready.{HasReadyJob};
 ghost use Rattle.rt_link.specs.Calls.{Sends, Collects, Takes, Shuts, MayGive, final_of};
 ghost use Rattle.rt_link.specs.Ends.{AreNamed, AreOf, SoundIn, SoundOut};
 ghost use Rattle.rt_link.specs.Fits.{Fits};
-ghost use Rattle.rt_link.specs.Whole.{fresh, out_of, inward_of, IsLink};
+ghost use Rattle.rt_link.specs.Whole.{fresh, out_of, inward_of, kept_by_sender, kept_by_receiver, IsLink};
 
 use crate::ends::{InEnd, OutEnd};
 use crate::history::History;
@@ -128,7 +128,7 @@ impl<J: Task> PlainLink<J> {
 }
 
 impl<J: Task> OutEnd<J> for PlainLink<J> {
-    ghost link = { λ link. link.taken ∷ [] };
+    ghost link = { kept_by_sender };
 
     ghost out = { out_of };
 
@@ -196,7 +196,7 @@ impl<J: Task> OutEnd<J> for PlainLink<J> {
 }
 
 impl<J: Task> InEnd<J> for PlainLink<J> {
-    ghost link = { λ link. link.got ∷ link.redeemed ∷ [] };
+    ghost link = { kept_by_receiver };
 
     ghost inward = { inward_of };
 
