@@ -1,17 +1,16 @@
 -- What one more job, one job less, other shares and one more queue change.
-use Rattle.std.proofs.Common.{◌≡◌, ◌≢◌, ℕ, ◌+◌, ◌<◌, ◌≤◌, Bool, true, false, eqb, List, [], ◌∷◌, ◌++◌, length, map, filter, get_or, set, take, drop, suc, All, Option, Some, refl, sym, ap, ◌∙◌, ⊎_elim, arith}
+use Rattle.std.proofs.Common.{◌≡◌, ℕ, ◌+◌, ◌<◌, List, [], ◌∷◌, ◌++◌, length, map, get_or, set, take, drop, suc, Some, refl, sym, ap, ◌∙◌, ⊎_elim, arith}
 use Rattle.std.specs.List.{position, remove}
 use Rattle.std.proofs.lemmas.Bool.{ne_eqb, eqb-true, cases_lt}
-use Rattle.std.proofs.lemmas.List.{length_push, length-set, length-append, get_or_push, get_or_append_left, get_or_past, get_or-set_same, get_or-set_other}
+use Rattle.std.proofs.lemmas.List.{length_push, length-set, get_or_push, get_or_append_left, get_or_past, get_or-set_same, get_or-set_other}
 use Rattle.std.proofs.lemmas.List.Edits.{length-remove}
 use Rattle.std.proofs.lemmas.List.Elements.{All-push, All-append, All-take, All-drop, All-weaker}
 use Rattle.std.proofs.lemmas.List.Quantifiers.{position-Some}
-use Rattle.rt_ids.specs.declared.names.JobId.{JobId}
 use Rattle.rt_taskqueue.specs.declared.waiting.Waiting.{Waiting}
-use Rattle.rt_taskqueue.specs.Queues.{QueueView, QueuesView, queue_count, shares_of, waiting_of, held_count, ChangesLine, ChangesShares, AddsQueue}
-use Rattle.rt_taskqueue.specs.Plain.{is_in, shown, line_in, queues_from, plain_view, IsPlain}
+use Rattle.rt_taskqueue.specs.Queues.{waiting_of, ChangesLine, ChangesShares, AddsQueue}
+use Rattle.rt_taskqueue.specs.Plain.{is_in, shown, line_in, plain_view, IsPlain}
 use Rattle.rt_taskqueue.proofs.Lines.{filter-remove_failed, filter_at_position, line_in-push, line_in-push_other}
-use Rattle.rt_taskqueue.proofs.PlainLemmas.{queue_count-plain, shares_of-plain, waiting_of-plain, held_count-plain, length-queues_from}
+use Rattle.rt_taskqueue.proofs.PlainLemmas.{queue_count-plain, shares_of-plain, waiting_of-plain, held_count-plain}
 
 -- the old elements stay where one joins the end
 get_or-push_other : (xs : List ℕ) (y i : ℕ) → (i ≡ length xs → ⊥) → get_or (xs ++ y ∷ []) i 0 ≡ get_or xs i 0
