@@ -7,7 +7,7 @@ use Rattle.std.proofs.lemmas.List.Edits.{length-remove}
 use Rattle.std.proofs.lemmas.List.Elements.{All-push, All-append, All-take, All-drop, All-weaker}
 use Rattle.std.proofs.lemmas.List.Quantifiers.{position-Some}
 use Rattle.rt_taskqueue.specs.declared.waiting.Waiting.{Waiting}
-use Rattle.rt_taskqueue.specs.Queues.{waiting_of, ChangesLine, ChangesShares, AddsQueue}
+use Rattle.rt_taskqueue.specs.Queues.{waiting_of, ChangesLine, ChangesShares, AddsQueue, held_count}
 use Rattle.rt_taskqueue.specs.Plain.{is_in, shown, line_in, plain_view, IsPlain}
 use Rattle.rt_taskqueue.proofs.Lines.{filter-remove_failed, filter_at_position, line_in-push, line_in-push_other}
 use Rattle.rt_taskqueue.proofs.PlainLemmas.{queue_count-plain, shares_of-plain, waiting_of-plain, held_count-plain}
@@ -48,6 +48,11 @@ module _ {J : Type 0} {room job_places share_places : ℕ} {jobs : List (Waiting
         same_room = refl;
         held = omega (arith, held_count-plain after, held_count-plain plain, length_push jobs new, length_push (waiting_of new.queue (plain_view room jobs shares)) (shown new));
       }
+
+  pub held_count-push : (new : Waiting J) → IsPlain room job_places share_places jobs shares → new.queue < length shares → length jobs < room
+      → held_count (plain_view room (jobs ++ new ∷ []) shares) ≡ held_count (plain_view room jobs shares) + 1
+  held_count-push new plain exists fits =
+      omega (arith, held_count-plain (IsPlain-push new plain exists fits), held_count-plain plain, length_push jobs new)
 
   pub IsPlain-remove : (place : ℕ) → IsPlain room job_places share_places jobs shares → place < length jobs
       → IsPlain room job_places share_places (remove jobs place) shares
@@ -91,6 +96,11 @@ module _ {J : Type 0} {room job_places share_places : ℕ} {jobs : List (Waiting
         same_room = refl;
         held = omega (arith, held_count-plain after, held_count-plain plain, length-remove jobs place at.0, ap length head, ap length rest);
       }
+
+  pub held_count-remove : (place : ℕ) → IsPlain room job_places share_places jobs shares → place < length jobs
+      → held_count (plain_view room (remove jobs place) shares) + 1 ≡ held_count (plain_view room jobs shares)
+  held_count-remove place plain within =
+      omega (arith, held_count-plain (IsPlain-remove place plain within), held_count-plain plain, length-remove jobs place within)
 
   pub IsPlain-set : (queue weight : ℕ) → IsPlain room job_places share_places jobs shares → IsPlain room job_places share_places jobs (set shares queue weight)
   IsPlain-set queue weight plain =
