@@ -102,6 +102,9 @@ module _ {J : Type 0} {room job_places share_places : ℕ} {jobs : List (Waiting
   held_count-remove place plain within =
       omega (arith, held_count-plain (IsPlain-remove place plain within), held_count-plain plain, length-remove jobs place within)
 
+  pub room-remove : (place : ℕ) → IsPlain room job_places share_places jobs shares → place < length jobs → held_count (plain_view room (remove jobs place) shares) < room
+  room-remove place plain within = omega (arith, held_count-plain (IsPlain-remove place plain within), plain.within_room, length-remove jobs place within)
+
   pub IsPlain-set : (queue weight : ℕ) → IsPlain room job_places share_places jobs shares → IsPlain room job_places share_places jobs (set shares queue weight)
   IsPlain-set queue weight plain =
       let same = length-set shares queue weight in

@@ -112,6 +112,7 @@ impl<J: Drop, A: Allocator + Clone> Queues<J, A> {
         ensures head { IfSome result (λ front. waiting_of queue self.old ≡ front ∷ waiting_of queue self.new) }
         ensures rest { OnSome result (ChangesLine self.old self.new queue (drop 1 (waiting_of queue self.old))) }
         ensures one_less { OnSome result (held_count self.new + 1 ≡ held_count self.old) }
+        ensures room { OnSome result (held_count self.new < self.new.room) }
         ensures limits { IsWithinLimits self.new }
     {
         let place = head_place(&self.jobs, queue)?;

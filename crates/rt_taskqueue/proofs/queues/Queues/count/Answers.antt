@@ -1,4 +1,4 @@
-use Rattle.std.proofs.Common.{◌≡◌, List, length, filter, sym, ap, ◌∙◌}
+use Rattle.std.proofs.Common.{◌≡◌, List, length, filter, sym, ap}
 use Rattle.rt_taskqueue.specs.declared.waiting.Waiting.{Waiting}
 use Rattle.rt_taskqueue.specs.Plain.{is_in, line_in}
 use Rattle.rt_taskqueue.proofs.Lines.{length-line_in}

@@ -3,7 +3,7 @@ use Rattle.std.proofs.lemmas.List.Quantifiers.{position-Some}
 use Rattle.rt_taskqueue.specs.Plain.{is_in}
 use Rattle.rt_taskqueue.proofs.Lines.{line_in_unless_position, position_read}
 use Rattle.rt_taskqueue.proofs.PlainLemmas.{IsWithinLimits-plain, waiting_of-plain}
-use Rattle.rt_taskqueue.proofs.Changes.{IsPlain-remove, waiting_of_at_position, ChangesLine-remove, held_count-remove}
+use Rattle.rt_taskqueue.proofs.Changes.{IsPlain-remove, waiting_of_at_position, ChangesLine-remove, held_count-remove, room-remove}
 use Rattle.rt_taskqueue.proofs.queues.Queues.pop_front.Goals as goal
 
 pub returns-in_err-place-clause-empty : goal.returns-in_err-place-clause-empty
@@ -38,6 +38,12 @@ returns-clause-one_less g c =
     let found = position_read c.args.queue c.deref.ensures.value c.head_place.ensures c.in_ok-place.was in
     let within = (position-Some (is_in c.args.queue) c.self.inside.jobs.items c.in_ok-place.place c.remove-front.result found).0 in
     rw (c.remove-front.ensures.items, ← c.self.view_is) (held_count-remove c.in_ok-place.place c.self.invariant within)
+
+pub returns-clause-room : goal.returns-clause-room
+returns-clause-room g c =
+    let found = position_read c.args.queue c.deref.ensures.value c.head_place.ensures c.in_ok-place.was in
+    let within = (position-Some (is_in c.args.queue) c.self.inside.jobs.items c.in_ok-place.place c.remove-front.result found).0 in
+    rw c.remove-front.ensures.items (room-remove c.in_ok-place.place c.self.invariant within)
 
 pub returns-clause-limits : goal.returns-clause-limits
 returns-clause-limits g c =
