@@ -2,6 +2,8 @@
 #![tactic(auto)]
 
 mod queues;
+#[cfg(test)]
+mod tests;
 // A crate can name the queues in a contract only if the types of their fields are exported.
 #[doc(hidden)]
 pub mod waiting;
