@@ -1,2 +1,8 @@
 pub mod Steps
 pub mod Ready
+pub mod Same
+pub mod Scripts
+pub mod Kept
+pub mod Bodies
+pub mod Ranges
+pub mod Example
