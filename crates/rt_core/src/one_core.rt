@@ -12,11 +12,11 @@ ghost use Rattle.rt_core.specs.Figures.{core_stats, queue_stats};
 use crate::delivery::Delivered;
 use crate::notes::{Notes, one_note, two_notes};
 use crate::out::Out;
-use crate::ready::Ready;
+use crate::ready::{MOST_QUEUES, Ready};
 use crate::tally::Tally;
 use crate::turn::{PickError, Settled, Turn};
 use arrayvec::ArrayVec;
-use rt_ids::{CoreNo, CoreStats, Envelope, Key, Note, Order, QueueNo, QueueStats};
+use rt_ids::{CoreNo, CoreStats, Envelope, JobId, Key, Note, Order, QueueNo, QueueStats};
 use rt_jobs::{Ran, Step, Task};
 use rt_shares::Shares;
 use rt_taskqueue::{CreateError, Queues};
@@ -26,9 +26,6 @@ use std::marker::Model;
 mod deliveries;
 mod figures;
 mod polls;
-
-/// The number of a queue fits a byte.
-const MOST_QUEUES: usize = 256;
 
 /// One core: its task queues, what each has used of the core, and the job that is being polled.
 #[derive(Drop)]
@@ -106,6 +103,15 @@ impl<J: Task, A: Allocator + Clone> Core<J, A> {
         ensures { IsTrue result ↔ (inside_count self.now < self.now.queues.room) }
     {
         self.inside < self.room
+    }
+
+    /// Whether a submission of this name is the next of its sender.
+    pub fn is_next(&self, name: &JobId) -> bool
+        ensures { IsTrue result
+            ↔ ((name.now.from ≤ self.now.cores) × (name.now.number ≡ delivered_of name.now.from self.now + 1)) }
+    {
+        let sender = usize::from(name.from.0);
+        sender < self.delivered.len() && name.number > 0 && self.delivered[sender] == name.number - 1
     }
 
     /// Makes a queue under the next number.
