@@ -6,3 +6,4 @@ pub mod Rising
 pub mod Places
 pub mod Inside
 pub mod Steps
+pub mod Figures

@@ -1,31 +1,31 @@
 //! One core.
-ghost use Rattle.std.specs.Prelude.{◌≡◌, ◌↔◌, ◌⊎◌, ℕ, ◌+◌, ◌*◌, ◌-◌, ◌^◌, ◌<◌, ◌≤◌, [], ◌∷◌, true, false, IsTrue, IsSome, IfOk, None};
-ghost use Rattle.rt_ids.specs.declared.order.Order.TheVariants as orders;
-ghost use Rattle.rt_jobs.specs.Ready.{IsReady, HasReadyJob};
-ghost use Rattle.rt_taskqueue.specs.Queues.{queue_count, waiting_of};
-ghost use Rattle.rt_core.specs.State.{CoreView, JobOut, runtime_of, delivered_of, is_working, inside_count, IsBounded, opened};
-ghost use Rattle.rt_core.specs.Deliveries.{Delivers, CreatesQueue, CountsAlone, Enters};
-ghost use Rattle.rt_core.specs.Turns.{Picks, SettlesOut, TakesOut};
-ghost use Rattle.rt_core.specs.Steps.{YieldsOut, FinishesOut};
+ghost use Rattle.std.specs.Prelude.{◌≡◌, ◌↔◌, ℕ, ◌+◌, ◌*◌, ◌<◌, ◌≤◌, IsTrue, IfOk, Some, slice_get};
+ghost use Rattle.arrayvec.specs.ArrayVec.{array_vec_len};
+ghost use Rattle.rt_jobs.specs.Ready.{HasReadyJob};
+ghost use Rattle.rt_taskqueue.specs.Queues.{queue_count};
+ghost use Rattle.rt_core.specs.State.{delivered_of, inside_count, IsBounded, opened};
+ghost use Rattle.rt_core.specs.Deliveries.{Delivers, CreatesQueue};
+ghost use Rattle.rt_core.specs.Turns.{Picks, SettlesOut};
 ghost use Rattle.rt_core.specs.Answers.{IsReadyTurn, IsTaskOut, AnswersOut};
+ghost use Rattle.rt_core.specs.Figures.{core_stats, queue_stats};
 
 use crate::delivery::Delivered;
 use crate::notes::{Notes, one_note, two_notes};
-use crate::out::{Out, is_of_queue};
-use crate::ready::Ready;
-use crate::tally::{Tally, place};
+use crate::out::Out;
+use crate::ready::{MOST_QUEUES, Ready};
+use crate::tally::Tally;
 use crate::turn::{PickError, Settled, Turn};
 use arrayvec::ArrayVec;
-use rt_ids::{Answer, CoreNo, Envelope, JobId, Key, Note, Order, QueueNo, Reason};
+use rt_ids::{CoreNo, CoreStats, Envelope, JobId, Key, Note, Order, QueueNo, QueueStats};
 use rt_jobs::{Ran, Step, Task};
-use rt_shares::{Shares, placed};
+use rt_shares::Shares;
 use rt_taskqueue::{CreateError, Queues};
 use std::alloc::{AllocError, Allocator, Global};
 use std::marker::Model;
-use std::snapshot::Snapshot;
 
-/// The number of a queue fits a byte.
-const MOST_QUEUES: usize = 256;
+mod deliveries;
+mod figures;
+mod polls;
 
 /// One core: its task queues, what each has used of the core, and the job that is being polled.
 #[derive(Drop)]
@@ -103,6 +103,15 @@ impl<J: Task, A: Allocator + Clone> Core<J, A> {
         ensures { IsTrue result ↔ (inside_count self.now < self.now.queues.room) }
     {
         self.inside < self.room
+    }
+
+    /// Whether a submission of this name is the next of its sender.
+    pub fn is_next(&self, name: &JobId) -> bool
+        ensures { IsTrue result
+            ↔ ((name.now.from ≤ self.now.cores) × (name.now.number ≡ delivered_of name.now.from self.now + 1)) }
+    {
+        let sender = usize::from(name.from.0);
+        sender < self.delivered.len() && name.number > 0 && self.delivered[sender] == name.number - 1
     }
 
     /// Makes a queue under the next number.
@@ -200,217 +209,12 @@ impl<J: Task, A: Allocator + Clone> Core<J, A> {
         }
     }
 
-    /// Counts a delivery.
-    fn count(&mut self, name: &JobId)
-        requires { name.now.from ≤ self.old.cores }
-        ensures counts { CountsAlone self.old name.now self.new }
-        ensures bounded { IsBounded self.new }
+    /// What the core tells of itself in numbers, with one entry for each queue by number.
+    pub fn stats(&self) -> (CoreStats, ArrayVec<QueueStats, 256>)
+        ensures core { result.0 ≡ core_stats self.now }
+        ensures count { array_vec_len result.1 ≡ queue_count self.now.queues }
+        ensures queues { (queue : ℕ) → queue < queue_count self.now.queues → slice_get result.1.items queue ≡ Some (queue_stats queue self.now) }
     {
-        self.delivered[usize::from(name.from.0)] = name.number;
-    }
-
-    /// Whether there is a queue of this number.
-    fn has_queue(&self, queue: QueueNo) -> bool
-        ensures { IsTrue result ↔ (queue < queue_count self.now.queues) }
-    {
-        place(queue) < usize::from(self.queues.queue_count())
-    }
-
-    /// Whether a job waits in the queue or is out of it.
-    fn has_work(&self, queue: QueueNo) -> bool
-        requires { queue < queue_count self.now.queues }
-        ensures { result ≡ is_working queue self.now }
-    {
-        !self.queues.is_empty(queue) || is_of_queue(&self.out, queue)
-    }
-
-    fn deliver_job(&mut self, name: JobId, queue: QueueNo, job: J) -> (Delivered<J>, Notes<J::Out>)
-    where
-        J::Out: Copy,
-        requires room { inside_count self.old < self.old.queues.room }
-        requires sender { name.from ≤ self.old.cores }
-        requires ready { IsReady J.done J.CanPoll job }
-        ensures delivers { Delivers self.old name (orders.Job queue job) result.0 self.new result.1.items }
-        ensures bounded { IsBounded self.new }
-    {
-        if !self.has_queue(queue) {
-            self.count(&name);
-            let back = Note::Back(name, Reason::NoQueue);
-            return (
-                Delivered::Back(Reason::NoQueue, Order::Job(queue, job)),
-                one_note(back),
-            );
-        }
-        let took = Note::Took(name, queue);
-        if self.has_work(queue) {
-            self.join(name, queue, job);
-            return (Delivered::Took, one_note(took));
-        }
-        self.activate(name, queue, job);
-        (Delivered::Took, one_note(took))
-    }
-
-    /// A job enters a queue that has work.
-    fn join(&mut self, name: JobId, queue: QueueNo, job: J)
-        requires room { inside_count self.old < self.old.queues.room }
-        requires sender { name.from ≤ self.old.cores }
-        requires ready { IsReady J.done J.CanPoll job }
-        requires exists { queue < queue_count self.old.queues }
-        requires work { is_working queue self.old ≡ true }
-        ensures enters { Enters self.old name queue job self.new }
-        ensures bounded { IsBounded self.new }
-    {
-        self.delivered[usize::from(name.from.0)] = name.number;
-        self.queues.admit(queue, name, job);
-        self.inside += 1;
-    }
-
-    /// A job enters a queue without work, which is placed at the floor.
-    fn activate(&mut self, name: JobId, queue: QueueNo, job: J)
-        requires room { inside_count self.old < self.old.queues.room }
-        requires sender { name.from ≤ self.old.cores }
-        requires ready { IsReady J.done J.CanPoll job }
-        requires exists { queue < queue_count self.old.queues }
-        requires idle { is_working queue self.old ≡ false }
-        ensures enters { Enters self.old name queue job self.new }
-        ensures bounded { IsBounded self.new }
-    {
-        self.delivered[usize::from(name.from.0)] = name.number;
-        self.queues.admit(queue, name, job);
-        self.inside += 1;
-        let tally = &mut self.tallies[place(queue)];
-        let vr = placed(tally.runtime, self.floor);
-        tally.runtime = vr;
-        self.ready.insert(Key { vr, queue });
-    }
-
-    fn deliver_create(&mut self, name: JobId, shares: Shares) -> (Delivered<J>, Notes<J::Out>)
-    where
-        J::Out: Copy,
-        requires { name.from ≤ self.old.cores }
-        ensures delivers { Delivers self.old name (orders.Create shares) result.0 self.new result.1.items }
-        ensures bounded { IsBounded self.new }
-    {
-        let (made, _) = self.create(shares);
-        self.count(&name);
-        match made {
-            Ok(queue) => {
-                let answered = Note::Answered(name, Answer::Created(queue));
-                let notes = two_notes(answered, Note::Created(queue, shares));
-                (Delivered::Answered(Answer::Created(queue)), notes)
-            }
-            Err(CreateError::TooMany) => {
-                let answered = Note::Answered(name, Answer::TooMany);
-                (Delivered::Answered(Answer::TooMany), one_note(answered))
-            }
-            Err(CreateError::Memory) => {
-                let answered = Note::Answered(name, Answer::NoMemory);
-                (Delivered::Answered(Answer::NoMemory), one_note(answered))
-            }
-        }
-    }
-
-    fn deliver_shares(
-        &mut self,
-        name: JobId,
-        queue: QueueNo,
-        shares: Shares,
-    ) -> (Delivered<J>, Notes<J::Out>)
-    where
-        J::Out: Copy,
-        requires { name.from ≤ self.old.cores }
-        ensures delivers { Delivers self.old name (orders.SetShares queue shares) result.0 self.new result.1.items }
-        ensures bounded { IsBounded self.new }
-    {
-        if !self.has_queue(queue) {
-            self.count(&name);
-            let answered = Note::Answered(name, Answer::NoQueue);
-            return (Delivered::Answered(Answer::NoQueue), one_note(answered));
-        }
-        self.delivered[usize::from(name.from.0)] = name.number;
-        self.queues.set_shares(queue, shares);
-        let answered = Note::Answered(name, Answer::SharesSet);
-        (
-            Delivered::Answered(Answer::SharesSet),
-            two_notes(answered, Note::SharesSet(queue, shares)),
-        )
-    }
-
-    /// Takes out the first job of the queue of least key, with that key and whether the job was started.
-    fn take_out(&mut self) -> (Key, JobId, bool, J)
-        requires free { self.old.out ≡ None }
-        requires turns { self.old.turns < 2 ^ 64 - 1 }
-        requires work { (queue : ℕ) × (waiting_of queue self.old.queues ≡ [] → ⊥) }
-        ensures takes { TakesOut self.old result.1 result.0.queue result.2 result.3 self.new }
-        ensures at { result.0.vr ≡ runtime_of result.0.queue self.old }
-        ensures ready { IsReady J.done J.CanPoll result.3 }
-        ensures bounded { IsBounded self.new }
-    {
-        let Some(key) = self.ready.least() else {
-            unreachable!()
-        };
-        self.ready.take_least();
-        let vr = key.vr;
-        let queue = key.queue;
-        let Some((name, started, job)) = self.queues.pop_front(queue) else {
-            unreachable!()
-        };
-        self.tallies[place(queue)].selected += 1;
-        self.floor = self.floor.max(vr);
-        self.turns += 1;
-        let as_it_was = Snapshot::of(&job);
-        let named = name;
-        self.out = Some(Out {
-            name,
-            queue,
-            job: as_it_was,
-        });
-        (key, named, started, job)
-    }
-
-    /// The job that was out goes to the tail of its queue.
-    fn yield_out(&mut self, job: J, time: u64) -> JobId
-        requires out { IsSome self.old.out }
-        requires ready { IsReady J.done J.CanPoll job }
-        ensures yields { YieldsOut self.old result job time self.new }
-        ensures bounded { IsBounded self.new }
-    {
-        let Some(out) = self.out.take() else {
-            unreachable!()
-        };
-        let queue = out.queue;
-        let shares = self.queues.shares(queue);
-        let tally = self.tallies[place(queue)].charged(time, &shares, 0);
-        self.tallies[place(queue)] = tally;
-        self.queues.push_back(queue, out.name, job);
-        self.ready.insert(Key {
-            vr: tally.runtime,
-            queue,
-        });
-        out.name
-    }
-
-    /// The job that was out is done.
-    fn finish_out(&mut self, time: u64) -> JobId
-        requires { IsSome self.old.out }
-        ensures finishes { FinishesOut self.old result time self.new }
-        ensures bounded { IsBounded self.new }
-    {
-        let Some(out) = self.out.take() else {
-            unreachable!()
-        };
-        let queue = out.queue;
-        let shares = self.queues.shares(queue);
-        let tally = self.tallies[place(queue)].charged(time, &shares, 1);
-        self.tallies[place(queue)] = tally;
-        self.inside -= 1;
-        if self.queues.is_empty(queue) {
-            return out.name;
-        }
-        self.ready.insert(Key {
-            vr: tally.runtime,
-            queue,
-        });
-        out.name
+        (self.core_stats(), self.all_queue_stats())
     }
 }

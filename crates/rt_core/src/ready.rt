@@ -8,7 +8,7 @@ use std::alloc::{AllocError, Allocator};
 use std::marker::Model;
 
 /// The number of a queue fits a byte.
-const MOST_QUEUES: usize = 256;
+pub(crate) const MOST_QUEUES: usize = 256;
 
 /// The keys of the queues that may be picked, at most one of each, with room for all that there may be.
 ///

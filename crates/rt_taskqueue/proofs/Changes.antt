@@ -1,17 +1,16 @@
 -- What one more job, one job less, other shares and one more queue change.
-use Rattle.std.proofs.Common.{◌≡◌, ◌≢◌, ℕ, ◌+◌, ◌<◌, ◌≤◌, Bool, true, false, eqb, List, [], ◌∷◌, ◌++◌, length, map, filter, get_or, set, take, drop, suc, All, Option, Some, refl, sym, ap, ◌∙◌, ⊎_elim, arith}
+use Rattle.std.proofs.Common.{◌≡◌, ℕ, ◌+◌, ◌<◌, List, [], ◌∷◌, ◌++◌, length, map, get_or, set, take, drop, suc, Some, refl, sym, ap, ◌∙◌, ⊎_elim, arith}
 use Rattle.std.specs.List.{position, remove}
 use Rattle.std.proofs.lemmas.Bool.{ne_eqb, eqb-true, cases_lt}
-use Rattle.std.proofs.lemmas.List.{length_push, length-set, length-append, get_or_push, get_or_append_left, get_or_past, get_or-set_same, get_or-set_other}
+use Rattle.std.proofs.lemmas.List.{length_push, length-set, get_or_push, get_or_append_left, get_or_past, get_or-set_same, get_or-set_other}
 use Rattle.std.proofs.lemmas.List.Edits.{length-remove}
 use Rattle.std.proofs.lemmas.List.Elements.{All-push, All-append, All-take, All-drop, All-weaker}
 use Rattle.std.proofs.lemmas.List.Quantifiers.{position-Some}
-use Rattle.rt_ids.specs.declared.names.JobId.{JobId}
 use Rattle.rt_taskqueue.specs.declared.waiting.Waiting.{Waiting}
-use Rattle.rt_taskqueue.specs.Queues.{QueueView, QueuesView, queue_count, shares_of, waiting_of, held_count, ChangesLine, ChangesShares, AddsQueue}
-use Rattle.rt_taskqueue.specs.Plain.{is_in, shown, line_in, queues_from, plain_view, IsPlain}
+use Rattle.rt_taskqueue.specs.Queues.{waiting_of, ChangesLine, ChangesShares, AddsQueue, held_count}
+use Rattle.rt_taskqueue.specs.Plain.{is_in, shown, line_in, plain_view, IsPlain}
 use Rattle.rt_taskqueue.proofs.Lines.{filter-remove_failed, filter_at_position, line_in-push, line_in-push_other}
-use Rattle.rt_taskqueue.proofs.PlainLemmas.{queue_count-plain, shares_of-plain, waiting_of-plain, held_count-plain, length-queues_from}
+use Rattle.rt_taskqueue.proofs.PlainLemmas.{queue_count-plain, shares_of-plain, waiting_of-plain, held_count-plain}
 
 -- the old elements stay where one joins the end
 get_or-push_other : (xs : List ℕ) (y i : ℕ) → (i ≡ length xs → ⊥) → get_or (xs ++ y ∷ []) i 0 ≡ get_or xs i 0
@@ -49,6 +48,11 @@ module _ {J : Type 0} {room job_places share_places : ℕ} {jobs : List (Waiting
         same_room = refl;
         held = omega (arith, held_count-plain after, held_count-plain plain, length_push jobs new, length_push (waiting_of new.queue (plain_view room jobs shares)) (shown new));
       }
+
+  pub held_count-push : (new : Waiting J) → IsPlain room job_places share_places jobs shares → new.queue < length shares → length jobs < room
+      → held_count (plain_view room (jobs ++ new ∷ []) shares) ≡ held_count (plain_view room jobs shares) + 1
+  held_count-push new plain exists fits =
+      omega (arith, held_count-plain (IsPlain-push new plain exists fits), held_count-plain plain, length_push jobs new)
 
   pub IsPlain-remove : (place : ℕ) → IsPlain room job_places share_places jobs shares → place < length jobs
       → IsPlain room job_places share_places (remove jobs place) shares
@@ -92,6 +96,14 @@ module _ {J : Type 0} {room job_places share_places : ℕ} {jobs : List (Waiting
         same_room = refl;
         held = omega (arith, held_count-plain after, held_count-plain plain, length-remove jobs place at.0, ap length head, ap length rest);
       }
+
+  pub held_count-remove : (place : ℕ) → IsPlain room job_places share_places jobs shares → place < length jobs
+      → held_count (plain_view room (remove jobs place) shares) + 1 ≡ held_count (plain_view room jobs shares)
+  held_count-remove place plain within =
+      omega (arith, held_count-plain (IsPlain-remove place plain within), held_count-plain plain, length-remove jobs place within)
+
+  pub room-remove : (place : ℕ) → IsPlain room job_places share_places jobs shares → place < length jobs → held_count (plain_view room (remove jobs place) shares) < room
+  room-remove place plain within = omega (arith, held_count-plain (IsPlain-remove place plain within), plain.within_room, length-remove jobs place within)
 
   pub IsPlain-set : (queue weight : ℕ) → IsPlain room job_places share_places jobs shares → IsPlain room job_places share_places jobs (set shares queue weight)
   IsPlain-set queue weight plain =

@@ -1,5 +1,5 @@
 -- The line of a queue as a filter of all jobs: after a push, and without the job at its head.
-use Rattle.std.proofs.Common.{◌≡◌, ◌≢◌, ℕ, ◌+◌, ◌<◌, ◌≤◌, Bool, true, false, cond, eqb, List, [], ◌∷◌, ◌++◌, length, map, filter, get_or, take, drop, suc, All, Option, Some, None, is_some, not, ◌↔◌, refl, sym, ap, ◌∙◌, arith, rules}
+use Rattle.std.proofs.Common.{Option, ◌≡◌, ℕ, ◌+◌, ◌<◌, ◌≤◌, Bool, true, false, cond, eqb, List, [], ◌∷◌, ◌++◌, length, map, filter, get_or, take, drop, suc, All, Some, is_some, not, ◌↔◌, refl, sym, ap, ◌∙◌, arith}
 use Rattle.std.specs.List.{position, position_from, remove}
 use Rattle.std.proofs.Math.Seq.{drop-cons}
 use Rattle.std.proofs.lemmas.Bool.{eq-eqb, ne_eqb, not-true, not-false, both_ways}
@@ -7,7 +7,6 @@ use Rattle.std.proofs.lemmas.List.{map-append, take-append-drop, get_or-take, le
 use Rattle.std.proofs.lemmas.List.Elements.{filter-append, All-head, All-tail}
 use Rattle.std.proofs.lemmas.List.Quantifiers.{position-Some}
 use Rattle.std.proofs.lemmas.Iterator.Adapters.{position_from-zero}
-use Rattle.rt_ids.specs.declared.names.JobId.{JobId}
 use Rattle.rt_taskqueue.specs.declared.waiting.Waiting.{Waiting}
 use Rattle.rt_taskqueue.specs.Plain.{is_in, shown, line_in}
 
@@ -58,6 +57,14 @@ module _ {X : Type 0} where
   filter_unless_position p xs none e = filter_unless_position_from p 0 xs none (ap is_some (sym (position_from-zero p xs)) ∙ e)
 
 module _ {J : Type 0} where
+  -- what a search of the jobs gave, where they were read as another list
+  pub position_read : (queue : ℕ) {read jobs : List (Waiting J)} {found place : Option ℕ} → read ≡ jobs → found ≡ position (is_in queue) read → found ≡ place → position (is_in queue) jobs ≡ place
+  position_read queue same e known = ap (position (is_in queue)) (sym same) ∙ sym e ∙ known
+
+  -- a line is as long as what the filter keeps
+  pub length-line_in : (queue : ℕ) (jobs : List (Waiting J)) → length (line_in queue jobs) ≡ length (filter (is_in queue) jobs)
+  length-line_in queue jobs = length-map (filter (is_in queue) jobs) shown
+
   -- a job that joins the tail of its queue
   pub line_in-push : (jobs : List (Waiting J)) (new : Waiting J) → line_in new.queue (jobs ++ new ∷ []) ≡ line_in new.queue jobs ++ shown new ∷ []
   line_in-push jobs new =

@@ -1,13 +1,12 @@
 -- What the plain representation shows: shares, lines and the number of jobs.
-use Rattle.std.proofs.Common.{◌≡◌, ◌≢◌, ℕ, ◌+◌, ◌<◌, ◌≤◌, Bool, true, false, eqb, List, [], ◌∷◌, ◌++◌, length, sum_by, get_or, suc, zero, All, refl, sym, ap, ◌∙◌, ⊎_elim, arith, add-zero}
+use Rattle.std.proofs.Common.{◌≡◌, ℕ, ◌+◌, ◌<◌, ◌≤◌, true, false, eqb, List, [], ◌∷◌, length, sum_by, get_or, suc, zero, All, refl, sym, ap, ◌∙◌, ⊎_elim, arith, add-zero}
 use Rattle.std.proofs.lemmas.Bool.{eq-eqb, ne_eqb, cases_eq, cases_lt}
 use Rattle.std.proofs.lemmas.List.{get_or_past}
 use Rattle.std.proofs.lemmas.List.Sums.{sum_by-cons}
 use Rattle.std.proofs.lemmas.List.Elements.{All-head, All-tail}
-use Rattle.rt_ids.specs.declared.names.JobId.{JobId}
 use Rattle.rt_taskqueue.specs.declared.waiting.Waiting.{Waiting}
 use Rattle.rt_taskqueue.specs.Queues.{QueueView, QueuesView, no_queue, queue_count, shares_of, waiting_of, held_count, IsWithinLimits}
-use Rattle.rt_taskqueue.specs.Plain.{is_in, line_in, queues_from, plain_view, IsPlain}
+use Rattle.rt_taskqueue.specs.Plain.{line_in, queues_from, plain_view, IsPlain}
 use Rattle.rt_taskqueue.proofs.Lines.{line_in-past}
 
 module _ {J : Type 0} where

@@ -1,5 +1,5 @@
 -- The plain representation: all jobs in one list, in the order in which they last came to a tail.
-use Rattle.std.specs.Prelude.{◌≡◌, ℕ, ◌<◌, ◌≤◌, Bool, ◌==◌, suc, List, [], ◌∷◌, length, map, filter, All}
+use Rattle.std.specs.Prelude.{ℕ, ◌<◌, ◌≤◌, Bool, ◌==◌, suc, List, [], ◌∷◌, length, map, filter, All}
 use Rattle.rt_ids.specs.declared.names.JobId.{JobId}
 use Rattle.rt_taskqueue.specs.declared.waiting.Waiting.{Waiting}
 use Rattle.rt_taskqueue.specs.Queues.{QueueView, QueuesView}

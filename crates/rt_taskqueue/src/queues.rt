@@ -1,5 +1,5 @@
 //! All task queues of a core.
-ghost use Rattle.std.specs.Prelude.{◌≡◌, ◌<◌, ◌≤◌, ◌↔◌, [], ◌∷◌, ◌++◌, true, false, drop, length, IsTrue, IfOk, OnErr, IfSome, IfNone, OnSome};
+ghost use Rattle.std.specs.Prelude.{◌≡◌, ◌+◌, ◌<◌, ◌≤◌, ◌↔◌, [], ◌∷◌, ◌++◌, true, false, drop, length, IsTrue, IfOk, OnErr, IfSome, IfNone, OnSome};
 ghost use Rattle.rt_taskqueue.specs.Queues.{queue_count, shares_of, waiting_of, held_count, first_queue, IsWithinLimits, ChangesLine, ChangesShares, AddsQueue};
 
 use crate::waiting::{Waiting, head_place, line_length};
@@ -92,6 +92,7 @@ impl<J: Drop, A: Allocator + Clone> Queues<J, A> {
         requires exists { queue < queue_count self.old }
         requires room { held_count self.old < self.old.room }
         ensures joins { ChangesLine self.old self.new queue (waiting_of queue self.old ++ (name, false, job) ∷ []) }
+        ensures one_more { held_count self.new ≡ held_count self.old + 1 }
         ensures limits { IsWithinLimits self.new }
     {
         let admitted = Waiting {
@@ -110,6 +111,8 @@ impl<J: Drop, A: Allocator + Clone> Queues<J, A> {
         ensures unchanged { IfNone result (self.new ≡ self.old) }
         ensures head { IfSome result (λ front. waiting_of queue self.old ≡ front ∷ waiting_of queue self.new) }
         ensures rest { OnSome result (ChangesLine self.old self.new queue (drop 1 (waiting_of queue self.old))) }
+        ensures one_less { OnSome result (held_count self.new + 1 ≡ held_count self.old) }
+        ensures room { OnSome result (held_count self.new < self.new.room) }
         ensures limits { IsWithinLimits self.new }
     {
         let place = head_place(&self.jobs, queue)?;
@@ -122,6 +125,7 @@ impl<J: Drop, A: Allocator + Clone> Queues<J, A> {
         requires exists { queue < queue_count self.old }
         requires room { held_count self.old < self.old.room }
         ensures joins { ChangesLine self.old self.new queue (waiting_of queue self.old ++ (name, true, job) ∷ []) }
+        ensures one_more { held_count self.new ≡ held_count self.old + 1 }
         ensures limits { IsWithinLimits self.new }
     {
         let yielded = Waiting {

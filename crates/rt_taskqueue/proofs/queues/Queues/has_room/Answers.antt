@@ -1,4 +1,4 @@
-use Rattle.std.proofs.Common.{◌≡◌, length, sym, ◌∙◌, arith}
+use Rattle.std.proofs.Common.{arith}
 use Rattle.std.proofs.lemmas.Bool.{ltb-true, lt-ltb}
 use Rattle.rt_taskqueue.proofs.PlainLemmas.{IsWithinLimits-plain, held_count-plain}
 use Rattle.rt_taskqueue.proofs.queues.Queues.has_room.Goals as goal

@@ -1,7 +1,7 @@
 use Rattle.std.proofs.Common.{true, arith}
 use Rattle.rt_taskqueue.specs.declared.waiting.Waiting.{Waiting}
 use Rattle.rt_taskqueue.proofs.PlainLemmas.{IsWithinLimits-plain, exists-plain, fits-plain}
-use Rattle.rt_taskqueue.proofs.Changes.{IsPlain-push, ChangesLine-push}
+use Rattle.rt_taskqueue.proofs.Changes.{IsPlain-push, ChangesLine-push, held_count-push}
 use Rattle.rt_taskqueue.proofs.queues.Queues.push_back.Goals as goal
 
 pub push_reserved-requires : goal.push_reserved-requires
@@ -22,6 +22,13 @@ returns-clause-joins g c =
     let exists = exists-plain c.self.invariant c.self.view_is c.requires.exists in
     let fits = fits-plain c.self.invariant c.self.view_is c.requires.room in
     rw (c.push_reserved.ensures.items, ← c.self.view_is) (ChangesLine-push new c.self.invariant exists fits)
+
+pub returns-clause-one_more : goal.returns-clause-one_more
+returns-clause-one_more g c =
+    let new : Waiting g.row.J.Denot = record { queue = c.args.queue; name = c.args.name; started = true; job = c.args.job } in
+    let exists = exists-plain c.self.invariant c.self.view_is c.requires.exists in
+    let fits = fits-plain c.self.invariant c.self.view_is c.requires.room in
+    rw (c.push_reserved.ensures.items, ← c.self.view_is) (held_count-push new c.self.invariant exists fits)
 
 pub returns-clause-limits : goal.returns-clause-limits
 returns-clause-limits g c =

@@ -1,0 +1,156 @@
+//! What a delivery does, by its order.
+ghost use Rattle.std.specs.Prelude.{◌≡◌, ◌↔◌, ℕ, ◌+◌, ◌<◌, ◌≤◌, true, false, IsTrue};
+ghost use Rattle.rt_ids.specs.declared.order.Order.TheVariants as orders;
+ghost use Rattle.rt_jobs.specs.Ready.{IsReady};
+ghost use Rattle.rt_taskqueue.specs.Queues.{queue_count};
+ghost use Rattle.rt_core.specs.State.{is_working, inside_count, IsBounded};
+ghost use Rattle.rt_core.specs.Deliveries.{Delivers, CountsAlone, Enters};
+
+use super::Core;
+use crate::delivery::Delivered;
+use crate::notes::{Notes, one_note, two_notes};
+use crate::out::is_of_queue;
+use crate::tally::place;
+use rt_ids::{Answer, JobId, Key, Note, Order, QueueNo, Reason};
+use rt_jobs::Task;
+use rt_shares::{Shares, placed};
+use rt_taskqueue::CreateError;
+use std::alloc::Allocator;
+
+impl<J: Task, A: Allocator + Clone> Core<J, A> {
+    /// Counts a delivery.
+    pub(super) fn count(&mut self, name: &JobId)
+        requires { name.now.from ≤ self.old.cores }
+        ensures counts { CountsAlone self.old name.now self.new }
+        ensures bounded { IsBounded self.new }
+    {
+        self.delivered[usize::from(name.from.0)] = name.number;
+    }
+
+    /// Whether there is a queue of this number.
+    pub(super) fn has_queue(&self, queue: QueueNo) -> bool
+        ensures { IsTrue result ↔ (queue < queue_count self.now.queues) }
+    {
+        place(queue) < usize::from(self.queues.queue_count())
+    }
+
+    /// Whether a job waits in the queue or is out of it.
+    pub(super) fn has_work(&self, queue: QueueNo) -> bool
+        requires { queue < queue_count self.now.queues }
+        ensures { result ≡ is_working queue self.now }
+    {
+        !self.queues.is_empty(queue) || is_of_queue(&self.out, queue)
+    }
+
+    pub(super) fn deliver_job(&mut self, name: JobId, queue: QueueNo, job: J) -> (Delivered<J>, Notes<J::Out>)
+    where
+        J::Out: Copy,
+        requires room { inside_count self.old < self.old.queues.room }
+        requires sender { name.from ≤ self.old.cores }
+        requires ready { IsReady J.done J.CanPoll job }
+        ensures delivers { Delivers self.old name (orders.Job queue job) result.0 self.new result.1.items }
+        ensures bounded { IsBounded self.new }
+    {
+        if !self.has_queue(queue) {
+            self.count(&name);
+            let back = Note::Back(name, Reason::NoQueue);
+            return (
+                Delivered::Back(Reason::NoQueue, Order::Job(queue, job)),
+                one_note(back),
+            );
+        }
+        let took = Note::Took(name, queue);
+        if self.has_work(queue) {
+            self.join(name, queue, job);
+            return (Delivered::Took, one_note(took));
+        }
+        self.activate(name, queue, job);
+        (Delivered::Took, one_note(took))
+    }
+
+    /// A job enters a queue that has work.
+    pub(super) fn join(&mut self, name: JobId, queue: QueueNo, job: J)
+        requires room { inside_count self.old < self.old.queues.room }
+        requires sender { name.from ≤ self.old.cores }
+        requires ready { IsReady J.done J.CanPoll job }
+        requires exists { queue < queue_count self.old.queues }
+        requires work { is_working queue self.old ≡ true }
+        ensures enters { Enters self.old name queue job self.new }
+        ensures bounded { IsBounded self.new }
+    {
+        self.delivered[usize::from(name.from.0)] = name.number;
+        self.queues.admit(queue, name, job);
+        self.inside += 1;
+    }
+
+    /// A job enters a queue without work, which is placed at the floor.
+    pub(super) fn activate(&mut self, name: JobId, queue: QueueNo, job: J)
+        requires room { inside_count self.old < self.old.queues.room }
+        requires sender { name.from ≤ self.old.cores }
+        requires ready { IsReady J.done J.CanPoll job }
+        requires exists { queue < queue_count self.old.queues }
+        requires idle { is_working queue self.old ≡ false }
+        ensures enters { Enters self.old name queue job self.new }
+        ensures bounded { IsBounded self.new }
+    {
+        self.delivered[usize::from(name.from.0)] = name.number;
+        self.queues.admit(queue, name, job);
+        self.inside += 1;
+        let tally = &mut self.tallies[place(queue)];
+        let vr = placed(tally.runtime, self.floor);
+        tally.runtime = vr;
+        self.ready.insert(Key { vr, queue });
+    }
+
+    pub(super) fn deliver_create(&mut self, name: JobId, shares: Shares) -> (Delivered<J>, Notes<J::Out>)
+    where
+        J::Out: Copy,
+        requires { name.from ≤ self.old.cores }
+        ensures delivers { Delivers self.old name (orders.Create shares) result.0 self.new result.1.items }
+        ensures bounded { IsBounded self.new }
+    {
+        let (made, _) = self.create(shares);
+        self.count(&name);
+        match made {
+            Ok(queue) => {
+                let answered = Note::Answered(name, Answer::Created(queue));
+                let notes = two_notes(answered, Note::Created(queue, shares));
+                (Delivered::Answered(Answer::Created(queue)), notes)
+            }
+            Err(CreateError::TooMany) => {
+                let answered = Note::Answered(name, Answer::TooMany);
+                (Delivered::Answered(Answer::TooMany), one_note(answered))
+            }
+            Err(CreateError::Memory) => {
+                let answered = Note::Answered(name, Answer::NoMemory);
+                (Delivered::Answered(Answer::NoMemory), one_note(answered))
+            }
+        }
+    }
+
+    pub(super) fn deliver_shares(
+        &mut self,
+        name: JobId,
+        queue: QueueNo,
+        shares: Shares,
+    ) -> (Delivered<J>, Notes<J::Out>)
+    where
+        J::Out: Copy,
+        requires { name.from ≤ self.old.cores }
+        ensures delivers { Delivers self.old name (orders.SetShares queue shares) result.0 self.new result.1.items }
+        ensures bounded { IsBounded self.new }
+    {
+        if !self.has_queue(queue) {
+            self.count(&name);
+            let answered = Note::Answered(name, Answer::NoQueue);
+            return (Delivered::Answered(Answer::NoQueue), one_note(answered));
+        }
+        self.delivered[usize::from(name.from.0)] = name.number;
+        self.queues.set_shares(queue, shares);
+        let answered = Note::Answered(name, Answer::SharesSet);
+        (
+            Delivered::Answered(Answer::SharesSet),
+            two_notes(answered, Note::SharesSet(queue, shares)),
+        )
+    }
+}

@@ -1,0 +1,52 @@
+//! What a core tells of itself in numbers.
+ghost use Rattle.std.specs.Prelude.{◌≡◌, ℕ, ◌<◌, Some, slice_get};
+ghost use Rattle.arrayvec.specs.ArrayVec.{array_vec_len};
+ghost use Rattle.rt_taskqueue.specs.Queues.{queue_count};
+ghost use Rattle.rt_core.specs.Figures.{core_stats, queue_stats};
+
+use super::Core;
+use crate::tally::place;
+use arrayvec::ArrayVec;
+use rt_ids::{CoreStats, QueueNo, QueueStats};
+use rt_jobs::Task;
+use std::alloc::Allocator;
+
+impl<J: Task, A: Allocator + Clone> Core<J, A> {
+    pub(super) fn core_stats(&self) -> CoreStats
+        ensures { result ≡ core_stats self.now }
+    {
+        CoreStats {
+            turns: self.turns,
+            floor: self.floor,
+            held: self.inside as u64,
+            drained: false,
+        }
+    }
+
+    fn queue_stats(&self, queue: QueueNo) -> QueueStats
+        requires { queue < queue_count self.now.queues }
+        ensures { result ≡ queue_stats queue self.now }
+    {
+        let tally = self.tallies[place(queue)];
+        QueueStats {
+            shares: self.queues.shares(queue),
+            selected: tally.selected,
+            runtime: tally.time,
+            virtual_runtime: tally.runtime,
+            waiting: self.queues.count(queue) as u64,
+            finished: tally.finished,
+            returned: 0,
+        }
+    }
+
+    pub(super) fn all_queue_stats(&self) -> ArrayVec<QueueStats, 256>
+        ensures count { array_vec_len result ≡ queue_count self.now.queues }
+        ensures queues { (queue : ℕ) → queue < queue_count self.now.queues → slice_get result.items queue ≡ Some (queue_stats queue self.now) }
+    {
+        let mut all = ArrayVec::new();
+        for number in 0..self.queues.queue_count() {
+            all.push(self.queue_stats(QueueNo(number as u8)));
+        }
+        all
+    }
+}

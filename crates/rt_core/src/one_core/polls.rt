@@ -1,0 +1,95 @@
+//! A job goes out to be polled, and comes back.
+ghost use Rattle.std.specs.Prelude.{◌≡◌, ℕ, ◌-◌, ◌^◌, ◌<◌, [], IsSome, None};
+ghost use Rattle.rt_jobs.specs.Ready.{IsReady};
+ghost use Rattle.rt_taskqueue.specs.Queues.{waiting_of};
+ghost use Rattle.rt_core.specs.State.{runtime_of, IsBounded};
+ghost use Rattle.rt_core.specs.Turns.{TakesOut};
+ghost use Rattle.rt_core.specs.Steps.{YieldsOut, FinishesOut};
+
+use super::Core;
+use crate::out::Out;
+use crate::tally::place;
+use rt_ids::{JobId, Key};
+use rt_jobs::Task;
+use std::alloc::Allocator;
+use std::snapshot::Snapshot;
+
+impl<J: Task, A: Allocator + Clone> Core<J, A> {
+    /// Takes out the first job of the queue of least key, with that key and whether the job was started.
+    pub(super) fn take_out(&mut self) -> (Key, JobId, bool, J)
+        requires free { self.old.out ≡ None }
+        requires turns { self.old.turns < 2 ^ 64 - 1 }
+        requires work { (queue : ℕ) × (waiting_of queue self.old.queues ≡ [] → ⊥) }
+        ensures takes { TakesOut self.old result.1 result.0.queue result.2 result.3 self.new }
+        ensures at { result.0.vr ≡ runtime_of result.0.queue self.old }
+        ensures ready { IsReady J.done J.CanPoll result.3 }
+        ensures bounded { IsBounded self.new }
+    {
+        let Some(key) = self.ready.least() else {
+            unreachable!()
+        };
+        self.ready.take_least();
+        let vr = key.vr;
+        let queue = key.queue;
+        let Some((name, started, job)) = self.queues.pop_front(queue) else {
+            unreachable!()
+        };
+        self.tallies[place(queue)].selected += 1;
+        self.floor = self.floor.max(vr);
+        self.turns += 1;
+        let as_it_was = Snapshot::of(&job);
+        let named = name;
+        self.out = Some(Out {
+            name,
+            queue,
+            job: as_it_was,
+        });
+        (key, named, started, job)
+    }
+
+    /// The job that was out goes to the tail of its queue.
+    pub(super) fn yield_out(&mut self, job: J, time: u64) -> JobId
+        requires out { IsSome self.old.out }
+        requires ready { IsReady J.done J.CanPoll job }
+        ensures yields { YieldsOut self.old result job time self.new }
+        ensures bounded { IsBounded self.new }
+    {
+        let Some(out) = self.out.take() else {
+            unreachable!()
+        };
+        let queue = out.queue;
+        let shares = self.queues.shares(queue);
+        let tally = self.tallies[place(queue)].charged(time, &shares, 0);
+        self.tallies[place(queue)] = tally;
+        self.queues.push_back(queue, out.name, job);
+        self.ready.insert(Key {
+            vr: tally.runtime,
+            queue,
+        });
+        out.name
+    }
+
+    /// The job that was out is done.
+    pub(super) fn finish_out(&mut self, time: u64) -> JobId
+        requires { IsSome self.old.out }
+        ensures finishes { FinishesOut self.old result time self.new }
+        ensures bounded { IsBounded self.new }
+    {
+        let Some(out) = self.out.take() else {
+            unreachable!()
+        };
+        let queue = out.queue;
+        let shares = self.queues.shares(queue);
+        let tally = self.tallies[place(queue)].charged(time, &shares, 1);
+        self.tallies[place(queue)] = tally;
+        self.inside -= 1;
+        if self.queues.is_empty(queue) {
+            return out.name;
+        }
+        self.ready.insert(Key {
+            vr: tally.runtime,
+            queue,
+        });
+        out.name
+    }
+}
