@@ -1,8 +1,9 @@
 -- How many keys a balanced tree has at least.
 use Rattle.std.proofs.Common.{◌≡◌, ◌⊎◌, ℕ, zero, suc, ◌+◌, ◌*◌, ◌<◌, ◌≤◌, ◌^◌, max, ◌∷◌, ◌++◌, length, inl, inr, arith, length-append}
 use Rattle.std.proofs.lemmas.Bool.{cases_order}
+use Rattle.std.proofs.Math.Nat.{pow-suc}
 use Rattle.rt_ids.specs.declared.names.Key.{Key}
-use Rattle.rt_timeline.specs.Tree.{KeyTree, fewest, IsFilled}
+use Rattle.rt_timeline.specs.Tree.{KeyTree, fewest, IsFilled, IsLow}
 use Rattle.rt_timeline.specs.declared.tree.Link.{Link}
 use Rattle.rt_timeline.specs.declared.tree.Link.TheVariants.{Empty, Top}
 use Rattle.rt_timeline.specs.Nodes.{key_of, seen, DifferByAtMost, IsBalanced}
@@ -33,3 +34,20 @@ pub IsFilled-seen : {A : Type 0} (root : Link A) → IsBalanced root → IsFille
 IsFilled-seen Empty balanced = omega arith
 IsFilled-seen (Top node) balanced =
     rw balanced.stored (IsFilled-joined node.value.left (key_of node.value) node.value.right balanced.left_filled balanced.right_filled balanced.near)
+
+fewest-pos : (height : ℕ) → 1 ≤ fewest height
+fewest-pos zero = omega arith
+fewest-pos (suc zero) = omega arith
+fewest-pos (suc (suc height)) = omega (arith, fewest-pos height)
+
+fewest-low : (height count digits : ℕ) → fewest height ≤ count → count < 2 ^ digits → height ≤ 2 * digits
+fewest-low zero count digits many below = omega arith
+fewest-low (suc zero) count zero many below = absurd (omega arith)
+fewest-low (suc zero) count (suc digits) many below = omega arith
+fewest-low (suc (suc height)) count zero many below = absurd (omega (arith, fewest-pos height))
+fewest-low (suc (suc height)) count (suc digits) many below =
+    let half = fewest-low height (fewest height) digits (omega arith) (omega (arith, pow-suc 2 digits)) in
+    omega (arith, half)
+
+pub IsLow-from_filled : (tree : KeyTree) → IsFilled tree → IsLow tree
+IsLow-from_filled tree filled = λ digits below. fewest-low tree.height (length tree.keys + 1) digits filled below

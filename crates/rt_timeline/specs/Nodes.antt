@@ -1,5 +1,5 @@
 -- What a node of the tree is seen as with its two sides, and what holds of it.
-use Rattle.std.specs.Prelude.{◌≡◌, ℕ, ◌+◌, ◌<◌, ◌≤◌, max, List, [], ◌∷◌, ◌++◌, length}
+use Rattle.std.specs.Prelude.{◌≡◌, ℕ, ◌+◌, ◌^◌, ◌<◌, ◌≤◌, max, List, [], ◌∷◌, ◌++◌, length}
 use Rattle.rt_ids.specs.declared.names.Key.{Key}
 use Rattle.rt_timeline.specs.declared.tree.Node.{Node}
 use Rattle.rt_timeline.specs.declared.tree.Link.{Link}
@@ -23,9 +23,10 @@ seen (Top node) = record { keys = keys_of node.value; height = node.value.height
 abbrev pub DifferByAtMost : ℕ → ℕ → ℕ → Type 0
 DifferByAtMost by one other = (one ≤ other + by) × (other ≤ one + by)
 
--- a node over two sides stores its height, its sides differ by at most one level, and each has keys enough
+-- a node over two sides stores its height in 16 bits, its sides differ by at most one level, and each has keys enough
 pub record IsInBalance (left right : KeyTree) (height : ℕ) : Type 0 where
   pub stored : height ≡ max left.height right.height + 1
+  pub fits : height < 2 ^ 16
   pub near : DifferByAtMost 1 left.height right.height
   pub left_filled : IsFilled left
   pub right_filled : IsFilled right
@@ -56,3 +57,8 @@ IsHeightAfterRebalance left right height = (max left right ≤ height) × (heigh
 abbrev pub RebalancesTo : {A : Type 0} → Link A → Link A → Type 0
 RebalancesTo Empty new = new ≡ Empty
 RebalancesTo (Top node) new = IsBalanced new × ((seen new).keys ≡ keys_of node.value) × IsHeightAfterRebalance node.value.left.height node.value.right.height (seen new).height
+
+-- there is a top node, with nothing on its left
+abbrev pub HasOnlyRight : {A : Type 0} → Link A → Type 0
+HasOnlyRight Empty = ⊥
+HasOnlyRight (Top node) = node.value.left ≡ empty_tree

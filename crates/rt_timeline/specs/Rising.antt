@@ -1,5 +1,6 @@
 -- Keys in rising order, at most one of each queue.
 use Rattle.std.specs.Prelude.{◌≡◌, ◌≢◌, ℕ, ◌<◌, Bool, not, ◌&&◌, ◌||◌, ◌==◌, nat_lt, if◌then◌else◌, List, [], ◌∷◌, filter, map, Option, Some, None}
+use Rattle.std.specs.List.{AllByRecursion, list_any}
 use Rattle.rt_ids.specs.Keys.{KeyBefore}
 use Rattle.rt_ids.specs.declared.names.Key.{Key}
 
@@ -17,8 +18,7 @@ same_key one other = one.vr == other.vr && one.queue == other.queue
 
 -- P holds of each key
 abbrev pub EachKey : (Key → Type 0) → List Key → Type 0
-EachKey P [] = Unit {0}
-EachKey P (key ∷ later) = P key × EachKey P later
+EachKey P keys = AllByRecursion P keys
 
 -- each key stands before all later ones
 abbrev pub IsRising : List Key → Type 0
@@ -43,6 +43,10 @@ inserted key (next ∷ later) = if stands_before key next then key ∷ next ∷ 
 abbrev pub removed : Key → List Key → List Key
 removed key keys = filter (λ other. not (same_key key other)) keys
 
+-- whether this key is among them
+abbrev pub has_key : Key → List Key → Bool
+has_key key keys = list_any (same_key key) keys
+
 -- the first key, if there is one
 abbrev pub first_key : List Key → Option Key
 first_key [] = None
@@ -56,3 +60,9 @@ later_keys (key ∷ later) = later
 -- the queues of the keys, in their order
 abbrev pub queues_of : List Key → List ℕ
 queues_of keys = map (λ key. key.queue) keys
+
+-- what holds of the keys of a timeline: they rise, no two are of one queue, and each queue has one of 256 numbers
+pub record IsOfQueues (keys : List Key) : Type 0 where
+  pub rising : IsRising keys
+  pub distinct : HasDistinctQueues keys
+  pub numbered : EachKey (λ key. key.queue < 256) keys

@@ -1,5 +1,5 @@
 -- What a contract sees of a tree of keys, and when the tree is balanced.
-use Rattle.std.specs.Prelude.{◌≡◌, ℕ, zero, suc, ◌+◌, ◌*◌, ◌≤◌, max, List, [], ◌∷◌, ◌++◌, length}
+use Rattle.std.specs.Prelude.{◌≡◌, ℕ, zero, suc, ◌+◌, ◌*◌, ◌^◌, ◌<◌, ◌≤◌, max, List, [], ◌∷◌, ◌++◌, length}
 use Rattle.rt_ids.specs.declared.names.Key.{Key}
 
 -- the keys in rising order, and how many levels the tree has
@@ -20,3 +20,7 @@ fewest (suc (suc height)) = 2 * fewest height
 -- the tree has as many keys as its height asks for
 abbrev pub IsFilled : KeyTree → Type 0
 IsFilled tree = fewest tree.height ≤ length tree.keys + 1
+
+-- the height is at most twice the number of binary digits of one more than the count of keys: a number below 2 ^ digits has at most so many
+abbrev pub IsLow : KeyTree → Type 0
+IsLow tree = (digits : ℕ) → length tree.keys + 1 < 2 ^ digits → tree.height ≤ 2 * digits

@@ -1,14 +1,17 @@
 //! The tree behind the timeline: balanced nodes, each seen with what hangs on it as keys and a height.
-ghost use Rattle.std.specs.Prelude.{◌≡◌, ◌+◌, ◌<◌, ◌≤◌, max};
-ghost use Rattle.rt_timeline.specs.Rising.{IsRising, stands_before, inserted};
+ghost use Rattle.std.specs.Prelude.{◌≡◌, ◌+◌, ◌<◌, ◌≤◌, ◌↔◌, ◌∷◌, length, Some, is_some, IfSome, IfNone, IsTrue};
+ghost use Rattle.rt_timeline.specs.Rising.{IsRising, stands_before, has_key, first_key, inserted, removed};
 ghost use Rattle.rt_timeline.specs.Tree.{empty_tree, IsFilled};
-ghost use Rattle.rt_timeline.specs.Nodes.{seen, key_of, keys_of, DifferByAtMost, IsBalanced, IsSettled, IsLoose, IsNearlyBalanced, RebalancesTo};
-ghost use Rattle.rt_timeline.specs.declared.tree.Link.TheVariants.{Top};
+ghost use Rattle.rt_timeline.specs.Nodes.{seen, key_of, keys_of, IsBalanced, IsLoose};
 
 use rt_ids::{Key, QueueNo};
 use std::alloc::Allocator;
 use std::marker::Model;
 use std::mem;
+
+mod balance;
+
+use balance::{parted, rebalance, settled, without_left};
 
 /// A side of a node, or the whole: balanced at every level.
 #[cycle(tree)]
@@ -63,15 +66,50 @@ impl<A: Allocator> Tree<A> {
     pub(crate) fn height(&self) -> u16
         ensures value { result ≡ self.now.height }
         ensures filled { IsFilled self.now }
+        ensures empty { result ≡ 0 → self.now ≡ empty_tree }
+        ensures some { 0 < result → 0 < length self.now.keys }
     {
         match &self.root {
             Link::Empty => 0,
             Link::Top(node) => node.height,
         }
     }
+
+    fn is_empty(&self) -> bool
+        ensures { IsTrue result ↔ (self.now ≡ empty_tree) }
+    {
+        match &self.root {
+            Link::Empty => true,
+            Link::Top(_) => false,
+        }
+    }
+
+    /// The first key.
+    pub(crate) fn first(&self) -> Option<Key>
+        ensures { result ≡ first_key self.now.keys }
+    {
+        match &self.root {
+            Link::Empty => None,
+            Link::Top(node) => Some(node.first()),
+        }
+    }
 }
 
 impl<A: Allocator> Node<A> {
+    /// A node with nothing on its sides, at virtual runtime 0.
+    pub(crate) fn loose(queue: QueueNo) -> Self
+        ensures queue { result.queue ≡ queue }
+        ensures loose { IsLoose result }
+    {
+        Node {
+            vr: 0,
+            queue,
+            height: 0,
+            left: Tree::new(),
+            right: Tree::new(),
+        }
+    }
+
     pub(crate) fn key(&self) -> Key
         ensures { result ≡ key_of self.now }
     {
@@ -81,12 +119,23 @@ impl<A: Allocator> Node<A> {
         }
     }
 
-    /// Whether this node's key stands before the other's.
-    fn is_before(&self, other: &Node<A>) -> bool
-        ensures { result ≡ stands_before (key_of self.now) (key_of other.now) }
+    /// The first key of the node and its sides.
+    fn first(&self) -> Key
+        ensures { first_key (keys_of self.now) ≡ Some result }
     {
-        self.vr < other.vr || (self.vr == other.vr && self.queue.0 < other.queue.0)
+        let left = &self.left;
+        match &left.root {
+            Link::Empty => self.key(),
+            Link::Top(next) => next.first(),
+        }
     }
+}
+
+/// Whether the one key stands before the other. By hand, since a derived comparison asks for an order first.
+fn is_before(one: &Key, other: &Key) -> bool
+    ensures { result ≡ stands_before one.now other.now }
+{
+    one.vr < other.vr || (one.vr == other.vr && one.queue.0 < other.queue.0)
 }
 
 impl<A: Allocator> Tree<A> {
@@ -102,111 +151,6 @@ impl<A: Allocator> Tree<A> {
         ensures same_view { result ≡ seen root }
     {
         Tree { root }
-    }
-}
-
-/// Takes the tree out, and leaves none.
-fn take<A: Allocator>(place: &mut Tree<A>) -> Tree<A>
-    ensures whole { result ≡ place.old }
-    ensures none_left { place.new ≡ empty_tree }
-{
-    mem::replace(place, Tree::new())
-}
-
-/// Puts the tree where there is none, so that nothing has to be dropped.
-fn fill<A: Allocator>(place: &mut Tree<A>, tree: Tree<A>)
-    requires { place.old ≡ empty_tree }
-    ensures { place.new ≡ tree }
-{
-    match mem::replace(place, tree).open() {
-        Link::Empty => {}
-        Link::Top(_) => unreachable!(),
-    }
-}
-
-/// The node with the height that its sides give it.
-fn settled<A: Allocator>(mut node: Box<Node<A>, A>) -> Box<Node<A>, A>
-    requires { max node.value.left.height node.value.right.height < 65535 }
-    ensures same { IsSettled node.value result.value }
-    ensures balanced { DifferByAtMost 1 node.value.left.height node.value.right.height → IsBalanced (Top result) }
-{
-    node.height = node.left.height().max(node.right.height()) + 1;
-    node
-}
-
-/// Lifts the left side, which is two levels higher.
-fn left_lifted<A: Allocator>(mut top: Box<Node<A>, A>) -> Box<Node<A>, A>
-    requires two_higher { top.value.left.height ≡ top.value.right.height + 2 }
-    requires room { top.value.left.height < 65535 }
-    ensures balanced { IsBalanced (Top result) }
-    ensures keys { keys_of result.value ≡ keys_of top.value }
-    ensures not_lower { top.value.left.height ≤ result.value.height }
-    ensures at_most_one_higher { result.value.height ≤ top.value.left.height + 1 }
-{
-    let Link::Top(mut left) = take(&mut top.left).open() else {
-        unreachable!()
-    };
-    if left.left.height() >= left.right.height() {
-        fill(&mut top.left, take(&mut left.right));
-        fill(&mut left.right, Tree::close(Link::Top(settled(top))));
-        return settled(left);
-    }
-    let Link::Top(mut middle) = take(&mut left.right).open() else {
-        unreachable!()
-    };
-    fill(&mut left.right, take(&mut middle.left));
-    fill(&mut top.left, take(&mut middle.right));
-    fill(&mut middle.left, Tree::close(Link::Top(settled(left))));
-    fill(&mut middle.right, Tree::close(Link::Top(settled(top))));
-    settled(middle)
-}
-
-/// Lifts the right side, which is two levels higher.
-fn right_lifted<A: Allocator>(mut top: Box<Node<A>, A>) -> Box<Node<A>, A>
-    requires two_higher { top.value.right.height ≡ top.value.left.height + 2 }
-    requires room { top.value.right.height < 65535 }
-    ensures balanced { IsBalanced (Top result) }
-    ensures keys { keys_of result.value ≡ keys_of top.value }
-    ensures not_lower { top.value.right.height ≤ result.value.height }
-    ensures at_most_one_higher { result.value.height ≤ top.value.right.height + 1 }
-{
-    let Link::Top(mut right) = take(&mut top.right).open() else {
-        unreachable!()
-    };
-    if right.right.height() >= right.left.height() {
-        fill(&mut top.right, take(&mut right.left));
-        fill(&mut right.left, Tree::close(Link::Top(settled(top))));
-        return settled(right);
-    }
-    let Link::Top(mut middle) = take(&mut right.left).open() else {
-        unreachable!()
-    };
-    fill(&mut right.left, take(&mut middle.right));
-    fill(&mut top.right, take(&mut middle.left));
-    fill(&mut middle.right, Tree::close(Link::Top(settled(right))));
-    fill(&mut middle.left, Tree::close(Link::Top(settled(top))));
-    settled(middle)
-}
-
-/// Balances a node again, one side of which has become a level higher or lower.
-fn rebalance<A: Allocator>(root: &mut Link<A>)
-    requires { IsNearlyBalanced root.old }
-    ensures { RebalancesTo root.old root.new }
-{
-    let Link::Top(top) = root else {
-        return;
-    };
-    let (left, right) = (top.left.height(), top.right.height());
-    if left <= right + 1 && right <= left + 1 {
-        top.height = left.max(right) + 1;
-        return;
-    }
-    if let Link::Top(top) = mem::replace(root, Link::Empty) {
-        *root = Link::Top(if left > right {
-            left_lifted(top)
-        } else {
-            right_lifted(top)
-        });
     }
 }
 
@@ -227,7 +171,7 @@ impl<A: Allocator> Tree<A> {
             }
             Link::Top(top) => {
                 let top: &mut Node<A> = top;
-                if node.is_before(top) {
+                if is_before(&node.key(), &top.key()) {
                     let before = top.left.height();
                     top.left.insert(node);
                     if top.left.height() != before {
@@ -241,6 +185,72 @@ impl<A: Allocator> Tree<A> {
                     }
                 }
             }
+        }
+    }
+
+    /// Takes the node of the first key out.
+    pub(crate) fn take_first(&mut self) -> Box<Node<A>, A>
+        requires { 0 < length self.old.keys }
+        ensures first { self.old.keys ≡ key_of result.value ∷ self.new.keys }
+        ensures loose { IsLoose result.value }
+        ensures not_higher { self.new.height ≤ self.old.height }
+        ensures at_most_one_lower { self.old.height ≤ self.new.height + 1 }
+    {
+        match &mut self.root {
+            Link::Empty => unreachable!(),
+            Link::Top(top) => {
+                let top: &mut Node<A> = top;
+                let before = top.left.height();
+                if before == 0 {
+                    return without_left(&mut self.root);
+                }
+                let first = top.left.take_first();
+                if top.left.height() != before {
+                    rebalance(&mut self.root);
+                }
+                first
+            }
+        }
+    }
+
+    /// Takes the node of this key out, if it is there.
+    #[tactic(auto, using(crate::proofs::Rising::around))]
+    pub(crate) fn remove(&mut self, key: &Key) -> Option<Box<Node<A>, A>>
+        requires { IsRising self.old.keys }
+        ensures found { is_some result ≡ has_key key.now self.old.keys }
+        ensures unchanged { IfNone result (self.new ≡ self.old) }
+        ensures keys { self.new.keys ≡ removed key.now self.old.keys }
+        ensures same_key { IfSome result (λ node. key_of node.value ≡ key.now) }
+        ensures loose { IfSome result (λ node. IsLoose node.value) }
+        ensures not_higher { self.new.height ≤ self.old.height }
+        ensures at_most_one_lower { self.old.height ≤ self.new.height + 1 }
+    {
+        if let Link::Top(top) = &mut self.root {
+            let top: &mut Node<A> = top;
+            if is_before(key, &top.key()) {
+                let before = top.left.height();
+                let found = top.left.remove(key);
+                if top.left.height() != before {
+                    rebalance(&mut self.root);
+                }
+                return found;
+            }
+            if is_before(&top.key(), key) {
+                let before = top.right.height();
+                let found = top.right.remove(key);
+                if top.right.height() != before {
+                    rebalance(&mut self.root);
+                }
+                return found;
+            }
+        }
+        match mem::replace(&mut self.root, Link::Empty) {
+            Link::Top(top) => {
+                let (node, rest) = parted(top);
+                self.root = rest.open();
+                Some(node)
+            }
+            Link::Empty => None,
         }
     }
 }
