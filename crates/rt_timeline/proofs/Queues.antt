@@ -1,11 +1,11 @@
 -- The queues of the keys of a timeline, where a key comes or goes.
 use Rattle.std.proofs.Common.{◌≡◌, ◌≢◌, ℕ, suc, ◌+◌, ◌<◌, ◌≤◌, Bool, true, false, not, cond, ◌||◌, eqb, List, [], ◌∷◌, length, refl, sym, ap, ◌∙◌, inl, inr, arith}
 use Rattle.std.specs.List.{list_any, IsDistinct, AllByRecursion}
-use Rattle.std.proofs.lemmas.Bool.{cases_Bool, or_cases, both_ways, ne_eqb, eqb-true}
+use Rattle.std.proofs.lemmas.Bool.{cases_Bool, or_cases, or_parts, both_ways, ne_eqb, eqb-true, eqb-false}
 use Rattle.std.proofs.lemmas.List.{length-map}
 use Rattle.std.proofs.lemmas.Map.Steps.{length-le_from_distinct_below}
 use Rattle.rt_ids.specs.declared.names.Key.{Key}
-use Rattle.rt_timeline.specs.Rising.{StandsBefore, stands_before, same_key, EachKey, IsRising, LacksQueue, HasDistinctQueues, IsOfQueues, has_key, inserted, removed, queues_of}
+use Rattle.rt_timeline.specs.Rising.{StandsBefore, stands_before, same_key, EachKey, IsRising, LacksQueue, HasDistinctQueues, IsOfQueues, has_queue, inserted, removed, queues_of}
 use Rattle.rt_timeline.proofs.Before.{Decides-stands_before, Decides-same_key, StandsBefore-trans, same_key-between}
 use Rattle.rt_timeline.proofs.Rising.{AreOthers, EachKey-weaker, removed-others, others_behind}
 
@@ -118,3 +118,10 @@ IsOfQueues-removed key keys all = record {
 
 pub IsOfQueues-later : (key : Key) (later : List Key) → IsOfQueues (key ∷ later) → IsOfQueues later
 IsOfQueues-later key later all = record { rising = all.rising.1; distinct = all.distinct.1; numbered = all.numbered.1 }
+
+-- where the test finds no key of the queue, none is of it
+pub LacksQueue-from_test : (queue : ℕ) (keys : List Key) → has_queue queue keys ≡ false → LacksQueue queue keys
+LacksQueue-from_test queue [] none = tt
+LacksQueue-from_test queue (next ∷ later) none =
+    let parts = or_parts _ _ none in
+    (eqb-false next.queue queue parts.0, LacksQueue-from_test queue later parts.1)

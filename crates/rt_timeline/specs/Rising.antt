@@ -47,6 +47,10 @@ removed key keys = filter (λ other. not (same_key key other)) keys
 abbrev pub has_key : Key → List Key → Bool
 has_key key keys = list_any (same_key key) keys
 
+-- whether one of them is of this queue
+abbrev pub has_queue : ℕ → List Key → Bool
+has_queue queue keys = list_any (λ key. key.queue == queue) keys
+
 -- the first key, if there is one
 abbrev pub first_key : List Key → Option Key
 first_key [] = None

@@ -6,6 +6,8 @@
 
 mod slip;
 mod slips;
+#[cfg(test)]
+mod tests;
 mod timeline;
 mod tree;
 

@@ -1,12 +1,12 @@
 //! The keys of the active queues, least first.
-ghost use Rattle.std.specs.Prelude.{◌≡◌, ◌≤◌, ◌↔◌, [], ◌∷◌, length, IsTrue, IsNone, IsSome, IfSome, IfNone, Contains};
-ghost use Rattle.rt_timeline.specs.Rising.{LacksQueue, IsRising, HasDistinctQueues, inserted, removed, first_key};
+ghost use Rattle.std.specs.Prelude.{◌≡◌, ◌≤◌, ◌↔◌, false, [], ◌∷◌, length, IsTrue, IsNone, IsSome, IfSome, IfNone, Contains};
+ghost use Rattle.rt_timeline.specs.Rising.{LacksQueue, IsRising, HasDistinctQueues, has_queue, inserted, removed, first_key};
 ghost use Rattle.rt_timeline.specs.Tree.{empty_tree, IsLow};
 
 use crate::slip::Slip;
 use crate::slips::Slips;
 use crate::tree::Tree;
-use rt_ids::Key;
+use rt_ids::{Key, QueueNo};
 use std::alloc::Allocator;
 use std::marker::Model;
 
@@ -102,6 +102,14 @@ impl<A: Allocator> Timeline<A> {
         ensures { IsTrue result ↔ (self.now.keys ≡ []) }
     {
         self.len == 0
+    }
+
+    /// Whether this queue is in the timeline. It looks at each of them.
+    pub fn has_queue(&self, queue: QueueNo) -> bool
+        ensures value { result ≡ has_queue queue self.now.keys }
+        ensures absent { result ≡ false → LacksQueue queue self.now.keys }
+    {
+        self.tree.has_queue(queue)
     }
 
     /// How many levels the tree has.

@@ -1,6 +1,6 @@
 //! The tree behind the timeline: balanced nodes, each seen with what hangs on it as keys and a height.
 ghost use Rattle.std.specs.Prelude.{◌≡◌, ◌+◌, ◌<◌, ◌≤◌, ◌↔◌, ◌∷◌, length, Some, is_some, IfSome, IfNone, IsTrue};
-ghost use Rattle.rt_timeline.specs.Rising.{IsRising, stands_before, has_key, first_key, inserted, removed};
+ghost use Rattle.rt_timeline.specs.Rising.{IsRising, stands_before, has_key, has_queue, first_key, inserted, removed};
 ghost use Rattle.rt_timeline.specs.Tree.{empty_tree, IsFilled};
 ghost use Rattle.rt_timeline.specs.Nodes.{seen, key_of, keys_of, IsBalanced, IsLoose};
 
@@ -155,6 +155,18 @@ impl<A: Allocator> Tree<A> {
 }
 
 impl<A: Allocator> Tree<A> {
+    /// Whether one of the keys is of this queue.
+    pub(crate) fn has_queue(&self, queue: QueueNo) -> bool
+        ensures { result ≡ has_queue queue self.now.keys }
+    {
+        match &self.root {
+            Link::Empty => false,
+            Link::Top(node) => {
+                node.queue == queue || node.left.has_queue(queue) || node.right.has_queue(queue)
+            }
+        }
+    }
+
     /// Puts a node in the place of its key.
     #[tactic(auto, using(crate::proofs::Rising::around))]
     pub(crate) fn insert(&mut self, node: Box<Node<A>, A>)
