@@ -1,0 +1,53 @@
+-- How many keys a balanced tree has at least.
+use Rattle.std.proofs.Common.{◌≡◌, ◌⊎◌, ℕ, zero, suc, ◌+◌, ◌*◌, ◌<◌, ◌≤◌, ◌^◌, max, ◌∷◌, ◌++◌, length, inl, inr, arith, length-append}
+use Rattle.std.proofs.lemmas.Bool.{cases_order}
+use Rattle.std.proofs.Math.Nat.{pow-suc}
+use Rattle.rt_ids.specs.declared.names.Key.{Key}
+use Rattle.rt_timeline.specs.Tree.{KeyTree, fewest, IsFilled, IsLow}
+use Rattle.rt_timeline.specs.declared.tree.Link.{Link}
+use Rattle.rt_timeline.specs.declared.tree.Link.TheVariants.{Empty, Top}
+use Rattle.rt_timeline.specs.Nodes.{key_of, seen, DifferByAtMost, IsBalanced}
+
+fewest-rises : (height : ℕ) → fewest height ≤ fewest (suc height)
+fewest-rises zero = omega arith
+fewest-rises (suc zero) = omega arith
+fewest-rises (suc (suc height)) = omega (arith, fewest-rises height)
+
+fewest-suc : (height : ℕ) → fewest (suc height) ≤ 2 * fewest height
+fewest-suc zero = omega arith
+fewest-suc (suc height) = omega (arith, fewest-rises height)
+
+-- two trees of heights that differ by at most one, joined by one key
+fewest-joined : (left right m n : ℕ) → fewest left ≤ m + 1 → fewest right ≤ n + 1 → DifferByAtMost 1 left right → fewest (max left right + 1) ≤ (m + suc n) + 1
+fewest-joined left right m n many more near =
+    elim (cases_order left right) [
+      | inl same ↦ let e : max left right + 1 ≡ suc left = omega arith in rw e (let s : fewest right ≡ fewest left = cc in omega (arith, fewest-suc left))
+      | inr (inl lower) ↦ let r : right ≡ suc left = omega arith in let e : max left right + 1 ≡ suc (suc left) = omega arith in rw e (let s : fewest right ≡ fewest (suc left) = cc in omega (arith, fewest-rises left))
+      | inr (inr higher) ↦ let r : left ≡ suc right = omega arith in let e : max left right + 1 ≡ suc (suc right) = omega arith in rw e (let s : fewest left ≡ fewest (suc right) = cc in omega (arith, fewest-rises right))
+    ]
+
+pub IsFilled-joined : (left : KeyTree) (key : Key) (right : KeyTree) → IsFilled left → IsFilled right → DifferByAtMost 1 left.height right.height → IsFilled (record { keys = left.keys ++ key ∷ right.keys; height = max left.height right.height + 1 })
+IsFilled-joined left key right many more near =
+    rw length-append (fewest-joined left.height right.height (length left.keys) (length right.keys) many more near)
+
+pub IsFilled-seen : {A : Type 0} (root : Link A) → IsBalanced root → IsFilled (seen root)
+IsFilled-seen Empty balanced = omega arith
+IsFilled-seen (Top node) balanced =
+    rw balanced.stored (IsFilled-joined node.value.left (key_of node.value) node.value.right balanced.left_filled balanced.right_filled balanced.near)
+
+fewest-pos : (height : ℕ) → 1 ≤ fewest height
+fewest-pos zero = omega arith
+fewest-pos (suc zero) = omega arith
+fewest-pos (suc (suc height)) = omega (arith, fewest-pos height)
+
+fewest-low : (height count digits : ℕ) → fewest height ≤ count → count < 2 ^ digits → height ≤ 2 * digits
+fewest-low zero count digits many below = omega arith
+fewest-low (suc zero) count zero many below = absurd (omega arith)
+fewest-low (suc zero) count (suc digits) many below = omega arith
+fewest-low (suc (suc height)) count zero many below = absurd (omega (arith, fewest-pos height))
+fewest-low (suc (suc height)) count (suc digits) many below =
+    let half = fewest-low height (fewest height) digits (omega arith) (omega (arith, pow-suc 2 digits)) in
+    omega (arith, half)
+
+pub IsLow-from_filled : (tree : KeyTree) → IsFilled tree → IsLow tree
+IsLow-from_filled tree filled = λ digits below. fewest-low tree.height (length tree.keys + 1) digits filled below

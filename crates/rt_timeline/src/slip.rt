@@ -1,0 +1,65 @@
+//! A node out of the tree.
+ghost use Rattle.std.specs.Prelude.{◌≡◌, ◌<◌, IfOk};
+ghost use Rattle.rt_timeline.specs.Nodes.{key_of, IsLoose};
+
+use crate::tree::Node;
+use rt_ids::QueueNo;
+use std::alloc::{AllocError, Allocator};
+use std::marker::Model;
+
+/// The one tree node of a queue, while it is out of the tree. It is seen as the number of its queue.
+#[derive(Drop)]
+pub struct Slip<A: Allocator> {
+    node: Box<Node<A>, A>,
+}
+
+impl<A: Allocator> Model for Slip<A> {
+    ghost use Rattle.std.specs.Prelude.{ℕ};
+
+    ghost Value = { ℕ };
+
+    ghost use Rattle.rt_timeline.specs.Nodes.{IsLoose};
+
+    ghost view = { λ s. s.node.value.queue };
+
+    ghost invariant = { λ s. IsLoose s.node.value };
+}
+
+impl<A: Allocator> Slip<A> {
+    /// The slip of a queue. It asks the allocator for one node, and nothing else of this crate ever asks for memory.
+    ///
+    /// # Errors
+    ///
+    /// Where the allocator has no room for the node.
+    pub fn try_new(alloc: A, queue: QueueNo) -> Result<Self, AllocError>
+        ensures { IfOk result (λ slip. slip ≡ queue) }
+    {
+        let node = Box::new(alloc, Node::loose(queue))?;
+        Ok(Slip { node })
+    }
+
+    /// The queue that this slip stands for.
+    pub fn queue(&self) -> QueueNo
+        ensures { result ≡ self.now }
+    {
+        self.node.queue
+    }
+
+    pub(crate) fn from_node(node: Box<Node<A>, A>) -> Self
+        requires { IsLoose node.value }
+        ensures { result ≡ node.value.queue }
+    {
+        Slip { node }
+    }
+
+    pub(crate) fn into_node(self, vr: u128) -> Box<Node<A>, A>
+        ensures key { key_of result.value ≡ record { vr = vr; queue = self } }
+        ensures loose { IsLoose result.value }
+        ensures numbered { self < 256 }
+    {
+        let Slip { mut node } = self;
+        let _number = node.queue.0;
+        node.vr = vr;
+        node
+    }
+}

@@ -1,0 +1,129 @@
+//! The keys of the active queues, least first.
+ghost use Rattle.std.specs.Prelude.{◌≡◌, ◌≤◌, ◌↔◌, false, [], ◌∷◌, length, IsTrue, IsNone, IsSome, IfSome, IfNone, Contains};
+ghost use Rattle.rt_timeline.specs.Rising.{LacksQueue, IsRising, HasDistinctQueues, has_queue, inserted, removed, first_key};
+ghost use Rattle.rt_timeline.specs.Tree.{empty_tree, IsLow};
+
+use crate::slip::Slip;
+use crate::slips::Slips;
+use crate::tree::Tree;
+use rt_ids::{Key, QueueNo};
+use std::alloc::Allocator;
+use std::marker::Model;
+
+/// The keys of the active queues, at most one of each queue, in a balanced tree.
+#[derive(Drop)]
+pub struct Timeline<A: Allocator> {
+    tree: Tree<A>,
+    len: usize,
+}
+
+impl<A: Allocator> Model for Timeline<A> {
+    ghost use Rattle.std.specs.Prelude.{◌≡◌, length};
+    ghost use Rattle.rt_timeline.specs.Tree.{KeyTree};
+    ghost use Rattle.rt_timeline.specs.Rising.{IsOfQueues};
+
+    ghost Value = { KeyTree };
+
+    ghost view = { λ t. t.tree };
+
+    ghost invariant = { λ t. IsOfQueues t.tree.keys × (t.len ≡ length t.tree.keys) };
+}
+
+impl<A: Allocator> Timeline<A> {
+    /// A timeline of no queue.
+    pub fn new() -> Self
+        ensures { result ≡ empty_tree }
+    {
+        Timeline {
+            tree: Tree::new(),
+            len: 0,
+        }
+    }
+
+    /// Puts the slip's queue into the timeline at this virtual runtime. Takes no memory.
+    pub fn insert(&mut self, slip: Slip<A>, vr: u128)
+        requires absent { LacksQueue slip self.old.keys }
+        ensures keys { self.new.keys ≡ inserted (record { vr = vr; queue = slip }) self.old.keys }
+    {
+        // At most 256 queues: the tree is low, and the number of its levels fits.
+        prove!(self.tree.height() <= 18);
+        self.tree.insert(slip.into_node(vr));
+        self.len += 1;
+    }
+
+    /// The least key.
+    pub fn least(&self) -> Option<Key>
+        ensures { result ≡ first_key self.now.keys }
+    {
+        self.tree.first()
+    }
+
+    /// Takes the queue of the least key out, with its slip. Takes no memory.
+    pub fn take_least(&mut self) -> Option<(Key, Slip<A>)>
+        ensures empty { IsNone result ↔ (self.old.keys ≡ []) }
+        ensures unchanged { IfNone result (self.new ≡ self.old) }
+        ensures least { IfSome result (λ taken. self.old.keys ≡ taken.0 ∷ self.new.keys) }
+        ensures slip { IfSome result (λ taken. taken.1 ≡ taken.0.queue) }
+        ensures absent { IfSome result (λ taken. LacksQueue taken.0.queue self.new.keys) }
+    {
+        if self.len == 0 {
+            return None;
+        }
+        let node = self.tree.take_first();
+        self.len -= 1;
+        Some((node.key(), Slip::from_node(node)))
+    }
+
+    /// Takes the queue of this key out, if the key is there, and gives its slip. Takes no memory.
+    pub fn remove(&mut self, key: Key) -> Option<Slip<A>>
+        ensures found { IsSome result ↔ Contains self.old.keys key }
+        ensures unchanged { IfNone result (self.new ≡ self.old) }
+        ensures keys { self.new.keys ≡ removed key self.old.keys }
+        ensures slip { IfSome result (λ slip. slip ≡ key.queue) }
+        ensures absent { IfSome result (λ slip. LacksQueue slip self.new.keys) }
+    {
+        let node = self.tree.remove(&key)?;
+        self.len -= 1;
+        Some(Slip::from_node(node))
+    }
+
+    /// How many queues are in the timeline: at most 256.
+    pub fn len(&self) -> usize
+        ensures value { result ≡ length self.now.keys }
+        ensures few { result ≤ 256 }
+        ensures rising { IsRising self.now.keys }
+        ensures distinct { HasDistinctQueues self.now.keys }
+    {
+        self.len
+    }
+
+    /// Whether no queue is in the timeline.
+    pub fn is_empty(&self) -> bool
+        ensures { IsTrue result ↔ (self.now.keys ≡ []) }
+    {
+        self.len == 0
+    }
+
+    /// Whether this queue is in the timeline. It looks at each of them.
+    pub fn has_queue(&self, queue: QueueNo) -> bool
+        ensures value { result ≡ has_queue queue self.now.keys }
+        ensures absent { result ≡ false → LacksQueue queue self.now.keys }
+    {
+        self.tree.has_queue(queue)
+    }
+
+    /// How many levels the tree has.
+    pub fn height(&self) -> usize
+        ensures value { result ≡ self.now.height }
+        ensures low { IsLow self.now }
+    {
+        usize::from(self.tree.height())
+    }
+
+    /// All slips, by rising key.
+    pub fn into_slips(self) -> Slips<A>
+        ensures { result ≡ self.keys }
+    {
+        Slips::new(self)
+    }
+}

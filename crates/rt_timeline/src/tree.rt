@@ -1,0 +1,268 @@
+//! The tree behind the timeline: balanced nodes, each seen with what hangs on it as keys and a height.
+ghost use Rattle.std.specs.Prelude.{◌≡◌, ◌+◌, ◌<◌, ◌≤◌, ◌↔◌, ◌∷◌, length, Some, is_some, IfSome, IfNone, IsTrue};
+ghost use Rattle.rt_timeline.specs.Rising.{IsRising, stands_before, has_key, has_queue, first_key, inserted, removed};
+ghost use Rattle.rt_timeline.specs.Tree.{empty_tree, IsFilled};
+ghost use Rattle.rt_timeline.specs.Nodes.{seen, key_of, keys_of, IsBalanced, IsLoose};
+
+use rt_ids::{Key, QueueNo};
+use std::alloc::Allocator;
+use std::marker::Model;
+use std::mem;
+
+mod balance;
+
+use balance::{parted, rebalance, settled, without_left};
+
+/// A side of a node, or the whole: balanced at every level.
+#[cycle(tree)]
+#[derive(Drop)]
+pub(crate) struct Tree<A: Allocator> {
+    root: Link<A>,
+}
+
+#[cycle(tree)]
+#[derive(Drop)]
+pub(crate) enum Link<A: Allocator> {
+    Empty,
+    Top(Box<Node<A>, A>),
+}
+
+#[cycle(tree)]
+#[derive(Drop)]
+pub(crate) struct Node<A: Allocator> {
+    pub(crate) vr: u128,
+    pub(crate) queue: QueueNo,
+    height: u16,
+    left: Tree<A>,
+    right: Tree<A>,
+}
+
+impl<A: Allocator> Model for Tree<A> {
+    ghost use Rattle.rt_timeline.specs.Tree.{KeyTree};
+
+    ghost Value = { KeyTree };
+
+    ghost use Rattle.std.specs.Prelude.{length};
+    ghost use Rattle.rt_timeline.specs.Nodes.{seen, IsBalanced};
+
+    ghost view = { λ t. seen t.root };
+
+    ghost invariant = { λ t. IsBalanced t.root };
+
+    ghost size = { λ t. length t.keys };
+
+    ghost use Rattle.std.proofs.Common.{arith, length-append};
+
+    ghost size_decreases = { λ t h. Prim.grind (arith, length-append) };
+}
+
+impl<A: Allocator> Tree<A> {
+    pub(crate) fn new() -> Self
+        ensures { result ≡ empty_tree }
+    {
+        Tree { root: Link::Empty }
+    }
+
+    pub(crate) fn height(&self) -> u16
+        ensures value { result ≡ self.now.height }
+        ensures filled { IsFilled self.now }
+        ensures empty { result ≡ 0 → self.now ≡ empty_tree }
+        ensures some { 0 < result → 0 < length self.now.keys }
+    {
+        match &self.root {
+            Link::Empty => 0,
+            Link::Top(node) => node.height,
+        }
+    }
+
+    fn is_empty(&self) -> bool
+        ensures { IsTrue result ↔ (self.now ≡ empty_tree) }
+    {
+        match &self.root {
+            Link::Empty => true,
+            Link::Top(_) => false,
+        }
+    }
+
+    /// The first key.
+    pub(crate) fn first(&self) -> Option<Key>
+        ensures { result ≡ first_key self.now.keys }
+    {
+        match &self.root {
+            Link::Empty => None,
+            Link::Top(node) => Some(node.first()),
+        }
+    }
+}
+
+impl<A: Allocator> Node<A> {
+    /// A node with nothing on its sides, at virtual runtime 0.
+    pub(crate) fn loose(queue: QueueNo) -> Self
+        ensures queue { result.queue ≡ queue }
+        ensures loose { IsLoose result }
+    {
+        Node {
+            vr: 0,
+            queue,
+            height: 0,
+            left: Tree::new(),
+            right: Tree::new(),
+        }
+    }
+
+    pub(crate) fn key(&self) -> Key
+        ensures { result ≡ key_of self.now }
+    {
+        Key {
+            vr: self.vr,
+            queue: self.queue,
+        }
+    }
+
+    /// The first key of the node and its sides.
+    fn first(&self) -> Key
+        ensures { first_key (keys_of self.now) ≡ Some result }
+    {
+        let left = &self.left;
+        match &left.root {
+            Link::Empty => self.key(),
+            Link::Top(next) => next.first(),
+        }
+    }
+}
+
+/// Whether the one key stands before the other. By hand, since a derived comparison asks for an order first.
+fn is_before(one: &Key, other: &Key) -> bool
+    ensures { result ≡ stands_before one.now other.now }
+{
+    one.vr < other.vr || (one.vr == other.vr && one.queue.0 < other.queue.0)
+}
+
+impl<A: Allocator> Tree<A> {
+    fn open(self) -> Link<A>
+        ensures same_view { seen result ≡ self }
+        ensures balanced { IsBalanced result }
+    {
+        self.root
+    }
+
+    fn close(root: Link<A>) -> Self
+        requires { IsBalanced root }
+        ensures same_view { result ≡ seen root }
+    {
+        Tree { root }
+    }
+}
+
+impl<A: Allocator> Tree<A> {
+    /// Whether one of the keys is of this queue.
+    pub(crate) fn has_queue(&self, queue: QueueNo) -> bool
+        ensures { result ≡ has_queue queue self.now.keys }
+    {
+        match &self.root {
+            Link::Empty => false,
+            Link::Top(node) => {
+                node.queue == queue || node.left.has_queue(queue) || node.right.has_queue(queue)
+            }
+        }
+    }
+
+    /// Puts a node in the place of its key.
+    #[tactic(auto, using(crate::proofs::Rising::around))]
+    pub(crate) fn insert(&mut self, node: Box<Node<A>, A>)
+        requires loose { IsLoose node.value }
+        requires rising { IsRising self.old.keys }
+        requires room { self.old.height < 65535 }
+        ensures keys { self.new.keys ≡ inserted (key_of node.value) self.old.keys }
+        ensures not_lower { self.old.height ≤ self.new.height }
+        ensures at_most_one_higher { self.new.height ≤ self.old.height + 1 }
+    {
+        match &mut self.root {
+            Link::Empty => {
+                self.root = Link::Top(settled(node));
+            }
+            Link::Top(top) => {
+                let top: &mut Node<A> = top;
+                if is_before(&node.key(), &top.key()) {
+                    let before = top.left.height();
+                    top.left.insert(node);
+                    if top.left.height() != before {
+                        rebalance(&mut self.root);
+                    }
+                } else {
+                    let before = top.right.height();
+                    top.right.insert(node);
+                    if top.right.height() != before {
+                        rebalance(&mut self.root);
+                    }
+                }
+            }
+        }
+    }
+
+    /// Takes the node of the first key out.
+    pub(crate) fn take_first(&mut self) -> Box<Node<A>, A>
+        requires { 0 < length self.old.keys }
+        ensures first { self.old.keys ≡ key_of result.value ∷ self.new.keys }
+        ensures loose { IsLoose result.value }
+        ensures not_higher { self.new.height ≤ self.old.height }
+        ensures at_most_one_lower { self.old.height ≤ self.new.height + 1 }
+    {
+        match &mut self.root {
+            Link::Empty => unreachable!(),
+            Link::Top(top) => {
+                let top: &mut Node<A> = top;
+                let before = top.left.height();
+                if before == 0 {
+                    return without_left(&mut self.root);
+                }
+                let first = top.left.take_first();
+                if top.left.height() != before {
+                    rebalance(&mut self.root);
+                }
+                first
+            }
+        }
+    }
+
+    /// Takes the node of this key out, if it is there.
+    #[tactic(auto, using(crate::proofs::Rising::around))]
+    pub(crate) fn remove(&mut self, key: &Key) -> Option<Box<Node<A>, A>>
+        requires { IsRising self.old.keys }
+        ensures found { is_some result ≡ has_key key.now self.old.keys }
+        ensures unchanged { IfNone result (self.new ≡ self.old) }
+        ensures keys { self.new.keys ≡ removed key.now self.old.keys }
+        ensures same_key { IfSome result (λ node. key_of node.value ≡ key.now) }
+        ensures loose { IfSome result (λ node. IsLoose node.value) }
+        ensures not_higher { self.new.height ≤ self.old.height }
+        ensures at_most_one_lower { self.old.height ≤ self.new.height + 1 }
+    {
+        if let Link::Top(top) = &mut self.root {
+            let top: &mut Node<A> = top;
+            if is_before(key, &top.key()) {
+                let before = top.left.height();
+                let found = top.left.remove(key);
+                if top.left.height() != before {
+                    rebalance(&mut self.root);
+                }
+                return found;
+            }
+            if is_before(&top.key(), key) {
+                let before = top.right.height();
+                let found = top.right.remove(key);
+                if top.right.height() != before {
+                    rebalance(&mut self.root);
+                }
+                return found;
+            }
+        }
+        match mem::replace(&mut self.root, Link::Empty) {
+            Link::Top(top) => {
+                let (node, rest) = parted(top);
+                self.root = rest.open();
+                Some(node)
+            }
+            Link::Empty => None,
+        }
+    }
+}
