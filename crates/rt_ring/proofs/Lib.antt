@@ -4,3 +4,9 @@ pub mod SlotMoves
 pub mod CarriedSlots
 pub mod Stepping
 pub mod Accepting
+pub mod Fronts
+pub mod SenderSeat
+pub mod ReceiverSeat
+pub mod Looking
+pub mod Giving
+pub mod Gathering
