@@ -1,10 +1,16 @@
 -- What a seat carries, read at its front.
-use Rattle.std.proofs.Common.{◌≡◌, ℕ, List, [], ◌∷◌, ◌++◌, sym, ap, ◌∙◌}
+use Rattle.std.proofs.Common.{◌≡◌, ℕ, zero, suc, ◌<◌, List, [], ◌∷◌, ◌++◌, length, refl, sym, ap, ◌∙◌, arith, Some}
+use Rattle.std.specs.Prelude.{slice_get}
 use Rattle.atomic_table.specs.Table.{rest, turned}
 use Rattle.rt_ids.specs.declared.order.Order.{Order}
 use Rattle.rt_ids.specs.declared.order.Outcome.{Outcome}
 use Rattle.rt_ring.specs.declared.board.Slot.{Slot}
 use Rattle.rt_ring.specs.declared.board.Slot.TheVariants.{Empty, Sent, Back}
+
+pub slice_get-there : {A : Type 0} (xs : List A) (i : ℕ) → i < length xs → (x : A) × (slice_get xs i ≡ Some x)
+slice_get-there [] i h = absurd (omega arith)
+slice_get-there (x ∷ xs) zero h = (x, refl)
+slice_get-there (x ∷ xs) (suc i) h = slice_get-there xs i (omega arith)
 
 module _ {X : Type 0} where
   abbrev front_or : X → List (ℕ × X) → X

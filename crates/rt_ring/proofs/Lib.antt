@@ -10,3 +10,7 @@ pub mod ReceiverSeat
 pub mod Looking
 pub mod Giving
 pub mod Gathering
+pub mod Seats
+pub mod Opening
+pub mod Rejoining
+pub mod EndLaws

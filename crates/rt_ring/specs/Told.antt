@@ -40,8 +40,8 @@ module _ {J T : Type 0} where
   -- accept: where the word was as expected, the gate was open, the order in the slot at the front is sent, and its slots are home; otherwise the gate is shut
   pub record Accepts (expected : ℕ) (old : Place J T) (found : ℕ) (new : Place J T) : Type 0 where
     pub hit : found ≡ expected
-      → (old.0.out.closed ≡ false)
-      × ((order : Order J) (more : List (ℕ × Slot J T)) → old.1 ≡ (order_slot old.0.out.capacity (length old.0.out.sent), Sent order) ∷ (spare old.0.out.capacity (length old.0.out.sent) ++ more)
+        → (old.0.out.closed ≡ false)
+        × ((order : Order J) (more : List (ℕ × Slot J T)) → old.1 ≡ (order_slot old.0.out.capacity (length old.0.out.sent), Sent order) ∷ (spare old.0.out.capacity (length old.0.out.sent) ++ more)
         → new ≡ (with_sent old.0 order, more))
     pub miss : found ≢ expected → new ≡ (with_closed old.0, old.1)
 
@@ -65,10 +65,10 @@ module _ {J T : Type 0} where
     pub sees : SeesOrders ready old.0.inward seen
     pub found_is : found ≡ old.0.inward.base + length seen + gate_bit old.0.inward.shut
     pub one : old.0.inward.taken < length seen
-      → new ≡ (
-        with_taken old.0 seen (old.0.inward.taken + 1),
-        (outcome_slot old.0.inward.capacity old.0.inward.taken, Empty) ∷ (order_slot old.0.inward.capacity old.0.inward.taken, order_at seen old.0.inward.taken) ∷ old.1,
-      )
+        → new ≡ (
+          with_taken old.0 seen (old.0.inward.taken + 1),
+          (outcome_slot old.0.inward.capacity old.0.inward.taken, Empty) ∷ (order_slot old.0.inward.capacity old.0.inward.taken, order_at seen old.0.inward.taken) ∷ old.1,
+        )
     pub none : length seen ≡ old.0.inward.taken → new ≡ (with_taken old.0 seen old.0.inward.taken, old.1)
 
   -- shut: all orders so far were seen, and no other will come
@@ -81,8 +81,8 @@ module _ {J T : Type 0} where
   -- give: the outcome in the slot at the front is given, and that slot and the order slot behind it are home
   pub record Gives (old : Place J T) (found : ℕ) (new : Place J T) : Type 0 where
     pub gave : (number : ℕ) (outcome : Outcome J T) (more : List (ℕ × Slot J T))
-      → old.1 ≡ (outcome_slot old.0.inward.capacity (length old.0.inward.given), Back number outcome) ∷ (order_slot old.0.inward.capacity (length old.0.inward.given), Empty) ∷ more
-      → new ≡ (with_given old.0 number outcome, more)
+        → old.1 ≡ (outcome_slot old.0.inward.capacity (length old.0.inward.given), Back number outcome) ∷ (order_slot old.0.inward.capacity (length old.0.inward.given), Empty) ∷ more
+        → new ≡ (with_given old.0 number outcome, more)
 
   -- the sender sees as many outcomes or more, each of an order that it sent
   pub record SeesOutcomes (fits : Order J → Outcome J T → Type 0) (out : Outward J T) (seen : List (ℕ × Outcome J T)) : Type 0 where
@@ -97,10 +97,10 @@ module _ {J T : Type 0} where
     pub sees : SeesOutcomes fits old.0.out seen
     pub found_is : found ≡ old.0.out.base + length seen
     pub one : old.0.out.got < length seen
-      → new ≡ (
-        with_got old.0 seen (old.0.out.got + 1),
-        (order_slot old.0.out.capacity old.0.out.got, Empty) ∷ (outcome_slot old.0.out.capacity old.0.out.got, outcome_at seen old.0.out.got) ∷ old.1,
-      )
+        → new ≡ (
+          with_got old.0 seen (old.0.out.got + 1),
+          (order_slot old.0.out.capacity old.0.out.got, Empty) ∷ (outcome_slot old.0.out.capacity old.0.out.got, outcome_at seen old.0.out.got) ∷ old.1,
+        )
     pub none : length seen ≡ old.0.out.got → new ≡ (with_got old.0 seen old.0.out.got, old.1)
 
   -- the first gather: a seat with no slot has taken all order slots

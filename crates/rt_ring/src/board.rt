@@ -78,7 +78,12 @@ impl<J: Task> TableRule<Slot<J, J::Out>, Known<J, J::Out>, Terms> for Ring<J> {
     ghost first = { first_view };
 }
 
-pub type Board<J> =
-    Table<Slot<J, <J as Task>::Out>, Known<J, <J as Task>::Out>, Terms, Ring<J>, Global>;
+pub type Board<J> = Table<
+    Slot<J, <J as Task>::Out>,
+    Known<J, <J as Task>::Out>,
+    Terms,
+    Ring<J>,
+    Global,
+>;
 
 pub type Place<J> = Seat<Slot<J, <J as Task>::Out>, Known<J, <J as Task>::Out>>;

@@ -114,10 +114,7 @@ impl RingLink {
 }
 
 // The table and its two seats, the sender's with all order slots.
-fn lay<J: Task>(
-    alloc: Global,
-    terms: &Terms,
-) -> Result<(Board<J>, Place<J>, Place<J>), AllocError>
+fn lay<J: Task>(alloc: Global, terms: &Terms) -> Result<(Board<J>, Place<J>, Place<J>), AllocError>
     requires { (terms.now.base < 2 ^ 63) × (terms.now.capacity < 2 ^ 16) }
     ensures table { IfOk result (λ laid. (laid.1.table_id ≡ laid.0.shared.table_id) × (laid.2.table_id ≡ laid.0.shared.table_id) × (laid.0.shared.table_id.words ≡ 2)) }
     ensures sender { IfOk result (λ laid. laid.1.me ≡ (record (out_part (first_view terms.now)) { fresh = false }, out_slots terms.now.capacity 0 terms.now.capacity)) }

@@ -94,11 +94,13 @@ impl<J: Task> InEnd<J> for RingIn<J> {
     }
 
     fn shut(&mut self) -> u64 {
-        if self.gate == 0 {
-            self.last = close(&self.board, &mut self.seat);
-            self.gate = GATE;
+        if self.gate != 0 {
+            return self.last;
         }
-        self.last
+        let last = close(&self.board, &mut self.seat);
+        self.gate = GATE;
+        self.last = last;
+        last
     }
 
     fn final_count(&self) -> Option<u64> {
