@@ -1,0 +1,213 @@
+-- The steps of the sender's seat on the accept word: accept and probe.
+use Rattle.std.proofs.Common.{◌≡◌, ◌≢◌, ℕ, ◌+◌, ◌^◌, ◌<◌, ◌≤◌, Bool, true, false, List, [], ◌∷◌, ◌++◌, length, set, get_or, eqb, refl, sym, ap, ◌∙◌, arith, subst, length-append, nat_lt, if◌then◌else◌}
+use lib.ListN.{get_elem?}
+use mathlib.Core.Option.{some, none}
+use native.Mathlib.Decide.{dec_le}
+use prog.Atomic.{either}
+use Rattle.atomic_table.specs.Table.{State, step, keeps, gives, chain, rest, Allows}
+use Rattle.atomic_table.proofs.Lists.{exchanged}
+use Rattle.rt_ids.specs.declared.order.Order.{Order}
+use Rattle.rt_ids.specs.declared.order.Outcome.{Outcome}
+use Rattle.rt_link.specs.declared.ends.Outward.{Outward}
+use Rattle.rt_link.specs.declared.ends.Inward.{Inward}
+use Rattle.rt_link.specs.declared.plain.Whole.{Whole}
+use Rattle.rt_link.specs.Whole.{IsLink}
+use Rattle.rt_link.proofs.Lists.{StartsWith-append}
+use Rattle.rt_link.proofs.WholeLaws.{IsLink-send}
+use Rattle.rt_ring.specs.Carried.{Place, spare}
+use Rattle.rt_ring.specs.Rule.{gate_bit}
+use Rattle.rt_ring.specs.Slots.{Homes, AreInPlace, order_slot, outcome_slot}
+use Rattle.rt_ring.specs.Told.{Accepts, Probes, with_sent, with_closed}
+use Rattle.rt_ring.specs.Views.{KnowsOut, KnowsInward}
+use Rattle.rt_ring.specs.declared.board.Known.{Known}
+use Rattle.rt_ring.specs.declared.board.Slot.{Slot}
+use Rattle.rt_ring.specs.declared.board.Slot.TheVariants.{Empty, Sent, Back}
+use Rattle.rt_ring.specs.declared.board.Terms.{Terms}
+use Rattle.rt_ring.proofs.CarriedSlots.{spare-early, spare-late}
+use Rattle.rt_ring.proofs.SeatViews.{AreTold-sender}
+use Rattle.rt_ring.proofs.SlotMoves.{AreInPlace-sent_early, AreInPlace-sent_late}
+use Rattle.rt_ring.proofs.Stepping.{Rule, Owes, gate-open, gate-shut, accept-word, accept-same, Rule-same, Rule-sender_learns}
+
+not_closed : (closed gate : Bool) → (closed ≡ true → gate ≡ true) → gate ≡ false → closed ≡ false
+not_closed true gate shut is = sym (shut refl) ∙ is
+not_closed false gate shut is = refl
+
+module _ {J T : Type 0} where
+  -- the order in the slot at the front
+  abbrev front_order : Order J → List (ℕ × Slot J T) → Order J
+  front_order other [] = other
+  front_order other ((k, Empty) ∷ slots) = other
+  front_order other ((k, Sent order) ∷ slots) = order
+  front_order other ((k, Back number outcome) ∷ slots) = other
+
+  KnowsOut-sent : (link : Whole J T) (out : Outward J T) (order : Order J) → KnowsOut link out
+      → KnowsOut (record link { sent = link.sent ++ order ∷ [] }) (record out { sent = out.sent ++ order ∷ [] })
+  KnowsOut-sent link out order k = record {
+    knows = ap (λ (o : Outward J T). record o { sent = o.sent ++ order ∷ [] }) k.knows;
+    sees = k.sees;
+    got_seen = k.got_seen;
+    gate = k.gate;
+  }
+
+  KnowsOut-closed : (link : Whole J T) (out : Outward J T) → link.shut ≡ true → KnowsOut link out → KnowsOut link (record out { closed = true })
+  KnowsOut-closed link out shut k = record {
+    knows = ap (λ (o : Outward J T). record o { closed = true }) k.knows;
+    sees = k.sees;
+    got_seen = k.got_seen;
+    gate = λ _. shut;
+  }
+
+  -- the receiver needs to know nothing of an order that is sent while the gate is open
+  KnowsInward-sent : (link : Whole J T) (order : Order J) → link.shut ≡ false → (inward : Inward J T) → KnowsInward link inward
+      → KnowsInward (record link { sent = link.sent ++ order ∷ [] }) inward
+  KnowsInward-sent link order ungated inward k = record {
+    knows = k.knows;
+    sees = StartsWith-append link.sent inward.seen (order ∷ []) k.sees;
+    taken_seen = k.taken_seen;
+    final = λ shut. absurd cc;
+  }
+
+module _ {J T : Type 0} (fits : Order J → Outcome J T → Type 0) (ready : Order J → Type 0) (terms : Terms) where
+  -- one more order is sent, and the slots are where the link wants them
+  sends : (s : State (Slot J T) (Known J T)) (r : Rule fits ready terms s) (seat next : ℕ) (view : Known J T) (order : Order J) (after : Homes J T)
+      → get_elem? s.views seat ≡ some view → view.sends ≡ true → view.fresh ≡ false → r.link.shut ≡ false → ready order
+      → next ≡ r.link.base + length r.link.sent + 1 → next < 2 ^ 63 → length r.link.sent < r.link.got + r.link.capacity
+      → AreInPlace (record r.link { sent = r.link.sent ++ order ∷ [] }) after
+      → Rule fits ready terms record { words = set s.words 0 next; homes = after; views = set s.views seat (with_sent view order) }
+  sends s r seat next view order after at go used ungated is_ready is small room placed =
+      let longer : length (r.link.sent ++ order ∷ []) ≡ length r.link.sent + 1 = length-append r.link.sent (order ∷ []) in
+      let no_gate : gate_bit r.link.shut ≡ 0 = ap gate_bit ungated in
+      let later : Whole J T = record r.link { sent = r.link.sent ++ order ∷ [] } in record {
+        link = later;
+        sender = r.sender;
+        receiver = r.receiver;
+        law = IsLink-send fits ready r.link r.law order is_ready (omega arith) (omega (arith, r.credits));
+        credits = r.credits;
+        terms_are = r.terms_are;
+        words = ap (λ (words : List ℕ). set words 0 next) r.words
+            ∙ (let e : next ≡ r.link.base + length (r.link.sent ++ order ∷ []) + gate_bit r.link.shut = omega arith in ap (λ (z : ℕ). z ∷ (r.link.base + length r.link.given) ∷ []) e);
+        slots = placed;
+        views = AreTold-sender r.link later s.homes after r.sender r.receiver seat s.views view r.views at used (record view.out { sent = view.out.sent ++ order ∷ [] }) go
+            (KnowsOut-sent r.link view.out order ((r.views seat view at).sends go).1) (KnowsInward-sent r.link order ungated);
+      }
+
+  module _ (slots seat expected next : ℕ) (view : Known J T) (order : Order J) (more : List (ℕ × Slot J T)) (s : State (Slot J T) (Known J T)) (r : Rule fits ready terms s)
+      (at : get_elem? s.views seat ≡ some view) (go : view.sends ≡ true) (used : view.fresh ≡ false) (is_ready : ready order)
+      (hit : get_or s.words 0 0 ≡ expected) (is : expected ≡ r.link.base + length r.link.sent) (follows : next ≡ expected + 1) (small : next < 2 ^ 63)
+      (room : length r.link.sent < r.link.got + r.link.capacity) where
+    abbrev n : ℕ
+    n = r.link.capacity
+
+    abbrev k : ℕ
+    k = length r.link.sent
+
+    abbrev knows : KnowsOut r.link view.out
+    knows = ((r.views seat view at).sends go).1
+
+    capacity-is : view.out.capacity ≡ n
+    capacity-is = ap (λ (o : Outward J T). o.capacity) knows.knows
+
+    count-is : length view.out.sent ≡ k
+    count-is = ap (λ (o : Outward J T). length o.sent) knows.knows
+
+    ungated : r.link.shut ≡ false
+    ungated = gate-open expected (r.link.base + k) r.link.shut (sym hit ∙ accept-word fits ready terms s r) is
+
+    abbrev Sends : List (ℕ × Slot J T) → Type 0
+    Sends carried = Owes fits ready terms s 0 seat (view, carried) (Accepts expected (view, carried)) next
+
+    accepts-early : k < n → Sends ((order_slot n k, Sent order) ∷ more)
+    accepts-early early = (
+      with_sent view order,
+      gives,
+      tt,
+      sends s r seat next view order (set s.homes (order_slot n k) (some (Sent order))) at go used ungated is_ready (omega arith) small room
+          (AreInPlace-sent_early fits ready r.link r.law r.credits s.homes r.slots order room early),
+      record {
+        hit = λ _. (
+          not_closed view.out.closed r.link.shut knows.gate ungated,
+          λ other rests e. let both = e ∙ ap (λ (z : List (ℕ × Slot J T)). (order_slot view.out.capacity (length view.out.sent), Sent other) ∷ (z ++ rests)) (spare-early view.out.capacity (length view.out.sent) (omega (arith, capacity-is, count-is))) in
+              λ i. (with_sent view (front_order order (both i)), rest (both i)),
+        );
+        miss = λ miss. absurd (miss hit);
+      },
+    )
+
+    accepts-late : n ≤ k → Sends ((order_slot n k, Sent order) ∷ (outcome_slot n k, Empty) ∷ more)
+    accepts-late late = (
+      with_sent view order,
+      chain gives gives,
+      (tt, tt),
+      sends s r seat next view order (set (set s.homes (order_slot n k) (some (Sent order))) (outcome_slot n k) (some Empty)) at go used ungated is_ready (omega arith) small room
+          (AreInPlace-sent_late fits ready r.link r.law r.credits s.homes r.slots order room late),
+      record {
+        hit = λ _. (
+          not_closed view.out.closed r.link.shut knows.gate ungated,
+          λ other rests e. let both = e ∙ ap (λ (z : List (ℕ × Slot J T)). (order_slot view.out.capacity (length view.out.sent), Sent other) ∷ (z ++ rests)) (spare-late view.out.capacity (length view.out.sent) (omega (arith, capacity-is, count-is))) in
+              λ i. (with_sent view (front_order order (both i)), rest (rest (both i))),
+        );
+        miss = λ miss. absurd (miss hit);
+      },
+    )
+
+    accepts-one : Dec (n ≤ k) → Sends ((order_slot n k, Sent order) ∷ (spare n k ++ more))
+    accepts-one (yes late) = subst (λ (z : List (ℕ × Slot J T)). Sends ((order_slot n k, Sent order) ∷ (z ++ more))) (sym (spare-late n k late)) (accepts-late late)
+    accepts-one (no early) = subst (λ (z : List (ℕ × Slot J T)). Sends ((order_slot n k, Sent order) ∷ (z ++ more))) (sym (spare-early n k (omega arith))) (accepts-early (omega arith))
+
+  -- the gate was found shut
+  misses : (s : State (Slot J T) (Known J T)) (r : Rule fits ready terms s) (seat : ℕ) (view : Known J T) → get_elem? s.views seat ≡ some view → view.sends ≡ true → view.fresh ≡ false → r.link.shut ≡ true
+      → Rule fits ready terms record { words = set s.words 0 (get_or s.words 0 0); homes = s.homes; views = set s.views seat (with_closed view) }
+  misses s r seat view at go used shut = Rule-sender_learns fits ready terms s r 0 seat view (accept-same fits ready terms s r) at (record view.out { closed = true }) used go
+      (KnowsOut-closed r.link view.out shut ((r.views seat view at).sends go).1)
+
+  pub accepts : (slots seat expected next : ℕ) (me : Place J T) (order : Order J) (more : List (ℕ × Slot J T)) → me.0.sends ≡ true → me.0.fresh ≡ false
+      → me.1 ≡ (order_slot me.0.out.capacity (length me.0.out.sent), Sent order) ∷ (spare me.0.out.capacity (length me.0.out.sent) ++ more)
+      → expected ≡ me.0.out.base + length me.0.out.sent → next ≡ expected + 1 → next < 2 ^ 63 → length me.0.out.sent < me.0.out.got + me.0.out.capacity → ready order
+      → Allows (Rule fits ready terms) slots seat me 0 (λ y. either (eqb y expected) next y) (Accepts expected me)
+  accepts slots seat expected next me order more go used carried is follows small room is_ready s r wide at _ =
+      let view : Known J T = me.0 in let out : Outward J T = view.out in
+      let k : KnowsOut r.link out = ((r.views seat view at).sends go).1 in
+      let capacity : out.capacity ≡ r.link.capacity = ap (λ (o : Outward J T). o.capacity) k.knows in
+      let count : length out.sent ≡ length r.link.sent = ap (λ (o : Outward J T). length o.sent) k.knows in
+      let base : out.base ≡ r.link.base = ap (λ (o : Outward J T). o.base) k.knows in
+      let got : out.got ≡ r.link.got = ap (λ (o : Outward J T). o.got) k.knows in
+      let was : expected ≡ r.link.base + length r.link.sent = omega arith in
+      let holds : me.1 ≡ (order_slot r.link.capacity (length r.link.sent), Sent order) ∷ (spare r.link.capacity (length r.link.sent) ++ more) = carried ∙ λ i. (order_slot (capacity i) (count i), Sent order) ∷ (spare (capacity i) (count i) ++ more) in
+      subst (λ (c : List (ℕ × Slot J T)). Owes fits ready terms s 0 seat (view, c) (Accepts expected (view, c)) (either (eqb (get_or s.words 0 0) expected) next (get_or s.words 0 0))) (sym holds)
+      (exchanged (get_or s.words 0 0) expected next
+      (Owes fits ready terms s 0 seat (view, (order_slot r.link.capacity (length r.link.sent), Sent order) ∷ (spare r.link.capacity (length r.link.sent) ++ more)) (Accepts expected (view, (order_slot r.link.capacity (length r.link.sent), Sent order) ∷ (spare r.link.capacity (length r.link.sent) ++ more))))
+      (λ hit. accepts-one slots seat expected next view order more s r at go used is_ready hit was follows small (omega arith) (dec_le r.link.capacity (length r.link.sent)))
+      (λ miss. (
+        with_closed view,
+        keeps,
+        tt,
+        misses s r seat view at go used (gate-shut (get_or s.words 0 0) expected r.link.shut (accept-word fits ready terms s r ∙ ap (λ (z : ℕ). z + gate_bit r.link.shut) (sym was)) miss),
+        record { hit = λ hit. absurd (miss hit); miss = λ _. refl },
+      )))
+
+  pub probes : (slots seat expected : ℕ) (me : Place J T) → me.0.sends ≡ true → me.0.fresh ≡ false → expected ≡ me.0.out.base + length me.0.out.sent
+      → Allows (Rule fits ready terms) slots seat me 0 (λ y. either (eqb y expected) expected y) (Probes expected me)
+  probes slots seat expected me go used is s r wide at _ =
+      let view : Known J T = me.0 in let out : Outward J T = view.out in
+      let k : KnowsOut r.link out = ((r.views seat view at).sends go).1 in
+      let count : length out.sent ≡ length r.link.sent = ap (λ (o : Outward J T). length o.sent) k.knows in
+      let base : out.base ≡ r.link.base = ap (λ (o : Outward J T). o.base) k.knows in
+      let was : expected ≡ r.link.base + length r.link.sent = omega arith in
+      exchanged (get_or s.words 0 0) expected expected (Owes fits ready terms s 0 seat me (Probes expected me))
+      (λ hit. subst (Owes fits ready terms s 0 seat me (Probes expected me)) hit (
+        view,
+        keeps,
+        tt,
+        Rule-same fits ready terms s r 0 seat view (accept-same fits ready terms s r) at,
+        record {
+          hit = λ _. (not_closed out.closed r.link.shut k.gate (gate-open expected (r.link.base + length r.link.sent) r.link.shut (sym hit ∙ accept-word fits ready terms s r) was), refl);
+          miss = λ miss. absurd (miss hit);
+        },
+      ))
+      (λ miss. (
+        with_closed view,
+        keeps,
+        tt,
+        misses s r seat view at go used (gate-shut (get_or s.words 0 0) expected r.link.shut (accept-word fits ready terms s r ∙ ap (λ (z : ℕ). z + gate_bit r.link.shut) (sym was)) miss),
+        record { hit = λ hit. absurd (miss hit); miss = λ _. refl },
+      ))

@@ -1,0 +1,113 @@
+-- The step of the sender's seat on the return word: gather.
+use Rattle.std.proofs.Common.{◌≡◌, ℕ, ◌+◌, ◌<◌, ◌≤◌, Bool, true, false, List, [], ◌∷◌, length, set, get_or, refl, sym, ap, ◌∙◌, arith, subst}
+use lib.ListN.{get_elem?}
+use mathlib.Core.Option.{some, none}
+use native.Mathlib.Decide.{dec_le}
+use Rattle.atomic_table.specs.Table.{State, keeps, takes, chain, Allows}
+use Rattle.rt_ids.specs.declared.order.Order.{Order}
+use Rattle.rt_ids.specs.declared.order.Outcome.{Outcome}
+use Rattle.rt_link.specs.declared.ends.Outward.{Outward}
+use Rattle.rt_link.specs.declared.ends.Inward.{Inward}
+use Rattle.rt_link.specs.declared.plain.Whole.{Whole}
+use Rattle.rt_link.specs.Ends.{AreOf}
+use Rattle.rt_link.specs.Whole.{IsLink}
+use Rattle.rt_link.proofs.Lists.{StartsWith-self}
+use Rattle.rt_link.proofs.WholeLaws.{IsLink-collect, IsLink-credit}
+use Rattle.rt_ring.specs.Carried.{Place}
+use Rattle.rt_ring.specs.Slots.{order_slot, outcome_slot, outcome_at}
+use Rattle.rt_ring.specs.Told.{SeesOutcomes, Gathers, with_got}
+use Rattle.rt_ring.specs.Views.{KnowsOut, KnowsInward}
+use Rattle.rt_ring.specs.declared.board.Known.{Known}
+use Rattle.rt_ring.specs.declared.board.Slot.{Slot}
+use Rattle.rt_ring.specs.declared.board.Slot.TheVariants.{Empty}
+use Rattle.rt_ring.specs.declared.board.Terms.{Terms}
+use Rattle.rt_ring.proofs.SeatViews.{AreTold-sender}
+use Rattle.rt_ring.proofs.SlotMoves.{outcome-there, emptied-there, AreInPlace-got}
+use Rattle.rt_ring.proofs.Stepping.{Rule, Owes, return-word, return-same, Rule-sender_learns}
+
+module _ {J T : Type 0} (link : Whole J T) (out : Outward J T) (k : KnowsOut link out) where
+  -- all that was given is seen
+  KnowsOut-seen : link.got ≤ length link.given → KnowsOut link (record out { seen = link.given })
+  KnowsOut-seen within = record {
+    knows = ap (λ (o : Outward J T). record o { seen = link.given; closed = out.closed }) k.knows;
+    sees = StartsWith-self link.given;
+    got_seen = within;
+    gate = k.gate;
+  }
+
+  KnowsOut-got : link.got + 1 ≤ length link.given → KnowsOut (record link { got = link.got + 1; redeemed = link.redeemed + 1 }) (record out { seen = link.given; got = out.got + 1 })
+  KnowsOut-got within = record {
+    knows = ap (λ (o : Outward J T). record o { seen = link.given; got = o.got + 1; closed = out.closed }) k.knows;
+    sees = StartsWith-self link.given;
+    got_seen = within;
+    gate = k.gate;
+  }
+
+-- the receiver needs to know nothing of an outcome that is got
+KnowsInward-got : {J T : Type 0} (link : Whole J T) (inward : Inward J T) → KnowsInward link inward → KnowsInward (record link { got = link.got + 1; redeemed = link.redeemed + 1 }) inward
+KnowsInward-got link inward k = record { knows = k.knows; sees = k.sees; taken_seen = k.taken_seen; final = k.final }
+
+module _ {J T : Type 0} (fits : Order J → Outcome J T → Type 0) (ready : Order J → Type 0) (terms : Terms) (slots seat : ℕ) (me : Place J T) (s : State (Slot J T) (Known J T)) (r : Rule fits ready terms s)
+    (at : get_elem? s.views seat ≡ some me.0) (go : me.0.sends ≡ true) (used : me.0.fresh ≡ false) where
+  abbrev out : Outward J T
+  out = me.0.out
+
+  abbrev k : KnowsOut r.link out
+  k = ((r.views seat me.0 at).sends go).1
+
+  found : get_or s.words 1 0 ≡ out.base + length r.link.given
+  found = return-word fits ready terms s r ∙ ap (λ (o : Outward J T). o.base + length r.link.given) (sym k.knows)
+
+  -- what the return word shows
+  sees : SeesOutcomes fits out r.link.given
+  sees =
+      let got : out.got ≡ r.link.got = ap (λ (o : Outward J T). o.got) k.knows in
+      let sent : length out.sent ≡ length r.link.sent = ap (λ (o : Outward J T). length o.sent) k.knows in record {
+        longer = k.sees;
+        got_seen = omega (arith, r.law.got_given);
+        few = omega (arith, r.law.given_taken, r.law.taken_sent);
+        named = subst (λ (o : Outward J T). AreOf fits o.base o.sent r.link.given) (sym k.knows) r.law.fitting;
+      }
+
+  gather-goes : Dec (length r.link.given ≤ r.link.got) → Owes fits ready terms s 1 seat me (Gathers fits me) (get_or s.words 1 0)
+  gather-goes (yes all) =
+      let got : out.got ≡ r.link.got = ap (λ (o : Outward J T). o.got) k.knows in (
+        with_got me.0 r.link.given out.got,
+        keeps,
+        tt,
+        Rule-sender_learns fits ready terms s r 1 seat me.0 (return-same fits ready terms s r) at (record out { seen = r.link.given }) used go (KnowsOut-seen r.link out k r.law.got_given),
+        record { seen = r.link.given; sees = sees; found_is = found; one = λ less. absurd (omega arith); none = λ _. refl },
+      )
+  gather-goes (no some_left) =
+      let got : out.got ≡ r.link.got = ap (λ (o : Outward J T). o.got) k.knows in
+      let capacity : out.capacity ≡ r.link.capacity = ap (λ (o : Outward J T). o.capacity) k.knows in
+      let more : r.link.got < length r.link.given = omega arith in
+      let collected : IsLink fits ready (record r.link { got = r.link.got + 1 }) = IsLink-collect fits ready r.link r.law more in
+      let later : Whole J T = record r.link { got = r.link.got + 1; redeemed = r.link.redeemed + 1 } in (
+        with_got me.0 r.link.given (out.got + 1),
+        chain (takes (outcome_slot r.link.capacity r.link.got) (outcome_at r.link.given r.link.got)) (takes (order_slot r.link.capacity r.link.got) Empty),
+        (outcome-there fits ready r.link r.law r.credits s.homes r.slots more, emptied-there fits ready r.link r.law r.credits s.homes r.slots more),
+        record {
+          link = later;
+          sender = r.sender;
+          receiver = r.receiver;
+          law = IsLink-credit fits ready (record r.link { got = r.link.got + 1 }) collected (omega (arith, r.credits));
+          credits = ap (λ (z : ℕ). z + 1) r.credits;
+          terms_are = r.terms_are;
+          words = return-same fits ready terms s r ∙ r.words;
+          slots = AreInPlace-got fits ready r.link r.law r.credits s.homes r.slots more;
+          views = AreTold-sender r.link later s.homes (set (set s.homes (outcome_slot r.link.capacity r.link.got) none) (order_slot r.link.capacity r.link.got) none) r.sender r.receiver seat s.views me.0 r.views at used
+              (record out { seen = r.link.given; got = out.got + 1 }) go (KnowsOut-got r.link out k (omega arith)) (KnowsInward-got r.link);
+        },
+        record {
+          seen = r.link.given;
+          sees = sees;
+          found_is = found;
+          one = λ _. λ i. (with_got me.0 r.link.given (out.got + 1), (order_slot (sym capacity i) (sym got i), Empty) ∷ (outcome_slot (sym capacity i) (sym got i), outcome_at r.link.given (sym got i)) ∷ me.1);
+          none = λ all. absurd (omega arith);
+        },
+      )
+
+module _ {J T : Type 0} (fits : Order J → Outcome J T → Type 0) (ready : Order J → Type 0) (terms : Terms) (slots seat : ℕ) (me : Place J T) (go : me.0.sends ≡ true) (used : me.0.fresh ≡ false) where
+  pub gathers : Allows (Rule fits ready terms) slots seat me 1 (λ y. y) (Gathers fits me)
+  gathers s r wide at _ = gather-goes fits ready terms slots seat me s r at go used (dec_le (length r.link.given) r.link.got)

@@ -1,0 +1,16 @@
+pub mod Windows
+pub mod SeatViews
+pub mod SlotMoves
+pub mod CarriedSlots
+pub mod Stepping
+pub mod Accepting
+pub mod Fronts
+pub mod SenderSeat
+pub mod ReceiverSeat
+pub mod Looking
+pub mod Giving
+pub mod Gathering
+pub mod Seats
+pub mod Opening
+pub mod Rejoining
+pub mod EndLaws

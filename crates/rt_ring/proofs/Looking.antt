@@ -1,0 +1,166 @@
+-- The steps of the receiver's seat on the accept word: look and shut.
+use Rattle.std.proofs.Common.{◌≡◌, ℕ, ◌+◌, ◌*◌, ◌^◌, ◌<◌, ◌≤◌, Bool, true, false, List, [], ◌∷◌, length, set, get_or, refl, sym, ap, ap₂, ◌∙◌, arith, subst}
+use Rattle.std.specs.Prelude.{bit_or}
+use Rattle.std.proofs.lemmas.Nat.{or_block}
+use Rattle.std.specs.Int.Bits.{or_zero_r}
+use lib.ListN.{get_elem?}
+use mathlib.Core.Option.{some, none}
+use native.Mathlib.Decide.{dec_le}
+use Rattle.atomic_table.specs.Table.{State, step, keeps, takes, chain, Allows}
+use Rattle.rt_ids.specs.declared.order.Order.{Order}
+use Rattle.rt_ids.specs.declared.order.Outcome.{Outcome}
+use Rattle.rt_link.specs.declared.ends.Outward.{Outward}
+use Rattle.rt_link.specs.declared.ends.Inward.{Inward}
+use Rattle.rt_link.specs.declared.plain.Whole.{Whole}
+use Rattle.rt_link.proofs.Lists.{StartsWith-self}
+use Rattle.rt_link.proofs.WholeLaws.{IsLink-take, IsLink-shut}
+use Rattle.rt_ring.specs.Carried.{Place}
+use Rattle.rt_ring.specs.Rule.{gate_bit}
+use Rattle.rt_ring.specs.Slots.{order_slot, outcome_slot, order_at, AreInPlace}
+use Rattle.rt_ring.specs.Told.{SeesOrders, Looks, Closes, with_taken, with_shut}
+use Rattle.rt_ring.specs.Views.{KnowsOut, KnowsInward}
+use Rattle.rt_ring.specs.declared.board.Known.{Known}
+use Rattle.rt_ring.specs.declared.board.Slot.{Slot}
+use Rattle.rt_ring.specs.declared.board.Slot.TheVariants.{Empty}
+use Rattle.rt_ring.specs.declared.board.Terms.{Terms}
+use Rattle.rt_ring.proofs.SeatViews.{AreTold-receiver}
+use Rattle.rt_ring.proofs.SlotMoves.{order-there, vacant-there, AreInPlace-taken}
+use Rattle.rt_ring.proofs.Stepping.{Rule, Owes, accept-word, accept-same, Rule-receiver_learns}
+
+-- a count with its top bit set
+count-or_gate : (count gate : ℕ) (shut : Bool) → count < 2 ^ 63 → gate ≡ 2 ^ 63 → bit_or (count + gate_bit shut) gate ≡ count + gate_bit true
+count-or_gate count gate true small is =
+    let zero : bit_or count 0 ≡ count = or_zero_r count in
+    ap₂ bit_or (let e : count + 2 ^ 63 ≡ 1 * 2 ^ 63 + count = omega arith in e) (let e : gate ≡ 1 * 2 ^ 63 + 0 = omega arith in e)
+    ∙ (or_block 63 1 1 count 0 small (omega arith) ∙ (let e : 2 ^ 63 + bit_or count 0 ≡ count + 2 ^ 63 = omega arith in e))
+count-or_gate count gate false small is =
+    let zero : bit_or count 0 ≡ count = or_zero_r count in
+    ap₂ bit_or (let e : count + 0 ≡ 0 * 2 ^ 63 + count = omega arith in e) (let e : gate ≡ 1 * 2 ^ 63 + 0 = omega arith in e)
+    ∙ (or_block 63 0 1 count 0 small (omega arith) ∙ (let e : 2 ^ 63 + bit_or count 0 ≡ count + 2 ^ 63 = omega arith in e))
+
+module _ {J T : Type 0} (link : Whole J T) (inward : Inward J T) (k : KnowsInward link inward) where
+  -- all that was sent is seen
+  KnowsInward-seen : link.taken ≤ length link.sent → KnowsInward link (record inward { seen = link.sent })
+  KnowsInward-seen within = record {
+    knows = ap (λ (i : Inward J T). record i { seen = link.sent }) k.knows;
+    sees = StartsWith-self link.sent;
+    taken_seen = within;
+    final = λ _. refl;
+  }
+
+  KnowsInward-taken : link.taken + 1 ≤ length link.sent → KnowsInward (record link { taken = link.taken + 1 }) (record inward { seen = link.sent; taken = inward.taken + 1 })
+  KnowsInward-taken within = record {
+    knows = ap (λ (i : Inward J T). record i { seen = link.sent; taken = i.taken + 1 }) k.knows;
+    sees = StartsWith-self link.sent;
+    taken_seen = within;
+    final = λ _. refl;
+  }
+
+  KnowsInward-shut : link.taken ≤ length link.sent → KnowsInward (record link { shut = true }) (record inward { seen = link.sent; shut = true })
+  KnowsInward-shut within = record {
+    knows = ap (λ (i : Inward J T). record i { seen = link.sent; shut = true }) k.knows;
+    sees = StartsWith-self link.sent;
+    taken_seen = within;
+    final = λ _. refl;
+  }
+
+module _ {J T : Type 0} (link : Whole J T) (out : Outward J T) (k : KnowsOut link out) where
+  -- the sender needs to know nothing of a take, nor of a gate that is shut
+  KnowsOut-taken : KnowsOut (record link { taken = link.taken + 1 }) out
+  KnowsOut-taken = record { knows = k.knows; sees = k.sees; got_seen = k.got_seen; gate = k.gate }
+
+  KnowsOut-shut : KnowsOut (record link { shut = true }) out
+  KnowsOut-shut = record { knows = k.knows; sees = k.sees; got_seen = k.got_seen; gate = λ _. refl }
+
+module _ {J T : Type 0} (fits : Order J → Outcome J T → Type 0) (ready : Order J → Type 0) (terms : Terms) (slots seat : ℕ) (me : Place J T) (s : State (Slot J T) (Known J T)) (r : Rule fits ready terms s)
+    (at : get_elem? s.views seat ≡ some me.0) (go : me.0.takes ≡ true) (used : me.0.fresh ≡ false) where
+  abbrev inward : Inward J T
+  inward = me.0.inward
+
+  abbrev k : KnowsInward r.link inward
+  k = ((r.views seat me.0 at).takes go).1
+
+  found : get_or s.words 0 0 ≡ inward.base + length r.link.sent + gate_bit inward.shut
+  found = accept-word fits ready terms s r ∙ ap (λ (i : Inward J T). i.base + length r.link.sent + gate_bit i.shut) (sym k.knows)
+
+  -- what the accept word shows
+  sees : SeesOrders ready inward r.link.sent
+  sees =
+      let taken : inward.taken ≡ r.link.taken = ap (λ (i : Inward J T). i.taken) k.knows in
+      let base : inward.base ≡ r.link.base = ap (λ (i : Inward J T). i.base) k.knows in
+      let given : length inward.given ≡ length r.link.given = ap (λ (i : Inward J T). length i.given) k.knows in
+      let capacity : inward.capacity ≡ r.link.capacity = ap (λ (i : Inward J T). i.capacity) k.knows in record {
+        longer = k.sees;
+        final = λ shut. sym (k.final (ap (λ (i : Inward J T). i.shut) (sym k.knows) ∙ shut));
+        taken_seen = omega (arith, r.law.taken_sent);
+        numbered = omega (arith, r.law.numbered);
+        room = omega (arith, r.law.room, r.credits, r.law.got_given);
+        ready_orders = r.law.ready_orders;
+      }
+
+  look-goes : Dec (length r.link.sent ≤ r.link.taken) → Owes fits ready terms s 0 seat me (Looks ready me) (get_or s.words 0 0)
+  look-goes (yes all) =
+      let taken : inward.taken ≡ r.link.taken = ap (λ (i : Inward J T). i.taken) k.knows in (
+        with_taken me.0 r.link.sent inward.taken,
+        keeps,
+        tt,
+        Rule-receiver_learns fits ready terms s r 0 seat me.0 (accept-same fits ready terms s r) at (record inward { seen = r.link.sent }) used go (KnowsInward-seen r.link inward k r.law.taken_sent),
+        record { seen = r.link.sent; sees = sees; found_is = found; one = λ less. absurd (omega arith); none = λ _. refl },
+      )
+  look-goes (no some_left) =
+      let taken : inward.taken ≡ r.link.taken = ap (λ (i : Inward J T). i.taken) k.knows in
+      let capacity : inward.capacity ≡ r.link.capacity = ap (λ (i : Inward J T). i.capacity) k.knows in
+      let more : r.link.taken < length r.link.sent = omega arith in
+      let later : Whole J T = record r.link { taken = r.link.taken + 1 } in (
+        with_taken me.0 r.link.sent (inward.taken + 1),
+        chain (takes (order_slot r.link.capacity r.link.taken) (order_at r.link.sent r.link.taken)) (takes (outcome_slot r.link.capacity r.link.taken) Empty),
+        (order-there fits ready r.link r.law r.credits s.homes r.slots more, vacant-there fits ready r.link r.law r.credits s.homes r.slots more),
+        record {
+          link = later;
+          sender = r.sender;
+          receiver = r.receiver;
+          law = IsLink-take fits ready r.link r.law more;
+          credits = r.credits;
+          terms_are = r.terms_are;
+          words = accept-same fits ready terms s r ∙ r.words;
+          slots = AreInPlace-taken fits ready r.link r.law r.credits s.homes r.slots more;
+          views = AreTold-receiver r.link later s.homes (set (set s.homes (order_slot r.link.capacity r.link.taken) none) (outcome_slot r.link.capacity r.link.taken) none) r.sender r.receiver seat s.views me.0 r.views at used
+              (record inward { seen = r.link.sent; taken = inward.taken + 1 }) go (KnowsInward-taken r.link inward k (omega arith)) (KnowsOut-taken r.link);
+        },
+        record {
+          seen = r.link.sent;
+          sees = sees;
+          found_is = found;
+          one = λ _. λ i. (with_taken me.0 r.link.sent (inward.taken + 1), (outcome_slot (sym capacity i) (sym taken i), Empty) ∷ (order_slot (sym capacity i) (sym taken i), order_at r.link.sent (sym taken i)) ∷ me.1);
+          none = λ all. absurd (omega arith);
+        },
+      )
+
+  shut-goes : (gate : ℕ) → gate ≡ 2 ^ 63 → Owes fits ready terms s 0 seat me (Closes ready me) (bit_or (get_or s.words 0 0) gate)
+  shut-goes gate is =
+      let later : Whole J T = record r.link { shut = true } in (
+        with_shut me.0 r.link.sent,
+        keeps,
+        tt,
+        record {
+          link = later;
+          sender = r.sender;
+          receiver = r.receiver;
+          law = IsLink-shut fits ready r.link r.law;
+          credits = r.credits;
+          terms_are = r.terms_are;
+          words = ap (λ (words : List ℕ). set words 0 (bit_or (get_or words 0 0) gate)) r.words
+              ∙ ap (λ (z : ℕ). z ∷ (r.link.base + length r.link.given) ∷ []) (count-or_gate (r.link.base + length r.link.sent) gate r.link.shut r.law.numbered is);
+          slots = record { count = r.slots.count; orders = r.slots.orders; emptied = r.slots.emptied; vacant = r.slots.vacant; outcomes = r.slots.outcomes };
+          views = AreTold-receiver r.link later s.homes s.homes r.sender r.receiver seat s.views me.0 r.views at used (record inward { seen = r.link.sent; shut = true }) go
+              (KnowsInward-shut r.link inward k r.law.taken_sent) (KnowsOut-shut r.link);
+        },
+        record { seen = r.link.sent; sees = sees; found_is = found; shut = refl },
+      )
+
+module _ {J T : Type 0} (fits : Order J → Outcome J T → Type 0) (ready : Order J → Type 0) (terms : Terms) (slots seat : ℕ) (me : Place J T) (go : me.0.takes ≡ true) (used : me.0.fresh ≡ false) where
+  pub looks : Allows (Rule fits ready terms) slots seat me 0 (λ y. y) (Looks ready me)
+  looks s r wide at _ = look-goes fits ready terms slots seat me s r at go used (dec_le (length r.link.sent) r.link.taken)
+
+  pub shuts : (gate : ℕ) → gate ≡ 2 ^ 63 → Allows (Rule fits ready terms) slots seat me 0 (λ y. bit_or y gate) (Closes ready me)
+  shuts gate is s r wide at _ = shut-goes fits ready terms slots seat me s r at go used gate is

@@ -1,0 +1,31 @@
+use Rattle.std.proofs.Common.{rules, ◌∙◌, ap, Some}
+use Rattle.rt_jobs.specs.Ready.{HasReadyJob}
+use Rattle.rt_link.specs.Fits.{Fits}
+use Rattle.rt_ring.specs.declared.board.Slot.TheVariants.{Sent}
+use Rattle.rt_ring.proofs.Looking.{looks}
+use Rattle.rt_ring.proofs.ReceiverSeat.{look-none, look-some, look-taken}
+use Rattle.rt_ring.proofs.Fronts.{turned_slot, read_slot, kept_slots, same_order}
+use Rattle.rt_ring.proofs.receiver.look.Goals as goal
+
+pub load-requires : goal.load-requires
+load-requires g c = (
+  search rules,
+  search rules,
+  looks (Fits g.J.Task.SameTask g.J.Task.Answers) (HasReadyJob g.J.Task.done g.J.Task.CanPoll) _ _ _ _ c.requires.receiver.takes c.requires.receiver.used,
+)
+
+pub exchange-requires : goal.exchange-requires
+exchange-requires g c =
+    let t = look-some _ c.args.seat.now.me c.load.new.seat.me c.load.result c.args.taken c.load.ensures.2 c.requires.receiver c.requires.number c.if-load-taken.false in
+    (search rules, (Sent t.0, turned_slot _ _ _ _ _ _ c.load.new.seat.me c.turn.new.self.me t.2 c.turn.ensures.2 c.args.slot c.requires.slot))
+
+pub unreachable-requires : goal.unreachable-requires
+unreachable-requires g c =
+    let t = look-some _ c.args.seat.now.me c.load.new.seat.me c.load.result c.args.taken c.load.ensures.2 c.requires.receiver c.requires.number c.if-load-taken.false in
+    c.in_default.not-Sent t.0 (read_slot _ _ _ _ _ _ c.load.new.seat.me c.turn.new.self.me t.2 c.turn.ensures.2 c.args.slot c.requires.slot c.exchange.result c.exchange.ensures.2)
+
+pub returns-clause-receiver : goal.returns-clause-receiver
+returns-clause-receiver g c =
+    let t = look-some _ c.args.seat.now.me c.load.new.seat.me c.load.result c.args.taken c.load.ensures.2 c.requires.receiver c.requires.number c.if-load-taken.false in
+    let kept = kept_slots _ _ _ _ _ _ c.load.new.seat.me c.turn.new.self.me t.2 c.turn.ensures.2 c.args.slot c.requires.slot _ c.exchange.new.seat.me c.turn-2.new.self.me c.exchange.ensures.3 c.turn-2.ensures.2 in
+    (look-taken _ c.args.seat.now.me c.load.new.seat.me c.load.result c.args.taken c.load.ensures.2 c.requires.receiver c.requires.number c.args.slot t.0 c.turn-2.new.self.me c.requires.slot c.requires.owed t.1 kept).0

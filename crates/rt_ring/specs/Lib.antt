@@ -1,0 +1,6 @@
+pub mod Slots
+pub mod Views
+pub mod Rule
+pub mod Carried
+pub mod Told
+pub mod Ends

@@ -1,0 +1,57 @@
+-- Which slots are at home, and what they hold.
+use Rattle.std.specs.Prelude.{◌≡◌, ℕ, ◌+◌, ◌%◌, ◌<◌, ◌≤◌, List, length, max, Option, Some, None, slice_get}
+use mathlib.Core.Option.{some}
+use mathlib.Core.Option as maybe
+use lib.ListN.{get_elem?}
+use Rattle.rt_ids.specs.declared.order.Order.{Order}
+use Rattle.rt_ids.specs.declared.order.Outcome.{Outcome}
+use Rattle.rt_link.specs.declared.plain.Whole.{Whole}
+use Rattle.rt_ring.specs.declared.board.Slot.{Slot}
+use Rattle.rt_ring.specs.declared.board.Slot.TheVariants.{Empty, Sent, Back}
+
+-- the slot of the order at an index of those sent
+abbrev pub order_slot : ℕ → ℕ → ℕ
+order_slot capacity index = index % capacity
+
+-- the slot of the outcome at an index of those given
+abbrev pub outcome_slot : ℕ → ℕ → ℕ
+outcome_slot capacity index = capacity + index % capacity
+
+-- the slots of a table: each is at home with what it holds, or out with a seat
+abbrev pub Homes : Type 0 → Type 0 → Type 0
+Homes J T = List (maybe.Option (Slot J T))
+
+module _ {J T : Type 0} where
+  -- a slot with this order, if there is one
+  abbrev pub slot_of_order : Option (Order J) → Slot J T
+  slot_of_order (Some order) = Sent order
+  slot_of_order None = Empty
+
+  -- a slot with this outcome, if there is one
+  abbrev pub slot_of_outcome : Option (ℕ × Outcome J T) → Slot J T
+  slot_of_outcome (Some outcome) = Back outcome.0 outcome.1
+  slot_of_outcome None = Empty
+
+  -- the content of each index's slot: its order, its outcome, or nothing
+  abbrev pub order_at : List (Order J) → ℕ → Slot J T
+  order_at orders index = slot_of_order (slice_get orders index)
+
+  abbrev pub outcome_at : List (ℕ × Outcome J T) → ℕ → Slot J T
+  outcome_at outcomes index = slot_of_outcome (slice_get outcomes index)
+
+  abbrev pub nothing_at : ℕ → Slot J T
+  nothing_at index = Empty
+
+  -- the slots of the indexes from `low` to below `high` are at home with their contents
+  abbrev pub AreHome : Homes J T → (ℕ → ℕ) → ℕ → ℕ → (ℕ → Slot J T) → Type 0
+  AreHome homes slot low high content = (index : ℕ) → low ≤ index → index < high → get_elem? homes (slot index) ≡ some (some (content index))
+
+  -- At home are the slots of the orders that are not taken yet and of the outcomes that are not got yet, and, with nothing in them,
+  -- the order slots of those outcomes, the outcome slots of those orders, and the outcome slots that were never used. All other slots
+  -- are out: with the receiver those of the orders that have no outcome yet, with the sender those of the outcomes that were got.
+  pub record AreInPlace (link : Whole J T) (homes : Homes J T) : Type 0 where
+    pub count : length homes ≡ link.capacity + link.capacity
+    pub orders : AreHome homes (order_slot link.capacity) link.taken (length link.sent) (order_at link.sent)
+    pub emptied : AreHome homes (order_slot link.capacity) link.got (length link.given) nothing_at
+    pub vacant : AreHome homes (outcome_slot link.capacity) link.taken (max (length link.sent) link.capacity) nothing_at
+    pub outcomes : AreHome homes (outcome_slot link.capacity) link.got (length link.given) (outcome_at link.given)

@@ -1,0 +1,89 @@
+//! The table that the two ends of a ring share: two words and twice as many slots as orders may be outstanding.
+//!
+//! **The accept word.** Its low 63 bits are the number of the order that was accepted last, at first the number before
+//! the first order. Only the sender raises them, by one, and only by a compare-and-exchange that finds the whole word as
+//! it was, so never while the gate is shut. Its top bit is the gate: the receiver sets it, and nobody unsets it. From
+//! then on the whole word stays as it is, and its low bits are the final count.
+//!
+//! **The return word.** The number before the first order, and as many more as outcomes were given. Only the receiver
+//! changes it, and it only rises.
+//!
+//! **What can't be at once.** The gate is shut and an order is accepted. The low bits of the accept word reach the top
+//! bit: the sender stops at the greatest number. The return word is above the low bits of the accept word, or behind
+//! them by more than the capacity and what was not got yet. A slot is out with both ends.
+
+use atomic_table::{Seat, Table, TableRule};
+use rt_ids::{ActorNo, CoreNo, Order, Outcome};
+use rt_jobs::Task;
+use rt_link::{Inward, Outward};
+use std::alloc::Global;
+use std::marker::PhantomData;
+
+/// The accept word.
+pub(crate) const ACCEPT: usize = 0;
+
+/// The return word.
+pub(crate) const RETURN: usize = 1;
+
+/// The top bit of the accept word.
+pub(crate) const GATE: u64 = 1 << 63;
+
+/// What a slot holds.
+///
+/// Of the orders sent, the one at index `i` goes through slot `i % capacity`; of the outcomes given, the one at index
+/// `i` goes through slot `capacity + i % capacity`.
+#[derive(Drop)]
+pub enum Slot<J, T> {
+    Empty,
+    Sent(Order<J>),
+    /// An outcome, with its order's number.
+    Back(u64, Outcome<J, T>),
+}
+
+/// What the table is told when it is made.
+#[derive(Drop)]
+pub struct Terms {
+    pub from: ActorNo,
+    pub to: CoreNo,
+    /// The number before the first order.
+    pub base: u64,
+    pub capacity: u64,
+}
+
+/// What a seat at the table knows. No value of it is made.
+pub struct Known<J, T> {
+    /// The order slots have not been taken out of the table yet.
+    pub fresh: bool,
+    /// It is the sender's seat, so `out` is true.
+    pub sends: bool,
+    /// It is the receiver's seat, so `inward` is true.
+    pub takes: bool,
+    pub out: Outward<J, T>,
+    pub inward: Inward<J, T>,
+}
+
+/// The rule of the table.
+pub struct Ring<J> {
+    job: PhantomData<J>,
+}
+
+impl<J: Task> TableRule<Slot<J, J::Out>, Known<J, J::Out>, Terms> for Ring<J> {
+    ghost use Rattle.rt_jobs.specs.Ready.{HasReadyJob};
+    ghost use Rattle.rt_link.specs.Fits.{Fits};
+    ghost use Rattle.rt_ring.specs.Rule.{IsRing};
+    ghost use Rattle.rt_ring.specs.Views.{first_view};
+
+    ghost holds = { IsRing (Fits J.SameTask J.Answers) (HasReadyJob J.done J.CanPoll) };
+
+    ghost first = { first_view };
+}
+
+pub type Board<J> = Table<
+    Slot<J, <J as Task>::Out>,
+    Known<J, <J as Task>::Out>,
+    Terms,
+    Ring<J>,
+    Global,
+>;
+
+pub type Place<J> = Seat<Slot<J, <J as Task>::Out>, Known<J, <J as Task>::Out>>;

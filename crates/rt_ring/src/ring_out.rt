@@ -1,0 +1,111 @@
+//! The sender's end of a ring.
+
+ghost use Rattle.std.specs.Prelude.{◌≡◌, ◌+◌, ◌-◌, ◌%◌, ◌^◌, ◌<◌, ◌≤◌, ℕ, length};
+ghost use Rattle.rt_jobs.specs.Ready.{HasReadyJob};
+ghost use Rattle.rt_link.specs.Calls.{Sends};
+
+use crate::board::{Board, Place};
+use crate::sender::{gather, is_open, offer};
+use crate::turns::following;
+use rt_ids::{Order, Outcome, SendError};
+use rt_jobs::Task;
+use rt_link::{LAST_NUMBER, OutEnd, Outward};
+use std::alloc::Global;
+use std::collections::LinkedList;
+use std::marker::Model;
+use std::sync::Arc;
+
+/// What a contract sees of a sender's end. No value of it is made.
+pub struct Sending<J, T> {
+    /// Which link it is.
+    pub link: LinkedList<u64>,
+    pub out: Outward<J, T>,
+    /// How many credits were given back.
+    pub redeemed: u64,
+}
+
+/// The end that sends orders and collects their outcomes. It may go to any thread.
+///
+/// No call of it takes memory, a lock or waits.
+#[derive(Drop)]
+pub struct RingOut<J: Task> {
+    pub(crate) board: Arc<Board<J>, Global>,
+    pub(crate) seat: Place<J>,
+    pub(crate) base: u64,
+    pub(crate) capacity: u64,
+    /// How many orders were sent.
+    pub(crate) count: u64,
+    /// How many outcomes were collected.
+    pub(crate) collected: u64,
+    pub(crate) redeemed: u64,
+    /// The slot of the next order.
+    pub(crate) next_order: u64,
+    /// The slot of the next outcome.
+    pub(crate) next_outcome: u64,
+}
+
+impl<J: Task> Model for RingOut<J> {
+    ghost use Rattle.std.specs.Arc.{arc_value};
+    ghost use Rattle.rt_ring.specs.declared.ring_out.Sending.{Sending};
+
+    ghost Value = { Sending J J.Out };
+
+    ghost use Rattle.rt_ring.specs.Ends.{IsOut, name_of};
+
+    ghost view = { λ s. record { link = name_of s.seat.table_id; out = s.seat.me.0.out; redeemed = s.redeemed } };
+
+    ghost invariant = { λ s. IsOut s.seat.table_id (arc_value s.board).shared.table_id s.seat.me s.base s.capacity s.count s.collected s.redeemed s.next_order s.next_outcome };
+}
+
+impl<J: Task> OutEnd<J> for RingOut<J> {
+    ghost link = { λ s. s.link };
+
+    ghost out = { λ s. s.out };
+
+    ghost redeemed = { λ s. s.redeemed };
+
+    fn send(&mut self, order: Order<J>) -> Result<u64, SendError<J>>
+        requires ready { HasReadyJob J.done J.CanPoll order }
+        ensures link { self.new.link ≡ self.old.link }
+        ensures redeemed { self.new.redeemed ≡ self.old.redeemed }
+        ensures sends { Sends self.old.out self.old.redeemed order self.new.out result }
+    {
+        let last = self.base + self.count;
+        let full = self.count - self.redeemed == self.capacity;
+        if full || last == LAST_NUMBER {
+            if !is_open(&self.board, &mut self.seat, last) {
+                return Err(SendError::Closed(order, last));
+            }
+            if full {
+                return Err(SendError::Full(order));
+            }
+            return Err(SendError::Spent(order));
+        }
+        let slot = self.next_order as usize;
+        match offer(&self.board, &mut self.seat, slot, last, order) {
+            Ok(()) => {
+                self.count += 1;
+                self.next_order = following(self.next_order, 0, self.capacity);
+                Ok(last + 1)
+            }
+            Err(back) => Err(SendError::Closed(back, last)),
+        }
+    }
+
+    fn collect(&mut self) -> Option<(u64, Outcome<J, J::Out>)> {
+        let slot = self.next_outcome as usize;
+        let got = self.base + self.collected;
+        let found = gather(&self.board, &mut self.seat, slot, got)?;
+        self.collected += 1;
+        self.next_outcome = following(self.next_outcome, self.capacity, self.capacity);
+        Some(found)
+    }
+
+    fn credit(&mut self) {
+        self.redeemed += 1;
+    }
+
+    fn outstanding(&self) -> u64 {
+        self.count - self.redeemed
+    }
+}
