@@ -1,3 +1,4 @@
+//! What the model of an executor is made of: events and replies, a journal for each actor, a link between any two.
 #![tactic(auto)]
 
 pub mod event;
@@ -8,3 +9,4 @@ pub mod orders;
 pub use event::{Event, Reply};
 pub use journal::Journal;
 pub use links::Links;
+pub use orders::note_of;
