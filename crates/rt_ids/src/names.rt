@@ -116,3 +116,38 @@ pub enum TicketError {
     #[error("not collected yet")]
     Pending,
 }
+
+#[cfg(test)]
+mod tests {
+    use super::*;
+
+    #[test]
+    fn keys_go_by_virtual_runtime_and_then_by_queue(rt: HostRuntime) {
+        let first = Key {
+            vr: 5,
+            queue: QueueNo(7),
+        };
+        let second = Key {
+            vr: 6,
+            queue: QueueNo(0),
+        };
+        let tied = Key {
+            vr: 5,
+            queue: QueueNo(8),
+        };
+        assert!(rt; first.is_before(&second));
+        assert!(rt; first.is_before(&tied));
+        assert!(rt; !tied.is_before(&first));
+        assert!(rt; !first.is_before(&first));
+    }
+
+    #[test]
+    fn a_ticket_tells_its_name(rt: HostRuntime) {
+        let name = JobId {
+            from: ActorNo(2),
+            to: CoreNo(1),
+            number: 3,
+        };
+        assert_eq!(rt; Ticket::named(name).name(), name);
+    }
+}

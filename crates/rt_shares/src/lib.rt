@@ -46,6 +46,11 @@ impl Default for Shares {
 pub struct BadShares;
 
 impl Shares {
+    /// Shares of this number.
+    ///
+    /// # Errors
+    ///
+    /// `BadShares` for 0 and for more than 10000.
     pub fn try_new(w: u32) -> Result<Self, BadShares>
         ensures value { IfOk result (λ s. s ≡ w) }
         ensures refused { IsErr result ↔ ((w ≡ 0) ⊎ (10000 < w)) }
@@ -57,6 +62,7 @@ impl Shares {
         }
     }
 
+    /// The number, 1 to 10000.
     pub fn get(&self) -> u32
         ensures value { result ≡ self.now }
         ensures positive { 1 ≤ result }
@@ -66,13 +72,14 @@ impl Shares {
     }
 }
 
-/// The virtual runtime that a poll of this time adds.
+/// The virtual runtime that a poll of so many nanoseconds adds: its time in thousandths of the shares, rounded up.
 pub fn charge(time: u64, shares: &Shares) -> u64
     ensures value { result ≡ spec.charge time shares.now }
     ensures bounded { result < 2 ^ 50 }
 {
-    let counted = time.min(LONGEST).max(1);
+    let counted = clamped(time);
     let weight = shares.get() as u64;
+    // The counted time is below 2^40 and 1000 below 2^10, so the product fits, and the charge is below 2^50.
     (counted * 1000 + (weight - 1)) / weight
 }
 
@@ -89,4 +96,43 @@ pub fn clamped(time: u64) -> u64
     ensures bounded { result < 2 ^ 40 }
 {
     time.min(LONGEST).max(1)
+}
+
+#[cfg(test)]
+mod tests {
+    use super::*;
+    use std::test::Fail;
+
+    fn cost(time: u64, weight: u32) -> Result<u64, Fail> {
+        Ok(charge(time, &Shares::try_new(weight)?))
+    }
+
+    #[test]
+    fn a_poll_costs_its_time_by_its_shares(rt: HostRuntime) -> Result<(), Fail> {
+        assert_eq!(rt; cost(1, 3)?, 334);
+        assert_eq!(rt; cost(0, 1000)?, 1);
+        assert_eq!(rt; cost(1, 10000)?, 1);
+        assert_eq!(rt; cost(1 << 40, 1000)?, 1099511627775);
+        assert_eq!(rt; cost((1 << 40) - 1, 1)?, 1099511627775000);
+        assert_eq!(rt; cost((1 << 40) - 1, 10000)?, 109951162778);
+        Ok(())
+    }
+
+    #[test]
+    fn shares_have_a_range(rt: HostRuntime) -> Result<(), Fail> {
+        assert_eq!(rt; Shares::try_new(0), Err(BadShares));
+        assert_eq!(rt; Shares::try_new(1)?.get(), 1);
+        assert_eq!(rt; Shares::try_new(10000)?.get(), 10000);
+        assert_eq!(rt; Shares::try_new(10001), Err(BadShares));
+        assert_eq!(rt; Shares::default().get(), 1000);
+        Ok(())
+    }
+
+    #[test]
+    fn a_queue_starts_no_earlier_than_the_floor(rt: HostRuntime) {
+        assert_eq!(rt; placed(5, 9), 9);
+        assert_eq!(rt; placed(9, 5), 9);
+        assert_eq!(rt; clamped(0), 1);
+        assert_eq!(rt; clamped(u64::MAX), 1099511627775);
+    }
 }
