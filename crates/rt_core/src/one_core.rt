@@ -111,7 +111,9 @@ impl<J: Task, A: Allocator + Clone> Core<J, A> {
             ↔ ((name.now.from ≤ self.now.cores) × (name.now.number ≡ delivered_of name.now.from self.now + 1)) }
     {
         let sender = usize::from(name.from.0);
-        sender < self.delivered.len() && name.number > 0 && self.delivered[sender] == name.number - 1
+        sender < self.delivered.len()
+            && name.number > 0
+            && self.delivered[sender] == name.number - 1
     }
 
     /// Makes a queue under the next number.

@@ -42,7 +42,12 @@ impl<J: Task, A: Allocator + Clone> Core<J, A> {
         !self.queues.is_empty(queue) || is_of_queue(&self.out, queue)
     }
 
-    pub(super) fn deliver_job(&mut self, name: JobId, queue: QueueNo, job: J) -> (Delivered<J>, Notes<J::Out>)
+    pub(super) fn deliver_job(
+        &mut self,
+        name: JobId,
+        queue: QueueNo,
+        job: J,
+    ) -> (Delivered<J>, Notes<J::Out>)
     where
         J::Out: Copy,
         requires room { inside_count self.old < self.old.queues.room }
@@ -102,7 +107,11 @@ impl<J: Task, A: Allocator + Clone> Core<J, A> {
         self.ready.insert(Key { vr, queue });
     }
 
-    pub(super) fn deliver_create(&mut self, name: JobId, shares: Shares) -> (Delivered<J>, Notes<J::Out>)
+    pub(super) fn deliver_create(
+        &mut self,
+        name: JobId,
+        shares: Shares,
+    ) -> (Delivered<J>, Notes<J::Out>)
     where
         J::Out: Copy,
         requires { name.from ≤ self.old.cores }
