@@ -56,11 +56,6 @@ abbrev pub first_key : List Key → Option Key
 first_key [] = None
 first_key (key ∷ later) = Some key
 
--- the keys behind the first
-abbrev pub later_keys : List Key → List Key
-later_keys [] = []
-later_keys (key ∷ later) = later
-
 -- the queues of the keys, in their order
 abbrev pub queues_of : List Key → List ℕ
 queues_of keys = map (λ key. key.queue) keys

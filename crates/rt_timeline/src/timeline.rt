@@ -101,7 +101,7 @@ impl<A: Allocator> Timeline<A> {
     pub fn is_empty(&self) -> bool
         ensures { IsTrue result ↔ (self.now.keys ≡ []) }
     {
-        self.len == 0
+        self.len() == 0
     }
 
     /// Whether this queue is in the timeline. It looks at each of them.
