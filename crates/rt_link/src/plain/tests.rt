@@ -1,4 +1,5 @@
-ghost use Rattle.std.specs.Prelude.{◌≡◌, ◌^◌, ◌<◌, IfOk};
+ghost use Rattle.std.specs.Prelude.{◌≡◌, ◌^◌, ◌<◌, IfOk, OnErr};
+ghost use Rattle.rt_link.specs.Calls.{Sends};
 ghost use Rattle.rt_jobs.specs.Ready.{HasReadyJob};
 ghost use Rattle.rt_link.specs.Whole.{fresh};
 
@@ -117,6 +118,24 @@ fn redeem<O: OutEnd<Sum>>(link: &mut O) -> Option<(u64, Outcome<Sum, u64>)> {
     Some(found)
 }
 
+/// Sends through the trait alone.
+fn send_through<O: OutEnd<Sum>>(link: &mut O, order: Order<Sum>) -> Result<u64, SendError<Sum>>
+    requires { HasReadyJob (λ sum. sum.made) (λ sum. sum.left < 100) order }
+    ensures link { O.link link.new ≡ O.link link.old }
+    ensures redeemed { O.redeemed link.new ≡ O.redeemed link.old }
+    ensures sends { Sends (O.out link.old) (O.redeemed link.old) order (O.out link.new) result }
+{
+    link.send(order)
+}
+
+/// What a refused send through the trait leaves of a plain link is known.
+fn send_plain(link: &mut PlainLink<Sum>, order: Order<Sum>) -> Result<u64, SendError<Sum>>
+    requires { HasReadyJob (λ sum. sum.made) (λ sum. sum.left < 100) order }
+    ensures { OnErr result (link.new ≡ link.old) }
+{
+    send_through(link, order)
+}
+
 /// Behind the last number a link is spent, and shut it tells that number.
 #[test]
 fn last_number(rt: HostRuntime) -> Result<(), Fail> {
@@ -171,7 +190,10 @@ fn one_place(rt: HostRuntime) -> Result<(), Fail> {
     assert_eq!(rt; link.send(next(1)), Ok(1));
     assert_eq!(rt; link.send(next(2)), Err(SendError::Full(next(2))));
     assert_eq!(rt; refuse(&mut link, Reason::NoQueue), Some(1));
-    assert_eq!(rt; link.send(next(2)), Err(SendError::Full(next(2))));
+    assert_eq!(rt;
+        send_plain(&mut link, next(2)),
+        Err(SendError::Full(next(2)))
+    );
     assert_eq!(rt;
         redeem(&mut link),
         Some((1, Outcome::Returned(Reason::NoQueue, next(1))))
