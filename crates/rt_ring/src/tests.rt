@@ -1,11 +1,13 @@
-ghost use Rattle.std.specs.Prelude.{◌≡◌, ◌<◌, ◌+◌, IfSome};
+ghost use Rattle.std.specs.Prelude.{◌≡◌, ◌<◌, IsSome, IfOk};
 ghost use Rattle.rt_link.specs.Fits.{Fits};
 
 use crate::{OpenError, RingIn, RingLink, RingOut, reunite};
-use rt_ids::{ActorNo, Answer, CoreNo, Envelope, Order, Outcome, QueueNo, Reason, SendError};
+use rt_ids::{
+    ActorNo, Answer, CoreNo, Envelope, JobId, Order, Outcome, QueueNo, Reason, SendError,
+};
 use rt_jobs::Task;
 use rt_link::{InEnd, LAST_NUMBER, OutEnd};
-use std::alloc::Global;
+use std::alloc::{AllocError, Global};
 use std::sync::Arc;
 use std::test::Fail;
 use std::thread;
@@ -64,8 +66,16 @@ fn job(value: u64) -> Order<Number>
     Order::Job(QueueNo(0), Number { value, held: None })
 }
 
+fn name_of(number: u64) -> JobId {
+    JobId {
+        from: FROM,
+        to: TO,
+        number,
+    }
+}
+
 fn answer(order: Order<Number>) -> Outcome<Number, u64>
-    ensures { Fits Number.SameTask Number.Answers order result }
+    ensures { Fits ⟦<Number as Task>⟧.SameTask ⟦<Number as Task>⟧.Answers order result }
 {
     match order {
         Order::Job(_, number) => Outcome::Finished(number.value),
@@ -74,95 +84,166 @@ fn answer(order: Order<Number>) -> Outcome<Number, u64>
     }
 }
 
-/// Takes an order and gives its outcome. The number, if there was an order.
-fn serve<I: InEnd<Number>>(end: &mut I) -> Option<u64>
-    ensures { I.link end.new ≡ I.link end.old }
+/// Takes an order and gives its outcome. Its number, if there was one.
+fn serve(end: &mut RingIn<Number>) -> Option<u64>
+    ensures { end.new.link ≡ end.old.link }
 {
     let Envelope { name, order } = end.take()?;
     end.give(name.number, answer(order));
     Some(name.number)
 }
 
-/// Collects an outcome and redeems it.
-fn redeem<O: OutEnd<Number>>(end: &mut O) -> Option<(u64, Outcome<Number, u64>)>
-    ensures { O.link end.new ≡ O.link end.old }
+/// The name of the next order.
+fn taken(end: &mut RingIn<Number>) -> Option<JobId>
+    ensures { end.new.link ≡ end.old.link }
+{
+    let Envelope { name, order: _ } = end.take()?;
+    Some(name)
+}
+
+/// Takes an order and hands its job back.
+fn hand_back(end: &mut RingIn<Number>) -> bool
+    ensures { end.new.link ≡ end.old.link }
+{
+    let Some(Envelope { name, order }) = end.take() else {
+        return false;
+    };
+    match order {
+        Order::Job(queue, number) => {
+            let order = Order::Job(queue, number);
+            end.give(name.number, Outcome::Returned(Reason::NoQueue, order));
+            true
+        }
+        _ => false,
+    }
+}
+
+/// Collects an outcome, which may then be redeemed.
+fn collected(end: &mut RingOut<Number>) -> Option<(u64, Outcome<Number, u64>)>
+    ensures link { end.new.link ≡ end.old.link }
+    ensures more { IsSome result → end.new.redeemed < end.new.out.got }
 {
     let _outstanding = end.outstanding();
-    let found = end.collect()?;
-    end.credit();
-    Some(found)
+    end.collect()
 }
 
-fn is_sent(answer: Result<u64, SendError<Number>>, number: u64) -> bool {
-    matches!(answer, Ok(n) if n == number)
-}
-
-fn is_full(answer: Result<u64, SendError<Number>>) -> bool {
-    matches!(answer, Err(SendError::Full(_)))
-}
-
-/// Sends all jobs and redeems their outcomes. How many outcomes were the job's own.
-fn send_all(mut end: RingOut<Number>) -> (RingOut<Number>, u64)
-    ensures { ⟦<RingOut<Number> as OutEnd<Number>>⟧.link result.0 ≡ ⟦<RingOut<Number> as OutEnd<Number>>⟧.link end }
+/// Collects an outcome and redeems it.
+fn redeemed(end: &mut RingOut<Number>) -> Option<(u64, Outcome<Number, u64>)>
+    ensures { end.new.link ≡ end.old.link }
 {
-    let mut own = 0;
-    for value in 0..JOBS {
-        if end.outstanding() == 4 {
-            own += wait_for_outcome(&mut end);
-        }
-        let _sent = end.send(job(value)).is_ok();
+    let found = collected(end);
+    if found.is_some() {
+        end.credit();
     }
-    for _ in 0..4 {
-        own += wait_for_outcome(&mut end);
-    }
-    (end, own)
+    found
 }
 
-/// Waits for an outcome and redeems it: 1 where it is its job's own.
-fn wait_for_outcome(end: &mut RingOut<Number>) -> u64
+fn is_finished(found: Option<(u64, Outcome<Number, u64>)>, number: u64, value: u64) -> bool {
+    matches!(found, Some((n, Outcome::Finished(v))) if n == number && v == value)
+}
+
+/// Sends a job of this value, and says whether it was accepted under this number.
+fn is_sent(end: &mut RingOut<Number>, value: u64, number: u64) -> bool
+    ensures { end.new.link ≡ end.old.link }
+{
+    matches!(end.send(job(value)), Ok(n) if n == number)
+}
+
+/// Sends a job, and says whether it came back since the link is full.
+fn is_full(end: &mut RingOut<Number>) -> bool
     ensures link { end.new.link ≡ end.old.link }
-    ensures few { result < 2 }
+    ensures redeemed { end.new.redeemed ≡ end.old.redeemed }
+    ensures got { end.new.out.got ≡ end.old.out.got }
+{
+    matches!(end.send(job(9)), Err(SendError::Full(Order::Job(_, number))) if number.value == 9)
+}
+
+/// Sends a job, and says whether it came back since the gate is shut, with this count.
+fn is_closed(end: &mut RingOut<Number>, count: u64) -> bool
+    ensures { end.new.link ≡ end.old.link }
+{
+    matches!(end.send(job(9)), Err(SendError::Closed(Order::Job(_, number), n)) if number.value == 9 && n == count)
+}
+
+/// Sends a job, and says whether it came back since all numbers are given.
+fn is_spent(end: &mut RingOut<Number>) -> bool
+    ensures { end.new.link ≡ end.old.link }
+{
+    matches!(end.send(job(9)), Err(SendError::Spent(Order::Job(_, number))) if number.value == 9)
+}
+
+/// Sends a job that holds something.
+fn is_sent_held(end: &mut RingOut<Number>, held: &Arc<u64, Global>) -> Result<bool, AllocError>
+    ensures { end.new.link ≡ end.old.link }
+{
+    let held = Some(Arc::try_clone(held)?);
+    Ok(
+        end.send(Order::Job(QueueNo(0), Number { value: 9, held }))
+            .is_ok(),
+    )
+}
+
+/// Waits for an outcome and redeems it. Whether it is its job's own.
+fn wait_for_own(end: &mut RingOut<Number>) -> bool
+    ensures { end.new.link ≡ end.old.link }
 {
     for _ in 0..TRIES {
-        if let Some((number, Outcome::Finished(value))) = redeem(end) {
-            return if value < JOBS && value + 1 == number {
-                1
-            } else {
-                0
-            };
+        if let Some((number, outcome)) = redeemed(end) {
+            return matches!(outcome, Outcome::Finished(value) if value == number);
+        }
+    }
+    false
+}
+
+/// Sends all jobs, each with the value of its number, and redeems their outcomes. Whether all were sent and answered so.
+fn send_all(mut end: RingOut<Number>) -> (RingOut<Number>, bool)
+    ensures { result.0.link ≡ end.link }
+{
+    let mut well = true;
+    for number in 1..JOBS + 1 {
+        if number > 4 {
+            well &= wait_for_own(&mut end);
+        }
+        well &= is_sent(&mut end, number, number);
+    }
+    for _ in 0..4 {
+        well &= wait_for_own(&mut end);
+    }
+    (end, well)
+}
+
+/// Waits for an order and gives its outcome. Its number, or 0.
+fn wait_to_serve(end: &mut RingIn<Number>) -> u64
+    ensures { end.new.link ≡ end.old.link }
+{
+    for _ in 0..TRIES {
+        if let Some(number) = serve(end) {
+            return number;
         }
     }
     0
 }
 
-/// Takes all jobs and gives their outcomes. How many came under the number that was next.
-fn serve_all(mut end: RingIn<Number>) -> (RingIn<Number>, u64)
-    ensures { ⟦<RingIn<Number> as InEnd<Number>>⟧.link result.0 ≡ ⟦<RingIn<Number> as InEnd<Number>>⟧.link end }
+/// Takes all jobs and gives their outcomes. Whether they came in order.
+fn serve_all(mut end: RingIn<Number>) -> (RingIn<Number>, bool)
+    ensures { result.0.link ≡ end.link }
 {
-    let mut next = 0;
+    let mut well = true;
     for number in 1..JOBS + 1 {
-        for _ in 0..TRIES {
-            if let Some(found) = serve(&mut end) {
-                if found == number {
-                    next += 1;
-                }
-                break;
-            }
-        }
+        well &= wait_to_serve(&mut end) == number;
     }
-    (end, next)
+    (end, well)
 }
 
 #[test]
 fn jobs_cross_between_two_threads(rt: HostRuntime) -> Result<(), Fail> {
     let (out, inward) = RingLink::open::<Number>(rt.alloc(), FROM, TO, 4)?;
-    let ((out, own), (mut inward, next)) = thread::join(
+    let ((out, sent), (mut inward, served)) = thread::join(
         &rt,
         move || send_all(out),
         move || serve_all(inward),
     );
-    assert_eq!(rt; own, JOBS);
-    assert_eq!(rt; next, JOBS);
+    assert!(rt; sent && served);
     assert_eq!(rt; inward.shut(), JOBS);
     let accounts = reunite(out, inward);
     assert_eq!(rt; accounts.accepted, JOBS);
@@ -176,37 +257,25 @@ fn jobs_cross_between_two_threads(rt: HostRuntime) -> Result<(), Fail> {
 #[test]
 fn the_whole_life_of_a_link(rt: HostRuntime) -> Result<(), Fail> {
     let (mut out, mut inward) = RingLink::open::<Number>(rt.alloc(), FROM, TO, 2)?;
-    assert!(rt; is_sent(out.send(job(5)), 1));
-    assert!(rt; is_sent(out.send(job(6)), 2));
-    assert!(rt; is_full(out.send(job(7))));
-    let Some(Envelope { name, order }) = inward.take() else {
-        assert!(rt; false);
-        return Ok(());
-    };
-    assert!(rt; name.from == FROM && name.to == TO && name.number == 1);
-    inward.give(name.number, answer(order));
-    let _outstanding = out.outstanding();
-    let Some((1, Outcome::Finished(5))) = out.collect() else {
-        assert!(rt; false);
-        return Ok(());
-    };
+    assert!(rt; is_sent(&mut out, 5, 1));
+    assert!(rt; is_sent(&mut out, 6, 2));
+    assert!(rt; is_full(&mut out));
+    assert_eq!(rt; serve(&mut inward), Some(1));
+    let found = collected(&mut out);
+    assert!(rt; found.is_some());
     // A place is free once the outcome is redeemed, and not before.
-    assert!(rt; is_full(out.send(job(7))));
+    assert!(rt; is_full(&mut out));
+    assert!(rt; is_finished(found, 1, 5));
     out.credit();
-    assert!(rt; is_sent(out.send(job(7)), 3));
+    assert!(rt; is_sent(&mut out, 7, 3));
     assert_eq!(rt; inward.final_count(), None);
     assert_eq!(rt; inward.shut(), 3);
     assert_eq!(rt; inward.shut(), 3);
     assert_eq!(rt; inward.final_count(), Some(3));
-    assert!(rt;
-        matches!(
-            out.send(job(8)),
-            Err(SendError::Closed(Order::Job(QueueNo(0), Number { value: 8, .. }), 3))
-        )
-    );
-    assert!(rt; matches!(inward.take(), Some(Envelope { name, .. }) if name.number == 2));
-    assert!(rt; matches!(inward.take(), Some(Envelope { name, .. }) if name.number == 3));
-    assert!(rt; inward.take().is_none());
+    assert!(rt; is_closed(&mut out, 3));
+    assert_eq!(rt; taken(&mut inward), Some(name_of(2)));
+    assert_eq!(rt; taken(&mut inward), Some(name_of(3)));
+    assert_eq!(rt; taken(&mut inward), None);
     assert_eq!(rt; out.outstanding(), 2);
     let accounts = reunite(out, inward);
     assert_eq!(rt; accounts.accepted, 3);
@@ -226,47 +295,29 @@ fn numbers_end_at_the_last_one(rt: HostRuntime) -> Result<(), Fail> {
         4,
         LAST_NUMBER - 1,
     )?;
-    assert!(rt; is_sent(out.send(job(5)), 9223372036854775807));
-    assert!(rt;
-        matches!(
-            out.send(job(6)),
-            Err(SendError::Spent(Order::Job(QueueNo(0), Number { value: 6, .. })))
-        )
-    );
+    assert!(rt; is_sent(&mut out, 5, 9223372036854775807));
+    assert!(rt; is_spent(&mut out));
     assert_eq!(rt; inward.shut(), 9223372036854775807);
-    assert!(rt;
-        matches!(
-            out.send(job(6)),
-            Err(SendError::Closed(
-                Order::Job(QueueNo(0), Number { value: 6, .. }),
-                9223372036854775807
-            ))
-        )
-    );
+    assert!(rt; is_closed(&mut out, 9223372036854775807));
     assert_eq!(rt; serve(&mut inward), Some(9223372036854775807));
-    assert!(rt;
-        matches!(
-            redeem(&mut out),
-            Some((9223372036854775807, Outcome::Finished(5)))
-        )
-    );
-    assert_eq!(rt; reunite(out, inward).shut, Some(9223372036854775807));
+    assert!(rt; is_finished(redeemed(&mut out), 9223372036854775807, 5));
+    let accounts = reunite(out, inward);
+    assert_eq!(rt; accounts.accepted, 1);
+    assert_eq!(rt; accounts.shut, Some(9223372036854775807));
     Ok(())
 }
 
-// The ends of a link on one thread see at once what the other did: no clause says so.
+// The ends on one thread see at once what the other did: no clause says so.
 #[test]
 fn take_and_collect_look(rt: HostRuntime) -> Result<(), Fail> {
     for capacity in 1..4u16 {
         let (mut out, mut inward) = RingLink::open::<Number>(rt.alloc(), FROM, TO, capacity)?;
-        for turn in 0..3 * capacity as u64 {
-            assert!(rt; serve(&mut inward).is_none());
-            assert!(rt; is_sent(out.send(job(turn)), turn + 1));
-            assert!(rt; redeem(&mut out).is_none());
-            assert_eq!(rt; serve(&mut inward), Some(turn + 1));
-            assert!(rt;
-                matches!(redeem(&mut out), Some((number, Outcome::Finished(value))) if number == turn + 1 && value == turn)
-            );
+        for number in 1..10u64 {
+            assert_eq!(rt; serve(&mut inward), None);
+            assert!(rt; is_sent(&mut out, number, number));
+            assert!(rt; redeemed(&mut out).is_none());
+            assert_eq!(rt; serve(&mut inward), Some(number));
+            assert!(rt; is_finished(redeemed(&mut out), number, number));
         }
     }
     Ok(())
@@ -274,25 +325,27 @@ fn take_and_collect_look(rt: HostRuntime) -> Result<(), Fail> {
 
 #[test]
 fn a_place_is_free_once_its_outcome_is_redeemed(rt: HostRuntime) -> Result<(), Fail> {
-    for capacity in 0..4u16 {
-        let (mut out, mut inward) = RingLink::open::<Number>(rt.alloc(), FROM, TO, capacity)?;
-        let count = capacity as u64;
-        for value in 0..count {
-            assert!(rt; is_sent(out.send(job(value)), value + 1));
+    for capacity in 0..4u64 {
+        let (mut out, mut inward) = RingLink::open::<Number>(
+            rt.alloc(),
+            FROM,
+            TO,
+            capacity as u16,
+        )?;
+        for number in 1..capacity + 1 {
+            assert!(rt; is_sent(&mut out, number, number));
         }
-        assert_eq!(rt; out.outstanding(), count);
-        assert!(rt; is_full(out.send(job(9))));
-        for number in 1..count + 1 {
+        assert_eq!(rt; out.outstanding(), capacity);
+        for number in 1..capacity + 1 {
+            assert!(rt; is_full(&mut out));
             assert_eq!(rt; serve(&mut inward), Some(number));
-            assert!(rt; is_full(out.send(job(9))));
-            let _outstanding = out.outstanding();
-            if out.collect().is_some() {
-                assert!(rt; is_full(out.send(job(9))));
-                out.credit();
-            }
-            assert!(rt; is_sent(out.send(job(9)), count + number));
-            assert!(rt; is_full(out.send(job(9))));
+            assert!(rt; is_full(&mut out));
+            let found = collected(&mut out);
+            assert!(rt; found.is_some());
+            assert!(rt; is_finished(found, number, number));
+            assert!(rt; is_full(&mut out));
         }
+        assert!(rt; is_full(&mut out));
     }
     Ok(())
 }
@@ -300,44 +353,31 @@ fn a_place_is_free_once_its_outcome_is_redeemed(rt: HostRuntime) -> Result<(), F
 #[test]
 fn commands_are_answered_and_jobs_handed_back(rt: HostRuntime) -> Result<(), Fail> {
     let (mut out, mut inward) = RingLink::open::<Number>(rt.alloc(), FROM, TO, 4)?;
-    assert!(rt; is_sent(out.send(Order::Create(Default::default())), 1));
-    assert!(rt;
-        is_sent(
-            out.send(Order::SetShares(QueueNo(3), Default::default())),
-            2
-        )
-    );
-    assert!(rt; is_sent(out.send(job(5)), 3));
-    assert_eq!(rt; serve(&mut inward), Some(1));
-    assert_eq!(rt; serve(&mut inward), Some(2));
-    if let Some(Envelope { name, order }) = inward.take() {
-        if let Order::Job(_, _) = &order {
-            inward.give(name.number, Outcome::Returned(Reason::NoQueue, order));
-        }
-    }
+    assert!(rt; matches!(out.send(Order::Create(Default::default())), Ok(1)));
     assert!(rt;
         matches!(
-            redeem(&mut out),
+            out.send(Order::SetShares(QueueNo(3), Default::default())),
+            Ok(2)
+        )
+    );
+    assert!(rt; is_sent(&mut out, 5, 3));
+    assert_eq!(rt; serve(&mut inward), Some(1));
+    assert_eq!(rt; serve(&mut inward), Some(2));
+    assert!(rt; hand_back(&mut inward));
+    assert!(rt;
+        matches!(
+            redeemed(&mut out),
             Some((1, Outcome::Answered(Answer::TooMany)))
         )
     );
     assert!(rt;
         matches!(
-            redeem(&mut out),
+            redeemed(&mut out),
             Some((2, Outcome::Answered(Answer::SharesSet)))
         )
     );
     assert!(rt;
-        matches!(
-            redeem(&mut out),
-            Some((
-                3,
-                Outcome::Returned(
-                    Reason::NoQueue,
-                    Order::Job(QueueNo(0), Number { value: 5, .. })
-                )
-            ))
-        )
+        matches!(redeemed(&mut out), Some((3, Outcome::Returned(Reason::NoQueue, Order::Job(_, number)))) if number.value == 5)
     );
     Ok(())
 }
@@ -346,30 +386,23 @@ fn commands_are_answered_and_jobs_handed_back(rt: HostRuntime) -> Result<(), Fai
 fn what_is_left_in_the_slots_is_dropped(rt: HostRuntime) -> Result<(), Fail> {
     let held = Arc::new(rt.alloc(), 0u64)?;
     let (mut out, mut inward) = RingLink::open::<Number>(rt.alloc(), FROM, TO, 4)?;
-    for value in 0..4 {
-        let order = Order::Job(
-            QueueNo(0),
-            Number {
-                value,
-                held: Some(Arc::try_clone(&held)?),
-            },
-        );
-        assert!(rt; is_sent(out.send(order), value + 1));
-    }
-    assert_eq!(rt; Arc::strong_count(&held), 5);
-    assert_eq!(rt; serve(&mut inward), Some(1));
+    assert!(rt; is_sent_held(&mut out, &held)?);
+    assert!(rt; is_sent_held(&mut out, &held)?);
+    assert!(rt; is_sent_held(&mut out, &held)?);
     assert_eq!(rt; Arc::strong_count(&held), 4);
+    assert_eq!(rt; serve(&mut inward), Some(1));
+    assert_eq!(rt; Arc::strong_count(&held), 3);
+    assert!(rt; hand_back(&mut inward));
+    assert_eq!(rt; Arc::strong_count(&held), 3);
     let accounts = reunite(out, inward);
-    assert_eq!(rt; accounts.taken, 1);
+    assert_eq!(rt; accounts.taken, 2);
     assert_eq!(rt; Arc::strong_count(&held), 1);
     Ok(())
 }
 
 #[test]
 fn want_of_memory_is_told_in_words(rt: HostRuntime) -> Result<(), Fail> {
-    assert_eq!(rt;
-        format!(in rt.alloc(); "{}", OpenError::Memory)?.as_str(),
-        "out of memory"
-    );
+    let text = format!(in rt.alloc(); "{}", OpenError::Memory)?;
+    assert_eq!(rt; text.as_str(), "out of memory");
     Ok(())
 }
