@@ -36,8 +36,8 @@ has_queue-inserted queue key (next ∷ later) =
       | inr behind ↦ rw (behind, has_queue-inserted queue key later) (swapped (eqb next.queue queue) (eqb key.queue queue) (has_queue queue later))
     ]
   where
-  swapped : (a b c : Bool) → (a || (b || c)) ≡ (b || (a || c))
-  swapped true true c = refl
-  swapped true false c = refl
-  swapped false true c = refl
-  swapped false false c = refl
+    swapped : (a b c : Bool) → (a || (b || c)) ≡ (b || (a || c))
+    swapped true true c = refl
+    swapped true false c = refl
+    swapped false true c = refl
+    swapped false false c = refl

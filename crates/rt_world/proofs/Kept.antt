@@ -130,25 +130,65 @@ module _ {J T : Type 0} (note : Note T) (before : Journal T) (calm : IsCalm note
 module _ {T : Type 0} (before : Journal T) where
   pub calm_sent : (name : JobId) (order : Order (Unit {0})) → IsCalm (writes.Sent name order) before
   calm_sent name order = record {
-    joins = λ queue. refl; leaves = refl; polls = refl; settles = refl; enters = refl; takes = λ name. refl; costs = λ queue. refl; picks = refl; starts = refl;
+    joins = λ queue. refl;
+    leaves = refl;
+    polls = refl;
+    settles = refl;
+    enters = refl;
+    takes = λ name. refl;
+    costs = λ queue. refl;
+    picks = refl;
+    starts = refl;
   }
 
   pub calm_back : (name : JobId) (reason : Reason) → IsCalm (writes.Back name reason) before
   calm_back name reason = record {
-    joins = λ queue. refl; leaves = refl; polls = refl; settles = refl; enters = refl; takes = λ name. refl; costs = λ queue. refl; picks = refl; starts = refl;
+    joins = λ queue. refl;
+    leaves = refl;
+    polls = refl;
+    settles = refl;
+    enters = refl;
+    takes = λ name. refl;
+    costs = λ queue. refl;
+    picks = refl;
+    starts = refl;
   }
 
   pub calm_answered : (name : JobId) (answer : Answer) → IsCalm (writes.Answered name answer) before
   calm_answered name answer = record {
-    joins = λ queue. refl; leaves = refl; polls = refl; settles = refl; enters = refl; takes = λ name. refl; costs = λ queue. refl; picks = refl; starts = refl;
+    joins = λ queue. refl;
+    leaves = refl;
+    polls = refl;
+    settles = refl;
+    enters = refl;
+    takes = λ name. refl;
+    costs = λ queue. refl;
+    picks = refl;
+    starts = refl;
   }
 
   pub calm_created : (queue weight : ℕ) → IsCalm (writes.Created queue weight) before
   calm_created queue weight = record {
-    joins = λ queue. refl; leaves = refl; polls = refl; settles = refl; enters = refl; takes = λ name. refl; costs = λ queue. refl; picks = refl; starts = refl;
+    joins = λ queue. refl;
+    leaves = refl;
+    polls = refl;
+    settles = refl;
+    enters = refl;
+    takes = λ name. refl;
+    costs = λ queue. refl;
+    picks = refl;
+    starts = refl;
   }
 
   pub calm_weighed : (queue weight : ℕ) → IsCalm (writes.SharesSet queue weight) before
   calm_weighed queue weight = record {
-    joins = λ queue. refl; leaves = refl; polls = refl; settles = refl; enters = refl; takes = λ name. refl; costs = λ queue. refl; picks = refl; starts = refl;
+    joins = λ queue. refl;
+    leaves = refl;
+    polls = refl;
+    settles = refl;
+    enters = refl;
+    takes = λ name. refl;
+    costs = λ queue. refl;
+    picks = refl;
+    starts = refl;
   }

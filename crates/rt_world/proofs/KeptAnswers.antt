@@ -48,7 +48,11 @@ module _ {J T : Type 0} (actor cap : ℕ) (old new : CoreView J) (name : JobId) 
         tallied = ap (λ core. length core.tallies) counts ∙ (kept.agrees.tallied ∙ sym (ap (λ core. queue_count core.queues) counts));
         senders = senders_counted actor old new name journal alone_counted kept.agrees;
         last = ap (λ core. queue_count core.queues) counts ∙ kept.agrees.last;
-        lines = calm.lines; marks = calm.marks; runtimes = calm.runtimes; the_floor = calm.the_floor; out = calm.out;
+        lines = calm.lines;
+        marks = calm.marks;
+        runtimes = calm.runtimes;
+        the_floor = calm.the_floor;
+        out = calm.out;
         weights = λ queue there. ap (λ core. shares_of queue core.queues) counts ∙ kept.agrees.weights queue (rw (← ap (λ core. queue_count core.queues) counts) there);
         out_exists = λ out at. rw (ap (λ core. queue_count core.queues) counts) (kept.agrees.out_exists out (sym (ap (λ core. core.out) counts) ∙ at));
         delivered = delivered_counted actor old new name journal alone_counted kept.agrees;
@@ -61,7 +65,11 @@ module _ {J T : Type 0} (actor cap : ℕ) (old new : CoreView J) (name : JobId) 
         tallied = ap (λ core. length core.tallies) counts ∙ (kept.agrees.tallied ∙ sym (ap (λ core. queue_count core.queues) counts));
         senders = senders_counted actor old new name journal alone_counted kept.agrees;
         last = ap (λ core. queue_count core.queues) counts ∙ kept.agrees.last;
-        lines = calm.lines; marks = calm.marks; runtimes = calm.runtimes; the_floor = calm.the_floor; out = calm.out;
+        lines = calm.lines;
+        marks = calm.marks;
+        runtimes = calm.runtimes;
+        the_floor = calm.the_floor;
+        out = calm.out;
         weights = λ queue there. ap (λ core. shares_of queue core.queues) counts ∙ kept.agrees.weights queue (rw (← ap (λ core. queue_count core.queues) counts) there);
         out_exists = λ out at. rw (ap (λ core. queue_count core.queues) counts) (kept.agrees.out_exists out (sym (ap (λ core. core.out) counts) ∙ at));
         delivered = delivered_counted actor old new name journal alone_counted kept.agrees;
@@ -73,7 +81,7 @@ module _ {J T : Type 0} (actor cap : ℕ) (old new : CoreView J) (name : JobId) 
     agrees = agrees-back why.NoQueue;
     notes = (
       plainly_stands actor cap (writes.Back name why.NoQueue) journal
-      (next, (queue, refusal-missing actor cap journal kept.notes queue (omega (arith, missing, kept.agrees.last)))) kept.no_pick kept.no_answer refl tt,
+          (next, (queue, refusal-missing actor cap journal kept.notes queue (omega (arith, missing, kept.agrees.last)))) kept.no_pick kept.no_answer refl tt,
       kept.notes,
     );
     no_pick = refl;

@@ -39,7 +39,11 @@ module _ {J T : Type 0} (old new : CoreView J) (queue weight : ℕ) (journal : J
             ∙ (length-append old.tallies (no_tally ∷ []) ∙ (ap (λ count. count + 1) agrees.tallied ∙ sym creates.added.count));
         senders = ap length same ∙ (agrees.senders ∙ ap (λ cores. cores + 1) (sym (ap (λ core. core.cores) creates.rest)));
         last = creates.added.count ∙ ap (λ count. count + 1) (agrees.last ∙ sym (length-append (list_told queue_created journal) (queue ∷ [])));
-        lines = calm.lines; marks = calm.marks; runtimes = calm.runtimes; the_floor = calm.the_floor; out = calm.out;
+        lines = calm.lines;
+        marks = calm.marks;
+        runtimes = calm.runtimes;
+        the_floor = calm.the_floor;
+        out = calm.out;
         weights = weights;
         out_exists = λ out at. omega (arith, creates.added.count, agrees.out_exists out (sym (ap (λ core. core.out) creates.rest) ∙ at));
         delivered = λ sender known. ap (λ list. get_or list sender 0) same ∙ agrees.delivered sender (rw (← ap (λ core. core.cores) creates.rest) known);
@@ -74,7 +78,11 @@ module _ {J T : Type 0} (old new : CoreView J) (queue weight : ℕ) (journal : J
         tallied = ap (λ core. length core.tallies) weighs.rest ∙ (agrees.tallied ∙ sym weighs.shares.same_count);
         senders = ap length same ∙ (agrees.senders ∙ ap (λ cores. cores + 1) (sym (ap (λ core. core.cores) weighs.rest)));
         last = weighs.shares.same_count ∙ agrees.last;
-        lines = calm.lines; marks = calm.marks; runtimes = calm.runtimes; the_floor = calm.the_floor; out = calm.out;
+        lines = calm.lines;
+        marks = calm.marks;
+        runtimes = calm.runtimes;
+        the_floor = calm.the_floor;
+        out = calm.out;
         weights = weights;
         out_exists = λ out at. rw weighs.shares.same_count (agrees.out_exists out (sym (ap (λ core. core.out) weighs.rest) ∙ at));
         delivered = λ sender known. ap (λ list. get_or list sender 0) same ∙ agrees.delivered sender (rw (← ap (λ core. core.cores) weighs.rest) known);

@@ -87,8 +87,8 @@ module _ {T : Type 0} (actor cap : ℕ) (journal : Journal T) (notes : EachNote 
       false_from_ne_true _
       (
       λ started.
-          let entered = (started_of actor cap journal notes).started_entered name started in
-          true≢false (sym (same_as_itself name) ∙ not_entered name name next entered)
+      let entered = (started_of actor cap journal notes).started_entered name started in
+      true≢false (sym (same_as_itself name) ∙ not_entered name name next entered)
       )
 
 -- a job enters its queue

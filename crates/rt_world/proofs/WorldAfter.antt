@@ -67,7 +67,7 @@ module _ {J T : Type 0} (same : J → J → Type 0) (made : J → ℕ) (polls : 
       under_stays name order at =
           let longer = keeps.sent name.from name.to in
           let was : slice_get (link_at name.from name.to old.links).sent (name.number - 1) ≡ Some order =
-              ap (λ orders. slice_get orders (name.number - 1)) (sym (sent_at-world old name.from name.to)) ∙ at in
+          ap (λ orders. slice_get orders (name.number - 1)) (sym (sent_at-world old name.from name.to)) ∙ at in
           ap (λ orders. slice_get orders (name.number - 1)) (sent_at-world new name.from name.to ∙ sym longer.1)
           ∙ slice_get-prefix (link_at name.from name.to old.links).sent longer.0 (name.number - 1) order was
 
@@ -111,7 +111,7 @@ module _ {J T : Type 0} (same : J → J → Type 0) (made : J → ℕ) (polls : 
       order_stays name order at =
           let longer = keeps.accepted name.from name.to in
           let was : first_under name (accepted_orders name.to (notes_at name.from old.journals)) ≡ Some order =
-              ap (λ journal. first_under name (accepted_orders name.to journal)) (sym (journal_of-world old name.from)) ∙ at in
+          ap (λ journal. first_under name (accepted_orders name.to journal)) (sym (journal_of-world old name.from)) ∙ at in
           ap (λ journal. first_under name (accepted_orders name.to journal)) (journal_of-world new name.from)
           ∙ (ap (first_under name) (sym longer.1) ∙ first_under-longer name (accepted_orders name.to (notes_at name.from old.journals)) longer.0 order was)
 

@@ -183,8 +183,8 @@ module _ {J T : Type 0} (same : J → J → Type 0) (made : J → ℕ) (polls : 
         world_after same made polls fits ready old world core known longer (set old.inside core after_core) links keeps as_sent
         (
         λ queue within.
-            subst (λ view. All (λ entry. HasTask same made polls (world_of new) core queue entry.0 entry.2) (waiting_of queue view.queues))
-            (sym (get_or-set_same old.inside core after_core (opened 0 0 0 0) (omega (arith, world.all_there.cores_are, core_there)))) (tasks queue)
+        subst (λ view. All (λ entry. HasTask same made polls (world_of new) core queue entry.0 entry.2) (waiting_of queue view.queues))
+        (sym (get_or-set_same old.inside core after_core (opened 0 0 0 0) (omega (arith, world.all_there.cores_are, core_there)))) (tasks queue)
         )
 
     -- where no line changes, the jobs keep their tasks
@@ -194,8 +194,8 @@ module _ {J T : Type 0} (same : J → J → Type 0) (made : J → ℕ) (polls : 
         subst (All (λ entry. HasTask same made polls (world_of new) core queue entry.0 entry.2)) (sym (lines queue))
         (
         λ place default within.
-            let entry = get_or (waiting_of queue view.queues) place default in
-            stays_task queue entry.0 entry.2 (as_before entry.0) (world.tasks core queue core_there place default within)
+        let entry = get_or (waiting_of queue view.queues) place default in
+        stays_task queue entry.0 entry.2 (as_before entry.0) (world.tasks core queue core_there place default within)
         )
 
   was_polls : (which : JobId) → polls_made which journal + 0 ≡ polls_made which journal
@@ -221,7 +221,7 @@ module _ {J T : Type 0} (same : J → J → Type 0) (made : J → ℕ) (polls : 
     pub goes_back : (queue : ℕ) (job : J) → order ≡ Job queue job → queue_count view.queues ≤ queue → Results after_core (writes.Back name why.NoQueue ∷ [])
     goes_back queue job is missing = (
       delivered_world after_core (writes.Back name why.NoQueue ∷ journal) done ((queue, stays_sent after_core (writes.Back name why.NoQueue ∷ journal) done name (Job queue tt) (sent_as (Job queue job) is)), journal_sent after_core (writes.Back name why.NoQueue ∷ journal) done)
-      (tasks_same after_core (writes.Back name why.NoQueue ∷ journal) done lines_alone was_polls),
+          (tasks_same after_core (writes.Back name why.NoQueue ∷ journal) done lines_alone was_polls),
       subst (λ what. IsDelivery name what journal (writes.Back name why.NoQueue ∷ [])) (sym is) (ap (λ reason. entry_note name queue reason ∷ []) (sym refused)),
     )
       where
@@ -244,8 +244,8 @@ module _ {J T : Type 0} (same : J → J → Type 0) (made : J → ℕ) (polls : 
         (IsDelivery name order journal (writes.Answered name answer ∷ [])) → Results after_core (writes.Answered name answer ∷ [])
     answers_alone answer command right plain delivery = (
       delivered_world after_core (writes.Answered name answer ∷ journal) done
-      (ap is_command (stays_sent after_core (writes.Answered name answer ∷ journal) done name (order_note order) sent_as_order) ∙ command, journal_sent after_core (writes.Answered name answer ∷ journal) done)
-      (tasks_same after_core (writes.Answered name answer ∷ journal) done lines_alone was_polls),
+          (ap is_command (stays_sent after_core (writes.Answered name answer ∷ journal) done name (order_note order) sent_as_order) ∙ command, journal_sent after_core (writes.Answered name answer ∷ journal) done)
+          (tasks_same after_core (writes.Answered name answer ∷ journal) done lines_alone was_polls),
       delivery,
     )
       where
@@ -269,10 +269,10 @@ module _ {J T : Type 0} (same : J → J → Type 0) (made : J → ℕ) (polls : 
       Results after_core (writes.Created queue weight ∷ writes.Answered name (answers.Created queue) ∷ [])
   creates_queue after_core queue weight is in_range number_is creates now = (
     delivered_world after_core (writes.Created queue weight ∷ writes.Answered name (answers.Created queue) ∷ journal) done
-    (tt, (ap is_command (stays_sent after_core (writes.Created queue weight ∷ writes.Answered name (answers.Created queue) ∷ journal) done name (Create weight) (sent_as (Create weight) is)), journal_sent after_core (writes.Created queue weight ∷ writes.Answered name (answers.Created queue) ∷ journal) done))
-    (tasks_same after_core (writes.Created queue weight ∷ writes.Answered name (answers.Created queue) ∷ journal) done creates.added.same_lines was_polls_twice),
+        (tt, (ap is_command (stays_sent after_core (writes.Created queue weight ∷ writes.Answered name (answers.Created queue) ∷ journal) done name (Create weight) (sent_as (Create weight) is)), journal_sent after_core (writes.Created queue weight ∷ writes.Answered name (answers.Created queue) ∷ journal) done))
+        (tasks_same after_core (writes.Created queue weight ∷ writes.Answered name (answers.Created queue) ∷ journal) done creates.added.same_lines was_polls_twice),
     subst (λ what. IsDelivery name what journal (writes.Created queue weight ∷ writes.Answered name (answers.Created queue) ∷ [])) (sym is)
-    (answers.Created queue, answered.0, refl),
+        (answers.Created queue, answered.0, refl),
   )
     where
       answered : IsAnswer (Create weight) (answers.Created queue) journal × IsKept core old.cap after_core (writes.Created queue weight ∷ writes.Answered name (answers.Created queue) ∷ journal)
@@ -300,10 +300,10 @@ module _ {J T : Type 0} (same : J → J → Type 0) (made : J → ℕ) (polls : 
       Results after_core (writes.SharesSet queue weight ∷ writes.Answered name answers.SharesSet ∷ [])
   sets_shares after_core queue weight is in_range weighs now = (
     delivered_world after_core (writes.SharesSet queue weight ∷ writes.Answered name answers.SharesSet ∷ journal) done
-    (tt, (ap is_command (stays_sent after_core (writes.SharesSet queue weight ∷ writes.Answered name answers.SharesSet ∷ journal) done name (SetShares queue weight) (sent_as (SetShares queue weight) is)), journal_sent after_core (writes.SharesSet queue weight ∷ writes.Answered name answers.SharesSet ∷ journal) done))
-    (tasks_same after_core (writes.SharesSet queue weight ∷ writes.Answered name answers.SharesSet ∷ journal) done weighs.shares.same_lines was_polls_twice),
+        (tt, (ap is_command (stays_sent after_core (writes.SharesSet queue weight ∷ writes.Answered name answers.SharesSet ∷ journal) done name (SetShares queue weight) (sent_as (SetShares queue weight) is)), journal_sent after_core (writes.SharesSet queue weight ∷ writes.Answered name answers.SharesSet ∷ journal) done))
+        (tasks_same after_core (writes.SharesSet queue weight ∷ writes.Answered name answers.SharesSet ∷ journal) done weighs.shares.same_lines was_polls_twice),
     subst (λ what. IsDelivery name what journal (writes.SharesSet queue weight ∷ writes.Answered name answers.SharesSet ∷ [])) (sym is)
-    (answers.SharesSet, answered.0, refl),
+        (answers.SharesSet, answered.0, refl),
   )
     where
       answered : IsAnswer (SetShares queue weight) answers.SharesSet journal × IsKept core old.cap after_core (writes.SharesSet queue weight ∷ writes.Answered name answers.SharesSet ∷ journal)

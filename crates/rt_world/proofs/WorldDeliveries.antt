@@ -40,7 +40,7 @@ sum-below numbers cap place within each less =
     let more = set numbers place (get_or numbers place 0 + 1) in
     let sums : sum more + get_or numbers place 0 ≡ sum numbers + (get_or numbers place 0 + 1) = sum_by-set (λ n. n) numbers place (get_or numbers place 0 + 1) 0 within in
     let most : sum more ≤ length numbers * cap =
-        subst (λ count. sum more ≤ count * cap) (length-set numbers place (get_or numbers place 0 + 1)) (sum_by-le (λ n. n) cap more (All-from_get_or (λ n. n ≤ cap) more 0 at_most)) in
+    subst (λ count. sum more ≤ count * cap) (length-set numbers place (get_or numbers place 0 + 1)) (sum_by-le (λ n. n) cap more (All-from_get_or (λ n. n ≤ cap) more 0 at_most)) in
     omega (arith, sums, most)
   where
     at_most : (i : ℕ) → i < length (set numbers place (get_or numbers place 0 + 1)) → get_or (set numbers place (get_or numbers place 0 + 1)) i 0 ≤ cap
@@ -177,7 +177,12 @@ module _ {J T : Type 0} (same : J → J → Type 0) (made : J → ℕ) (polls : 
 
             now_between : IsLinkBetween sender core old.cap (record link { taken = link.taken + 1 }) (accepted_orders core (notes_at sender old.journals)) (delivered_names sender journal ++ name ∷ [])
             now_between = record {
-              from = was.from; to = was.to; base = was.base; capacity = was.capacity; open_gate = was.open_gate; nothing_redeemed = was.nothing_redeemed;
+              from = was.from;
+              to = was.to;
+              base = was.base;
+              capacity = was.capacity;
+              open_gate = was.open_gate;
+              nothing_redeemed = was.nothing_redeemed;
               all_accepted = was.all_accepted;
               all_taken = ap (λ count. count + 1) was.all_taken ∙ sym (length-append (delivered_names sender journal) (name ∷ []));
               in_order =

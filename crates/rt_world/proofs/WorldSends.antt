@@ -130,9 +130,17 @@ module _ {J T : Type 0} (same : J → J → Type 0) (made : J → ℕ) (polls : 
       let calm = stays_calm (writes.Sent name (order_note order)) journal (calm_sent journal name (order_note order)) view view same_jobs was.agrees in
       record {
         agrees = record {
-          tallied = was.agrees.tallied; senders = was.agrees.senders; last = was.agrees.last;
-          lines = calm.lines; marks = calm.marks; runtimes = calm.runtimes; weights = was.agrees.weights; the_floor = calm.the_floor; out = calm.out;
-          out_exists = was.agrees.out_exists; delivered = was.agrees.delivered;
+          tallied = was.agrees.tallied;
+          senders = was.agrees.senders;
+          last = was.agrees.last;
+          lines = calm.lines;
+          marks = calm.marks;
+          runtimes = calm.runtimes;
+          weights = was.agrees.weights;
+          the_floor = calm.the_floor;
+          out = calm.out;
+          out_exists = was.agrees.out_exists;
+          delivered = was.agrees.delivered;
         };
         free = was.free;
         cores_are = was.cores_are;
@@ -213,8 +221,12 @@ module _ {J T : Type 0} (same : J → J → Type 0) (made : J → ℕ) (polls : 
       now_between : IsLinkBetween sender core old.cap (record link { sent = link.sent ++ order ∷ [] }) (accepted_orders core journal ++ (name, order_note order) ∷ [])
           (delivered_names sender (notes_at core old.journals))
       now_between = record {
-        from = is_between.from; to = is_between.to; base = is_between.base; capacity = is_between.capacity;
-        open_gate = is_between.open_gate; nothing_redeemed = is_between.nothing_redeemed;
+        from = is_between.from;
+        to = is_between.to;
+        base = is_between.base;
+        capacity = is_between.capacity;
+        open_gate = is_between.open_gate;
+        nothing_redeemed = is_between.nothing_redeemed;
         all_accepted =
             ap (λ orders. orders ++ (name, order_note order) ∷ []) is_between.all_accepted
             ∙ (ap (λ at. numbered_orders sender core 0 link.sent ++ (record { from = sender; to = core; number = at }, order_note order) ∷ []) (omega (arith, next))
@@ -357,9 +369,9 @@ module _ {J T : Type 0} (same : J → J → Type 0) (made : J → ℕ) (polls : 
           (length-map (row_of actor links) (λ link. link.sent) ∙ (changes.same_cores actor ∙ sym (length-map (row_of actor old.links) (λ link. link.sent))))
           (
           λ other within.
-              get_or-map (λ link. link.sent) (row_of actor links) other (no_link actor other)
-              ∙ (ap (λ link. link.sent) (changes.others actor other (λ one two. away one))
-              ∙ sym (get_or-map (λ link. link.sent) (row_of actor old.links) other (no_link actor other)))
+          get_or-map (λ link. link.sent) (row_of actor links) other (no_link actor other)
+          ∙ (ap (λ link. link.sent) (changes.others actor other (λ one two. away one))
+          ∙ sym (get_or-map (λ link. link.sent) (row_of actor old.links) other (no_link actor other)))
           )
 
       row : (actor : ℕ) → actor < length (world_of new).sent → get_or (world_of new).sent actor [] ≡ get_or (with_sent sender core order (world_of old)) actor []

@@ -79,7 +79,7 @@ first_under-numbered {J} sender core before (first ∷ orders) (suc place) order
     passed false same rest = rest
     passed true same rest =
         let number : before + suc place + 1 ≡ before + 1 =
-            ap (λ id. id.number) (one_name (record { from = sender; to = core; number = before + suc place + 1 }) (record { from = sender; to = core; number = before + 1 }) same) in
+        ap (λ id. id.number) (one_name (record { from = sender; to = core; number = before + suc place + 1 }) (record { from = sender; to = core; number = before + 1 }) same) in
         absurd (omega arith)
 
 -- orders that stay keep each delivery as it was sent
