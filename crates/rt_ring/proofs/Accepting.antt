@@ -81,7 +81,7 @@ module _ {J T : Type 0} (fits : Order J → Outcome J T → Type 0) (ready : Ord
         link = later;
         sender = r.sender;
         receiver = r.receiver;
-        law = IsLink-send fits ready r.link r.law order is_ready (omega arith) (omega (arith, r.credits));
+        law = IsLink-send r.law order is_ready (omega arith) (omega (arith, r.credits));
         credits = r.credits;
         terms_are = r.terms_are;
         words = ap (λ (words : List ℕ). set words 0 next) r.words

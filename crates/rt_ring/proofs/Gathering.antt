@@ -82,7 +82,7 @@ module _ {J T : Type 0} (fits : Order J → Outcome J T → Type 0) (ready : Ord
       let got : out.got ≡ r.link.got = ap (λ (o : Outward J T). o.got) k.knows in
       let capacity : out.capacity ≡ r.link.capacity = ap (λ (o : Outward J T). o.capacity) k.knows in
       let more : r.link.got < length r.link.given = omega arith in
-      let collected : IsLink fits ready (record r.link { got = r.link.got + 1 }) = IsLink-collect fits ready r.link r.law more in
+      let collected : IsLink fits ready (record r.link { got = r.link.got + 1 }) = IsLink-collect r.law more in
       let later : Whole J T = record r.link { got = r.link.got + 1; redeemed = r.link.redeemed + 1 } in (
         with_got me.0 r.link.given (out.got + 1),
         chain (takes (outcome_slot r.link.capacity r.link.got) (outcome_at r.link.given r.link.got)) (takes (order_slot r.link.capacity r.link.got) Empty),
@@ -91,7 +91,7 @@ module _ {J T : Type 0} (fits : Order J → Outcome J T → Type 0) (ready : Ord
           link = later;
           sender = r.sender;
           receiver = r.receiver;
-          law = IsLink-credit fits ready (record r.link { got = r.link.got + 1 }) collected (omega (arith, r.credits));
+          law = IsLink-credit collected (omega (arith, r.credits));
           credits = ap (λ (z : ℕ). z + 1) r.credits;
           terms_are = r.terms_are;
           words = return-same fits ready terms s r ∙ r.words;

@@ -90,12 +90,12 @@ module _ {J T : Type 0} (fits : Order J → Outcome J T → Type 0) (ready : Ord
           link = later;
           sender = r.sender;
           receiver = r.receiver;
-          law = IsLink-give fits ready r.link r.law number outcome may';
+          law = IsLink-give r.law number outcome may';
           credits = r.credits;
           terms_are = r.terms_are;
           words = ap (λ (words : List ℕ). set words 1 given) r.words
               ∙ (let e : given ≡ r.link.base + length (r.link.given ++ (number, outcome) ∷ []) = omega arith in ap (λ (z : ℕ). (r.link.base + length r.link.sent + gate_bit r.link.shut) ∷ z ∷ []) e);
-          slots = AreInPlace-given fits ready r.link r.law r.credits s.homes r.slots number outcome (IsLink-awaits fits ready r.link r.law number outcome may');
+          slots = AreInPlace-given fits ready r.link r.law r.credits s.homes r.slots number outcome (IsLink-awaits r.law number outcome may');
           views = AreTold-receiver r.link later s.homes (set (set s.homes o (some (Back number outcome))) e (some Empty)) r.sender r.receiver seat s.views view r.views at used
               (record inward { given = inward.given ++ (number, outcome) ∷ [] }) go (KnowsInward-given r.link number outcome inward k) (KnowsOut-given r.link number outcome);
         },

@@ -119,7 +119,7 @@ module _ {J T : Type 0} (fits : Order J → Outcome J T → Type 0) (ready : Ord
           link = later;
           sender = r.sender;
           receiver = r.receiver;
-          law = IsLink-take fits ready r.link r.law more;
+          law = IsLink-take r.law more;
           credits = r.credits;
           terms_are = r.terms_are;
           words = accept-same fits ready terms s r ∙ r.words;
@@ -146,7 +146,7 @@ module _ {J T : Type 0} (fits : Order J → Outcome J T → Type 0) (ready : Ord
           link = later;
           sender = r.sender;
           receiver = r.receiver;
-          law = IsLink-shut fits ready r.link r.law;
+          law = IsLink-shut r.law;
           credits = r.credits;
           terms_are = r.terms_are;
           words = ap (λ (words : List ℕ). set words 0 (bit_or (get_or words 0 0) gate)) r.words

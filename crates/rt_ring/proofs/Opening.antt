@@ -76,7 +76,7 @@ module _ {J T : Type 0} (fits : Order J → Outcome J T → Type 0) (ready : Ord
     link = fresh_link terms;
     sender = 0;
     receiver = 0;
-    law = IsLink-fresh fits ready terms.from terms.to terms.capacity terms.base small;
+    law = IsLink-fresh terms.from terms.to terms.capacity terms.base small;
     credits = refl;
     terms_are = refl;
     words = ap₂ (λ (a b : ℕ). a ∷ b ∷ []) (let e : terms.base ≡ terms.base + 0 + 0 = omega arith in e) (let e : terms.base ≡ terms.base + 0 = omega arith in e);
