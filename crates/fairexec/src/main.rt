@@ -1,0 +1,7 @@
+//! Runs scripts on the model of the executor.
+#![tactic(auto)]
+
+mod number;
+mod words;
+
+fn main() {}
