@@ -1,5 +1,5 @@
 -- What a step says.
-use Rattle.std.specs.Prelude.{ℕ, Bool, true, false, Option}
+use Rattle.std.specs.Prelude.{◌≡◌, ℕ, ◌+◌, Bool, true, false, Option, None}
 use Rattle.rt_jobs.specs.declared.job.Step.{Step}
 use Rattle.rt_jobs.specs.declared.job.Step.TheVariants.{Done, Yield}
 
@@ -17,6 +17,15 @@ IfDone Yield fact = Unit {0}
 abbrev pub OnYield : {T : Type 0} → Step T → Type 0 → Type 0
 OnYield (Done out) fact = Unit {0}
 OnYield Yield fact = fact
+
+-- after a poll of the old job, each poll of the new one owes what that poll of the old one owed: both are counted alike
+abbrev pub OwesOn : {J T : Type 0} → (J → ℕ) → (J → ℕ → Step T → Option ℕ → Type 0) → J → J → Type 0
+OwesOn {J} {T} made polls old new =
+    (more : ℕ) (step : Step T) (told : Option ℕ) → polls new (made new + more) step told → polls old (made old + 1 + more) step told
+
+-- the only poll of a job: it answers, and states no time of its own
+abbrev pub AnswersAtOnce : {T : Type 0} → Step T → Option ℕ → Type 0
+AnswersAtOnce step told = (is_done_step step ≡ true) × (told ≡ None)
 
 -- to have the same task is an equivalence
 pub record IsSameTask {J : Type 0} (same : J → J → Type 0) : Type 0 where

@@ -2,7 +2,7 @@
 
 ghost use Rattle.std.specs.Prelude.{◌≡◌, ℕ, Bool, true, false, Option};
 ghost use Rattle.rt_jobs.specs.declared.job.Step.{Step};
-ghost use Rattle.rt_jobs.specs.Steps.{IfDone, OnYield, is_done_step, IsSameTask};
+ghost use Rattle.rt_jobs.specs.Steps.{IfDone, OnYield, OwesOn, is_done_step, IsSameTask};
 
 use std::marker::Model;
 use std::snapshot::Snapshot;
@@ -10,7 +10,9 @@ use std::snapshot::Snapshot;
 /// What a poll came to.
 #[derive(Clone, Copy, PartialEq, Eq, Debug, Drop)]
 pub enum Step<T> {
+    /// The job is done, with its answer.
     Done(T),
+    /// The job wants another poll.
     Yield,
 }
 
@@ -56,13 +58,14 @@ pub trait Task: Drop {
 
 /// Work that is done in polls.
 pub trait Job: Task {
-    /// One poll.
+    /// One poll. It is the one after those that the job has made, and what the later ones owe stays as it was.
     fn poll(&mut self) -> Step<Self::Out>
         requires open { Self.done self.old ≡ false }
         requires ready { Self.CanPoll self.old }
         ensures owed { Self.Polls self.old (Self.made self.old) result (Self.says self.new) }
         ensures answers { IfDone result (Self.Answers self.old) }
         ensures same { OnYield result (Self.SameTask self.old self.new) }
+        ensures later { OnYield result (OwesOn Self.made Self.Polls self.old self.new) }
         ensures done { Self.done self.new ≡ is_done_step result }
         ensures ready { OnYield result (Self.CanPoll self.new) };
 }
@@ -78,7 +81,7 @@ pub struct Ran<J: Task> {
 
 impl<J: Task> Model for Ran<J> {
     ghost use Rattle.std.specs.Prelude.{◌≡◌};
-    ghost use Rattle.rt_jobs.specs.Steps.{AfterPoll, IfDone, OnYield, is_done_step};
+    ghost use Rattle.rt_jobs.specs.Steps.{AfterPoll, IfDone, OnYield, OwesOn, is_done_step};
 
     ghost Value = { AfterPoll J J.Out };
 
@@ -88,6 +91,7 @@ impl<J: Task> Model for Ran<J> {
         J.Polls r.before.value (J.made r.before.value) r.step r.told
         × IfDone r.step (J.Answers r.before.value)
         × OnYield r.step (J.SameTask r.before.value r.job)
+        × OnYield r.step (OwesOn J.made J.Polls r.before.value r.job)
         × OnYield r.step (J.CanPoll r.job)
         × (J.done r.job ≡ is_done_step r.step) };
 }
@@ -99,6 +103,9 @@ impl<J: Job> Ran<J> {
         requires ready { J.CanPoll job }
         ensures before { result.before ≡ job }
         ensures owed { J.Polls job (J.made job) result.step result.told }
+        ensures answers { IfDone result.step (J.Answers job) }
+        ensures same { OnYield result.step (J.SameTask job result.job) }
+        ensures later { OnYield result.step (OwesOn J.made J.Polls job result.job) }
     {
         let before = Snapshot::of(&job);
         let mut job = job;
@@ -122,6 +129,7 @@ impl<J: Task> Ran<J> {
         ensures owed { J.Polls self.before (J.made self.before) result.1 result.2 }
         ensures answers { IfDone result.1 (J.Answers self.before) }
         ensures same { OnYield result.1 (J.SameTask self.before result.0) }
+        ensures later { OnYield result.1 (OwesOn J.made J.Polls self.before result.0) }
         ensures ready { OnYield result.1 (J.CanPoll result.0) }
         ensures done { J.done result.0 ≡ is_done_step result.1 }
     {

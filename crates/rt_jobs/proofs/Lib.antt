@@ -1,0 +1,2 @@
+pub mod ExampleLemmas
+pub mod ScriptLemmas

@@ -1,0 +1,102 @@
+-- The polls of a script job, by what the job keeps of them.
+use Rattle.std.proofs.Common.{◌≡◌, ℕ, zero, suc, ◌+◌, ◌-◌, ◌<◌, ◌≤◌, List, [], ◌∷◌, ◌++◌, length, map, get_or, refl, arith, sym, ◌∙◌, true, false, eq-eqb}
+use Rattle.std.specs.Prelude.{Some, slice_get, ◌==◌}
+use Rattle.std.proofs.lemmas.Bool.{true≢false}
+use Rattle.rt_jobs.specs.declared.poll.Poll.{Poll}
+use Rattle.rt_jobs.specs.declared.poll.Poll.TheVariants as poll
+use Rattle.rt_jobs.specs.declared.poll.Yielding.{Yielding}
+use Rattle.rt_jobs.specs.declared.job.Step.TheVariants as steps
+use Rattle.rt_jobs.specs.Scripts.{script_polls, yielding_poll, EndsDone, IsScript, Does, IsAnswer, time_of, time_told}
+
+-- one poll more than those that yield
+pub length-script_polls : (yields : List Yielding) (told value : ℕ) → length (script_polls yields told value) ≡ length yields + 1
+length-script_polls [] told value = refl
+length-script_polls (first ∷ rest) told value = omega (arith, length-script_polls rest told value)
+
+-- the last one is done, and no other
+pub EndsDone-script_polls : (yields : List Yielding) (told value : ℕ) → EndsDone (script_polls yields told value)
+EndsDone-script_polls [] told value = refl
+EndsDone-script_polls (first ∷ rest) told value = EndsDone-script_polls rest told value
+
+-- what a job keeps are polls that a script job may have
+pub IsScript-script_polls : (yields : List Yielding) (told value : ℕ) → length yields ≤ 63 → IsScript (script_polls yields told value)
+IsScript-script_polls yields told value few =
+    record { ends = EndsDone-script_polls yields told value; short = omega (arith, length-script_polls yields told value) }
+
+-- the answer is that of the last poll
+pub IsAnswer-script_polls : (yields : List Yielding) (told value : ℕ) → IsAnswer (script_polls yields told value) value
+IsAnswer-script_polls [] told value = refl
+IsAnswer-script_polls (first ∷ rest) told value = IsAnswer-script_polls rest told value
+
+-- a poll that isn't the last yields
+pub Does-yield : (yields : List Yielding) (told value place : ℕ) → place < length yields →
+    Does (slice_get (script_polls yields told value) place) steps.Yield (time_told (script_polls yields told value) (suc place))
+Does-yield [] told value place inside = absurd (omega arith)
+Does-yield (first ∷ rest) told value zero inside = (refl, refl)
+Does-yield (first ∷ rest) told value (suc place) inside = Does-yield rest told value place (omega arith)
+
+-- the last poll is done
+pub Does-last : (yields : List Yielding) (told value place : ℕ) → place ≡ length yields →
+    Does (slice_get (script_polls yields told value) place) (steps.Done value) (time_told (script_polls yields told value) (suc place))
+Does-last [] told value place same = rw same (refl, refl)
+Does-last (first ∷ rest) told value zero same = absurd (omega (arith, same))
+Does-last (first ∷ rest) told value (suc place) same = Does-last rest told value place (omega (arith, same))
+
+-- where the job isn't done and no poll that yields is left, the last one is next
+pub last_is_next : (yields : List Yielding) (told value polled : ℕ) → (polled == length (script_polls yields told value)) ≡ false →
+    polled ≤ length (script_polls yields told value) → length yields ≤ polled → polled ≡ length yields
+last_is_next yields told value polled undone within past =
+    let apart : polled ≡ length (script_polls yields told value) → ⊥ =
+    λ e. absurd (true≢false (sym (eq-eqb polled (length (script_polls yields told value)) e) ∙ undone)) in
+    let count : length (script_polls yields told value) ≡ length yields + 1 = length-script_polls yields told value in
+    omega arith
+
+-- what a poll that yields tells
+pub time_told-yield : (yields : List Yielding) (told value polled place : ℕ) (blank : Yielding) → polled ≡ suc place → place < length yields →
+    Some (get_or yields place blank).told ≡ time_told (script_polls yields told value) polled
+time_told-yield [] told value polled place blank after inside = absurd (omega arith)
+time_told-yield (first ∷ rest) told value polled zero blank after inside = rw after refl
+time_told-yield (first ∷ rest) told value polled (suc place) blank after inside =
+    rw after (time_told-yield rest told value (suc place) place blank refl (omega arith))
+
+-- what the last poll tells
+pub time_told-last : (yields : List Yielding) (told value polled : ℕ) → polled ≡ suc (length yields) →
+    Some told ≡ time_told (script_polls yields told value) polled
+time_told-last [] told value polled after = rw after refl
+time_told-last (first ∷ rest) told value polled after = rw after (time_told-last rest told value (suc (length rest)) refl)
+
+-- no list with an element at its end is empty
+not_empty : {A : Type 0} (items : List A) (last : A) → items ++ last ∷ [] ≡ [] → ⊥
+not_empty [] last none = cc
+not_empty (first ∷ rest) last none = cc
+
+-- where the last poll yields, none ends the job
+ends_yielding : (early : List Poll) (told : ℕ) → EndsDone (early ++ poll.Yield told ∷ []) → ⊥
+ends_yielding [] told ends = ends
+ends_yielding (poll.Yield time ∷ rest) told ends = ends_yielding rest told ends
+ends_yielding (poll.Done time value ∷ rest) told ends = not_empty rest (poll.Yield told) ends
+
+-- where an earlier poll is done, the last one isn't the only one
+done_early : (early : List Poll) (last blank : Poll) (place told value : ℕ) → place < length early → get_or early place blank ≡ poll.Done told value →
+    EndsDone (early ++ last ∷ []) → ⊥
+done_early [] last blank place told value inside read ends = absurd (omega arith)
+done_early (poll.Yield time ∷ rest) last blank zero told value inside read ends = cc
+done_early (poll.Yield time ∷ rest) last blank (suc place) told value inside read ends = done_early rest last blank place told value (omega arith) read ends
+done_early (poll.Done time other ∷ rest) last blank place told value inside read ends = not_empty rest last ends
+
+-- polls whose last one yields are none that a script job may have
+pub no_script-yield_last : (polls early : List Poll) (last : Poll) (told : ℕ) → polls ≡ early ++ last ∷ [] → last ≡ poll.Yield told → IsScript polls → ⊥
+no_script-yield_last polls early last told split is script = ends_yielding early told (rw (split, is) at script.ends)
+
+-- nor are polls with an earlier one that is done
+pub no_script-done_early : (polls early : List Poll) (last blank : Poll) (place told value : ℕ) → polls ≡ early ++ last ∷ [] → place < length early →
+    get_or early place blank ≡ poll.Done told value → IsScript polls → ⊥
+no_script-done_early polls early last blank place told value split inside read script =
+    done_early early last blank place told value inside read (rw split at script.ends)
+
+-- polls that were kept, and a last one that is done, are those that a script job may have
+pub IsScript-kept : (polls early : List Poll) (last : Poll) (yields : List Yielding) (told value : ℕ) → polls ≡ early ++ last ∷ [] → last ≡ poll.Done told value →
+    map yielding_poll yields ≡ early → length yields ≤ 63 → IsScript polls
+IsScript-kept polls early last yields told value split is kept few =
+    let same : polls ≡ script_polls yields told value = cc in
+    rw same (IsScript-script_polls yields told value few)

@@ -1,0 +1,25 @@
+use Rattle.std.proofs.Common.{◌≡◌, length, take, false, true, arith, refl, ◌∙◌}
+use Rattle.std.proofs.lemmas.Bool.{false≢true}
+use Rattle.std.proofs.lemmas.List.{take_all}
+use Rattle.rt_jobs.proofs.ScriptLemmas.{no_script-yield_last, no_script-done_early, IsScript-kept}
+use Rattle.rt_jobs.proofs.script.ScriptJob.try_new.Goals as goal
+
+pub returns-in_default-clause-script : goal.returns-in_default-clause-script
+returns-in_default-clause-script c = (
+  (λ no. absurd (false≢true no)),
+  (λ script. absurd (no_script-yield_last _ _ _ _ c.in_ok-last.ensures.cases.0 c.in_default.is script)),
+)
+
+pub returns-in_default-poll-clause-script : goal.returns-in_default-poll-clause-script
+returns-in_default-poll-clause-script c = (
+  (λ no. absurd (false≢true no)),
+  (λ script. absurd (no_script-done_early _ _ _ _ _ _ _ c.in_ok-last.ensures.cases.0 c.loop-poll-test.true c.in_default-poll.is script)),
+)
+
+pub returns-clause-script : goal.returns-clause-script
+returns-clause-script c = (
+  (λ yes.
+      IsScript-kept _ _ _ _ _ _ c.in_ok-last.ensures.cases.0 c.in-Done.is
+      (c.loop-poll.invariant.kept ∙ take_all c.loop-poll.poll-index c.in_ok-last.early.now (omega arith)) (omega (arith, c.loop-poll.invariant.count))),
+  (λ script. refl),
+)

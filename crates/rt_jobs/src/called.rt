@@ -1,0 +1,77 @@
+//! Calls of a type with a name, made at the first poll.
+
+ghost use Rattle.std.specs.Prelude.{◌≡◌, Some};
+
+use crate::job::{Job, Step, Task};
+
+/// A call of a type with a name, whose answers are known by what it is.
+///
+/// A closure has no name, so a type such as a core of jobs can't be named at `Once` of it. It can at `OnceOf` of a struct with this trait.
+pub trait Called: Drop {
+    /// What it answers.
+    type Out: Drop;
+
+    /// Which answers the call may give.
+    ghost gives: { Self → Self.Out → Type 0 };
+
+    /// Makes the call, which is its only one.
+    fn call(self) -> Self::Out
+        ensures { gives self result };
+}
+
+/// A job that makes its call at its first poll, and is done. It tells no time of its own.
+#[derive(Drop)]
+pub struct OnceOf<C> {
+    call: Option<C>,
+}
+
+impl<C> OnceOf<C> {
+    /// A job that makes this call.
+    pub fn new(call: C) -> OnceOf<C>
+        ensures { result.call ≡ Some call }
+    {
+        OnceOf { call: Some(call) }
+    }
+}
+
+impl<C: Called> Task for OnceOf<C> {
+    ghost use Rattle.std.specs.Prelude.{◌≡◌, ℕ, None, is_none, IfSome};
+    ghost use Rattle.rt_jobs.specs.Steps.{AnswersAtOnce};
+    ghost use Rattle.rt_jobs.specs.Same.{same_value};
+    ghost use Rattle.std.proofs.Common.{subst};
+
+    type Out = C::Out;
+
+    ghost SameTask = { λ a b. a.call ≡ b.call };
+
+    ghost done = { λ job. is_none job.call };
+
+    ghost made = { λ _. 0 };
+
+    ghost says = { λ _. None };
+
+    ghost Polls = { λ job made step told. AnswersAtOnce step told };
+
+    ghost Answers = { λ job out. IfSome job.call (λ call. C.gives call out) };
+
+    ghost same_task = { same_value (λ job. job.call) };
+
+    ghost answers_same = { λ a b out same here. subst (λ call. IfSome call (λ c. C.gives c out)) same here };
+
+    fn is_done(&self) -> bool {
+        self.call.is_none()
+    }
+
+    fn told(&self) -> Option<u64> {
+        None
+    }
+}
+
+impl<C: Called> Job for OnceOf<C> {
+    fn poll(&mut self) -> Step<C::Out> {
+        match self.call.take() {
+            Some(call) => Step::Done(call.call()),
+            None => Step::Yield,
+        }
+    }
+}

@@ -1,0 +1,100 @@
+//! An example of a program's own jobs: three kinds of work in one type.
+//!
+//! Where a program knows its kinds of work, such an enum is the best job to use: it needs no box, its answers are exact,
+//! and every type that keeps facts of jobs can be named at it.
+
+ghost use Rattle.std.specs.Prelude.{◌≡◌, false, IfOk, IfErr};
+
+use crate::job::{Job, Ran, Step, Task};
+
+/// The work of a program.
+#[derive(Debug, Drop)]
+pub enum Work {
+    /// Adds two numbers, in one poll.
+    Sum { left: u32, right: u32 },
+    /// Finds the greatest common divisor of two numbers, with one division a poll.
+    Divisor { left: u64, right: u64 },
+    /// Yields so many times, and then answers the number.
+    Later { yields: u32, number: u64 },
+    /// It has answered.
+    Ended,
+}
+
+impl Task for Work {
+    ghost use Rattle.std.specs.Prelude.{◌≡◌, ◌↔◌, ℕ, None};
+    ghost use Rattle.rt_jobs.specs.Example.{MayAnswer, is_ended};
+    ghost use Rattle.rt_jobs.specs.Same.{same_answers};
+
+    type Out = u64;
+
+    ghost SameTask = { λ a b. (out : ℕ) → MayAnswer a out ↔ MayAnswer b out };
+
+    ghost done = { is_ended };
+
+    ghost made = { λ _. 0 };
+
+    ghost says = { λ _. None };
+
+    ghost Polls = { λ job made step told. told ≡ None };
+
+    ghost Answers = { MayAnswer };
+
+    ghost same_task = { same_answers MayAnswer };
+
+    ghost answers_same = { λ a b out same here. (same out).0 here };
+
+    fn is_done(&self) -> bool {
+        matches!(self, Work::Ended)
+    }
+
+    fn told(&self) -> Option<u64> {
+        None
+    }
+}
+
+impl Job for Work {
+    fn poll(&mut self) -> Step<u64> {
+        let answer = match self {
+            Work::Sum { left, right } => *left as u64 + *right as u64,
+            Work::Divisor { left, right } => {
+                if *right != 0 {
+                    let rest = *left % *right;
+                    *left = *right;
+                    *right = rest;
+                    return Step::Yield;
+                }
+                *left
+            }
+            Work::Later { yields, number } => {
+                if *yields > 0 {
+                    *yields -= 1;
+                    return Step::Yield;
+                }
+                *number
+            }
+            Work::Ended => return Step::Yield,
+        };
+        *self = Work::Ended;
+        Step::Done(answer)
+    }
+}
+
+/// Polls a job until it is done, at most so often. Where it isn't done by then, it comes back and can be polled on.
+pub fn drive<J: Job>(job: J, most: u32) -> Result<J::Out, J>
+    requires open { J.done job ≡ false }
+    requires ready { J.CanPoll job }
+    ensures answers { IfOk result (J.Answers job) }
+    ensures same { IfErr result (J.SameTask job) }
+    ensures open { IfErr result (λ back. J.done back ≡ false) }
+    ensures ready { IfErr result J.CanPoll }
+{
+    let mut job = job;
+    for _polled in 0..most {
+        let (back, step, _told) = Ran::poll(job).into_parts();
+        match step {
+            Step::Done(out) => return Ok(out),
+            Step::Yield => job = back,
+        }
+    }
+    Err(job)
+}

@@ -1,0 +1,67 @@
+//! Closures and functions that are called at the first poll.
+
+ghost use Rattle.std.specs.Prelude.{◌≡◌, Some};
+
+use crate::job::{Job, Step, Task};
+
+/// A job that makes its call at its first poll, and is done. It tells no time of its own.
+///
+/// It serves functions that are generic over the job. Where a type is to be named at it, as a link of such jobs, take `OnceOf`, or `AnyJob` with `OnceBox`.
+#[derive(Drop)]
+pub struct Once<F> {
+    call: Option<F>,
+}
+
+impl<F> Once<F> {
+    /// A job that makes this call.
+    pub fn new(call: F) -> Once<F>
+        ensures { result.call ≡ Some call }
+    {
+        Once { call: Some(call) }
+    }
+}
+
+impl<R: Drop, F: FnOnce() -> R + Drop> Task for Once<F> {
+    ghost use Rattle.std.specs.Prelude.{◌≡◌, ℕ, None, is_none, IfSome};
+    ghost use Rattle.std.specs.Option.{ForSome};
+    ghost use Rattle.rt_jobs.specs.Steps.{AnswersAtOnce};
+    ghost use Rattle.rt_jobs.specs.Same.{same_value};
+    ghost use Rattle.std.proofs.Common.{subst};
+
+    type Out = R;
+
+    ghost SameTask = { λ a b. a.call ≡ b.call };
+
+    ghost done = { λ job. is_none job.call };
+
+    ghost CanPoll = { λ job. ForSome job.call F.IsAlwaysCallable };
+
+    ghost made = { λ _. 0 };
+
+    ghost says = { λ _. None };
+
+    ghost Polls = { λ job made step told. AnswersAtOnce step told };
+
+    ghost Answers = { λ job out. IfSome job.call (λ f. F.post f out) };
+
+    ghost same_task = { same_value (λ job. job.call) };
+
+    ghost answers_same = { λ a b out same here. subst (λ call. IfSome call (λ f. F.post f out)) same here };
+
+    fn is_done(&self) -> bool {
+        self.call.is_none()
+    }
+
+    fn told(&self) -> Option<u64> {
+        None
+    }
+}
+
+impl<R: Drop, F: FnOnce() -> R + Drop> Job for Once<F> {
+    fn poll(&mut self) -> Step<R> {
+        match self.call.take() {
+            Some(call) => Step::Done(call()),
+            None => Step::Yield,
+        }
+    }
+}

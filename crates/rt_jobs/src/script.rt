@@ -1,0 +1,142 @@
+//! A job whose polls are written down.
+
+ghost use Rattle.std.specs.Prelude.{◌≡◌, ◌∷◌, [], ◌↔◌, length, IsSome, IfSome};
+ghost use Rattle.rt_jobs.specs.declared.poll.Poll.TheVariants.{Done};
+ghost use Rattle.rt_jobs.specs.Scripts.{IsScript};
+
+use crate::job::{Job, Step, Task};
+use crate::poll::{Poll, Yielding};
+use arrayvec::ArrayVec;
+use std::marker::Model;
+
+/// The most polls of a script job.
+pub const MOST_POLLS: usize = 64;
+
+/// The most polls of a script job that yield: all but the last.
+const MOST_YIELDS: usize = 63;
+
+/// A job whose polls are written down: some that yield, then one that is done with a number.
+///
+/// A contract sees the list of its polls, and how many of them were made. Each poll tells its own time.
+/// The last poll stands by itself, so that the answer is stored once. A job takes no memory but its own bytes.
+#[derive(Drop)]
+pub struct ScriptJob {
+    yields: ArrayVec<Yielding, MOST_YIELDS>,
+    last_told: u64,
+    answer: u64,
+    polled: usize,
+}
+
+impl Model for ScriptJob {
+    ghost use Rattle.std.specs.Prelude.{◌≤◌, length};
+    ghost use Rattle.rt_jobs.specs.Scripts.{Script, script_polls};
+
+    ghost Value = { Script };
+
+    ghost view = { λ job. record { polls = script_polls job.yields.items job.last_told job.answer; polled = job.polled } };
+
+    ghost invariant = { λ job. job.polled ≤ length (script_polls job.yields.items job.last_told job.answer) };
+}
+
+impl ScriptJob {
+    /// A job of one poll, which tells the time in nanoseconds and is done with the value.
+    pub fn done(told: u64, value: u64) -> ScriptJob
+        ensures polls { result.polls ≡ Done told value ∷ [] }
+        ensures fresh { result.polled ≡ 0 }
+    {
+        ScriptJob {
+            yields: ArrayVec::new(),
+            last_told: told,
+            answer: value,
+            polled: 0,
+        }
+    }
+
+    /// The job of these polls, or None where they are none: they are 1 to 64, and exactly the last one is done.
+    pub fn try_new(polls: &[Poll]) -> Option<ScriptJob>
+        ensures script { IsSome result ↔ IsScript polls.now }
+        ensures polls { IfSome result (λ job. job.polls ≡ polls.now) }
+        ensures fresh { IfSome result (λ job. job.polled ≡ 0) }
+    {
+        let (last, early) = polls.split_last()?;
+        let Poll::Done(told, value) = *last else {
+            return None;
+        };
+        if early.len() > MOST_YIELDS {
+            return None;
+        }
+        let mut yields = ArrayVec::new();
+        for poll in early {
+            let Poll::Yield(told) = *poll else {
+                return None;
+            };
+            yields.push(Yielding { told });
+        }
+        Some(ScriptJob {
+            yields,
+            last_told: told,
+            answer: value,
+            polled: 0,
+        })
+    }
+
+    /// How many polls it has, those made counted too: 1 to 64.
+    pub fn poll_count(&self) -> usize
+        ensures count { result ≡ length self.now.polls }
+        ensures script { IsScript self.now.polls }
+    {
+        self.yields.len() + 1
+    }
+}
+
+impl Task for ScriptJob {
+    ghost use Rattle.std.specs.Prelude.{◌≡◌, ◌==◌, length, slice_get};
+    ghost use Rattle.rt_jobs.specs.Same.{same_value};
+    ghost use Rattle.rt_jobs.specs.Scripts.{Does, IsAnswer, time_told};
+    ghost use Rattle.std.proofs.Common.{subst};
+
+    type Out = u64;
+
+    ghost SameTask = { λ a b. a.polls ≡ b.polls };
+
+    ghost done = { λ job. job.polled == length job.polls };
+
+    ghost made = { λ job. job.polled };
+
+    ghost says = { λ job. time_told job.polls job.polled };
+
+    ghost Polls = { λ job made step told. Does (slice_get job.polls made) step told };
+
+    ghost Answers = { λ job out. IsAnswer job.polls out };
+
+    ghost same_task = { same_value (λ job. job.polls) };
+
+    ghost answers_same = { λ a b out same here. subst (λ polls. IsAnswer polls out) same here };
+
+    fn is_done(&self) -> bool {
+        self.polled > self.yields.len()
+    }
+
+    fn told(&self) -> Option<u64> {
+        if self.polled == 0 {
+            None
+        } else if self.polled <= self.yields.len() {
+            Some(self.yields[self.polled - 1].told)
+        } else {
+            Some(self.last_told)
+        }
+    }
+}
+
+impl Job for ScriptJob {
+    fn poll(&mut self) -> Step<u64> {
+        let yields = self.yields.len();
+        let place = self.polled;
+        self.polled = place + 1;
+        if place < yields {
+            Step::Yield
+        } else {
+            Step::Done(self.answer)
+        }
+    }
+}
