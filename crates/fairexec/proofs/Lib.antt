@@ -1,2 +1,4 @@
 pub mod NumberLemmas
+pub mod PlaceLemmas
+pub mod PollLemmas
 pub mod WordLemmas

@@ -35,14 +35,6 @@ pub words_shown : (o : Option (Bor (List ℕ))) (ws : List (List ℕ)) (line : B
 words_shown None ws line shown is = cc
 words_shown (Some l) ws line shown is = cc
 
--- a search for a space answers the place of the first, or nothing where it is the length
-pub position_at : (line : List ℕ) (o : Option ℕ) (end : ℕ) → o ≡ cond (ltb (position_or_len is_space line) (length line)) (Some (position_or_len is_space line)) None → o ≡ Some end → end ≡ position_or_len is_space line
-position_at line o end found is = grind (arith, nat_tests)
-
-pub position_none : (line : List ℕ) (o : Option ℕ) → o ≡ cond (ltb (position_or_len is_space line) (length line)) (Some (position_or_len is_space line)) None → o ≡ None → length line ≡ position_or_len is_space line
-position_none line o found is =
-    let most = prefix_len-le-length (λ x. not (is_space x)) line in grind (arith, nat_tests, most)
-
 -- a line has at most as many words as bytes, and one more
 pub length-words : (line : List ℕ) → length (words line) ≤ length line + 1
 length-words line = omega (arith, length-slice_split is_space line, count_by-le-length is_space line)

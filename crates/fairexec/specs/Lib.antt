@@ -1,2 +1,5 @@
 pub mod Numbers
 pub mod Words
+pub mod Causes
+pub mod Keywords
+pub mod Fields

@@ -72,7 +72,7 @@ impl<'a> Iterator for Words<'a> {
 
     fn next(&mut self) -> Option<&'a [u8]> {
         let rest = self.rest?;
-        let end = first_space(rest);
+        let end = first_place(rest, SPACE);
         if end < rest.len() {
             self.rest = Some(&rest[end + 1..]);
             Some(&rest[..end])
@@ -83,13 +83,13 @@ impl<'a> Iterator for Words<'a> {
     }
 }
 
-/// The place of the first space, or the length where there is none.
-fn first_space(line: &[u8]) -> usize
-    ensures value { result ≡ position_or_len (λ byte. byte == 32) line.now }
-    ensures within { result ≤ length line.now }
+/// The place of the first such byte, or the length where there is none.
+pub fn first_place(bytes: &[u8], wanted: u8) -> usize
+    ensures value { result ≡ position_or_len (λ byte. byte == wanted) bytes.now }
+    ensures within { result ≤ length bytes.now }
 {
-    match line.iter().position(|byte| *byte == SPACE) {
-        Some(end) => end,
-        None => line.len(),
+    match bytes.iter().position(|byte| *byte == wanted) {
+        Some(place) => place,
+        None => bytes.len(),
     }
 }
