@@ -3,3 +3,4 @@ pub mod Words
 pub mod Causes
 pub mod Keywords
 pub mod Fields
+pub mod Lines

@@ -4,6 +4,7 @@
 mod fault;
 mod field;
 mod keyword;
+mod line;
 mod number;
 mod polls;
 mod words;
