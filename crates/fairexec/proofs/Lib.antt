@@ -1,3 +1,5 @@
+pub mod FieldLemmas
+pub mod LimitLemmas
 pub mod NumberLemmas
 pub mod PlaceLemmas
 pub mod PollLemmas

@@ -7,6 +7,7 @@ use Rattle.fairexec.specs.declared.number.Flaw.{Flaw}
 use Rattle.fairexec.specs.declared.number.Flaw.TheVariants.{Misspelled, OutOfRange}
 use Rattle.fairexec.specs.Fields.{both, made, yield_field, done_field, polls_field, count_field}
 use Rattle.fairexec.specs.Words.{first, others}
+use Rattle.fairexec.proofs.FieldLemmas.{made_ok, both_ok}
 
 abbrev pub joined : Result (List Poll) Flaw → Result (List Poll) Flaw → Result (List Poll) Flaw
 joined some rest = made (λ p. p.0 ++ p.1) (both some rest)
@@ -68,17 +69,6 @@ pub joined_more : (some next : Result (List Poll) Flaw) (poll : Result Poll Flaw
 joined_more some next poll ws rest word all next_is poll_is word_is rest_is more same =
     let here : joined (pushed some (yield_field (first ws))) (polls_field (others ws)) ≡ joined some (polls_field ws) = joined_pushed some (yield_field (first ws)) (polls_field (others ws)) ∙ ap (λ r. joined some r) (sym (polls_field_more ws more)) in
     rw (next_is, poll_is, word_is, rest_is) (here ∙ same)
-
-made_ok : {A B : Type 0} (f : A → B) (r : Result A Flaw) (b : B) → made f r ≡ Ok b → (a : A) × (r ≡ Ok a) × (b ≡ f a)
-made_ok f (Ok a) b e = (a, refl, cc)
-made_ok f (Err flaw) b e = cc
-
-both_ok : {A B : Type 0} (a : Result A Flaw) (b : Result B Flaw) (p : A × B) → both a b ≡ Ok p → (a ≡ Ok p.0) × (b ≡ Ok p.1)
-both_ok (Ok a) (Ok b) p e = (cc, cc)
-both_ok (Ok a) (Err f) p e = cc
-both_ok (Err f) (Ok b) p e = cc
-both_ok (Err Misspelled) (Err g) p e = cc
-both_ok (Err OutOfRange) (Err g) p e = cc
 
 -- a job's polls are as many as its words
 pub length-polls_field : (ws : List (List ℕ)) (polls : List Poll) → polls_field ws ≡ Ok polls → length polls ≡ length ws

@@ -4,3 +4,6 @@ pub mod Causes
 pub mod Keywords
 pub mod Fields
 pub mod Lines
+pub mod Drafts
+pub mod Limits
+pub mod LineFaults

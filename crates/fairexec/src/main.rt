@@ -1,6 +1,7 @@
 //! Runs scripts on the model of the executor.
 #![tactic(auto)]
 
+mod draft;
 mod fault;
 mod field;
 mod keyword;
