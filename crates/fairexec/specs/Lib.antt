@@ -7,3 +7,8 @@ pub mod Lines
 pub mod Drafts
 pub mod Limits
 pub mod LineFaults
+pub mod Feeds
+pub mod Scripts
+pub mod ScriptFaults
+pub mod Whole
+pub mod Notes

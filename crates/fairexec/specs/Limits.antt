@@ -21,10 +21,14 @@ abbrev pub ArePlaced : Option (ℕ × ℕ) → List (ℕ × ℕ) → Type 0
 ArePlaced None queues = queues ≡ []
 ArePlaced (Some size) queues = All (λ queue. queue.0 < size.0) queues
 
+-- each core has 255 `queue` lines at most
+abbrev pub HasFewQueues : List (ℕ × ℕ) → Type 0
+HasFewQueues queues = (core : ℕ) → queue_lines core queues ≤ 255
+
 pub record IsWithinLimits (draft : Drafted) : Type 0 where
   pub sized : IsSized draft.size
   pub placed : ArePlaced draft.size draft.queues
-  pub few : (core : ℕ) → queue_lines core draft.queues ≤ 255
+  pub few : HasFewQueues draft.queues
 
 -- a queue of a core that is there
 abbrev pub IsCoreOf : Option (ℕ × ℕ) → ℕ → Type 0

@@ -1,6 +1,7 @@
 //! A script as far as its lines are judged.
 
-ghost use Rattle.std.specs.Prelude.{◌≡◌, Ok, Err, IfOk, IfErr, OnOk, OnErr, length, nat_lt};
+ghost use Rattle.std.specs.Prelude.{◌≡◌, Ok, Err, IfOk, IfErr, OnOk, OnErr, length, nat_lt, IfSome, IsNone, None, ◌↔◌};
+ghost use Rattle.fairexec.specs.Whole.{drafted};
 ghost use Rattle.fairexec.specs.Words.{words};
 ghost use Rattle.fairexec.specs.Drafts as spec;
 ghost use Rattle.fairexec.specs.Limits.{MayFollow};
@@ -8,6 +9,7 @@ ghost use Rattle.fairexec.specs.LineFaults.{IfCause};
 
 use crate::fault::Cause;
 use crate::line::{Line, first_line, later_line};
+use crate::script::Script;
 use rt_ids::CoreNo;
 use rt_jobs::ScriptJob;
 use rt_shares::Shares;
@@ -79,6 +81,25 @@ impl Draft {
             queues: Vec::new(alloc),
             events: Vec::new(alloc),
         }
+    }
+
+    /// The whole script, where the lines end here; None where none told the size.
+    pub fn finish(self) -> Option<Script>
+        ensures whole { IfSome result (λ script. self ≡ drafted script) }
+        ensures none { IsNone result ↔ (self.size ≡ None) }
+    {
+        let Draft {
+            size,
+            queues,
+            events,
+        } = self;
+        let (cores, cap) = size?;
+        Some(Script {
+            cores,
+            cap,
+            queues,
+            events,
+        })
     }
 
     /// Takes one line that isn't too long.

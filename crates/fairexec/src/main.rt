@@ -8,6 +8,10 @@ mod keyword;
 mod line;
 mod number;
 mod polls;
+mod reader;
+mod script;
+mod steady;
+mod text;
 mod words;
 
 fn main() {}
