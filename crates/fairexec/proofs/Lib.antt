@@ -1,4 +1,5 @@
 pub mod FieldLemmas
+pub mod KnownLemmas
 pub mod LimitLemmas
 pub mod NumberLemmas
 pub mod PlaceLemmas

@@ -12,3 +12,6 @@ pub mod Scripts
 pub mod ScriptFaults
 pub mod Whole
 pub mod Notes
+pub mod EngineFaults
+pub mod Telling
+pub mod Statuses

@@ -2,8 +2,11 @@
 
 ghost use Rattle.std.specs.Prelude.{◌≡◌, Some};
 ghost use Rattle.fairexec.specs.Causes.{cause_text, cause_of};
+ghost use Rattle.fairexec.specs.EngineFaults.{fault_text, engine_fault};
 
 use crate::number::Flaw;
+use crate::reader::ScriptFault;
+use std::alloc::AllocError;
 use std::fmt;
 
 /// What is wrong with a line of a script. Of several causes the first in this order is told.
@@ -56,5 +59,53 @@ impl From<Flaw> for Cause {
             Flaw::Misspelled => Cause::BadWord,
             Flaw::OutOfRange => Cause::OutOfRange,
         }
+    }
+}
+
+/// Why an engine stops.
+#[derive(Clone, Copy, PartialEq, Eq, Debug)]
+pub enum EngineFault {
+    /// A line of the text, by its number from 1, is faulty.
+    Text { line: u32, cause: Cause },
+    /// The text couldn't be read.
+    Read,
+    /// The output couldn't be written.
+    Write,
+    /// There is no memory.
+    Memory,
+}
+
+/// What is printed of a fault.
+impl fmt::Display for EngineFault {
+    ghost output = { λ fault. Some (fault_text fault) };
+
+    fn fmt<W: fmt::Write>(&self, f: &mut fmt::Formatter<W>) -> fmt::Result {
+        match self {
+            EngineFault::Text { line, cause } => write!(f, "line {line}: {cause}"),
+            EngineFault::Read => write!(f, "read failed"),
+            EngineFault::Write => write!(f, "write failed"),
+            EngineFault::Memory => write!(f, "out of memory"),
+        }
+    }
+}
+
+impl From<ScriptFault> for EngineFault {
+    ghost from_gives = { λ fault engine. engine ≡ engine_fault fault };
+
+    fn from(fault: ScriptFault) -> EngineFault {
+        match fault {
+            ScriptFault::Text(line, cause) => EngineFault::Text { line, cause },
+            ScriptFault::Memory => EngineFault::Memory,
+        }
+    }
+}
+
+impl From<AllocError> for EngineFault {
+    ghost use Rattle.fairexec.specs.declared.fault.EngineFault.TheVariants.{Memory};
+
+    ghost from_gives = { λ _ engine. engine ≡ Memory };
+
+    fn from(_error: AllocError) -> EngineFault {
+        EngineFault::Memory
     }
 }

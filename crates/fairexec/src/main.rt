@@ -10,6 +10,8 @@ mod number;
 mod polls;
 mod reader;
 mod script;
+mod source;
+mod status;
 mod steady;
 mod text;
 mod words;
