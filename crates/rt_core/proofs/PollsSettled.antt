@@ -1,6 +1,6 @@
 -- What settling a poll came to, from what its parts did.
 use Rattle.std.proofs.Common.{◌≡◌, ℕ, true, List, [], ◌∷◌, ◌++◌, Option, Some, None, refl, sym, ap, ◌∙◌, subst}
-use Rattle.std.specs.Prelude.{Bool, unwrap_or}
+use Rattle.std.specs.Prelude.{Bool, Result, Ok, unwrap_or}
 use Rattle.rt_ids.specs.declared.names.JobId.{JobId}
 use Rattle.rt_ids.specs.declared.note.Note.{Note}
 use Rattle.rt_ids.specs.declared.note.Note.TheVariants as notes
@@ -8,9 +8,10 @@ use Rattle.rt_jobs.specs.declared.job.Step.{Step}
 use Rattle.rt_jobs.specs.declared.job.Step.TheVariants as step
 use Rattle.rt_jobs.specs.Steps.{AfterPoll, IsSameTask}
 use Rattle.rt_taskqueue.specs.Queues.{QueuesView, waiting_of, ChangesLine}
+use Rattle.rt_core.specs.declared.turn.Turn.TheVariants.{Start, Resume}
 use Rattle.rt_core.specs.declared.turn.Settled.TheVariants.{Yielded, Finished}
 use Rattle.rt_core.specs.State.{CoreView, JobOut}
-use Rattle.rt_core.specs.Turns.{settled_view, Settles, SettlesOut}
+use Rattle.rt_core.specs.Turns.{settled_view, Picks, Settles, SettlesOut}
 use Rattle.rt_core.specs.Steps.{YieldsOut, FinishesOut}
 use Rattle.rt_core.specs.Answers.{IsTaskOut, AnswersOut}
 
@@ -39,3 +40,14 @@ pub answers_out : {J T : Type 0} (same : J → J → Type 0) (answers : J → T 
     ((a b : J) (one : T) → same a b → answers a one → answers b one) → IsTaskOut same out before → answers before answer → AnswersOut answers out (Finished answer)
 answers_out same answers None before answer laws along task owed = task
 answers_out same answers (Some out) before answer laws along task owed = along before out.job answer (laws.back out.job before task) owed
+
+-- a job that a pick took out has the task of the one that is out
+pub task_out_from_start : {J T : Type 0} (same : J → J → Type 0) (old new : CoreView J) (name : JobId) (queue : ℕ) (job : J) (written : List (Note T)) → IsSameTask same →
+    Picks old (Ok (Start name queue job)) new written → IsTaskOut same new.out job
+task_out_from_start same old new name queue job written laws picks =
+    subst (λ (out : Option (JobOut _)). IsTaskOut same out job) (sym (ap (λ (view : CoreView _). view.out) picks.0.rest)) (laws.itself job)
+
+pub task_out_from_resume : {J T : Type 0} (same : J → J → Type 0) (old new : CoreView J) (name : JobId) (queue : ℕ) (job : J) (written : List (Note T)) → IsSameTask same →
+    Picks old (Ok (Resume name queue job)) new written → IsTaskOut same new.out job
+task_out_from_resume same old new name queue job written laws picks =
+    subst (λ (out : Option (JobOut _)). IsTaskOut same out job) (sym (ap (λ (view : CoreView _). view.out) picks.0.rest)) (laws.itself job)
