@@ -24,7 +24,8 @@ impl<J: Task, A: Allocator + Clone> Core<J, A> {
         ensures counts { CountsAlone self.old name.now self.new }
         ensures bounded { IsBounded self.new }
     {
-        self.delivered[usize::from(name.from.0)] = name.number;
+        let sender = usize::from(name.from.0);
+        self.delivered[sender] = name.number;
     }
 
     /// Whether there is a queue of this number.
