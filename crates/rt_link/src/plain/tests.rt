@@ -6,7 +6,7 @@ ghost use Rattle.rt_link.specs.Whole.{fresh};
 use super::{LAST_NUMBER, PlainLink};
 use crate::ends::{InEnd, OutEnd};
 use rt_ids::{ActorNo, Answer, CoreNo, JobId, Order, Outcome, QueueNo, Reason, SendError};
-use rt_jobs::{Step, Task};
+use rt_jobs::Task;
 use rt_shares::Shares;
 use std::alloc::{AllocError, Global};
 use std::test::Fail;
