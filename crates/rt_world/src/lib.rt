@@ -4,9 +4,11 @@
 pub mod event;
 pub mod journal;
 pub mod links;
+pub mod model;
 pub mod orders;
 
 pub use event::{Event, Reply};
 pub use journal::Journal;
 pub use links::Links;
-pub use orders::note_of;
+pub use model::World;
+pub use orders::with_note;
