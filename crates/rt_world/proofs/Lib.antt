@@ -4,6 +4,7 @@ pub mod Kept
 pub mod KeptDeliveries
 pub mod KeptAnswers
 pub mod KeptCommands
+pub mod PollNotes
 pub mod KeptPicks
 pub mod KeptSettles
 pub mod WorldLists
@@ -14,3 +15,5 @@ pub mod WorldDeliveries
 pub mod PollsMade
 pub mod WorldDelivered
 pub mod WorldTurns
+pub mod WorldPicks
+pub mod WorldPolled
