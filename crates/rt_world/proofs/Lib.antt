@@ -1,5 +1,6 @@
 pub mod LinkRows
 pub mod LinkOpening
+pub mod PartOpening
 pub mod Kept
 pub mod KeptDeliveries
 pub mod KeptAnswers
