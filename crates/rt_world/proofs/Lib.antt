@@ -11,6 +11,7 @@ pub mod KeptSettles
 pub mod WorldLists
 pub mod WorldViews
 pub mod WorldAfter
+pub mod FreshParts
 pub mod WorldSends
 pub mod WorldDeliveries
 pub mod PollsMade
