@@ -17,5 +17,8 @@ pub mod WorldDeliveries
 pub mod PollsMade
 pub mod WorldDelivered
 pub mod WorldTurns
+pub mod JournalsNoted
 pub mod WorldPicks
 pub mod WorldPolled
+pub mod WorldCreated
+pub mod WorldCreates
