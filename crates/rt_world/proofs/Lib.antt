@@ -11,12 +11,16 @@ pub mod KeptSettles
 pub mod WorldLists
 pub mod WorldViews
 pub mod WorldAfter
+pub mod WorldQuiet
 pub mod FreshParts
 pub mod WorldSends
 pub mod WorldDeliveries
 pub mod PollsMade
 pub mod WorldDelivered
+pub mod TurnNotes
+pub mod TurnTasks
 pub mod WorldTurns
+pub mod TurnIsPoll
 pub mod JournalsNoted
 pub mod WorldPicks
 pub mod WorldPolled
