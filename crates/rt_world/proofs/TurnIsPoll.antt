@@ -1,6 +1,6 @@
 -- The notes of a turn over a world at rest are those of a poll: the right pick, the first of its line, and what its task owes.
-use Rattle.std.proofs.Common.{◌≡◌, ℕ, ◌+◌, ◌<◌, ◌≤◌, Bool, true, false, List, [], ◌∷◌, ◌++◌, refl, sym, ◌∙◌, ap, subst, arith, set, add-zero}
-use Rattle.std.specs.Prelude.{Option, Some, unwrap_or, map, All}
+use Rattle.std.proofs.Common.{◌≡◌, ℕ, ◌+◌, ◌<◌, Bool, true, false, [], ◌∷◌, ◌++◌, refl, sym, ◌∙◌, ap, subst, arith, set, add-zero}
+use Rattle.std.specs.Prelude.{Option, unwrap_or, map, All}
 use Rattle.std.proofs.lemmas.List.Elements.{All-head}
 use Rattle.std.proofs.lemmas.List.{map-set}
 use Rattle.rt_ids.specs.declared.names.JobId.{JobId}

@@ -1,5 +1,5 @@
 -- The notes of a turn: nothing is sent by them and nothing delivered, and one job is polled once.
-use Rattle.std.proofs.Common.{◌≡◌, ℕ, ◌+◌, Bool, true, false, [], ◌∷◌, refl, ◌∙◌, ap, add-zero}
+use Rattle.std.proofs.Common.{◌≡◌, ℕ, ◌+◌, Bool, true, false, ◌∷◌, refl, ◌∙◌, ap, add-zero}
 use Rattle.std.specs.Prelude.{Some}
 use Rattle.rt_ids.specs.declared.names.JobId.{JobId}
 use Rattle.rt_ids.specs.declared.note.Note.TheVariants as writes

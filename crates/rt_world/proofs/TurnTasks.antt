@@ -1,6 +1,6 @@
 -- The jobs of a core have their tasks still, as one of them is polled once.
 use Rattle.std.proofs.Common.{◌≡◌, ℕ, zero, suc, ◌+◌, ◌<◌, Bool, false, List, [], ◌∷◌, length, sym, ◌∙◌, ap, subst, arith, get_or, add-zero}
-use Rattle.std.specs.Prelude.{◌||◌, Option, Some, All}
+use Rattle.std.specs.Prelude.{Option, Some, All}
 use Rattle.std.proofs.lemmas.Bool.{or_parts}
 use Rattle.rt_ids.specs.declared.names.JobId.{JobId}
 use Rattle.rt_ids.specs.declared.order.Order.{Order}

@@ -1,28 +1,23 @@
 -- A world at rest in which nothing was done stays one as a queue of a core is created.
-use Rattle.std.proofs.Common.{◌≡◌, ℕ, ◌+◌, ◌<◌, ◌≤◌, Bool, true, false, List, [], ◌∷◌, ◌++◌, length, refl, sym, ◌∙◌, ap, subst, arith, get_or, set, get_or-set_same, get_or-set_other, length-set, add-zero}
-use Rattle.std.specs.Prelude.{◌==◌, Option, Some, None, All, sum, is_some}
-use Rattle.std.proofs.lemmas.Bool.{eqb-true, eqb-false}
-use Rattle.std.proofs.lemmas.List.{append-nil}
+use Rattle.std.proofs.Common.{◌≡◌, ℕ, ◌+◌, ◌<◌, ◌∷◌, refl, sym, ◌∙◌, ap, subst, arith, add-zero}
+use Rattle.std.specs.Prelude.{Option, All, sum, is_some}
 use Rattle.rt_shares.specs.Charge.{InRange}
 use Rattle.rt_ids.specs.declared.names.JobId.{JobId}
 use Rattle.rt_ids.specs.declared.note.Note.TheVariants as writes
 use Rattle.rt_ids.specs.declared.order.Order.{Order}
 use Rattle.rt_ids.specs.declared.order.Order.TheVariants.{Job}
 use Rattle.rt_ids.specs.declared.order.Outcome.{Outcome}
-use Rattle.rt_ids.specs.Journal.{Journal, EachNote}
-use Rattle.rt_ids.specs.Filters.{accepted_orders, delivered_names}
+use Rattle.rt_ids.specs.Journal.{Journal}
 use Rattle.rt_ids.specs.Commands.{last_queue}
 use Rattle.rt_ids.specs.Lawful.{IsLawful, IsOpening}
 use Rattle.rt_ids.specs.Work.{number_if}
-use Rattle.rt_ids.specs.Joining.{DeliversAsSent}
 use Rattle.rt_jobs.specs.declared.job.Step.{Step}
-use Rattle.rt_taskqueue.specs.Queues.{queue_count, waiting_of, held_count}
-use Rattle.rt_core.specs.State.{CoreView, inside_count, opened}
+use Rattle.rt_taskqueue.specs.Queues.{queue_count, held_count}
+use Rattle.rt_core.specs.State.{CoreView, inside_count}
 use Rattle.rt_core.specs.Deliveries.{Creates}
-use Rattle.rt_world.specs.State.{journal_at, order_under, assembly_of}
+use Rattle.rt_world.specs.State.{journal_at}
 use Rattle.rt_world.specs.Turns.{polls_made}
-use Rattle.rt_world.specs.Links.{link_at}
-use Rattle.rt_world.specs.Inside.{Parts, core_at, notes_at, world_of, IsCoreAtRest, IsLinkBetween}
+use Rattle.rt_world.specs.Inside.{Parts, core_at, notes_at, world_of, IsCoreAtRest}
 use Rattle.rt_world.specs.Tasks.{OwesAfter, HasTask, IsWorld}
 use Rattle.rt_world.proofs.Kept.{plainly_stands}
 use Rattle.rt_world.proofs.KeptCommands.{agrees-created}
