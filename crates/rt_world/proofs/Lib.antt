@@ -14,3 +14,6 @@ pub mod WorldDeliveries
 pub mod PollsMade
 pub mod WorldDelivered
 pub mod WorldTurns
+pub mod SameLinks
+pub mod JournalReads
+pub mod SendResults
