@@ -17,3 +17,5 @@ pub mod WorldTurns
 pub mod SameLinks
 pub mod JournalReads
 pub mod SendResults
+pub mod DeliverResults
+pub mod DeliverSteps
