@@ -107,11 +107,10 @@ module _ {J T : Type 0} (same : J → J → Type 0) (made : J → ℕ) (polls : 
       pub may_deliver : (inside_count view < view.queues.room) × (envelope.name.from ≤ view.cores) × (envelope.name.number ≡ delivered_of envelope.name.from view + 1)
       may_deliver =
           subst (λ core. (inside_count core < core.queues.room) × (envelope.name.from ≤ core.cores) × (envelope.name.number ≡ delivered_of envelope.name.from core + 1)) (sym view_is)
-          (subst (λ id. (inside_count (core_at core old.inside) < (core_at core old.inside).queues.room) × (id.from ≤ (core_at core old.inside).cores) × (id.number ≡ delivered_of id.from (core_at core old.inside) + 1)) (sym name_is)
-          (
-          room_for_one same made polls fits ready old world sender core there core_there envelope.order at,
-          sender_known same made polls fits ready old world sender core there core_there envelope.order at,
-          next_for_core same made polls fits ready old world sender core there core_there envelope.order at,
+          (subst (λ id. (inside_count (core_at core old.inside) < (core_at core old.inside).queues.room) × (id.from ≤ (core_at core old.inside).cores) × (id.number ≡ delivered_of id.from (core_at core old.inside) + 1)) (sym name_is) (
+            room_for_one same made polls fits ready old world sender core there core_there envelope.order at,
+            sender_known same made polls fits ready old world sender core there core_there envelope.order at,
+            next_for_core same made polls fits ready old world sender core there core_there envelope.order at,
           ))
 
       module _ (order : Order J) (order_is : order ≡ envelope.order) (shares : HasShares envelope.order) (delivered : Delivered J) (new : CoreView J) (written : List (Note T))

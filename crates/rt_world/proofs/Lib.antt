@@ -19,3 +19,5 @@ pub mod JournalReads
 pub mod SendResults
 pub mod DeliverResults
 pub mod DeliverSteps
+pub mod WorldSound
+pub mod RunSteps

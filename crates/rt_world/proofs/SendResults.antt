@@ -117,13 +117,12 @@ module _ {J T : Type 0} (same : J → J → Type 0) (made : J → ℕ) (polls : 
       let shut : true ≡ false = ap (λ out. out.closed) (sym refuses.2) ∙ (ap (λ link. link.shut) changes.changed ∙ is_between.open_gate) in
       absurd (true≢false shut)
   refused_sends (Full back) refuses = (refuses.0, omega (arith, outstanding, refuses.2, is_between.nothing_redeemed, is_between.capacity), refl)
-  refused_sends (Spent back) refuses =
-      (
-      refuses.0,
-      omega (arith, outstanding, refuses.2, is_between.nothing_redeemed, is_between.capacity),
-      accepted_count ∙ omega (arith, refuses.3, is_between.base),
-      refl,
-      )
+  refused_sends (Spent back) refuses = (
+    refuses.0,
+    omega (arith, outstanding, refuses.2, is_between.nothing_redeemed, is_between.capacity),
+    accepted_count ∙ omega (arith, refuses.3, is_between.base),
+    refl,
+  )
   refused_sends (NoCore back) refuses = absurd refuses
 
   pub refused_step : (error : SendError J) → Answers (Err error) → (before : WorldView J T) → world_of old ≡ before → (asked : Order J) → order ≡ asked →

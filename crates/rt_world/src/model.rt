@@ -1,6 +1,7 @@
 //! The cores of one executor as one value, moved by events.
 
 ghost use Rattle.std.specs.Prelude.{◌≡◌, ◌≤◌};
+ghost use Rattle.rt_ids.specs.Sound.{IsSound};
 ghost use Rattle.rt_world.specs.State.{journal_at, assembly_of};
 
 use crate::assembly::Assembly;
@@ -69,9 +70,10 @@ impl From<AllocError> for WorldError {
 }
 
 impl<J: Task<Out = u64>, A: Allocator + Clone> World<J, A> {
-    // The journals alone.
+    // The journals alone, which are sound together.
     fn into_assembly(self) -> Assembly
-        ensures { result ≡ assembly_of self }
+        ensures value { result ≡ assembly_of self }
+        ensures sound { IsSound result }
     {
         Assembly::of(self.cores, self.cap, self.journals)
     }

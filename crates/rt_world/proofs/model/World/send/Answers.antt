@@ -41,10 +41,9 @@ invariant_of-self g c =
     ∙ note_written _ _ _ _ _ _ world c.args.from c.args.to there core_there order links c.send.ensures.changes c.send.ensures.law c.in-Ok.number
     c.index_mut.result.now c.push.new.self read c.name.result c.with_note-order.result.1 (c.name.ensures ∙ c.named-ticket.ensures)
     (c.with_note-order.ensures.note ∙ sym (ap order_note c.with_note-order.ensures.same)) c.push.ensures.notes in
-    rw journals
-    (
-    c.self.invariant.0,
-    accepted_world _ _ _ _ _ _ world c.args.from c.args.to there core_there order links c.send.ensures.changes c.send.ensures.law c.in-Ok.number c.in-Ok.ensures.sends,
+    rw journals (
+      c.self.invariant.0,
+      accepted_world _ _ _ _ _ _ world c.args.from c.args.to there core_there order links c.send.ensures.changes c.send.ensures.law c.in-Ok.number c.in-Ok.ensures.sends,
     )
 
 pub invariant_of-self-in-Err : goal.invariant_of-self-in-Err
