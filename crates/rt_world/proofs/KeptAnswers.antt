@@ -38,6 +38,7 @@ module _ {J T : Type 0} (actor cap : ℕ) (old new : CoreView J) (name : JobId) 
     lines = λ queue. ap (λ core. waiting_of queue core.queues) counts;
     runtimes = λ queue. ap (λ core. runtime_of queue core) counts;
     the_floor = ap (λ core. core.floor) counts;
+    turns_made = ap (λ core. core.turns) counts;
     out = ap (λ core. core.out) counts;
   }
 
@@ -52,6 +53,7 @@ module _ {J T : Type 0} (actor cap : ℕ) (old new : CoreView J) (name : JobId) 
         marks = calm.marks;
         runtimes = calm.runtimes;
         the_floor = calm.the_floor;
+        turns = calm.turns_made;
         out = calm.out;
         weights = λ queue there. ap (λ core. shares_of queue core.queues) counts ∙ kept.agrees.weights queue (rw (← ap (λ core. queue_count core.queues) counts) there);
         out_exists = λ out at. rw (ap (λ core. queue_count core.queues) counts) (kept.agrees.out_exists out (sym (ap (λ core. core.out) counts) ∙ at));
@@ -69,6 +71,7 @@ module _ {J T : Type 0} (actor cap : ℕ) (old new : CoreView J) (name : JobId) 
         marks = calm.marks;
         runtimes = calm.runtimes;
         the_floor = calm.the_floor;
+        turns = calm.turns_made;
         out = calm.out;
         weights = λ queue there. ap (λ core. shares_of queue core.queues) counts ∙ kept.agrees.weights queue (rw (← ap (λ core. queue_count core.queues) counts) there);
         out_exists = λ out at. rw (ap (λ core. queue_count core.queues) counts) (kept.agrees.out_exists out (sym (ap (λ core. core.out) counts) ∙ at));

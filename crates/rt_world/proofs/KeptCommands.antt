@@ -43,6 +43,7 @@ module _ {J T : Type 0} (old new : CoreView J) (queue weight : ℕ) (journal : J
         marks = calm.marks;
         runtimes = calm.runtimes;
         the_floor = calm.the_floor;
+        turns = calm.turns_made;
         out = calm.out;
         weights = weights;
         out_exists = λ out at. omega (arith, creates.added.count, agrees.out_exists out (sym (ap (λ core. core.out) creates.rest) ∙ at));
@@ -54,6 +55,7 @@ module _ {J T : Type 0} (old new : CoreView J) (queue weight : ℕ) (journal : J
         lines = creates.added.same_lines;
         runtimes = λ other. ap (λ core. runtime_of other core) creates.rest ∙ ap (λ tally. tally.runtime) (get_or-append_default old.tallies no_tally other);
         the_floor = ap (λ core. core.floor) creates.rest;
+        turns_made = ap (λ core. core.turns) creates.rest;
         out = ap (λ core. core.out) creates.rest;
       }
 
@@ -82,6 +84,7 @@ module _ {J T : Type 0} (old new : CoreView J) (queue weight : ℕ) (journal : J
         marks = calm.marks;
         runtimes = calm.runtimes;
         the_floor = calm.the_floor;
+        turns = calm.turns_made;
         out = calm.out;
         weights = weights;
         out_exists = λ out at. rw weighs.shares.same_count (agrees.out_exists out (sym (ap (λ core. core.out) weighs.rest) ∙ at));
@@ -93,6 +96,7 @@ module _ {J T : Type 0} (old new : CoreView J) (queue weight : ℕ) (journal : J
         lines = weighs.shares.same_lines;
         runtimes = λ other. ap (λ core. runtime_of other core) weighs.rest;
         the_floor = ap (λ core. core.floor) weighs.rest;
+        turns_made = ap (λ core. core.turns) weighs.rest;
         out = ap (λ core. core.out) weighs.rest;
       }
 

@@ -32,7 +32,7 @@ use Rattle.rt_taskqueue.specs.Queues.{queue_count, waiting_of, shares_of}
 use Rattle.rt_core.specs.State.{CoreView, JobOut, no_tally, tally_of, runtime_of, delivered_of, is_working, entry_runtime}
 use Rattle.rt_core.specs.Deliveries.{Enters, counted}
 use Rattle.rt_world.specs.Agreement.{Agrees, IsJobOut, AreMarked, names_of}
-use Rattle.rt_world.proofs.Kept.{IsKept, plainly_stands, open_queues, open_core, working}
+use Rattle.rt_world.proofs.Kept.{IsKept, plainly_stands, turns-stays, open_queues, open_core, working}
 
 -- the next name from its sender is counted
 pub record IsCounted {J T : Type 0} (actor : ℕ) (old new : CoreView J) (name : JobId) (journal : Journal T) : Type 0 where
@@ -182,6 +182,7 @@ module _ {J T : Type 0} (actor cap : ℕ) (old new : CoreView J) (name : JobId) 
       runtimes = took_runtimes;
       weights = λ other there. enters.line.same_shares other ∙ kept.agrees.weights other (rw (← enters.line.same_count) there);
       the_floor = ap (λ core. core.floor) enters.rest ∙ (kept.agrees.the_floor ∙ sym (floor-stays (writes.Took name queue) journal refl));
+      turns = ap (λ core. core.turns) enters.rest ∙ (kept.agrees.turns ∙ sym (turns-stays (writes.Took name queue) journal refl));
       out = subst (λ out. IsJobOut out (writes.Took name queue ∷ journal)) (sym (ap (λ core. core.out) enters.rest)) (took_out old.out kept.agrees.out);
       out_exists = λ out at. rw enters.line.same_count (kept.agrees.out_exists out (sym (ap (λ core. core.out) enters.rest) ∙ at));
       delivered = delivered_counted actor old new name journal took_counted kept.agrees;

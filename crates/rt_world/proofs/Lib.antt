@@ -1,9 +1,11 @@
 pub mod LinkRows
 pub mod LinkOpening
+pub mod PartOpening
 pub mod Kept
 pub mod KeptDeliveries
 pub mod KeptAnswers
 pub mod KeptCommands
+pub mod PollNotes
 pub mod KeptPicks
 pub mod KeptSettles
 pub mod WorldLists
@@ -21,3 +23,5 @@ pub mod DeliverResults
 pub mod DeliverSteps
 pub mod WorldSound
 pub mod RunSteps
+pub mod WorldPicks
+pub mod WorldPolled

@@ -1,12 +1,10 @@
 -- A world at rest stays one as its core makes a turn, and the turn is the one of its event.
-use Rattle.std.proofs.Common.{◌≡◌, ◌⊎◌, inl, inr, ℕ, zero, suc, ◌+◌, ◌-◌, ◌<◌, ◌≤◌, Bool, true, false, List, [], ◌∷◌, ◌++◌, length, refl, sym, ◌∙◌, ap, subst, arith, get_or, set, get_or-set_same, get_or-set_other, length-set, add-zero, take}
-use Rattle.std.specs.Prelude.{◌==◌, Option, Some, None, unwrap_or, slice_get, map, All, sum, is_some}
-use Rattle.std.proofs.lemmas.Bool.{eqb-true, eqb-false, or_parts, eq-eqb, ne_eqb}
-use Rattle.std.proofs.lemmas.Option.{same_Some}
+use Rattle.std.proofs.Common.{◌≡◌, ℕ, zero, suc, ◌+◌, ◌<◌, ◌≤◌, Bool, true, false, List, [], ◌∷◌, ◌++◌, length, refl, sym, ◌∙◌, ap, subst, arith, get_or, set, get_or-set_same, get_or-set_other, length-set, add-zero}
+use Rattle.std.specs.Prelude.{◌==◌, Option, Some, None, unwrap_or, map, All, sum, is_some}
+use Rattle.std.proofs.lemmas.Bool.{eqb-true, eqb-false, or_parts}
 use Rattle.std.proofs.lemmas.List.Elements.{All-append, All-cons, All-nil, All-head, All-tail}
 use Rattle.std.proofs.lemmas.List.{append-nil, length-append, map-set}
 use Rattle.rt_ids.specs.declared.names.JobId.{JobId}
-use Rattle.rt_ids.specs.declared.note.Note.{Note}
 use Rattle.rt_ids.specs.declared.note.Note.TheVariants as writes
 use Rattle.rt_ids.specs.declared.order.Order.{Order}
 use Rattle.rt_ids.specs.declared.order.Order.TheVariants.{Job}
@@ -24,22 +22,19 @@ use Rattle.rt_ids.proofs.NameLemmas.{among, same_as_itself}
 use Rattle.rt_jobs.specs.declared.job.Step.{Step}
 use Rattle.rt_jobs.specs.declared.job.Step.TheVariants as steps
 use Rattle.rt_jobs.specs.Steps.{AfterPoll, IsSameTask, IfDone, OnYield, OwesOn}
-use Rattle.rt_link.specs.declared.plain.Whole.{Whole}
-use Rattle.rt_link.specs.Whole.{IsLink}
 use Rattle.rt_taskqueue.specs.Queues.{waiting_of, held_count, ChangesLine}
-use Rattle.rt_core.specs.declared.turn.Settled.{Settled}
-use Rattle.rt_core.specs.declared.turn.Settled.TheVariants as settles
 use Rattle.rt_core.specs.State.{CoreView, JobOut, inside_count, runtime_of, opened}
-use Rattle.rt_core.specs.Turns.{TakesOut, Settles, SettlesOut, settled_view}
-use Rattle.rt_world.specs.State.{WorldView, journal_at, order_under, assembly_of, noted}
+use Rattle.rt_core.specs.Turns.{TakesOut, settled_view}
+use Rattle.rt_world.specs.State.{journal_at, order_under, assembly_of}
 use Rattle.rt_world.specs.Turns.{polls_made, settle_note, IsPoll}
 use Rattle.rt_world.specs.Turns as turns
 use Rattle.rt_world.specs.Links.{link_at}
 use Rattle.rt_world.specs.Inside.{Parts, core_at, notes_at, world_of, IsCoreAtRest, IsLinkBetween}
 use Rattle.rt_world.specs.Tasks.{OwesAfter, HasTask, IsWorld}
-use Rattle.rt_world.specs.Agreement.{Agrees, IsJobOut, names_of}
+use Rattle.rt_world.specs.Agreement.{IsJobOut, names_of}
 use Rattle.rt_world.proofs.Kept.{IsKept}
-use Rattle.rt_world.proofs.KeptPicks.{poll_note, kept-picked, right_pick, first_in_line, not_returning, start_told, apart_in, other_way}
+use Rattle.rt_world.proofs.KeptPicks.{kept-picked, right_pick, first_in_line, not_returning, start_told, apart_in}
+use Rattle.rt_world.proofs.PollNotes.{poll_note, other_way}
 use Rattle.rt_world.proofs.KeptSettles.{kept-yield, kept-done}
 use Rattle.rt_world.proofs.WorldViews.{journal_at-world, as_sent-stays}
 use Rattle.rt_world.proofs.WorldAfter.{after, Keeps, notes_now, notes_elsewhere, under_stays, order_stays, world_after}

@@ -62,6 +62,9 @@ pub enum WorldError {
 }
 
 impl From<AllocError> for WorldError {
+    ghost use Rattle.std.specs.Prelude.{◌≡◌};
+    ghost use Rattle.rt_world.specs.declared.model.WorldError.{WorldError};
+
     ghost from_gives = { λ _ error. error ≡ WorldError.Memory };
 
     fn from(_error: AllocError) -> Self {
