@@ -126,7 +126,7 @@ module _ {J T : Type 0} (same : J → J → Type 0) (made : J → ℕ) (polls : 
   rest_longer known =
       let was = world.at_rest sender known in
       let view = core_at sender old.inside in
-      let same_jobs : SameJobs view view = record { lines = λ queue. refl; runtimes = λ queue. refl; the_floor = refl; out = refl } in
+      let same_jobs : SameJobs view view = record { lines = λ queue. refl; runtimes = λ queue. refl; the_floor = refl; turns_made = refl; out = refl } in
       let calm = stays_calm (writes.Sent name (order_note order)) journal (calm_sent journal name (order_note order)) view view same_jobs was.agrees in
       record {
         agrees = record {
@@ -138,6 +138,7 @@ module _ {J T : Type 0} (same : J → J → Type 0) (made : J → ℕ) (polls : 
           runtimes = calm.runtimes;
           weights = was.agrees.weights;
           the_floor = calm.the_floor;
+          turns = calm.turns_made;
           out = calm.out;
           out_exists = was.agrees.out_exists;
           delivered = was.agrees.delivered;
