@@ -16,6 +16,8 @@ use std::marker::Model;
 mod events;
 mod opening;
 mod steps;
+#[cfg(test)]
+mod tests;
 
 /// The cores of one executor, the links between all actors, and a journal for each actor.
 ///
@@ -79,6 +81,13 @@ impl<J: Task<Out = u64>, A: Allocator + Clone> World<J, A> {
         ensures sound { IsSound result }
     {
         Assembly::of(self.cores, self.cap, self.journals)
+    }
+
+    /// How many cores there are. The outside actor has the number behind them.
+    pub fn cores(&self) -> u8
+        ensures { result ≡ self.now.cores }
+    {
+        self.cores
     }
 
     /// The notes of one actor.
