@@ -11,6 +11,7 @@ pub mod KeptSettles
 pub mod WorldLists
 pub mod WorldViews
 pub mod WorldAfter
+pub mod FreshParts
 pub mod WorldSends
 pub mod WorldDeliveries
 pub mod PollsMade
@@ -23,5 +24,8 @@ pub mod DeliverResults
 pub mod DeliverSteps
 pub mod WorldSound
 pub mod RunSteps
+pub mod JournalsNoted
 pub mod WorldPicks
 pub mod WorldPolled
+pub mod WorldCreated
+pub mod WorldCreates

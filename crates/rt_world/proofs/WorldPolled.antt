@@ -27,6 +27,7 @@ use Rattle.rt_world.proofs.PollNotes.{poll_note}
 use Rattle.rt_world.proofs.WorldViews.{journal_at-world}
 use Rattle.rt_world.proofs.WorldAfter.{after}
 use Rattle.rt_world.proofs.WorldTurns.{yielded, ended, polls_now_is}
+use Rattle.rt_world.proofs.JournalsNoted.{IsNoted}
 use Rattle.rt_world.proofs.WorldPicks.{IsTaken, taken, viewed}
 
 -- a job was polled once
@@ -37,13 +38,6 @@ pub record IsRan {J T : Type 0} (same : J → J → Type 0) (made : J → ℕ) (
   pub answered : IfDone ran.step (answers job)
   pub same_task : OnYield ran.step (same job ran.job)
   pub later : OnYield ran.step (OwesOn made polls job ran.job)
-
--- one journal was borrowed, and got these notes
-pub record IsNoted {T : Type 0} (journals : List (JournalView T)) (actor : ℕ) (notes : List (Note T)) (old new : JournalView T) : Type 0 where
-  pub borrowed : old ≡ get_or journals actor old
-  pub slice : List (Note T)
-  pub slice_is : slice ≡ notes
-  pub pushed : new ≡ record old { notes = reverse slice ++ old.notes }
 
 module _ {J T : Type 0} (same : J → J → Type 0) (made : J → ℕ) (polls : J → ℕ → Step T → Option ℕ → Type 0)
     (fits : Order J → Outcome J T → Type 0) (ready : Order J → Type 0) (is_same : IsSameTask same)
