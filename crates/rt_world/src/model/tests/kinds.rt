@@ -8,35 +8,39 @@ use rt_jobs::{AnyJob, OnceBox, Polled, Range, Step, Task, once_job, polled_job};
 use std::test::Fail;
 
 const CORE: CoreNo = CoreNo(0);
+
 const SELF: ActorNo = ActorNo(0);
 
-/// Work that yields twice and then answers 9.
+/// Work that yields so often and then answers 9.
 #[derive(Drop)]
-struct Twice {
-    polls: u8,
+struct Countdown {
+    yields: u8,
+    ended: bool,
 }
 
-impl Polled for Twice {
-    ghost use Rattle.std.specs.Prelude.{◌<◌, nat_lt};
-    ghost use Rattle.rt_jobs.specs.Ranges.{any_number};
+impl Polled for Countdown {
+    ghost range = { λ _. record { least = 9; greatest = 9 } };
 
-    ghost range = { λ _. any_number };
-
-    ghost ended = { λ work. nat_lt 2 work.polls };
+    ghost ended = { λ work. work.ended };
 
     fn poll(&mut self) -> Step<u64> {
-        self.polls += 1;
-        if self.polls > 2 { Step::Done(9) } else { Step::Yield }
+        if self.yields == 0 {
+            self.ended = true;
+            Step::Done(9)
+        } else {
+            self.yields -= 1;
+            Step::Yield
+        }
     }
 
     fn is_done(&self) -> bool {
-        self.polls > 2
+        self.ended
     }
 
     fn range(&self) -> Range {
         Range {
-            least: 0,
-            greatest: u64::MAX,
+            least: 9,
+            greatest: 9,
         }
     }
 }
@@ -46,7 +50,11 @@ fn boxed_jobs_run_as_any_other(rt: HostRuntime) -> Result<(), Fail> {
     let mut world: World<AnyJob> = World::try_new(rt.alloc(), rt.alloc(), 1, 4, 100)?;
     let call: Box<dyn FnOnce() -> u64 + Send> = Box::new(rt.alloc(), || 7)?;
     let first = once_job(OnceBox::new(call));
-    let inside: Box<dyn Polled + Send> = Box::new(rt.alloc(), Twice { polls: 0 })?;
+    let twice = Countdown {
+        yields: 2,
+        ended: false,
+    };
+    let inside: Box<dyn Polled + Send> = Box::new(rt.alloc(), twice)?;
     let second = polled_job(inside);
     for job in [first, second] {
         assert!(rt; !job.is_done());
