@@ -1,29 +1,27 @@
 -- A core, a link and a world as they open: nothing was noted, and each part is as a part of a world at rest.
-use Rattle.std.proofs.Common.{◌≡◌, ℕ, zero, suc, ◌+◌, ◌*◌, ◌^◌, ◌<◌, ◌≤◌, List, [], ◌∷◌, length, replicate, refl, sym, ◌∙◌, ap, subst, ⊎_elim, arith, get_or}
+use Rattle.std.proofs.Common.{◌≡◌, ℕ, zero, suc, ◌+◌, ◌*◌, ◌<◌, ◌≤◌, List, [], refl, sym, ◌∙◌, ap, subst, ⊎_elim, arith, get_or}
 use Rattle.std.specs.Prelude.{Option, Some, None, All}
 use Rattle.std.proofs.lemmas.Bool.{cases_lt}
 use Rattle.std.proofs.lemmas.List.{length-replicate, get_or-replicate, get_or_past}
 use Rattle.std.proofs.lemmas.List.Elements.{All-nil}
-use Rattle.rt_ids.specs.declared.names.JobId.{JobId}
 use Rattle.rt_ids.specs.declared.order.Order.{Order}
 use Rattle.rt_ids.specs.declared.order.Outcome.{Outcome}
-use Rattle.rt_ids.specs.Journal.{Journal, EachNote}
+use Rattle.rt_ids.specs.Journal.{EachNote}
 use Rattle.rt_ids.specs.Filters.{accepted_orders, delivered_names}
-use Rattle.rt_ids.specs.Runtimes.{virtual_runtime, shares}
 use Rattle.rt_ids.specs.Lawful.{IsLawful}
 use Rattle.rt_ids.specs.Joining.{DeliversAsSent}
 use Rattle.rt_jobs.specs.declared.job.Step.{Step}
 use Rattle.rt_link.specs.declared.plain.Whole.{Whole}
 use Rattle.rt_link.specs.Whole.{fresh, IsLink}
 use Rattle.rt_link.proofs.WholeLaws.{IsLink-fresh}
-use Rattle.rt_taskqueue.specs.Queues.{queue_count, waiting_of, shares_of, first_queue}
-use Rattle.rt_core.specs.State.{CoreView, JobOut, runtime_of, delivered_of, opened}
+use Rattle.rt_taskqueue.specs.Queues.{waiting_of, shares_of}
+use Rattle.rt_core.specs.State.{CoreView, runtime_of, opened}
 use Rattle.rt_world.specs.State.{journal_at, sent_at, assembly_of}
 use Rattle.rt_world.specs.Journals.{JournalView}
 use Rattle.rt_world.specs.Links.{row_of, link_at, no_link, AreFresh}
-use Rattle.rt_world.specs.Inside.{Parts, core_at, notes_at, journal_view, world_of, IsCoreAtRest, IsLinkBetween, AreOpened, AreEmpty}
+use Rattle.rt_world.specs.Inside.{Parts, notes_at, world_of, IsCoreAtRest, IsLinkBetween, AreOpened, AreEmpty}
 use Rattle.rt_world.specs.Tasks.{HasTask, IsWorld}
-use Rattle.rt_world.specs.Agreement.{Agrees, AreMarked, names_of}
+use Rattle.rt_world.specs.Agreement.{AreMarked, names_of}
 use Rattle.rt_world.specs.Opening.{IsFresh}
 use Rattle.rt_world.proofs.WorldViews.{journal_at-world, sent_at-world}
 

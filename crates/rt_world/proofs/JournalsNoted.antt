@@ -1,5 +1,5 @@
 -- One of the journals is borrowed and gets notes.
-use Rattle.std.proofs.Common.{◌≡◌, ℕ, ◌<◌, List, [], ◌++◌, length, reverse, refl, sym, ◌∙◌, ap, subst, get_or}
+use Rattle.std.proofs.Common.{◌≡◌, ℕ, ◌<◌, List, [], ◌++◌, length, reverse, ◌∙◌, ap, get_or}
 use Rattle.std.proofs.lemmas.List.{get_or_default}
 use Rattle.rt_ids.specs.declared.note.Note.{Note}
 use Rattle.rt_world.specs.Journals.{JournalView}

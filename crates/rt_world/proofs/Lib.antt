@@ -11,11 +11,14 @@ pub mod KeptSettles
 pub mod WorldLists
 pub mod WorldViews
 pub mod WorldAfter
+pub mod WorldQuiet
 pub mod FreshParts
 pub mod WorldSends
 pub mod WorldDeliveries
 pub mod PollsMade
 pub mod WorldDelivered
+pub mod TurnNotes
+pub mod TurnTasks
 pub mod WorldTurns
 pub mod SameLinks
 pub mod JournalReads
@@ -24,6 +27,7 @@ pub mod DeliverResults
 pub mod DeliverSteps
 pub mod WorldSound
 pub mod RunSteps
+pub mod TurnIsPoll
 pub mod JournalsNoted
 pub mod WorldPicks
 pub mod WorldPolled

@@ -1,11 +1,10 @@
 -- Cores and journals that were just opened, one after another.
-use Rattle.std.proofs.Common.{◌≡◌, ℕ, ◌+◌, ◌*◌, ◌<◌, ◌≤◌, List, [], ◌∷◌, ◌++◌, length, sym, ap, ◌∙◌, ⊎_elim, arith}
-use Rattle.std.specs.Prelude.{slice_index_or}
+use Rattle.std.proofs.Common.{◌≡◌, ℕ, ◌+◌, ◌*◌, ◌<◌, List, [], ◌∷◌, ◌++◌, length, sym, ap, ◌∙◌, ⊎_elim, arith}
 use Rattle.std.proofs.lemmas.Bool.{cases_lt}
 use Rattle.std.proofs.lemmas.List.{length_push, get_or_push, get_or_append_left}
 use Rattle.rt_core.specs.State.{CoreView, opened}
 use Rattle.rt_world.specs.Journals.{JournalView}
-use Rattle.rt_world.specs.Inside.{core_at, journal_view, AreEmpty}
+use Rattle.rt_world.specs.Inside.{core_at, journal_view}
 
 -- the first cores of those that are to be opened
 pub record AreFirstOpened {J : Type 0} (count cores cap : ℕ) (inside : List (CoreView J)) : Type 0 where

@@ -1,5 +1,5 @@
 -- What a creation before the first event does to a world at rest.
-use Rattle.std.proofs.Common.{◌≡◌, ℕ, ◌+◌, ◌<◌, ◌≤◌, List, [], ◌∷◌, ◌++◌, length, reverse, refl, sym, ◌∙◌, ap, subst, arith, get_or, set}
+use Rattle.std.proofs.Common.{◌≡◌, ℕ, ◌+◌, ◌<◌, ◌≤◌, List, [], ◌∷◌, ◌++◌, length, reverse, sym, ◌∙◌, ap, subst, arith, get_or, set}
 use Rattle.std.specs.Prelude.{Option, Result, Ok, Err, map}
 use Rattle.std.proofs.lemmas.List.{get_or_default, set-get_or, map-set}
 use Rattle.rt_shares.specs.Charge.{InRange}
@@ -16,7 +16,7 @@ use Rattle.rt_taskqueue.specs.Queues.{queue_count}
 use Rattle.rt_core.specs.State.{CoreView, opened}
 use Rattle.rt_core.specs.Deliveries.{Creates, CreatesQueue}
 use Rattle.rt_world.specs.Journals.{JournalView}
-use Rattle.rt_world.specs.State.{WorldView, journal_at, noted}
+use Rattle.rt_world.specs.State.{journal_at, noted}
 use Rattle.rt_world.specs.Inside.{Parts, core_at, notes_at, journal_view, world_of}
 use Rattle.rt_world.specs.Tasks.{IsWorld}
 use Rattle.rt_world.specs.Opening.{IsUnbegun, CreatesAtOpening}

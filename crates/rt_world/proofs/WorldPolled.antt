@@ -26,7 +26,8 @@ use Rattle.rt_world.specs.Tasks.{IsWorld}
 use Rattle.rt_world.proofs.PollNotes.{poll_note}
 use Rattle.rt_world.proofs.WorldViews.{journal_at-world}
 use Rattle.rt_world.proofs.WorldAfter.{after}
-use Rattle.rt_world.proofs.WorldTurns.{yielded, ended, polls_now_is}
+use Rattle.rt_world.proofs.WorldTurns.{yielded, ended}
+use Rattle.rt_world.proofs.TurnIsPoll.{polls_now_is}
 use Rattle.rt_world.proofs.JournalsNoted.{IsNoted}
 use Rattle.rt_world.proofs.WorldPicks.{IsTaken, taken, viewed}
 
@@ -111,12 +112,12 @@ module _ {J T : Type 0} (same : J → J → Type 0) (made : J → ℕ) (polls : 
           by_step : (step : Step T) → ran.step ≡ step → (settled : Settled T) → Settles middle the_job ran spent step settled last settle_written → IsWorld same made polls fits ready turned
           by_step (steps.Done value) ends (Finished answer) settles =
               ended same made polls fits ready is_same old world core core_there middle out.name out.queue out.was_started job takes
-              ran is_ran.before is_ran.owed is_ran.same_task is_ran.later spent last value ends settles.1
+              ran is_ran.same_task is_ran.later spent last value ends settles.1
           by_step (steps.Done value) ends Yielded settles = absurd settles
           by_step steps.Yield yields (Finished answer) settles = absurd settles
           by_step steps.Yield yields Yielded settles =
               yielded same made polls fits ready is_same old world core core_there middle out.name out.queue out.was_started job takes
-              ran is_ran.before is_ran.owed is_ran.same_task is_ran.later spent last yields settles.0 settles.1
+              ran is_ran.same_task is_ran.later spent last yields settles.0 settles.1
 
       module _ (page page_middle : JournalView T) (first : IsNoted old.journals core written page page_middle) (page_again : JournalView T)
           (again_at : page_again ≡ get_or (set old.journals core page_middle) core page_again) where
@@ -170,5 +171,5 @@ module _ {J T : Type 0} (same : J → J → Type 0) (made : J → ℕ) (polls : 
               subst (λ parts. IsPoll made polls answers core spent (world_of old) (world_of parts)) now_is
               (
               polls_now_is same made polls fits ready is_same old world core core_there middle out.name out.queue out.was_started job takes
-              ran is_ran.before is_ran.owed is_ran.same_task is_ran.later spent last answers answers_same is_ran.answered
+              ran is_ran.owed spent last answers answers_same is_ran.answered
               )

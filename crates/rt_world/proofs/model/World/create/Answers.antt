@@ -1,10 +1,9 @@
-use Rattle.std.proofs.Common.{◌≡◌, ◌<◌, ◌+◌, ◌≤◌, length, sym, ◌∙◌, ap, subst, arith}
+use Rattle.std.proofs.Common.{◌<◌, length, sym, ap, subst, arith}
 use Rattle.rt_shares.specs.Charge.{InRange}
 use Rattle.rt_jobs.specs.Ready.{HasReadyJob}
 use Rattle.rt_link.specs.Fits.{Fits}
 use Rattle.rt_world.specs.State.{journal_at}
 use Rattle.rt_world.specs.Opening.{IsUnbegun}
-use Rattle.rt_world.proofs.JournalsNoted.{IsNoted}
 use Rattle.rt_world.proofs.WorldCreates.{creation_room, world_now, creates_now}
 use Rattle.rt_world.proofs.model.World.create.Goals as goal
 
