@@ -13,7 +13,9 @@ pub mod WorldViews
 pub mod WorldAfter
 pub mod WorldQuiet
 pub mod FreshParts
+pub mod AllOutstanding
 pub mod WorldSends
+pub mod SentLists
 pub mod WorldDeliveries
 pub mod PollsMade
 pub mod WorldDelivered

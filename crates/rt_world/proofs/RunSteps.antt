@@ -1,5 +1,5 @@
 -- A run, one event longer.
-use Rattle.std.proofs.Common.{◌≡◌, ℕ, List, [], ◌∷◌, ◌++◌, refl, sym, subst}
+use Rattle.std.proofs.Common.{ℕ, List, [], ◌∷◌, ◌++◌, refl, subst}
 use Rattle.std.specs.Prelude.{Option}
 use Rattle.rt_jobs.specs.declared.job.Step.{Step}
 use Rattle.rt_world.specs.declared.event.Event.{Event}

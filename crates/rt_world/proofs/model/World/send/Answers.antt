@@ -1,14 +1,6 @@
-use Rattle.std.proofs.Common.{◌≡◌, ◌≤◌, ◌<◌, ◌+◌, length, refl, sym, ap, subst, ◌∙◌, List, [], ◌∷◌, ◌++◌, ℕ, arith, set, get_or}
-use Rattle.rt_ids.specs.declared.note.Note.TheVariants as writes
-use Rattle.rt_ids.specs.declared.order.Order.{Order}
-use Rattle.rt_jobs.specs.Ready.{HasReadyJob}
-use Rattle.rt_link.specs.Fits.{Fits}
+use Rattle.std.proofs.Common.{◌≡◌, ◌≤◌, ◌<◌, ◌+◌, length, sym, ap, subst, ◌∙◌, arith, set, get_or}
 use Rattle.rt_world.specs.State.{journal_at, order_note}
-use Rattle.rt_world.specs.Sends.{Sends}
-use Rattle.rt_world.specs.declared.event.Reply.TheVariants as reply
-use Rattle.rt_world.specs.Inside.{Parts, world_of}
-use Rattle.rt_world.specs.Tasks.{IsWorld}
-use Rattle.rt_world.proofs.JournalReads.{journal_free, journal_written}
+use Rattle.rt_world.proofs.JournalReads.{journal_free}
 use Rattle.rt_world.proofs.SendResults.{note_written, accepted_world, accepted_step, refused_links, refused_step}
 use Rattle.rt_world.proofs.model.World.send.Goals as goal
 
