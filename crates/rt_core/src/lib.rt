@@ -11,6 +11,8 @@ pub mod out;
 pub mod ready;
 #[doc(hidden)]
 pub mod tally;
+#[cfg(test)]
+mod tests;
 pub mod turn;
 
 pub use delivery::Delivered;
