@@ -7,8 +7,7 @@ pub mod one_core;
 // A crate can name a core in a contract only if the types of its fields are exported.
 #[doc(hidden)]
 pub mod out;
-#[doc(hidden)]
-pub mod ready;
+mod ready;
 #[doc(hidden)]
 pub mod tally;
 #[cfg(test)]
