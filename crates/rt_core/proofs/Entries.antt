@@ -8,9 +8,9 @@ use Rattle.rt_ids.specs.Names.{is_number}
 use Rattle.rt_taskqueue.specs.Queues.{waiting_of}
 use Rattle.rt_core.specs.declared.tally.Tally.{Tally}
 use Rattle.rt_core.specs.State.{CoreView, no_tally, is_any, queue_out, runtime_of}
-use Rattle.rt_core.specs.Rising.{inserted, IsTimeline}
+use Rattle.rt_timeline.specs.Rising.{inserted, LacksQueue}
 use Rattle.rt_core.specs.Inside.{runtime_listed, may_run, IsListed}
-use Rattle.rt_core.proofs.Listed.{LacksQueue-from_none, listed-inserted_same, listed-inserted_other, listed-least_gone, listed-later}
+use Rattle.rt_core.proofs.Listed.{LacksQueue-from_none, listed-inserted_same, listed-inserted_other, none_from_lacking, listed-later}
 
 pub is_any-push : {A : Type 0} (line : List A) (more : A) → is_any (line ++ more ∷ []) ≡ true
 is_any-push [] more = refl
@@ -74,11 +74,11 @@ module _ {J : Type 0} where
       by_queue queue (inr apart) = listed-inserted_other queue key keys apart ∙ listed.at queue ∙ sym (same queue apart)
 
   -- the least key is taken out
-  pub IsListed-taken : (old new : CoreView J) (key : Key) (later : List Key) → IsTimeline (key ∷ later) → entry_of new key.queue ≡ None →
+  pub IsListed-taken : (old new : CoreView J) (key : Key) (later : List Key) → LacksQueue key.queue later → entry_of new key.queue ≡ None →
       ((queue : ℕ) → queue ≢ key.queue → entry_of new queue ≡ entry_of old queue) → IsListed old (key ∷ later) → IsListed new later
-  IsListed-taken old new key later timeline none same listed = record { at = λ queue. by_queue queue (cases_eq queue key.queue) }
+  IsListed-taken old new key later gone none same listed = record { at = λ queue. by_queue queue (cases_eq queue key.queue) }
     where
       by_queue : (queue : ℕ) → (queue ≡ key.queue) ⊎ (queue ≡ key.queue → ⊥) → runtime_listed queue later ≡ entry_of new queue
       by_queue queue (inl is) =
-          ap (λ other. runtime_listed other later) is ∙ listed-least_gone key later timeline ∙ sym none ∙ ap (λ other. entry_of new other) (sym is)
+          ap (λ other. runtime_listed other later) is ∙ none_from_lacking key.queue later gone ∙ sym none ∙ ap (λ other. entry_of new other) (sym is)
       by_queue queue (inr apart) = sym (listed-later queue key later apart) ∙ listed.at queue ∙ sym (same queue apart)

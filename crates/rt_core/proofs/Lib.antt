@@ -1,4 +1,3 @@
-pub mod Keys
 pub mod Listed
 pub mod Entries
 pub mod Fits
@@ -9,3 +8,5 @@ pub mod Counting
 pub mod Charging
 pub mod Outcomes
 pub mod PollsSettled
+pub mod SlipsKept
+pub mod Opening

@@ -4,7 +4,7 @@ use Rattle.std.proofs.lemmas.Bool.{eqb-true, eq-eqb, true≢false}
 use Rattle.std.proofs.lemmas.Bool.Decides.{eqb_tells}
 use Rattle.rt_ids.specs.declared.names.Key.{Key}
 use Rattle.rt_ids.specs.Keys.{KeyBefore, KeyAtMost}
-use Rattle.rt_core.specs.Rising.{StandsBefore, stands_before, EachKey, IsRising, LacksQueue, HasDistinctQueues, inserted, IsTimeline}
+use Rattle.rt_timeline.specs.Rising.{StandsBefore, stands_before, EachKey, IsRising, LacksQueue, inserted}
 use Rattle.rt_core.specs.Inside.{runtime_listed}
 
 pub eqb-self : (a : ℕ) → eqb a a ≡ true
@@ -49,10 +49,7 @@ listed-inserted_other queue key [] apart = rw (eqb-apart queue key.queue apart)
 listed-inserted_other queue key (next ∷ later) apart =
     other_if queue key next later (stands_before key next) apart (listed-inserted_other queue key later apart)
 
--- the least key: its queue has no other, and the others are listed without it
-pub listed-least_gone : (key : Key) (later : List Key) → IsTimeline (key ∷ later) → runtime_listed key.queue later ≡ None
-listed-least_gone key later timeline = none_from_lacking key.queue later timeline.distinct.0
-
+-- the least key, and the others without it
 pub listed-least : (key : Key) (later : List Key) → runtime_listed key.queue (key ∷ later) ≡ Some key.vr
 listed-least key later = rw (eqb-self key.queue)
 

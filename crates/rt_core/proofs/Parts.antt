@@ -11,7 +11,7 @@ use Rattle.rt_jobs.specs.Ready.{IsReady}
 use Rattle.rt_taskqueue.specs.Queues.{QueuesView, waiting_of, queue_count, held_count, ChangesLine, IsWithinLimits}
 use Rattle.rt_core.specs.declared.tally.Tally.{Tally}
 use Rattle.rt_core.specs.State.{CoreView, JobOut, no_tally, is_any, queue_out, tally_of, runtime_of, is_working, inside_count}
-use Rattle.rt_core.specs.Rising.{inserted, IsTimeline}
+use Rattle.rt_timeline.specs.Rising.{inserted}
 use Rattle.rt_core.specs.Inside.{runtime_listed, may_run, unsettled_count, FitsTurns, IsCounted, IsListed, IsPollable, IsWithinTurns}
 use Rattle.rt_core.proofs.Listed.{eqb-self, eqb-apart}
 use Rattle.rt_core.proofs.Entries.{is_any-push, entry_of, may_run-same, entry_of-same, entry_of-none, entry_of-some, runtime_of-set_other, runtime_of-set_same, IsListed-kept, IsListed-inserted, IsListed-taken}

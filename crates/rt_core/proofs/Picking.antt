@@ -1,31 +1,23 @@
 -- What holds inside a core as a job is taken out.
 use Rattle.std.proofs.Common.{◌≡◌, ◌≢◌, inl, inr, ℕ, ◌+◌, ◌*◌, ◌^◌, ◌<◌, ◌≤◌, Bool, true, false, cond, List, [], ◌∷◌, length, max, Option, Some, None, refl, sym, ap, ◌∙◌, subst, arith}
-use Rattle.std.specs.Prelude.{All, is_some, slice_index_or, slice_set}
+use Rattle.std.specs.Prelude.{All, is_some, not, ◌&&◌, slice_index_or, slice_set}
 use Rattle.std.proofs.lemmas.Bool.{cases_lt, true≢false}
 use Rattle.std.proofs.lemmas.List.{get_or_past}
 use Rattle.std.proofs.lemmas.List.Elements.{All-set, All-weaker}
 use Rattle.rt_ids.specs.declared.names.Key.{Key}
 use Rattle.rt_ids.specs.Keys.{KeyAtMost}
+use Rattle.rt_ids.specs.Names.{is_number}
 use Rattle.rt_ids.specs.Work.{number_if}
 use Rattle.rt_taskqueue.specs.Queues.{QueuesView, waiting_of, queue_count, no_queue}
 use Rattle.rt_core.specs.declared.tally.Tally.{Tally}
-use Rattle.rt_core.specs.State.{CoreView, JobOut, is_any, runtime_of}
+use Rattle.rt_core.specs.State.{CoreView, JobOut, is_any, queue_out, runtime_of}
 use Rattle.rt_core.specs.Turns.{IsNext}
-use Rattle.rt_core.specs.Rising.{IsRising, IsTimeline, first_key, later_keys}
+use Rattle.rt_timeline.specs.Rising.{IsRising, LacksQueue}
 use Rattle.rt_core.specs.Inside.{runtime_listed, may_run, unsettled_count, FitsTurns, IsListed, IsWithinTurns}
 use Rattle.rt_core.proofs.Listed.{listed-least, least_of_listed}
 use Rattle.rt_core.proofs.Entries.{entry_of, entry_of-same, entry_of-none, entry_of-some, runtime_of-set_other, IsListed-taken, is_any-from_some, some_from_is_any, none_from_is_any}
 use Rattle.rt_core.proofs.Settling.{may_run-free, may_run-other, out_entry}
 use Rattle.rt_core.proofs.Fits.{other_fits}
-
--- the first key and the others
-pub keys_are : (keys : List Key) (key : Key) → first_key keys ≡ Some key → keys ≡ key ∷ later_keys keys
-keys_are [] key first = cc
-keys_are (other ∷ later) key first = let same : other ≡ key = cc in ap (λ one. one ∷ later) same
-
-no_keys : (keys : List Key) → first_key keys ≡ None → keys ≡ []
-no_keys [] none = refl
-no_keys (key ∷ later) none = cc
 
 -- what an entry says
 entry_says : (test : Bool) (runtime value : ℕ) → cond test (Some runtime) None ≡ Some value → (test ≡ true) × (runtime ≡ value)
@@ -45,9 +37,9 @@ exists_if_waiting queues queue any = elim (cases_lt queue (queue_count queues)) 
 
 module _ {J : Type 0} where
   -- what the first key says of its queue
-  module _ (view : CoreView J) (keys : List Key) (key : Key) (first : first_key keys ≡ Some key) (listed : IsListed view keys) where
+  module _ (view : CoreView J) (keys : List Key) (key : Key) (later : List Key) (are : keys ≡ key ∷ later) (listed : IsListed view keys) where
     first_entry : entry_of view key.queue ≡ Some key.vr
-    first_entry = sym (listed.at key.queue) ∙ ap (λ all. runtime_listed key.queue all) (keys_are keys key first) ∙ listed-least key (later_keys keys)
+    first_entry = sym (listed.at key.queue) ∙ ap (λ all. runtime_listed key.queue all) are ∙ listed-least key later
 
     pub first_runtime : runtime_of key.queue view ≡ key.vr
     first_runtime = (entry_says (may_run key.queue view) (runtime_of key.queue view) key.vr first_entry).1
@@ -57,33 +49,32 @@ module _ {J : Type 0} where
         sym (may_run-free view key.queue (is_any (waiting_of key.queue view.queues)) free refl) ∙ (entry_says (may_run key.queue view) (runtime_of key.queue view) key.vr first_entry).0
 
     -- its queue is next
-    pub first_is_next : view.out ≡ None → IsTimeline keys → IsNext view key.queue
-    first_is_next free timeline = record {
+    pub first_is_next : view.out ≡ None → IsRising keys → IsNext view key.queue
+    first_is_next free rising = record {
       free = free;
       least = λ other some.
           let is : runtime_listed other keys ≡ Some (runtime_of other view) =
           listed.at other ∙ entry_of-some view other (may_run-free view other true free (is_any-from_some (waiting_of other view.queues) some)) in
-          let all : runtime_listed other (key ∷ later_keys keys) ≡ Some (runtime_of other view) = subst (λ ks. runtime_listed other ks ≡ Some (runtime_of other view)) (keys_are keys key first) is in
-          let rising : IsRising (key ∷ later_keys keys) = subst IsRising (keys_are keys key first) timeline.rising in
-          subst (λ runtime. KeyAtMost runtime key.queue (runtime_of other view) other) (sym first_runtime) (least_of_listed key (later_keys keys) other (runtime_of other view) rising all);
+          let all : runtime_listed other (key ∷ later) ≡ Some (runtime_of other view) = subst (λ ks. runtime_listed other ks ≡ Some (runtime_of other view)) are is in
+          subst (λ runtime. KeyAtMost runtime key.queue (runtime_of other view) other) (sym first_runtime) (least_of_listed key later other (runtime_of other view) (subst IsRising are rising) all);
     }
 
   -- no key is left: no job waits
-  pub idle_if_no_key : (view : CoreView J) (keys : List Key) → first_key keys ≡ None → view.out ≡ None → IsListed view keys →
+  pub idle_if_no_key : (view : CoreView J) (keys : List Key) → keys ≡ [] → view.out ≡ None → IsListed view keys →
       (queue : ℕ) → waiting_of queue view.queues ≡ []
   idle_if_no_key view keys none free listed queue =
-      let nothing : entry_of view queue ≡ None = sym (listed.at queue) ∙ ap (λ all. runtime_listed queue all) (no_keys keys none) in
+      let nothing : entry_of view queue ≡ None = sym (listed.at queue) ∙ ap (λ all. runtime_listed queue all) none in
       none_from_is_any (waiting_of queue view.queues)
       (sym (may_run-free view queue (is_any (waiting_of queue view.queues)) free refl) ∙ none_says (may_run queue view) (runtime_of queue view) nothing)
 
   -- the first job of the first queue is out
-  pub IsListed-picks : (old new : CoreView J) (keys : List Key) (key : Key) (out : JobOut J) (tally : Tally) → first_key keys ≡ Some key → IsTimeline keys →
+  pub IsListed-picks : (old new : CoreView J) (keys : List Key) (key : Key) (later : List Key) (out : JobOut J) (tally : Tally) → keys ≡ key ∷ later → LacksQueue key.queue later →
       old.out ≡ None → new.out ≡ Some out → out.queue ≡ key.queue →
       ((other : ℕ) → other ≢ key.queue → waiting_of other new.queues ≡ waiting_of other old.queues) →
-      new.tallies ≡ slice_set old.tallies key.queue tally → IsListed old keys → IsListed new (later_keys keys)
-  IsListed-picks old new keys key out tally first timeline free is_out same lines tallies listed =
-      IsListed-taken old new key (later_keys keys) (subst IsTimeline (keys_are keys key first) timeline)
-      (ap (λ queue. entry_of new queue) (sym same) ∙ out_entry new out is_out) others (subst (IsListed old) (keys_are keys key first) listed)
+      new.tallies ≡ slice_set old.tallies key.queue tally → IsListed old keys → IsListed new later
+  IsListed-picks old new keys key later out tally are gone free is_out same lines tallies listed =
+      IsListed-taken old new key later gone
+      (ap (λ queue. entry_of new queue) (sym same) ∙ out_entry new out is_out) others (subst (IsListed old) are listed)
     where
       others : (other : ℕ) → other ≢ key.queue → entry_of new other ≡ entry_of old other
       others other apart =
@@ -104,12 +95,18 @@ module _ {J : Type 0} where
       }
 
   -- a key is left: a job waits
-  pub work_if_key : (view : CoreView J) (keys : List Key) → is_some (first_key keys) ≡ true → view.out ≡ None → IsListed view keys →
+  pub work_if_key : (view : CoreView J) (keys : List Key) → (keys ≡ [] → ⊥) → view.out ≡ None → IsListed view keys →
       (queue : ℕ) × (waiting_of queue view.queues ≡ [] → ⊥)
-  work_if_key view [] some free listed = cc
+  work_if_key view [] some free listed = absurd (some refl)
   work_if_key view (key ∷ later) some free listed =
-      (key.queue, some_from_is_any (waiting_of key.queue view.queues) (first_waits view (key ∷ later) key refl listed free))
+      (key.queue, some_from_is_any (waiting_of key.queue view.queues) (first_waits view (key ∷ later) key later refl listed free))
 
-pub none_if_not_some : {A : Type 0} (value : Option A) → is_some value ≡ false → value ≡ None
-none_if_not_some None none = refl
-none_if_not_some (Some inner) none = cc
+  -- the first job of a line is left out, and the line has one
+  pub some_keys : (view : CoreView J) (keys : List Key) → view.out ≡ None → IsListed view keys → (queue : ℕ) × (waiting_of queue view.queues ≡ [] → ⊥) → keys ≡ [] → ⊥
+  some_keys view keys free listed (queue, some) none = some (idle_if_no_key view keys none free listed queue)
+
+-- a queue that doesn't exist isn't listed
+pub nothing_past : {J : Type 0} (view : CoreView J) → entry_of view (queue_count view.queues) ≡ None
+nothing_past view =
+    let empty : waiting_of (queue_count view.queues) view.queues ≡ [] = ap (λ found. found.waiting) (get_or_past view.queues.queues (queue_count view.queues) no_queue (omega arith)) in
+    entry_of-none view (queue_count view.queues) (ap (λ line. is_any line && not (is_number (queue_count view.queues) (queue_out view.out))) empty)

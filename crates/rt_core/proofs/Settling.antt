@@ -10,7 +10,7 @@ use Rattle.rt_ids.specs.Work.{number_if}
 use Rattle.rt_taskqueue.specs.Queues.{QueuesView, waiting_of, queue_count, held_count, ChangesLine, IsWithinLimits}
 use Rattle.rt_core.specs.declared.tally.Tally.{Tally}
 use Rattle.rt_core.specs.State.{CoreView, JobOut, is_any, queue_out, inside_count}
-use Rattle.rt_core.specs.Rising.{inserted}
+use Rattle.rt_timeline.specs.Rising.{inserted}
 use Rattle.rt_core.specs.Inside.{may_run, unsettled_count, FitsTurns, IsCounted, IsListed, IsWithinTurns}
 use Rattle.rt_core.proofs.Listed.{eqb-self, eqb-apart}
 use Rattle.rt_core.proofs.Entries.{entry_of, entry_of-same, entry_of-none, entry_of-some, runtime_of-set_other, runtime_of-set_same, IsListed-kept, IsListed-inserted}

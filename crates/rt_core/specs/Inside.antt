@@ -1,5 +1,5 @@
 -- What holds inside a core.
-use Rattle.std.specs.Prelude.{◌≡◌, ℕ, ◌+◌, ◌*◌, ◌^◌, ◌<◌, ◌≤◌, ◌==◌, ◌&&◌, not, Bool, Option, Some, None, is_some, IfSome, List, [], ◌∷◌, length, All, if◌then◌else◌}
+use Rattle.std.specs.Prelude.{◌≡◌, ℕ, ◌+◌, ◌*◌, ◌^◌, ◌<◌, ◌≤◌, ◌==◌, ◌&&◌, not, Bool, false, Option, Some, None, is_some, IfSome, List, [], ◌∷◌, length, All, slice_index_or, if◌then◌else◌}
 use Rattle.rt_ids.specs.declared.names.JobId.{JobId}
 use Rattle.rt_ids.specs.declared.names.Key.{Key}
 use Rattle.rt_ids.specs.Names.{is_number}
@@ -26,6 +26,11 @@ pub record FitsTurns (turns unsettled : ℕ) (tally : Tally) : Type 0 where
   pub selected : tally.selected ≤ turns
   pub time : tally.time + unsettled * 2 ^ 40 ≤ turns * 2 ^ 40
   pub finished : tally.finished + unsettled ≤ turns
+
+-- a queue has its slip exactly where none of these keys is of it
+pub record KeepsSlips (queues : ℕ) (slips : List Bool) (keys : List Key) : Type 0 where
+  pub counted : length slips ≡ queues
+  pub at : (queue : ℕ) → queue < queues → slice_index_or slips queue false ≡ not (is_some (runtime_listed queue keys))
 
 module _ {J : Type 0} where
   -- what callers see of these fields
@@ -73,8 +78,9 @@ module _ {J : Type 0} where
     pub tallies : All (FitsTurns view.turns (unsettled_count view)) view.tallies
     pub floor : view.floor + unsettled_count view * 2 ^ 50 ≤ view.turns * 2 ^ 50
 
-  pub record IsCore (done : J → Bool) (can_poll : J → Type 0) (view : CoreView J) (keys : List Key) (inside room tally_places : ℕ) : Type 0 where
+  pub record IsCore (done : J → Bool) (can_poll : J → Type 0) (view : CoreView J) (slips : List Bool) (keys : List Key) (inside room tally_places : ℕ) : Type 0 where
     pub counted : IsCounted view inside room tally_places
     pub listed : IsListed view keys
+    pub slipped : KeepsSlips (queue_count view.queues) slips keys
     pub pollable : IsPollable done can_poll view
     pub turns : IsWithinTurns view

@@ -2,8 +2,6 @@ pub mod State
 pub mod Deliveries
 pub mod Turns
 pub mod Answers
-pub mod Rising
-pub mod Places
 pub mod Inside
 pub mod Steps
 pub mod Figures

@@ -7,10 +7,11 @@ pub mod one_core;
 // A crate can name a core in a contract only if the types of its fields are exported.
 #[doc(hidden)]
 pub mod out;
-#[doc(hidden)]
-pub mod ready;
+mod ready;
 #[doc(hidden)]
 pub mod tally;
+#[cfg(test)]
+mod tests;
 pub mod turn;
 
 pub use delivery::Delivered;

@@ -12,14 +12,14 @@ ghost use Rattle.rt_core.specs.Figures.{core_stats, queue_stats};
 use crate::delivery::Delivered;
 use crate::notes::{Notes, one_note, two_notes};
 use crate::out::Out;
-use crate::ready::{MOST_QUEUES, Ready};
-use crate::tally::Tally;
+use crate::tally::{MOST_QUEUES, Tally};
 use crate::turn::{PickError, Settled, Turn};
 use arrayvec::ArrayVec;
 use rt_ids::{CoreNo, CoreStats, Envelope, JobId, Key, Note, Order, QueueNo, QueueStats};
 use rt_jobs::{Ran, Step, Task};
 use rt_shares::Shares;
 use rt_taskqueue::{CreateError, Queues};
+use rt_timeline::Timeline;
 use std::alloc::{AllocError, Allocator, Global};
 use std::marker::Model;
 
@@ -33,8 +33,9 @@ pub struct Core<J: Task, A: Allocator + Clone = Global> {
     core: CoreNo,
     cores: u8,
     queues: Queues<J, A>,
-    // The keys of the queues in which a job waits, but for that of the job that is out.
-    ready: Ready<A>,
+    // The queues in which a job waits, but for that of the job that is out. A queue's slip is here while it is among them, and with
+    // its queue else.
+    ready: Timeline<A>,
     tallies: Vec<Tally, A>,
     delivered: Vec<u64, A>,
     floor: u128,
@@ -51,11 +52,12 @@ impl<J: Task, A: Allocator + Clone> Model for Core<J, A> {
     ghost Value = { CoreView J };
 
     ghost use Rattle.std.specs.Prelude.{vec_capacity};
+    ghost use Rattle.rt_taskqueue.specs.Slips.{queues_alone};
     ghost use Rattle.rt_core.specs.Inside.{job_out, core_view, IsCore};
 
-    ghost view = { λ c. core_view c.core c.cores c.queues c.tallies.items c.floor c.turns (job_out c.out) c.delivered.items };
+    ghost view = { λ c. core_view c.core c.cores (queues_alone c.queues) c.tallies.items c.floor c.turns (job_out c.out) c.delivered.items };
 
-    ghost invariant = { λ c. IsCore J.done J.CanPoll (core_view c.core c.cores c.queues c.tallies.items c.floor c.turns (job_out c.out) c.delivered.items) c.ready c.inside c.room (vec_capacity c.tallies) };
+    ghost invariant = { λ c. IsCore J.done J.CanPoll (core_view c.core c.cores (queues_alone c.queues) c.tallies.items c.floor c.turns (job_out c.out) c.delivered.items) c.queues.slips c.ready.keys c.inside c.room (vec_capacity c.tallies) };
 }
 
 impl<J: Task, A: Allocator + Clone> Core<J, A> {
@@ -82,12 +84,11 @@ impl<J: Task, A: Allocator + Clone> Core<J, A> {
         let mut tallies = Vec::with_capacity(alloc.clone()?, MOST_QUEUES)?;
         tallies.push_reserved(Tally::NONE);
         let delivered = Vec::from_elem(alloc.clone()?, 0, senders)?;
-        let ready = Ready::open(alloc.clone()?)?;
         Ok(Core {
             core,
             cores,
             queues: Queues::open(alloc, room)?,
-            ready,
+            ready: Timeline::new(),
             tallies,
             delivered,
             floor: 0,
@@ -162,7 +163,7 @@ impl<J: Task, A: Allocator + Clone> Core<J, A> {
         if self.out.is_some() {
             return (Err(PickError::Busy), ArrayVec::new());
         }
-        if self.ready.least().is_none() {
+        if self.ready.is_empty() {
             return (Ok(Turn::Idle), ArrayVec::new());
         }
         if self.turns == u64::MAX {

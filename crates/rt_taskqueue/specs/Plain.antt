@@ -1,8 +1,9 @@
 -- The plain representation: all jobs in one list, in the order in which they last came to a tail.
-use Rattle.std.specs.Prelude.{ℕ, ◌<◌, ◌≤◌, Bool, ◌==◌, suc, List, [], ◌∷◌, length, map, filter, All}
+use Rattle.std.specs.Prelude.{◌≡◌, ℕ, ◌<◌, ◌≤◌, Bool, ◌==◌, suc, List, [], ◌∷◌, length, map, filter, All, Option, Some, None, is_some, slice_index_or}
 use Rattle.rt_ids.specs.declared.names.JobId.{JobId}
 use Rattle.rt_taskqueue.specs.declared.waiting.Waiting.{Waiting}
 use Rattle.rt_taskqueue.specs.Queues.{QueueView, QueuesView}
+use Rattle.rt_taskqueue.specs.Slips.{SlippedView}
 
 module _ {J : Type 0} where
   -- whether a job waits in this queue
@@ -34,3 +35,13 @@ module _ {J : Type 0} where
     pub some_queue : 1 ≤ length shares
     pub few_queues : length shares ≤ 256
     pub queues_reserved : 256 ≤ share_places
+
+  -- the queues that these jobs, shares and slips are
+  abbrev pub slipped_view : ℕ → List (Waiting J) → List ℕ → List (Option ℕ) → SlippedView J
+  slipped_view room jobs shares slips = record { queues = queues_from 0 shares jobs; room = room; slips = map is_some slips }
+
+-- there is a place for the slip of each queue, and a slip stands at the place of its own queue
+pub record HasOwnSlips (count slip_places : ℕ) (slips : List (Option ℕ)) : Type 0 where
+  pub own : (queue slip : ℕ) → slice_index_or slips queue None ≡ Some slip → slip ≡ queue
+  pub counted : length slips ≡ count
+  pub reserved : 256 ≤ slip_places

@@ -1,10 +1,11 @@
 //! All task queues of a core.
-ghost use Rattle.std.specs.Prelude.{◌≡◌, ◌+◌, ◌<◌, ◌≤◌, ◌↔◌, [], ◌∷◌, ◌++◌, true, false, drop, length, IsTrue, IfOk, OnErr, IfSome, IfNone, OnSome};
-ghost use Rattle.rt_taskqueue.specs.Queues.{queue_count, shares_of, waiting_of, held_count, first_queue, IsWithinLimits, ChangesLine, ChangesShares, AddsQueue};
+ghost use Rattle.std.specs.Prelude.{◌≡◌, ◌+◌, ◌<◌, ◌≤◌, ◌↔◌, [], ◌∷◌, ◌++◌, true, false, drop, length, is_some, IsTrue, IfOk, OnErr, IfSome, IfNone, OnSome};
+ghost use Rattle.rt_taskqueue.specs.Slips.{queue_count, shares_of, waiting_of, held_count, has_slip, without_slip, with_slip, first_queue, IsWithinLimits, ChangesLine, ChangesShares, AddsQueue};
 
 use crate::waiting::{Waiting, head_place, line_length};
 use rt_ids::{JobId, QueueNo};
 use rt_shares::Shares;
+use rt_timeline::Slip;
 use std::alloc::{AllocError, Allocator};
 use std::marker::Model;
 
@@ -24,39 +25,53 @@ pub enum CreateError {
 
 /// The task queues of a core, numbered from 0, with room for so many jobs in all of them together.
 ///
+/// A queue's slip is the node by which it stands in a timeline. It is made with the queue, and is with it while it stands in none.
 /// Only `open` and `try_create` take memory.
 #[derive(Drop)]
 pub struct Queues<J, A: Allocator> {
     jobs: Vec<Waiting<J>, A>,
     shares: Vec<Shares, A>,
+    slips: Vec<Option<Slip<A>>, A>,
     room: usize,
+    // What the slip of a new queue is taken from.
+    alloc: A,
 }
 
 impl<J, A: Allocator> Model for Queues<J, A> {
-    ghost use Rattle.rt_taskqueue.specs.Queues.{QueuesView};
+    ghost use Rattle.rt_taskqueue.specs.Slips.{SlippedView};
 
-    ghost Value = { QueuesView J };
+    ghost Value = { SlippedView J };
 
-    ghost use Rattle.std.specs.Prelude.{vec_capacity};
-    ghost use Rattle.rt_taskqueue.specs.Plain.{plain_view, IsPlain};
+    ghost use Rattle.std.specs.Prelude.{length, vec_capacity};
+    ghost use Rattle.rt_taskqueue.specs.Plain.{slipped_view, IsPlain, HasOwnSlips};
 
-    ghost view = { λ q. plain_view q.room q.jobs.items q.shares.items };
+    ghost view = { λ q. slipped_view q.room q.jobs.items q.shares.items q.slips.items };
 
-    ghost invariant = { λ q. IsPlain q.room (vec_capacity q.jobs) (vec_capacity q.shares) q.jobs.items q.shares.items };
+    ghost invariant = { λ q.
+        IsPlain q.room (vec_capacity q.jobs) (vec_capacity q.shares) q.jobs.items q.shares.items
+        × HasOwnSlips (length q.shares.items) (vec_capacity q.slips) q.slips.items };
 }
 
 impl<J: Drop, A: Allocator + Clone> Queues<J, A> {
-    /// Opens queue 0, with the default shares, and takes the memory for this many jobs and for all queues.
+    /// Opens queue 0, with the default shares, and takes the memory for this many jobs and for all queues but their slips.
     pub fn open(alloc: A, room: usize) -> Result<Self, AllocError>
         ensures opened { IfOk result (λ queues. queues ≡ first_queue room) }
     {
         let mut shares = Vec::with_capacity(alloc.clone()?, MOST_QUEUES)?;
-        let jobs = Vec::with_capacity(alloc, room)?;
+        let mut slips = Vec::with_capacity(alloc.clone()?, MOST_QUEUES)?;
+        let jobs = Vec::with_capacity(alloc.clone()?, room)?;
         shares.push_reserved(Shares::default());
-        Ok(Queues { jobs, shares, room })
+        slips.push_reserved(Some(new_slip(&alloc, QueueNo(0))?));
+        Ok(Queues {
+            jobs,
+            shares,
+            slips,
+            room,
+            alloc,
+        })
     }
 
-    /// Creates a queue under the next number.
+    /// Creates a queue under the next number. It asks for the queue's slip before it changes anything.
     pub fn try_create(&mut self, shares: Shares) -> Result<QueueNo, CreateError>
         ensures created { IfOk result (λ queue. AddsQueue self.old self.new queue shares) }
         ensures too_many { (result ≡ Err CreateError.TooMany) ↔ (queue_count self.old ≡ 256) }
@@ -67,8 +82,13 @@ impl<J: Drop, A: Allocator + Clone> Queues<J, A> {
         if count == MOST_QUEUES {
             return Err(CreateError::TooMany);
         }
+        let queue = QueueNo(count as u8);
+        let Ok(slip) = new_slip(&self.alloc, queue) else {
+            return Err(CreateError::Memory);
+        };
         self.shares.push_reserved(shares);
-        Ok(QueueNo(count as u8))
+        self.slips.push_reserved(Some(slip));
+        Ok(queue)
     }
 
     /// How many queues there are.
@@ -170,4 +190,31 @@ impl<J: Drop, A: Allocator + Clone> Queues<J, A> {
     {
         self.shares[queue.0 as usize] = shares;
     }
+    /// Gives the slip of this queue out, if it is with the queue. Takes no memory.
+    pub fn take_slip(&mut self, queue: QueueNo) -> Option<Slip<A>>
+        requires exists { queue < queue_count self.old }
+        ensures there { is_some result ≡ has_slip queue self.old }
+        ensures own { IfSome result (λ slip. slip ≡ queue) }
+        ensures given { self.new ≡ without_slip queue self.old }
+        ensures out { has_slip queue self.new ≡ false }
+    {
+        self.slips[queue.0 as usize].take()
+    }
+
+    /// Takes the slip of its queue back. Takes no memory.
+    pub fn put_slip(&mut self, slip: Slip<A>)
+        requires exists { slip < queue_count self.old }
+        requires out { has_slip slip self.old ≡ false }
+        ensures { self.new ≡ with_slip slip self.old }
+    {
+        let place = slip.queue().0 as usize;
+        self.slips[place] = Some(slip);
+    }
+}
+
+/// A slip from this allocator.
+fn new_slip<A: Allocator + Clone>(alloc: &A, queue: QueueNo) -> Result<Slip<A>, AllocError>
+    ensures { IfOk result (λ slip. slip ≡ queue) }
+{
+    Slip::try_new(alloc.clone()?, queue)
 }

@@ -2,6 +2,7 @@ use crate::{CreateError, Queues};
 use linked_list_allocator::LocalHeap;
 use rt_ids::{ActorNo, CoreNo, JobId, QueueNo};
 use rt_shares::Shares;
+use rt_timeline::Slip;
 use std::alloc::{Allocator, Global};
 use std::process::Abort;
 use std::test::Fail;
@@ -151,9 +152,76 @@ fn shares_of_one_queue_change(rt: HostRuntime) -> Result<(), Fail> {
     Ok(())
 }
 
+/// Takes the slip of a queue that exists.
+fn take<J: Drop, A: Allocator + Clone>(
+    rt: &impl Abort,
+    queues: &mut Queues<J, A>,
+    queue: QueueNo,
+) -> Option<Slip<A>> {
+    assert!(rt; u16::from(queue.0) < queues.queue_count());
+    queues.take_slip(queue)
+}
+
+/// Takes the slip of a queue that exists, and puts it back.
+fn take_and_put(rt: &impl Abort, queues: &mut Queues<u32, Global>, queue: QueueNo) {
+    assert!(rt; u16::from(queue.0) < queues.queue_count());
+    let Some(slip) = queues.take_slip(queue) else {
+        panic!(rt; "its slip is with each queue");
+    };
+    assert_eq!(rt; slip.queue(), queue);
+    queues.put_slip(slip);
+}
+
+#[test]
+fn slips_go_out_and_come_back(rt: HostRuntime) -> Result<(), Fail> {
+    let mut queues: Queues<u32, Global> = Queues::open(rt.alloc(), 1)?;
+    assert_eq!(rt; queues.try_create(shares(&rt, 500)), Ok(SECOND));
+    for queue in [FIRST, SECOND, SECOND, FIRST] {
+        take_and_put(&rt, &mut queues, queue);
+    }
+    for queue in [FIRST, SECOND] {
+        assert!(rt; take(&rt, &mut queues, queue).is_some());
+        assert!(rt; take(&rt, &mut queues, queue).is_none());
+    }
+    Ok(())
+}
+
+/// Makes queues until there is no memory for one more, and answers how many there are.
+fn fill(rt: &impl Abort, queues: &mut Queues<u32, &LocalHeap>) -> u16 {
+    for _ in 0..256 {
+        let before = queues.queue_count();
+        if queues.try_create(Shares::default()).is_err() {
+            assert_eq!(rt; queues.queue_count(), before);
+            return before;
+        }
+    }
+    panic!(rt; "no creation was refused");
+}
+
+#[test]
+fn a_queue_that_finds_no_memory_changes_nothing(rt: HostRuntime) -> Result<(), Fail> {
+    // Room for the lists of two jobs and of all queues, and then for some slips.
+    let heap = LocalHeap::new(rt.alloc(), 1 << 13)?;
+    let mut queues = Queues::open(&heap, 2)?;
+    let count = fill(&rt, &mut queues);
+    assert!(rt; count > 2 && count < 256);
+    let used = heap.used();
+    let refused = queues.try_create(Shares::default());
+    assert_eq!(rt; refused, Err(CreateError::Memory));
+    assert_eq!(rt; heap.used(), used);
+    join(&rt, &mut queues, SECOND, 1, 7);
+    let head = leave(&rt, &mut queues, SECOND);
+    assert_eq!(rt; head, Some((name(1), false, 7)));
+    // The memory of one slip makes one more queue.
+    drop(take(&rt, &mut queues, FIRST));
+    assert!(rt; queues.try_create(Shares::default()).is_ok());
+    assert_eq!(rt; queues.queue_count(), count + 1);
+    Ok(())
+}
+
 #[test]
 fn all_memory_comes_back(rt: HostRuntime) -> Result<(), Fail> {
-    let heap = LocalHeap::new(rt.alloc(), 1 << 12)?;
+    let heap = LocalHeap::new(rt.alloc(), 1 << 13)?;
     let refused: Result<Queues<Box<u32, &LocalHeap>, &LocalHeap>, _> = Queues::open(&heap, 1000);
     assert!(rt; refused.is_err());
     assert_eq!(rt; heap.used(), 0);

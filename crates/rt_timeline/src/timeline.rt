@@ -65,6 +65,7 @@ impl<A: Allocator> Timeline<A> {
         ensures least { IfSome result (λ taken. self.old.keys ≡ taken.0 ∷ self.new.keys) }
         ensures slip { IfSome result (λ taken. taken.1 ≡ taken.0.queue) }
         ensures absent { IfSome result (λ taken. LacksQueue taken.0.queue self.new.keys) }
+        ensures rising { IsRising self.old.keys }
     {
         if self.len == 0 {
             return None;

@@ -10,8 +10,9 @@ use super::Core;
 use crate::delivery::Delivered;
 use crate::notes::{Notes, one_note, two_notes};
 use crate::out::is_of_queue;
+use crate::ready::enter;
 use crate::tally::place;
-use rt_ids::{Answer, JobId, Key, Note, Order, QueueNo, Reason};
+use rt_ids::{Answer, JobId, Note, Order, QueueNo, Reason};
 use rt_jobs::Task;
 use rt_shares::{Shares, placed};
 use rt_taskqueue::CreateError;
@@ -104,7 +105,7 @@ impl<J: Task, A: Allocator + Clone> Core<J, A> {
         let tally = &mut self.tallies[place(queue)];
         let vr = placed(tally.runtime, self.floor);
         tally.runtime = vr;
-        self.ready.insert(Key { vr, queue });
+        enter(&mut self.queues, &mut self.ready, queue, vr);
     }
 
     pub(super) fn deliver_create(

@@ -8,6 +8,7 @@ ghost use Rattle.rt_core.specs.Steps.{YieldsOut, FinishesOut};
 
 use super::Core;
 use crate::out::Out;
+use crate::ready::enter;
 use crate::tally::place;
 use rt_ids::{JobId, Key};
 use rt_jobs::Task;
@@ -25,15 +26,15 @@ impl<J: Task, A: Allocator + Clone> Core<J, A> {
         ensures ready { IsReady J.done J.CanPoll result.3 }
         ensures bounded { IsBounded self.new }
     {
-        let Some(key) = self.ready.least() else {
+        let Some((key, slip)) = self.ready.take_least() else {
             unreachable!()
         };
-        self.ready.take_least();
         let vr = key.vr;
         let queue = key.queue;
         let Some((name, started, job)) = self.queues.pop_front(queue) else {
             unreachable!()
         };
+        self.queues.put_slip(slip);
         self.tallies[place(queue)].selected += 1;
         self.floor = self.floor.max(vr);
         self.turns += 1;
@@ -62,10 +63,7 @@ impl<J: Task, A: Allocator + Clone> Core<J, A> {
         let tally = self.tallies[place(queue)].charged(time, &shares, 0);
         self.tallies[place(queue)] = tally;
         self.queues.push_back(queue, out.name, job);
-        self.ready.insert(Key {
-            vr: tally.runtime,
-            queue,
-        });
+        enter(&mut self.queues, &mut self.ready, queue, tally.runtime);
         out.name
     }
 
@@ -86,10 +84,7 @@ impl<J: Task, A: Allocator + Clone> Core<J, A> {
         if self.queues.is_empty(queue) {
             return out.name;
         }
-        self.ready.insert(Key {
-            vr: tally.runtime,
-            queue,
-        });
+        enter(&mut self.queues, &mut self.ready, queue, tally.runtime);
         out.name
     }
 }

@@ -1,29 +1,38 @@
 use Rattle.std.proofs.Common.{◌≡◌, ◌<◌, true, false, refl, sym, ◌∙◌, ap, subst, arith, length, length-set}
-use Rattle.std.specs.Prelude.{slice_set}
+use Rattle.std.specs.Prelude.{Bool, List, slice_set, slice_index_or}
 use Rattle.std.proofs.lemmas.List.Elements.{All-set}
 use Rattle.rt_ids.specs.declared.names.Key.{Key}
 use Rattle.rt_taskqueue.specs.Queues.{queue_count}
 use Rattle.rt_core.specs.declared.tally.Tally.{Tally}
+use Rattle.rt_taskqueue.specs.Slips.{queues_alone}
 use Rattle.rt_core.specs.State.{CoreView, inside_count, is_working}
 use Rattle.rt_core.specs.Inside.{core_view, job_out, unsettled_count, FitsTurns}
 use Rattle.rt_core.proofs.Listed.{LacksQueue-from_none}
 use Rattle.rt_core.proofs.Fits.{placed_fits}
 use Rattle.rt_core.proofs.Parts.{IsCounted-enters, IsListed-activates, IsPollable-pushed, idle_entry}
+use Rattle.rt_core.proofs.SlipsKept.{KeepsSlips-same, KeepsSlips-inserted, slip_there}
 use Rattle.rt_core.proofs.one_core.Core.activate.Goals as goal
 
-pub insert-requires-clause-new : goal.insert-requires-clause-new
-insert-requires-clause-new g c =
+pub enter-requires : goal.enter-requires
+enter-requires g c =
     let inside = c.self.inside in
-    let old = core_view inside.core inside.cores inside.queues inside.tallies.items inside.floor inside.turns (job_out inside.out) inside.delivered.items in
+    let old = core_view inside.core inside.cores (queues_alone inside.queues) inside.tallies.items inside.floor inside.turns (job_out inside.out) inside.delivered.items in
     let idle = subst (λ (view : CoreView g.row.J.Denot). is_working c.args.queue view ≡ false) (sym c.self.view_is) c.requires.idle in
-    LacksQueue-from_none c.args.queue inside.ready (c.self.invariant.listed.at c.args.queue ∙ idle_entry old c.args.queue idle)
+    let exists = subst (λ (view : CoreView g.row.J.Denot). c.args.queue < queue_count view.queues) (sym c.self.view_is) c.requires.exists in
+    let none = c.self.invariant.listed.at c.args.queue ∙ idle_entry old c.args.queue idle in
+    let joins = c.admit.ensures.joins in
+    record {
+      exists = omega (arith, exists, joins.queues.same_count);
+      slip = ap (λ (slips : List Bool). slice_index_or slips c.args.queue false) joins.slips ∙ slip_there _ _ inside.ready.keys c.args.queue exists none c.self.invariant.slipped;
+      absent = LacksQueue-from_none c.args.queue inside.ready.keys none;
+    }
 
 pub invariant_of-self : goal.invariant_of-self
 invariant_of-self g c =
     let inside = c.self.inside in
     let core = c.self.invariant in
     let back = sym c.self.view_is in
-    let polls = unsettled_count (core_view inside.core inside.cores inside.queues inside.tallies.items inside.floor inside.turns (job_out inside.out) inside.delivered.items) in
+    let polls = unsettled_count (core_view inside.core inside.cores (queues_alone inside.queues) inside.tallies.items inside.floor inside.turns (job_out inside.out) inside.delivered.items) in
     let idle = subst (λ (view : CoreView g.row.J.Denot). is_working c.args.queue view ≡ false) back c.requires.idle in
     let room = subst (λ (view : CoreView g.row.J.Denot). inside_count view < view.queues.room) back c.requires.room in
     let exists = subst (λ (view : CoreView g.row.J.Denot). c.args.queue < queue_count view.queues) back c.requires.exists in
@@ -36,10 +45,14 @@ invariant_of-self g c =
     subst (FitsTurns inside.turns polls) (sym c.index_mut-tally.ensures.value) (core.turns.tallies c.place.result was there) in
     let fits : FitsTurns inside.turns polls tally =
     subst (λ runtime. FitsTurns inside.turns polls (record was { runtime = runtime })) (sym c.placed-vr.ensures) (placed_fits inside.turns polls inside.floor was false before core.turns.floor) in
-    rw c.insert.ensures (record {
-      counted = IsCounted-enters _ _ _ _ _ c.args.queue c.args.name c.args.job c.admit.ensures.joins c.admit.ensures.limits space refl refl (length-set _ _ _) (length-set _ _ _) core.counted;
-      listed = IsListed-activates _ _ _ (record { vr = c.placed-vr.result; queue = c.args.queue }) tally c.args.name c.args.job c.admit.ensures.joins refl
+    let joins = c.admit.ensures.joins in
+    let none = core.listed.at c.args.queue ∙ idle_entry (core_view inside.core inside.cores (queues_alone inside.queues) inside.tallies.items inside.floor inside.turns (job_out inside.out) inside.delivered.items) c.args.queue idle in
+    let lacks = LacksQueue-from_none c.args.queue inside.ready.keys none in
+    rw (c.enter.ensures.keys, c.enter.ensures.given) (record {
+      counted = IsCounted-enters _ _ _ _ _ c.args.queue c.args.name c.args.job c.admit.ensures.joins.queues c.admit.ensures.limits space refl refl (length-set _ _ _) (length-set _ _ _) core.counted;
+      listed = IsListed-activates _ _ _ (record { vr = c.placed-vr.result; queue = c.args.queue }) tally c.args.name c.args.job c.admit.ensures.joins.queues refl
           (ap (λ at. slice_set inside.tallies.items at tally) c.place.ensures) within refl idle core.listed;
-      pollable = IsPollable-pushed _ _ _ _ c.args.queue c.args.name false c.args.job c.admit.ensures.joins c.requires.ready core.pollable;
+      slipped = KeepsSlips-inserted _ _ _ (record { vr = c.placed-vr.result; queue = c.args.queue }) (omega (arith, exists, joins.queues.same_count)) lacks (KeepsSlips-same _ _ _ _ _ joins.queues.same_count joins.slips core.slipped);
+      pollable = IsPollable-pushed _ _ _ _ c.args.queue c.args.name false c.args.job c.admit.ensures.joins.queues c.requires.ready core.pollable;
       turns = record { tallies = All-set (FitsTurns inside.turns polls) inside.tallies.items c.place.result tally fits core.turns.tallies; floor = core.turns.floor };
     })

@@ -1,19 +1,22 @@
 use Rattle.std.proofs.Common.{◌≡◌, ◌<◌, refl, sym, ◌∙◌, subst, arith, rules, length-set}
 use Rattle.rt_taskqueue.specs.Queues.{queue_count}
+use Rattle.rt_taskqueue.specs.Slips.{queues_alone}
 use Rattle.rt_core.specs.State.{CoreView}
 use Rattle.rt_core.specs.Inside.{core_view, job_out}
 use Rattle.rt_core.proofs.Fits.{IsBounded-from_turns}
 use Rattle.rt_core.proofs.Parts.{IsPollable-same}
 use Rattle.rt_core.proofs.Counting.{IsCounted-weighs, IsListed-same}
+use Rattle.rt_core.proofs.SlipsKept.{KeepsSlips-same}
 use Rattle.rt_core.proofs.one_core.Core.deliver_shares.Goals as goal
 
 pub invariant_of-self : goal.invariant_of-self
 invariant_of-self g c =
     let core = c.self.invariant in
-    let given = c.set_shares.ensures.given in
+    let given = c.set_shares.ensures.given.queues in
     record {
       counted = IsCounted-weighs _ _ _ _ _ c.args.queue c.args.shares given c.set_shares.ensures.limits refl refl refl (length-set _ _ _) core.counted;
       listed = IsListed-same _ _ _ given.same_lines refl (λ queue. refl) core.listed;
+      slipped = KeepsSlips-same _ _ _ _ _ given.same_count c.set_shares.ensures.given.slips core.slipped;
       pollable = IsPollable-same _ _ _ _ given.same_lines core.pollable;
       turns = record { tallies = core.turns.tallies; floor = core.turns.floor };
     }
@@ -21,10 +24,10 @@ invariant_of-self g c =
 pub returns-clause-delivers : goal.returns-clause-delivers
 returns-clause-delivers g c =
     let inside = c.self.inside in
-    let exists : c.args.queue < queue_count inside.queues =
+    let exists : c.args.queue < queue_count (queues_alone inside.queues) =
     subst (λ (view : CoreView g.row.J.Denot). c.args.queue < queue_count view.queues) (sym c.self.view_is) (c.has_queue.ensures.0 c.if-not-has_queue.false) in
     rw (← c.self.view_is) (
-      record { exists = exists; shares = c.set_shares.ensures.given; rest = refl },
+      record { exists = exists; shares = c.set_shares.ensures.given.queues; rest = refl },
       (let v = c.name.view_is in search rules),
       c.two_notes.ensures,
     )
@@ -33,7 +36,7 @@ pub returns-clause-bounded : goal.returns-clause-bounded
 returns-clause-bounded g c =
     let inside = c.self.inside in
     let core = c.self.invariant in
-    IsBounded-from_turns (core_view inside.core inside.cores c.set_shares.new.self inside.tallies.items inside.floor inside.turns (job_out inside.out) inside.delivered.items) (record {
+    IsBounded-from_turns (core_view inside.core inside.cores (queues_alone c.set_shares.new.self) inside.tallies.items inside.floor inside.turns (job_out inside.out) inside.delivered.items) (record {
       tallies = core.turns.tallies;
       floor = core.turns.floor;
     })

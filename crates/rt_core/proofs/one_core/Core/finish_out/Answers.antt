@@ -2,6 +2,7 @@ use Rattle.std.proofs.Common.{◌≡◌, ◌+◌, ◌<◌, ◌≤◌, Bool, true
 use Rattle.std.specs.Prelude.{is_some, slice_index_or, slice_set}
 use Rattle.rt_ids.specs.Work.{number_if}
 use Rattle.rt_taskqueue.specs.Queues.{queue_count, waiting_of, shares_of}
+use Rattle.rt_taskqueue.specs.Slips.{queues_alone}
 use Rattle.rt_core.specs.State.{JobOut, is_any}
 use Rattle.rt_core.specs.Inside.{core_view, job_out, unsettled_count, FitsTurns}
 use Rattle.rt_core.proofs.Charging.{charge_written, charge_fits}
@@ -11,13 +12,14 @@ use Rattle.rt_core.proofs.Entries.{is_any-from_some}
 use Rattle.rt_core.proofs.Listed.{LacksQueue-from_none}
 use Rattle.rt_core.proofs.Parts.{IsPollable-same}
 use Rattle.rt_core.proofs.Settling.{out_entry, IsListed-again, IsListed-no_more, IsWithinTurns-settles}
+use Rattle.rt_core.proofs.SlipsKept.{KeepsSlips-inserted, slip_there}
 use Rattle.rt_core.proofs.one_core.Core.finish_out.Goals as goal
 
 pub returns-then-is_empty-clause-finishes : goal.returns-then-is_empty-clause-finishes
 returns-then-is_empty-clause-finishes g c =
     let inside = c.self.inside in
     let core = c.self.invariant in
-    let old = core_view inside.core inside.cores inside.queues inside.tallies.items inside.floor inside.turns (job_out inside.out) inside.delivered.items in
+    let old = core_view inside.core inside.cores (queues_alone inside.queues) inside.tallies.items inside.floor inside.turns (job_out inside.out) inside.delivered.items in
     let out : JobOut g.row.J.Denot = record { name = c.in-Some.out.name; queue = c.in-Some.out.queue; job = c.in-Some.out.job.value } in
     let was_out : job_out inside.out ≡ Some out = ap job_out (sym c.take.ensures.value ∙ c.in-Some.is) in
     let free : job_out c.take.new.self ≡ None = ap job_out c.take.ensures.after in
@@ -25,29 +27,35 @@ returns-then-is_empty-clause-finishes g c =
     let within : out.queue < length inside.tallies.items = omega (arith, core.counted.tallies, exists.1) in
     let there : c.place.result < length inside.tallies.items = omega (arith, c.place.ensures) in
     let was = c.index.result.now in
-    let written = charge_written inside.tallies.items c.place.result c.place-2.result out.queue was c.charged-tally.result c.args.time c.shares-shares.result (shares_of out.queue inside.queues) 1
+    let written = charge_written inside.tallies.items c.place.result c.place-2.result out.queue was c.charged-tally.result c.args.time c.shares-shares.result (shares_of out.queue (queues_alone inside.queues)) 1
     c.place.ensures c.place-2.ensures there c.index.ensures c.charged-tally.ensures.value c.shares-shares.ensures in
     rw (← c.self.view_is) (record {
       out = out;
       was_out = was_out;
       named = refl;
-      rest = λ i. core_view inside.core inside.cores inside.queues (written i) inside.floor inside.turns (free i) inside.delivered.items;
+      rest = λ i. core_view inside.core inside.cores (queues_alone inside.queues) (written i) inside.floor inside.turns (free i) inside.delivered.items;
     })
 
-pub insert-requires-clause-new : goal.insert-requires-clause-new
-insert-requires-clause-new g c =
+pub enter-requires : goal.enter-requires
+enter-requires g c =
     let inside = c.self.inside in
     let core = c.self.invariant in
-    let old = core_view inside.core inside.cores inside.queues inside.tallies.items inside.floor inside.turns (job_out inside.out) inside.delivered.items in
+    let old = core_view inside.core inside.cores (queues_alone inside.queues) inside.tallies.items inside.floor inside.turns (job_out inside.out) inside.delivered.items in
     let out : JobOut g.row.J.Denot = record { name = c.in-Some.out.name; queue = c.in-Some.out.queue; job = c.in-Some.out.job.value } in
     let was_out : job_out inside.out ≡ Some out = ap job_out (sym c.take.ensures.value ∙ c.in-Some.is) in
-    LacksQueue-from_none out.queue inside.ready (core.listed.at out.queue ∙ out_entry old out was_out)
+    let exists = some_inside old inside.inside inside.room inside.tallies.cap out was_out core.counted in
+    let none = core.listed.at out.queue ∙ out_entry old out was_out in
+    record {
+      exists = exists.1;
+      slip = slip_there _ _ inside.ready.keys out.queue exists.1 none core.slipped;
+      absent = LacksQueue-from_none out.queue inside.ready.keys none;
+    }
 
 pub invariant_of-self-2 : goal.invariant_of-self-2
 invariant_of-self-2 g c =
     let inside = c.self.inside in
     let core = c.self.invariant in
-    let old = core_view inside.core inside.cores inside.queues inside.tallies.items inside.floor inside.turns (job_out inside.out) inside.delivered.items in
+    let old = core_view inside.core inside.cores (queues_alone inside.queues) inside.tallies.items inside.floor inside.turns (job_out inside.out) inside.delivered.items in
     let out : JobOut g.row.J.Denot = record { name = c.in-Some.out.name; queue = c.in-Some.out.queue; job = c.in-Some.out.job.value } in
     let was_out : job_out inside.out ≡ Some out = ap job_out (sym c.take.ensures.value ∙ c.in-Some.is) in
     let free : job_out c.take.new.self ≡ None = ap job_out c.take.ensures.after in
@@ -62,11 +70,13 @@ invariant_of-self-2 g c =
     let fits : FitsTurns inside.turns 0 c.charged-tally.result =
     charge_fits inside.turns was c.charged-tally.result c.args.time c.shares-shares.result 1 before charged.value charged.charge charged.clamped (omega arith) in
     let tallies = ap (λ at. slice_set inside.tallies.items at c.charged-tally.result) c.place-2.ensures in
-    let any : is_any (waiting_of out.queue inside.queues) ≡ true =
-    is_any-from_some (waiting_of out.queue inside.queues) (λ none. true≢false (sym (c.is_empty.ensures.1 none) ∙ c.if-is_empty.false)) in
-    rw c.insert.ensures (record {
+    let any : is_any (waiting_of out.queue (queues_alone inside.queues)) ≡ true =
+    is_any-from_some (waiting_of out.queue (queues_alone inside.queues)) (λ none. true≢false (sym (c.is_empty.ensures.1 none) ∙ c.if-is_empty.false)) in
+    let lacks = LacksQueue-from_none out.queue inside.ready.keys (core.listed.at out.queue ∙ out_entry old out was_out) in
+    rw (c.enter.ensures.keys, c.enter.ensures.given) (record {
       counted = IsCounted-finishes old _ inside.inside _ _ out refl refl was_out free (length-set _ _ _) refl core.counted;
-      listed = IsListed-again old _ inside.ready out c.charged-tally.result was_out free (λ other apart. refl) tallies core.listed within any;
+      listed = IsListed-again old _ inside.ready.keys out c.charged-tally.result was_out free (λ other apart. refl) tallies core.listed within any;
+      slipped = KeepsSlips-inserted _ _ _ (record { vr = c.charged-tally.result.runtime; queue = out.queue }) exists.1 lacks core.slipped;
       pollable = IsPollable-same _ _ old _ (λ other. refl) core.pollable;
       turns = IsWithinTurns-settles old _ out c.place-2.result c.charged-tally.result was_out free refl refl refl fits core.turns;
     })
@@ -75,7 +85,7 @@ pub returns-clause-finishes : goal.returns-clause-finishes
 returns-clause-finishes g c =
     let inside = c.self.inside in
     let core = c.self.invariant in
-    let old = core_view inside.core inside.cores inside.queues inside.tallies.items inside.floor inside.turns (job_out inside.out) inside.delivered.items in
+    let old = core_view inside.core inside.cores (queues_alone inside.queues) inside.tallies.items inside.floor inside.turns (job_out inside.out) inside.delivered.items in
     let out : JobOut g.row.J.Denot = record { name = c.in-Some.out.name; queue = c.in-Some.out.queue; job = c.in-Some.out.job.value } in
     let was_out : job_out inside.out ≡ Some out = ap job_out (sym c.take.ensures.value ∙ c.in-Some.is) in
     let free : job_out c.take.new.self ≡ None = ap job_out c.take.ensures.after in
@@ -83,11 +93,11 @@ returns-clause-finishes g c =
     let within : out.queue < length inside.tallies.items = omega (arith, core.counted.tallies, exists.1) in
     let there : c.place.result < length inside.tallies.items = omega (arith, c.place.ensures) in
     let was = c.index.result.now in
-    let written = charge_written inside.tallies.items c.place.result c.place-2.result out.queue was c.charged-tally.result c.args.time c.shares-shares.result (shares_of out.queue inside.queues) 1
+    let written = charge_written inside.tallies.items c.place.result c.place-2.result out.queue was c.charged-tally.result c.args.time c.shares-shares.result (shares_of out.queue (queues_alone inside.queues)) 1
     c.place.ensures c.place-2.ensures there c.index.ensures c.charged-tally.ensures.value c.shares-shares.ensures in
-    rw (← c.self.view_is) (record {
+    rw (← c.self.view_is, c.enter.ensures.given) (record {
       out = out;
       was_out = was_out;
       named = refl;
-      rest = λ i. core_view inside.core inside.cores inside.queues (written i) inside.floor inside.turns (free i) inside.delivered.items;
+      rest = λ i. core_view inside.core inside.cores (queues_alone inside.queues) (written i) inside.floor inside.turns (free i) inside.delivered.items;
     })

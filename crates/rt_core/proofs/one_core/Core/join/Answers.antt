@@ -1,6 +1,7 @@
 use Rattle.std.proofs.Common.{◌≡◌, ◌<◌, true, false, refl, sym, subst, arith, length-set}
 use Rattle.rt_core.specs.State.{CoreView, inside_count, is_working}
 use Rattle.rt_core.proofs.Parts.{IsCounted-enters, IsListed-joins, IsPollable-pushed}
+use Rattle.rt_core.proofs.SlipsKept.{KeepsSlips-same}
 use Rattle.rt_core.proofs.one_core.Core.join.Goals as goal
 
 pub invariant_of-self : goal.invariant_of-self
@@ -10,9 +11,11 @@ invariant_of-self g c =
     let work = subst (λ (view : CoreView g.row.J.Denot). is_working c.args.queue view ≡ true) back c.requires.work in
     let room = subst (λ (view : CoreView g.row.J.Denot). inside_count view < view.queues.room) back c.requires.room in
     let space : c.self.inside.inside < c.self.inside.room = omega (arith, old.counted.all_inside, old.counted.same_room, room) in
+    let joins = c.admit.ensures.joins in
     record {
-      counted = IsCounted-enters _ _ _ _ _ c.args.queue c.args.name c.args.job c.admit.ensures.joins c.admit.ensures.limits space refl refl refl (length-set _ _ _) old.counted;
-      listed = IsListed-joins _ _ _ c.args.queue c.args.name c.args.job c.admit.ensures.joins refl refl work old.listed;
-      pollable = IsPollable-pushed _ _ _ _ c.args.queue c.args.name false c.args.job c.admit.ensures.joins c.requires.ready old.pollable;
+      counted = IsCounted-enters _ _ _ _ _ c.args.queue c.args.name c.args.job joins.queues c.admit.ensures.limits space refl refl refl (length-set _ _ _) old.counted;
+      listed = IsListed-joins _ _ _ c.args.queue c.args.name c.args.job joins.queues refl refl work old.listed;
+      slipped = KeepsSlips-same _ _ _ _ _ joins.queues.same_count joins.slips old.slipped;
+      pollable = IsPollable-pushed _ _ _ _ c.args.queue c.args.name false c.args.job joins.queues c.requires.ready old.pollable;
       turns = record { tallies = old.turns.tallies; floor = old.turns.floor };
     }

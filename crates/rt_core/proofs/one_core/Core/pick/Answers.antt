@@ -1,37 +1,38 @@
 use Rattle.std.proofs.Common.{◌≡◌, ℕ, Bool, true, false, None, [], refl, sym, ◌∙◌, ap, subst, arith}
 use Rattle.std.specs.Prelude.{not, is_some}
 use Rattle.rt_taskqueue.specs.Queues.{waiting_of}
+use Rattle.rt_taskqueue.specs.Slips.{queues_alone}
 use Rattle.rt_core.specs.State.{CoreView}
-use Rattle.rt_core.specs.Rising.{first_key}
 use Rattle.rt_core.specs.Inside.{core_view, job_out}
+use Rattle.std.proofs.lemmas.Bool.{true≢false}
 use Rattle.rt_core.proofs.Counting.{job_out-none, some_job_out}
-use Rattle.rt_core.proofs.Picking.{idle_if_no_key, work_if_key, none_if_not_some}
+use Rattle.rt_core.proofs.Picking.{idle_if_no_key, work_if_key}
 use Rattle.rt_core.proofs.one_core.Core.pick.Goals as goal
 
 pub returns-then-is_some-clause-picks : goal.returns-then-is_some-clause-picks
 returns-then-is_some-clause-picks g c =
     rw (← c.self.view_is) (some_job_out c.self.inside.out (sym c.is_some.ensures ∙ c.if-is_some.true), refl, c.new.ensures)
 
-pub returns-then-is_none-clause-picks : goal.returns-then-is_none-clause-picks
-returns-then-is_none-clause-picks g c =
+pub returns-then-is_empty-clause-picks : goal.returns-then-is_empty-clause-picks
+returns-then-is_empty-clause-picks g c =
     let inside = c.self.inside in
-    let view = core_view inside.core inside.cores inside.queues inside.tallies.items inside.floor inside.turns (job_out inside.out) inside.delivered.items in
+    let view = core_view inside.core inside.cores (queues_alone inside.queues) inside.tallies.items inside.floor inside.turns (job_out inside.out) inside.delivered.items in
     let free = job_out-none inside.out (sym c.is_some.ensures ∙ c.if-is_some.false) in
-    let none : first_key inside.ready ≡ None = sym c.least.ensures.value ∙ none_if_not_some c.least.result (c.is_none.ensures ∙ ap not c.if-is_none.true) in
-    rw (← c.self.view_is) (free, idle_if_no_key view inside.ready none free c.self.invariant.listed, refl, c.new-then-is_none.ensures)
+    let none : inside.ready.keys ≡ [] = c.is_empty.ensures.0 c.if-is_empty.true in
+    rw (← c.self.view_is) (free, idle_if_no_key view inside.ready.keys none free c.self.invariant.listed, refl, c.new-then-is_empty.ensures)
 
 pub returns-then-self-clause-picks : goal.returns-then-self-clause-picks
 returns-then-self-clause-picks g c =
     let inside = c.self.inside in
-    let view = core_view inside.core inside.cores inside.queues inside.tallies.items inside.floor inside.turns (job_out inside.out) inside.delivered.items in
+    let view = core_view inside.core inside.cores (queues_alone inside.queues) inside.tallies.items inside.floor inside.turns (job_out inside.out) inside.delivered.items in
     let free = job_out-none inside.out (sym c.is_some.ensures ∙ c.if-is_some.false) in
-    let some : is_some (first_key inside.ready) ≡ true = ap is_some (sym c.least.ensures.value) ∙ c.is_none.ensures ∙ ap not c.if-is_none.false in
-    rw (← c.self.view_is) (free, c.if-self.true, work_if_key view inside.ready some free c.self.invariant.listed, refl, c.new-then-self.ensures)
+    let some : inside.ready.keys ≡ [] → ⊥ = λ none. true≢false (sym (c.is_empty.ensures.1 none) ∙ c.if-is_empty.false) in
+    rw (← c.self.view_is) (free, c.if-self.true, work_if_key view inside.ready.keys some free c.self.invariant.listed, refl, c.new-then-self.ensures)
 
 pub take_out-started-requires-clause-work : goal.take_out-started-requires-clause-work
 take_out-started-requires-clause-work g c =
     let inside = c.self.inside in
-    let view = core_view inside.core inside.cores inside.queues inside.tallies.items inside.floor inside.turns (job_out inside.out) inside.delivered.items in
+    let view = core_view inside.core inside.cores (queues_alone inside.queues) inside.tallies.items inside.floor inside.turns (job_out inside.out) inside.delivered.items in
     let free = job_out-none inside.out (sym c.is_some.ensures ∙ c.if-is_some.false) in
-    let some : is_some (first_key inside.ready) ≡ true = ap is_some (sym c.least.ensures.value) ∙ c.is_none.ensures ∙ ap not c.if-is_none.false in
-    rw (← c.self.view_is) (work_if_key view inside.ready some free c.self.invariant.listed)
+    let some : inside.ready.keys ≡ [] → ⊥ = λ none. true≢false (sym (c.is_empty.ensures.1 none) ∙ c.if-is_empty.false) in
+    rw (← c.self.view_is) (work_if_key view inside.ready.keys some free c.self.invariant.listed)

@@ -5,23 +5,42 @@ use Rattle.rt_ids.specs.Work.{number_if}
 use Rattle.rt_jobs.specs.Ready.{IsReady}
 use Rattle.rt_taskqueue.specs.Queues.{queue_count, waiting_of, ChangesLine}
 use Rattle.rt_core.specs.declared.tally.Tally.{Tally}
+use Rattle.rt_taskqueue.specs.Slips.{queues_alone}
 use Rattle.rt_core.specs.State.{CoreView, JobOut, no_tally, runtime_of}
-use Rattle.rt_core.specs.Rising.{first_key}
-use Rattle.rt_core.specs.Inside.{core_view, job_out, unsettled_count, FitsTurns}
+use Rattle.rt_core.specs.Inside.{core_view, job_out, KeepsSlips, unsettled_count, FitsTurns}
 use Rattle.rt_core.proofs.Charging.{tally_read}
 use Rattle.rt_core.proofs.Counting.{IsCounted-picks}
 use Rattle.rt_core.proofs.Fits.{picked_fits, tally_fits}
 use Rattle.rt_core.proofs.Parts.{IsPollable-changed}
 use Rattle.rt_core.proofs.Picking.{exists_if_waiting, first_runtime, first_waits, first_is_next, IsListed-picks, IsWithinTurns-picks}
+use Rattle.rt_core.proofs.SlipsKept.{KeepsSlips-same, KeepsSlips-taken, slip_out}
 use Rattle.rt_core.proofs.one_core.Core.take_out.Goals as goal
 
 pub pop_front-requires : goal.pop_front-requires
 pop_front-requires g c =
     let inside = c.self.inside in
-    let old = core_view inside.core inside.cores inside.queues inside.tallies.items inside.floor inside.turns (job_out inside.out) inside.delivered.items in
+    let old = core_view inside.core inside.cores (queues_alone inside.queues) inside.tallies.items inside.floor inside.turns (job_out inside.out) inside.delivered.items in
     let free : job_out inside.out ≡ None = subst (λ (view : CoreView g.row.J.Denot). view.out ≡ None) (sym c.self.view_is) c.requires.free in
-    let first : first_key inside.ready ≡ Some c.in-Some.key = sym c.least.ensures.value ∙ c.in-Some.is in
-    record { exists = exists_if_waiting inside.queues c.in-Some.key.queue (first_waits old inside.ready c.in-Some.key first c.self.invariant.listed free) }
+    let later = c.take_least.new.self.keys in
+    let are = c.in-Some.ensures.least in
+    record { exists = exists_if_waiting (queues_alone inside.queues) c.in-Some.key.queue (first_waits old inside.ready.keys c.in-Some.key later are c.self.invariant.listed free) }
+
+pub put_slip-requires : goal.put_slip-requires
+put_slip-requires g c =
+    let inside = c.self.inside in
+    let core = c.self.invariant in
+    let key = c.in-Some.key in
+    let old = core_view inside.core inside.cores (queues_alone inside.queues) inside.tallies.items inside.floor inside.turns (job_out inside.out) inside.delivered.items in
+    let free : job_out inside.out ≡ None = subst (λ (view : CoreView g.row.J.Denot). view.out ≡ None) (sym c.self.view_is) c.requires.free in
+    let later = c.take_least.new.self.keys in
+    let are = c.in-Some.ensures.least in
+    let exists = exists_if_waiting (queues_alone inside.queues) key.queue (first_waits old inside.ready.keys key later are core.listed free) in
+    let rest = c.in-Some-pop_front.ensures.rest in
+    record {
+      exists = omega (arith, exists, rest.queues.same_count, c.in-Some.ensures.slip);
+      out = ap (λ queue. slice_index_or c.pop_front.new.self.slips queue false) c.in-Some.ensures.slip
+          ∙ ap (λ (slips : List Bool). slice_index_or slips key.queue false) rest.slips ∙ slip_out _ _ key later exists (subst (KeepsSlips _ _) are core.slipped);
+    }
 
 pub invariant_of-self : goal.invariant_of-self
 invariant_of-self g c =
@@ -29,15 +48,16 @@ invariant_of-self g c =
     let core = c.self.invariant in
     let key = c.in-Some.key in
     let name = c.in-Some-pop_front.name in
-    let old = core_view inside.core inside.cores inside.queues inside.tallies.items inside.floor inside.turns (job_out inside.out) inside.delivered.items in
+    let old = core_view inside.core inside.cores (queues_alone inside.queues) inside.tallies.items inside.floor inside.turns (job_out inside.out) inside.delivered.items in
     let free : job_out inside.out ≡ None = subst (λ (view : CoreView g.row.J.Denot). view.out ≡ None) (sym c.self.view_is) c.requires.free in
-    let first : first_key inside.ready ≡ Some key = sym c.least.ensures.value ∙ c.in-Some.is in
+    let later = c.take_least.new.self.keys in
+    let are = c.in-Some.ensures.least in
     let out : JobOut g.row.J.Denot = record { name = name; queue = key.queue; job = c.of-as_it_was.result.value } in
     let head = c.in-Some-pop_front.ensures.head in
-    let others = waiting_of key.queue c.pop_front.new.self in
-    let changes : ChangesLine inside.queues c.pop_front.new.self key.queue others =
-    subst (λ line. ChangesLine inside.queues c.pop_front.new.self key.queue line) (ap (drop 1) head) c.in-Some-pop_front.ensures.rest in
-    let exists = exists_if_waiting inside.queues key.queue (first_waits old inside.ready key first core.listed free) in
+    let others = waiting_of key.queue (queues_alone c.pop_front.new.self) in
+    let changes : ChangesLine (queues_alone inside.queues) (queues_alone c.pop_front.new.self) key.queue others =
+    subst (λ line. ChangesLine (queues_alone inside.queues) (queues_alone c.pop_front.new.self) key.queue line) (ap (drop 1) head) c.in-Some-pop_front.ensures.rest.queues in
+    let exists = exists_if_waiting (queues_alone inside.queues) key.queue (first_waits old inside.ready.keys key later are core.listed free) in
     let within : key.queue < length inside.tallies.items = omega (arith, core.counted.tallies, exists) in
     let there : c.place.result < length inside.tallies.items = omega (arith, c.place.ensures) in
     let none : unsettled_count old ≡ 0 = ap (λ (held : Option (JobOut g.row.J.Denot)). number_if (is_some held)) free in
@@ -47,11 +67,12 @@ invariant_of-self g c =
     subst (FitsTurns inside.turns 0) (sym c.index_mut.ensures.value) (subst (λ polls. FitsTurns inside.turns polls (slice_index_or inside.tallies.items c.place.result was)) none (core.turns.tallies c.place.result was there)) in
     let low : key.vr ≤ inside.turns * 2 ^ 50 =
     let fits = (tally_fits old key.queue core.turns).runtime in
-    let is = first_runtime old inside.ready key first core.listed in
+    let is = first_runtime old inside.ready.keys key later are core.listed in
     omega arith in
-    rw c.take_least.ensures.value (record {
+    rw (c.put_slip.ensures, c.in-Some.ensures.slip) (record {
       counted = IsCounted-picks _ _ _ _ _ out (name, c.in-Some-pop_front.started, c.in-Some-pop_front.job) others head changes c.pop_front.ensures.limits exists refl free refl (length-set _ _ _) refl core.counted;
-      listed = IsListed-picks old _ _ key out tally first c.least.ensures.ordered free refl refl changes.others (ap (λ at. slice_set inside.tallies.items at tally) c.place.ensures) core.listed;
+      listed = IsListed-picks old _ _ key later out tally are c.in-Some.ensures.absent free refl refl changes.others (ap (λ at. slice_set inside.tallies.items at tally) c.place.ensures) core.listed;
+      slipped = KeepsSlips-taken _ _ key later (omega (arith, exists, changes.same_count)) c.in-Some.ensures.absent (KeepsSlips-same _ _ _ _ _ changes.same_count c.in-Some-pop_front.ensures.rest.slips (subst (KeepsSlips _ _) are core.slipped));
       pollable =
           let all : All (λ waiting. IsReady g.J.Task.done g.J.Task.CanPoll waiting.2) ((name, c.in-Some-pop_front.started, c.in-Some-pop_front.job) ∷ others) =
           subst (λ line. All (λ waiting. IsReady g.J.Task.done g.J.Task.CanPoll waiting.2) line) head (core.pollable.at key.queue) in
@@ -64,10 +85,11 @@ returns-clause-takes g c =
     let inside = c.self.inside in
     let core = c.self.invariant in
     let key = c.in-Some.key in
-    let old = core_view inside.core inside.cores inside.queues inside.tallies.items inside.floor inside.turns (job_out inside.out) inside.delivered.items in
+    let old = core_view inside.core inside.cores (queues_alone inside.queues) inside.tallies.items inside.floor inside.turns (job_out inside.out) inside.delivered.items in
     let free : job_out inside.out ≡ None = subst (λ (view : CoreView g.row.J.Denot). view.out ≡ None) (sym c.self.view_is) c.requires.free in
-    let first : first_key inside.ready ≡ Some key = sym c.least.ensures.value ∙ c.in-Some.is in
-    let exists = exists_if_waiting inside.queues key.queue (first_waits old inside.ready key first core.listed free) in
+    let later = c.take_least.new.self.keys in
+    let are = c.in-Some.ensures.least in
+    let exists = exists_if_waiting (queues_alone inside.queues) key.queue (first_waits old inside.ready.keys key later are core.listed free) in
     let within : key.queue < length inside.tallies.items = omega (arith, core.counted.tallies, exists) in
     let there : c.place.result < length inside.tallies.items = omega (arith, c.place.ensures) in
     let head = c.in-Some-pop_front.ensures.head in
@@ -75,13 +97,13 @@ returns-clause-takes g c =
     let read = tally_read inside.tallies.items c.place.result key.queue was c.place.ensures there c.index_mut.ensures.value in
     let tallies = ap (λ at. slice_set inside.tallies.items at (record was { selected = was.selected + 1 })) c.place.ensures
     ∙ ap (λ (tally : Tally). slice_set inside.tallies.items key.queue (record tally { selected = tally.selected + 1 })) read in
-    let floor = c.max-self-inside.ensures ∙ ap (max inside.floor) (sym (first_runtime old inside.ready key first core.listed)) in
-    rw (← c.self.view_is) (record {
-      next = first_is_next old inside.ready key first core.listed free c.least.ensures.ordered;
-      others = waiting_of key.queue c.pop_front.new.self;
+    let floor = c.max-self-inside.ensures ∙ ap (max inside.floor) (sym (first_runtime old inside.ready.keys key later are core.listed)) in
+    rw (← c.self.view_is, c.put_slip.ensures) (record {
+      next = first_is_next old inside.ready.keys key later are core.listed free c.take_least.ensures.rising;
+      others = waiting_of key.queue (queues_alone c.pop_front.new.self);
       first = head;
-      line = subst (λ line. ChangesLine inside.queues c.pop_front.new.self key.queue line) (ap (drop 1) head) c.in-Some-pop_front.ensures.rest;
-      rest = λ i. core_view inside.core inside.cores c.pop_front.new.self (tallies i) (floor i) (inside.turns + 1)
+      line = subst (λ line. ChangesLine (queues_alone inside.queues) (queues_alone c.pop_front.new.self) key.queue line) (ap (drop 1) head) c.in-Some-pop_front.ensures.rest.queues;
+      rest = λ i. core_view inside.core inside.cores (queues_alone c.pop_front.new.self) (tallies i) (floor i) (inside.turns + 1)
           (Some (record { name = c.in-Some-pop_front.name; queue = key.queue; job = c.of-as_it_was.ensures i })) inside.delivered.items;
     })
 
@@ -89,4 +111,4 @@ pub returns-clause-ready : goal.returns-clause-ready
 returns-clause-ready g c =
     let line = c.in-Some-pop_front.ensures.head in
     let all = subst (λ waiting. All (λ one. IsReady g.J.Task.done g.J.Task.CanPoll one.2) waiting) line (c.self.invariant.pollable.at c.in-Some.key.queue) in
-    All-head (λ one. IsReady g.J.Task.done g.J.Task.CanPoll one.2) (c.in-Some-pop_front.name, c.in-Some-pop_front.started, c.in-Some-pop_front.job) (waiting_of c.in-Some.key.queue c.pop_front.new.self) all
+    All-head (λ one. IsReady g.J.Task.done g.J.Task.CanPoll one.2) (c.in-Some-pop_front.name, c.in-Some-pop_front.started, c.in-Some-pop_front.job) (waiting_of c.in-Some.key.queue (queues_alone c.pop_front.new.self)) all

@@ -1,7 +1,8 @@
-use Rattle.std.proofs.Common.{◌≡◌, ◌+◌, ◌<◌, ◌≤◌, Bool, true, false, length, Option, Some, None, refl, sym, ◌∙◌, ap, subst, arith, length-set}
+use Rattle.std.proofs.Common.{◌≡◌, ◌+◌, ◌<◌, ◌≤◌, Bool, true, false, length, List, Option, Some, None, refl, sym, ◌∙◌, ap, subst, arith, length-set}
 use Rattle.std.specs.Prelude.{is_some, slice_index_or, slice_set}
 use Rattle.rt_ids.specs.Work.{number_if}
 use Rattle.rt_taskqueue.specs.Queues.{queue_count, waiting_of, shares_of}
+use Rattle.rt_taskqueue.specs.Slips.{queues_alone}
 use Rattle.rt_core.specs.State.{JobOut, is_any}
 use Rattle.rt_core.specs.Inside.{core_view, job_out, unsettled_count, FitsTurns}
 use Rattle.rt_core.proofs.Charging.{charge_written, charge_fits}
@@ -10,22 +11,30 @@ use Rattle.rt_core.proofs.Entries.{is_any-push}
 use Rattle.rt_core.proofs.Listed.{LacksQueue-from_none}
 use Rattle.rt_core.proofs.Parts.{IsPollable-pushed}
 use Rattle.rt_core.proofs.Settling.{out_entry, IsListed-again, IsWithinTurns-settles}
+use Rattle.rt_core.proofs.SlipsKept.{KeepsSlips-same, KeepsSlips-inserted, slip_there}
 use Rattle.rt_core.proofs.one_core.Core.yield_out.Goals as goal
 
-pub insert-requires-clause-new : goal.insert-requires-clause-new
-insert-requires-clause-new g c =
+pub enter-requires : goal.enter-requires
+enter-requires g c =
     let inside = c.self.inside in
     let core = c.self.invariant in
-    let old = core_view inside.core inside.cores inside.queues inside.tallies.items inside.floor inside.turns (job_out inside.out) inside.delivered.items in
+    let old = core_view inside.core inside.cores (queues_alone inside.queues) inside.tallies.items inside.floor inside.turns (job_out inside.out) inside.delivered.items in
     let out : JobOut g.row.J.Denot = record { name = c.in-Some.out.name; queue = c.in-Some.out.queue; job = c.in-Some.out.job.value } in
     let was_out : job_out inside.out ≡ Some out = ap job_out (sym c.take.ensures.value ∙ c.in-Some.is) in
-    LacksQueue-from_none out.queue inside.ready (core.listed.at out.queue ∙ out_entry old out was_out)
+    let exists = some_inside old inside.inside inside.room inside.tallies.cap out was_out core.counted in
+    let none = core.listed.at out.queue ∙ out_entry old out was_out in
+    let joins = c.push_back.ensures.joins in
+    record {
+      exists = omega (arith, exists.1, joins.queues.same_count);
+      slip = ap (λ (slips : List Bool). slice_index_or slips out.queue false) joins.slips ∙ slip_there _ _ inside.ready.keys out.queue exists.1 none core.slipped;
+      absent = LacksQueue-from_none out.queue inside.ready.keys none;
+    }
 
 pub invariant_of-self : goal.invariant_of-self
 invariant_of-self g c =
     let inside = c.self.inside in
     let core = c.self.invariant in
-    let old = core_view inside.core inside.cores inside.queues inside.tallies.items inside.floor inside.turns (job_out inside.out) inside.delivered.items in
+    let old = core_view inside.core inside.cores (queues_alone inside.queues) inside.tallies.items inside.floor inside.turns (job_out inside.out) inside.delivered.items in
     let out : JobOut g.row.J.Denot = record { name = c.in-Some.out.name; queue = c.in-Some.out.queue; job = c.in-Some.out.job.value } in
     let was_out : job_out inside.out ≡ Some out = ap job_out (sym c.take.ensures.value ∙ c.in-Some.is) in
     let free : job_out c.take.new.self ≡ None = ap job_out c.take.ensures.after in
@@ -40,11 +49,14 @@ invariant_of-self g c =
     let fits : FitsTurns inside.turns 0 c.charged-tally.result =
     charge_fits inside.turns was c.charged-tally.result c.args.time c.shares-shares.result 0 before charged.value charged.charge charged.clamped (omega arith) in
     let tallies = ap (λ at. slice_set inside.tallies.items at c.charged-tally.result) c.place-2.ensures in
-    let joins = c.push_back.ensures.joins in
-    let any : is_any (waiting_of out.queue c.push_back.new.self) ≡ true = ap is_any joins.changed ∙ is_any-push (waiting_of out.queue inside.queues) (out.name, true, c.args.job) in
-    rw c.insert.ensures (record {
+    let slips = c.push_back.ensures.joins.slips in
+    let lacks = LacksQueue-from_none out.queue inside.ready.keys (core.listed.at out.queue ∙ out_entry old out was_out) in
+    let joins = c.push_back.ensures.joins.queues in
+    let any : is_any (waiting_of out.queue (queues_alone c.push_back.new.self)) ≡ true = ap is_any joins.changed ∙ is_any-push (waiting_of out.queue (queues_alone inside.queues)) (out.name, true, c.args.job) in
+    rw (c.enter.ensures.keys, c.enter.ensures.given) (record {
       counted = IsCounted-yields _ _ _ _ _ out out.name c.args.job joins c.push_back.ensures.limits refl was_out free (length-set _ _ _) refl core.counted;
-      listed = IsListed-again old _ inside.ready out c.charged-tally.result was_out free joins.others tallies core.listed within any;
+      listed = IsListed-again old _ inside.ready.keys out c.charged-tally.result was_out free joins.others tallies core.listed within any;
+      slipped = KeepsSlips-inserted _ _ _ (record { vr = c.charged-tally.result.runtime; queue = out.queue }) (omega (arith, exists.1, joins.same_count)) lacks (KeepsSlips-same _ _ _ _ _ joins.same_count slips core.slipped);
       pollable = IsPollable-pushed _ _ old _ out.queue out.name true c.args.job joins c.requires.ready core.pollable;
       turns = IsWithinTurns-settles old _ out c.place-2.result c.charged-tally.result was_out free refl refl refl fits core.turns;
     })
@@ -53,7 +65,7 @@ pub returns-clause-yields : goal.returns-clause-yields
 returns-clause-yields g c =
     let inside = c.self.inside in
     let core = c.self.invariant in
-    let old = core_view inside.core inside.cores inside.queues inside.tallies.items inside.floor inside.turns (job_out inside.out) inside.delivered.items in
+    let old = core_view inside.core inside.cores (queues_alone inside.queues) inside.tallies.items inside.floor inside.turns (job_out inside.out) inside.delivered.items in
     let out : JobOut g.row.J.Denot = record { name = c.in-Some.out.name; queue = c.in-Some.out.queue; job = c.in-Some.out.job.value } in
     let was_out : job_out inside.out ≡ Some out = ap job_out (sym c.take.ensures.value ∙ c.in-Some.is) in
     let free : job_out c.take.new.self ≡ None = ap job_out c.take.ensures.after in
@@ -61,12 +73,12 @@ returns-clause-yields g c =
     let within : out.queue < length inside.tallies.items = omega (arith, core.counted.tallies, exists.1) in
     let there : c.place.result < length inside.tallies.items = omega (arith, c.place.ensures) in
     let was = c.index.result.now in
-    let written = charge_written inside.tallies.items c.place.result c.place-2.result out.queue was c.charged-tally.result c.args.time c.shares-shares.result (shares_of out.queue inside.queues) 0
+    let written = charge_written inside.tallies.items c.place.result c.place-2.result out.queue was c.charged-tally.result c.args.time c.shares-shares.result (shares_of out.queue (queues_alone inside.queues)) 0
     c.place.ensures c.place-2.ensures there c.index.ensures c.charged-tally.ensures.value c.shares-shares.ensures in
-    rw (← c.self.view_is) (record {
+    rw (← c.self.view_is, c.enter.ensures.given) (record {
       out = out;
       was_out = was_out;
       named = refl;
-      line = c.push_back.ensures.joins;
-      rest = λ i. core_view inside.core inside.cores c.push_back.new.self (written i) inside.floor inside.turns (free i) inside.delivered.items;
+      line = c.push_back.ensures.joins.queues;
+      rest = λ i. core_view inside.core inside.cores (queues_alone c.push_back.new.self) (written i) inside.floor inside.turns (free i) inside.delivered.items;
     })

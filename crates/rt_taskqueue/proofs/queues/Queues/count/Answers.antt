@@ -11,4 +11,4 @@ returns g c =
     let read : length (filter (is_in c.args.queue) c.deref.result.now) ≡ length (filter (is_in c.args.queue) jobs) =
     ap (λ (xs : List (Waiting g.row.J.Denot)). length (filter (is_in c.args.queue) xs)) c.deref.ensures.value in
     let counted : c.line_length.result ≡ length (line_in c.args.queue jobs) = rw (c.line_length.ensures, read) (sym (length-line_in c.args.queue jobs)) in
-    rw (← c.self.view_is) (rw (waiting_of-plain c.self.invariant c.args.queue) counted)
+    rw (← c.self.view_is) (rw (waiting_of-plain c.self.invariant.0 c.args.queue) counted)

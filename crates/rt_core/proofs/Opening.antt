@@ -1,0 +1,35 @@
+-- What holds inside a core as it opens.
+use Rattle.std.proofs.Common.{◌≡◌, ℕ, zero, suc, ◌+◌, ◌*◌, ◌^◌, ◌≤◌, Bool, false, List, [], ◌∷◌, None, refl, sym, ap, arith}
+use Rattle.std.specs.Prelude.{All}
+use Rattle.std.proofs.lemmas.List.Elements.{All-push}
+use Rattle.rt_jobs.specs.Ready.{IsReady}
+use Rattle.rt_taskqueue.specs.Queues.{first_queue, waiting_of}
+use Rattle.rt_core.specs.declared.tally.Tally.{Tally}
+use Rattle.rt_core.specs.State.{CoreView, no_tally, is_any}
+use Rattle.rt_core.specs.Inside.{core_view, FitsTurns, IsListed, IsPollable, IsWithinTurns}
+use Rattle.rt_core.proofs.Entries.{entry_of-none}
+use Rattle.rt_core.proofs.Fits.{no_tally_fits}
+use Rattle.rt_core.proofs.Settling.{may_run-free}
+
+module _ {J : Type 0} (core cores room turns : ℕ) (delivered : List ℕ) where
+  abbrev first_view : List Tally → CoreView J
+  first_view tallies = core_view core cores (first_queue room) tallies 0 turns None delivered
+
+  -- no job waits
+  no_job : (tallies : List Tally) (queue : ℕ) → waiting_of queue (first_view tallies).queues ≡ []
+  no_job tallies zero = refl
+  no_job tallies (suc queue) = refl
+
+  pub IsListed-opened : (tallies : List Tally) → IsListed (first_view tallies) []
+  IsListed-opened tallies = record {
+    at = λ queue. sym (entry_of-none (first_view tallies) queue (may_run-free (first_view tallies) queue false refl (ap is_any (no_job tallies queue))));
+  }
+
+  pub IsPollable-opened : (done : J → Bool) (can_poll : J → Type 0) (tallies : List Tally) → IsPollable done can_poll (first_view tallies)
+  IsPollable-opened done can_poll tallies = record { at = λ queue. rw (no_job tallies queue) (λ k d below. absurd (omega arith)) }
+
+  pub IsWithinTurns-opened : IsWithinTurns (first_view (no_tally ∷ []))
+  IsWithinTurns-opened = record {
+    tallies = All-push (FitsTurns turns 0) [] no_tally (λ k d below. absurd (omega arith)) (no_tally_fits turns 0 0 (omega arith));
+    floor = omega arith;
+  }
