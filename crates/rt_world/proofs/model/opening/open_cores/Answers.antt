@@ -1,4 +1,4 @@
-use Rattle.std.proofs.Common.{arith}
+use Rattle.std.proofs.Common.{arith, refl}
 use Rattle.rt_world.proofs.PartOpening.{AreFirstOpened-push}
 use Rattle.rt_world.proofs.model.opening.open_cores.Goals as goal
 
@@ -6,4 +6,10 @@ pub loop-core-preserved : goal.loop-core-preserved
 loop-core-preserved g c = (
   omega (arith, c.loop-core.invariant.0, c.push_reserved.ensures.capacity),
   rw c.push_reserved.ensures.items (AreFirstOpened-push c.loop-core.core c.args.cores c.args.cap _ _ c.loop-core.invariant.1 c.in_ok-opened.ensures),
+)
+
+pub loop-core-init : goal.loop-core-init
+loop-core-init g c = (
+  omega (arith, c.in_ok-inside.ensures.capacity),
+  rw c.in_ok-inside.ensures.items (record { cores_are = refl; each_opened = λ core below. absurd (omega (arith, below)) }),
 )
