@@ -14,7 +14,8 @@ use Rattle.rt_link.proofs.Numbers.{AreNamed-append, AreNamed-wider, AreNamed-roo
 use Rattle.rt_ring.specs.Carried.{Place, IsSender, IsReceiver}
 use Rattle.rt_ring.specs.Ends.{IsOut, IsInward}
 use Rattle.rt_ring.specs.Rule.{gate_bit}
-use Rattle.rt_ring.specs.Told.{SeesOrders, SeesOutcomes, with_got, with_taken, with_given}
+use Rattle.rt_ring.specs.After.{with_got, with_taken, with_given}
+use Rattle.rt_ring.specs.Told.{SeesOrders, SeesOutcomes}
 use Rattle.rt_ring.specs.declared.board.Known.{Known}
 
 -- a place that is the next one in turn

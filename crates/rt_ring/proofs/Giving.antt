@@ -16,14 +16,15 @@ use Rattle.rt_link.proofs.WholeLaws.{IsLink-give, IsLink-awaits}
 use Rattle.rt_ring.specs.Carried.{Place}
 use Rattle.rt_ring.specs.Rule.{gate_bit}
 use Rattle.rt_ring.specs.Slots.{order_slot, outcome_slot}
-use Rattle.rt_ring.specs.Told.{Gives, with_given}
+use Rattle.rt_ring.specs.After.{with_given}
+use Rattle.rt_ring.specs.Told.{Gives}
 use Rattle.rt_ring.specs.Views.{KnowsOut, KnowsInward}
 use Rattle.rt_ring.specs.declared.board.Known.{Known}
 use Rattle.rt_ring.specs.declared.board.Slot.{Slot}
 use Rattle.rt_ring.specs.declared.board.Slot.TheVariants.{Empty, Sent, Back}
 use Rattle.rt_ring.specs.declared.board.Terms.{Terms}
 use Rattle.rt_ring.proofs.SeatViews.{AreTold-receiver}
-use Rattle.rt_ring.proofs.SlotMoves.{AreInPlace-given}
+use Rattle.rt_ring.proofs.GivenSlots.{AreInPlace-given}
 use Rattle.rt_ring.proofs.Stepping.{Rule, Owes}
 
 module _ {J T : Type 0} where

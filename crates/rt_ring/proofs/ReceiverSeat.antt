@@ -9,7 +9,8 @@ use Rattle.rt_link.specs.Calls.{MayGive}
 use Rattle.rt_ring.specs.Carried.{Place, IsReceiver, inward_slots}
 use Rattle.rt_ring.specs.Rule.{gate_bit}
 use Rattle.rt_ring.specs.Slots.{order_slot, outcome_slot, slot_of_order}
-use Rattle.rt_ring.specs.Told.{SeesOrders, Looks, Gives, with_taken, with_shut, with_given}
+use Rattle.rt_ring.specs.After.{with_taken, with_shut, with_given}
+use Rattle.rt_ring.specs.Told.{SeesOrders, Looks, Gives}
 use Rattle.rt_ring.specs.declared.board.Known.{Known}
 use Rattle.rt_ring.specs.declared.board.Slot.{Slot}
 use Rattle.rt_ring.specs.declared.board.Slot.TheVariants.{Empty, Sent, Back}

@@ -7,7 +7,8 @@ ghost use Rattle.rt_link.specs.Fits.{Fits};
 ghost use Rattle.rt_ring.specs.Carried.{IsReceiver};
 ghost use Rattle.rt_ring.specs.Rule.{gate_bit};
 ghost use Rattle.rt_ring.specs.Slots.{order_slot, outcome_slot};
-ghost use Rattle.rt_ring.specs.Told.{SeesOrders, with_taken, with_shut, with_given};
+ghost use Rattle.rt_ring.specs.After.{with_taken, with_shut, with_given};
+ghost use Rattle.rt_ring.specs.Told.{SeesOrders};
 
 use crate::board::{ACCEPT, Board, GATE, Place, RETURN, Slot};
 use crate::plays::{Give, Look, Shut};

@@ -5,7 +5,8 @@ ghost use Rattle.rt_jobs.specs.Ready.{HasReadyJob};
 ghost use Rattle.rt_link.specs.Fits.{Fits};
 ghost use Rattle.rt_ring.specs.Carried.{IsSender};
 ghost use Rattle.rt_ring.specs.Slots.{order_slot, outcome_slot};
-ghost use Rattle.rt_ring.specs.Told.{SeesOutcomes, with_sent, with_closed, with_got};
+ghost use Rattle.rt_ring.specs.After.{with_sent, with_closed, with_got};
+ghost use Rattle.rt_ring.specs.Told.{SeesOutcomes};
 
 use crate::board::{ACCEPT, Board, Place, RETURN, Slot};
 use crate::plays::{Accept, Gather, Probe};
