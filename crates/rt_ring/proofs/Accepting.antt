@@ -1,24 +1,23 @@
 -- The sender has an order accepted.
-use Rattle.std.proofs.Common.{◌≡◌, ◌≢◌, ℕ, ◌+◌, ◌^◌, ◌<◌, ◌≤◌, Bool, true, false, List, [], ◌∷◌, ◌++◌, length, set, get_or, eqb, refl, sym, ap, ◌∙◌, arith, subst, length-append, nat_lt, if◌then◌else◌}
+use Rattle.std.proofs.Common.{◌≡◌, ℕ, ◌+◌, ◌^◌, ◌<◌, ◌≤◌, true, false, List, [], ◌∷◌, ◌++◌, length, set, get_or, eqb, refl, sym, ap, ◌∙◌, arith, subst, length-append}
 use lib.ListN.{get_elem?}
-use mathlib.Core.Option.{some, none}
+use mathlib.Core.Option.{some}
 use native.Mathlib.Decide.{dec_le}
 use prog.Atomic.{either}
-use Rattle.atomic_table.specs.Table.{State, step, keeps, gives, chain, rest, Allows}
+use Rattle.atomic_table.specs.Table.{State, keeps, gives, chain, rest, Allows}
 use Rattle.atomic_table.proofs.Lists.{exchanged}
 use Rattle.rt_ids.specs.declared.order.Order.{Order}
 use Rattle.rt_ids.specs.declared.order.Outcome.{Outcome}
 use Rattle.rt_link.specs.declared.ends.Outward.{Outward}
 use Rattle.rt_link.specs.declared.ends.Inward.{Inward}
 use Rattle.rt_link.specs.declared.plain.Whole.{Whole}
-use Rattle.rt_link.specs.Whole.{IsLink}
 use Rattle.rt_link.proofs.Lists.{StartsWith-append}
 use Rattle.rt_link.proofs.WholeLaws.{IsLink-send}
 use Rattle.rt_ring.specs.Carried.{Place, spare}
 use Rattle.rt_ring.specs.Rule.{gate_bit}
 use Rattle.rt_ring.specs.Slots.{Homes, AreInPlace, order_slot, outcome_slot}
 use Rattle.rt_ring.specs.After.{with_sent, with_closed}
-use Rattle.rt_ring.specs.Told.{Accepts, Probes}
+use Rattle.rt_ring.specs.Told.{Accepts}
 use Rattle.rt_ring.specs.Views.{KnowsOut, KnowsInward}
 use Rattle.rt_ring.specs.declared.board.Known.{Known}
 use Rattle.rt_ring.specs.declared.board.Slot.{Slot}
@@ -27,7 +26,7 @@ use Rattle.rt_ring.specs.declared.board.Terms.{Terms}
 use Rattle.rt_ring.proofs.CarriedSlots.{spare-early, spare-late}
 use Rattle.rt_ring.proofs.SeatViews.{AreTold-sender}
 use Rattle.rt_ring.proofs.SentSlots.{AreInPlace-sent_early, AreInPlace-sent_late}
-use Rattle.rt_ring.proofs.Stepping.{Rule, Owes, gate-open, gate-shut, accept-word, accept-same, Rule-same, Rule-sender_learns}
+use Rattle.rt_ring.proofs.Stepping.{Rule, Owes, gate-open, gate-shut, accept-word}
 use Rattle.rt_ring.proofs.Probing.{not_closed, misses}
 
 module _ {J T : Type 0} where

@@ -1,10 +1,7 @@
 -- A seat that knows both ends of a link.
-use Rattle.std.proofs.Common.{◌≡◌, ℕ, ◌+◌, ◌-◌, ◌<◌, ◌≤◌, ⊎_elim, true, false, List, [], length, length-take, min, take, drop, get_or, set, refl, sym, ap, ◌∙◌, subst, arith, Option, Some}
-use Rattle.std.specs.Prelude.{slice_get, IfSome}
-use mathlib.Core.Option.{some}
-use lib.ListN.{get_elem?}
-use Rattle.atomic_table.specs.Table.{State, keeps, Allows, Splits, Joins}
-use Rattle.atomic_table.proofs.Lists.{at_set}
+use Rattle.std.proofs.Common.{◌≡◌, ℕ, ◌+◌, ◌-◌, ◌<◌, ◌≤◌, true, List, [], length, length-take, min, take, drop, get_or, refl, sym, ap, ◌∙◌, subst, arith, Option}
+use Rattle.std.specs.Prelude.{IfSome}
+use Rattle.atomic_table.specs.Table.{keeps, Allows}
 use Rattle.rt_ids.specs.declared.order.Order.{Order}
 use Rattle.rt_ids.specs.declared.order.Outcome.{Outcome}
 use Rattle.rt_link.specs.declared.ends.Outward.{Outward}
@@ -17,12 +14,9 @@ use Rattle.rt_ring.specs.Carried.{Place}
 use Rattle.atomic_table.specs.Seated.{TableId}
 use Rattle.rt_ring.specs.Ends.{name_of}
 use Rattle.rt_ring.specs.Told.{Compares}
-use Rattle.rt_ring.specs.Views.{IsTold, KnowsOut, KnowsInward, both_parts, spent_view}
+use Rattle.rt_ring.specs.Views.{KnowsOut, KnowsInward, both_parts}
 use Rattle.rt_ring.specs.declared.board.Known.{Known}
-use Rattle.rt_ring.specs.declared.board.Slot.{Slot}
 use Rattle.rt_ring.specs.declared.board.Terms.{Terms}
-use Rattle.rt_ring.proofs.Seats.{at_end, one_sender, one_receiver, fresh_sender, fresh_receiver}
-use Rattle.rt_ring.proofs.SeatViews.{true-not_false}
 use Rattle.rt_ring.proofs.Stepping.{Rule, accept-same, Rule-same}
 
 -- what is of all orders is of those taken, where the numbers are theirs

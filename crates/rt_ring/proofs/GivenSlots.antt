@@ -1,17 +1,14 @@
 -- The slots after a give are where the link wants them.
-use Rattle.std.proofs.Common.{◌≡◌, ℕ, zero, suc, ◌+◌, ◌%◌, ◌<◌, ◌≤◌, inl, inr, List, [], ◌∷◌, ◌++◌, length, set, max, refl, sym, ap, ◌∙◌, arith, Some, length-set, length-append}
-use Rattle.std.specs.Prelude.{slice_get}
-use mathlib.Core.Option.{some, none}
-use lib.ListN.{get_elem?}
-use Rattle.atomic_table.proofs.Lists.{set_else}
+use Rattle.std.proofs.Common.{◌≡◌, ℕ, suc, ◌+◌, ◌<◌, ◌≤◌, inl, List, [], ◌∷◌, ◌++◌, length, set, max, refl, sym, ap, ◌∙◌, arith, length-set, length-append}
+use mathlib.Core.Option.{some}
 use Rattle.rt_ids.specs.declared.order.Order.{Order}
 use Rattle.rt_ids.specs.declared.order.Outcome.{Outcome}
 use Rattle.rt_link.specs.Whole.{IsLink}
 use Rattle.rt_link.specs.declared.plain.Whole.{Whole}
 use Rattle.rt_link.proofs.Lists.{slice_get-starts}
-use Rattle.rt_ring.specs.Slots.{Homes, AreHome, AreInPlace, order_slot, outcome_slot, order_at, outcome_at, nothing_at, slot_of_order, slot_of_outcome}
-use Rattle.rt_ring.specs.declared.board.Slot.TheVariants.{Empty, Sent, Back}
-use Rattle.rt_ring.proofs.Windows.{slice_get-last, order-laps, outcome-laps, order-below, outcome-below, order-not_outcome, AreHome-outside, AreHome-more, AreHome-within, orders-stay, outcomes-stay}
+use Rattle.rt_ring.specs.Slots.{Homes, AreInPlace, order_slot, outcome_slot, order_at, outcome_at, nothing_at, slot_of_outcome}
+use Rattle.rt_ring.specs.declared.board.Slot.TheVariants.{Empty, Back}
+use Rattle.rt_ring.proofs.Windows.{slice_get-last, order-laps, outcome-laps, order-below, outcome-below, AreHome-outside, AreHome-more, AreHome-within, orders-stay, outcomes-stay}
 
 module _ {J T : Type 0} (fits : Order J → Outcome J T → Type 0) (ready : Order J → Type 0) (link : Whole J T) (law : IsLink fits ready link) (credits : link.redeemed ≡ link.got)
     (homes : Homes J T) (p : AreInPlace link homes) where

@@ -1,9 +1,8 @@
 -- The step of the receiver's seat on the return word: give.
-use Rattle.std.proofs.Common.{◌≡◌, ℕ, ◌+◌, ◌-◌, ◌<◌, ◌≤◌, Bool, true, false, List, [], ◌∷◌, ◌++◌, length, set, get_or, refl, sym, ap, ◌∙◌, arith, subst, length-append, Option}
+use Rattle.std.proofs.Common.{◌≡◌, ℕ, ◌+◌, ◌-◌, ◌<◌, ◌≤◌, true, false, List, [], ◌∷◌, ◌++◌, length, set, sym, ap, ◌∙◌, arith, subst, length-append, Option}
 use Rattle.std.specs.Prelude.{slice_get, IfSome}
-use lib.ListN.{get_elem?}
 use mathlib.Core.Option.{some}
-use Rattle.atomic_table.specs.Table.{State, gives, chain, rest, Allows}
+use Rattle.atomic_table.specs.Table.{gives, chain, rest, Allows}
 use Rattle.rt_ids.specs.declared.order.Order.{Order}
 use Rattle.rt_ids.specs.declared.order.Outcome.{Outcome}
 use Rattle.rt_link.specs.declared.ends.Outward.{Outward}

@@ -1,25 +1,23 @@
 -- The steps of the receiver's seat on the accept word: look and shut.
-use Rattle.std.proofs.Common.{◌≡◌, ℕ, ◌+◌, ◌*◌, ◌^◌, ◌<◌, ◌≤◌, Bool, true, false, List, [], ◌∷◌, length, set, get_or, refl, sym, ap, ap₂, ◌∙◌, arith, subst}
+use Rattle.std.proofs.Common.{◌≡◌, ℕ, ◌+◌, ◌*◌, ◌^◌, ◌<◌, ◌≤◌, Bool, true, false, List, [], ◌∷◌, length, set, get_or, refl, sym, ap, ap₂, ◌∙◌, arith}
 use Rattle.std.specs.Prelude.{bit_or}
 use Rattle.std.proofs.lemmas.Nat.{or_block}
 use Rattle.std.specs.Int.Bits.{or_zero_r}
 use lib.ListN.{get_elem?}
 use mathlib.Core.Option.{some, none}
 use native.Mathlib.Decide.{dec_le}
-use Rattle.atomic_table.specs.Table.{State, step, keeps, takes, chain, Allows}
+use Rattle.atomic_table.specs.Table.{State, keeps, takes, chain, Allows}
 use Rattle.rt_ids.specs.declared.order.Order.{Order}
 use Rattle.rt_ids.specs.declared.order.Outcome.{Outcome}
-use Rattle.rt_link.specs.declared.ends.Outward.{Outward}
 use Rattle.rt_link.specs.declared.ends.Inward.{Inward}
 use Rattle.rt_link.specs.declared.plain.Whole.{Whole}
-use Rattle.rt_link.proofs.Lists.{StartsWith-self}
 use Rattle.rt_link.proofs.WholeLaws.{IsLink-take, IsLink-shut}
 use Rattle.rt_ring.specs.Carried.{Place}
 use Rattle.rt_ring.specs.Rule.{gate_bit}
-use Rattle.rt_ring.specs.Slots.{order_slot, outcome_slot, order_at, AreInPlace}
+use Rattle.rt_ring.specs.Slots.{order_slot, outcome_slot, order_at}
 use Rattle.rt_ring.specs.After.{with_taken, with_shut}
 use Rattle.rt_ring.specs.Told.{SeesOrders, Looks, Closes}
-use Rattle.rt_ring.specs.Views.{KnowsOut, KnowsInward}
+use Rattle.rt_ring.specs.Views.{KnowsInward}
 use Rattle.rt_ring.specs.declared.board.Known.{Known}
 use Rattle.rt_ring.specs.declared.board.Slot.{Slot}
 use Rattle.rt_ring.specs.declared.board.Slot.TheVariants.{Empty}

@@ -1,25 +1,23 @@
 -- The table at the start, the first gather, and the seat that is parted.
-use Rattle.std.proofs.Common.{◌≡◌, ℕ, zero, suc, ◌+◌, ◌%◌, ◌^◌, ◌<◌, ◌≤◌, ◌⊎◌, inl, inr, ⊎_elim, true, false, List, [], ◌∷◌, ◌++◌, map, replicate, length, set, get_or, refl, sym, ap, ap₂, ◌∙◌, arith, subst, mod-lt, length-set}
+use Rattle.std.proofs.Common.{◌≡◌, ℕ, zero, suc, ◌+◌, ◌%◌, ◌^◌, ◌<◌, inr, ⊎_elim, true, false, List, [], ◌∷◌, map, replicate, length, set, get_or, refl, sym, ap, ap₂, ◌∙◌, arith, subst, mod-lt}
 use native.Mathlib.Nat.{mod-eq_of_lt}
-use mathlib.Core.Option.{some, none}
+use mathlib.Core.Option.{some}
 use lib.ListN.{get_elem?}
-use Rattle.atomic_table.specs.Table.{State, Act, step, keeps, takes, chain, opening, Valid, Allows, Splits, carried_after, homes_after}
-use Rattle.atomic_table.proofs.Lists.{at_set, set_else}
+use Rattle.atomic_table.specs.Table.{Act, opening, Allows, Splits, homes_after}
+use Rattle.atomic_table.proofs.Lists.{at_set}
 use Rattle.rt_ids.specs.declared.order.Order.{Order}
 use Rattle.rt_ids.specs.declared.order.Outcome.{Outcome}
 use Rattle.rt_link.specs.declared.ends.Outward.{Outward}
-use Rattle.rt_link.specs.declared.plain.Whole.{Whole}
 use Rattle.rt_link.proofs.Lists.{StartsWith-self}
 use Rattle.rt_link.proofs.WholeLaws.{IsLink-fresh}
 use Rattle.rt_ring.specs.Carried.{Place, out_slots}
-use Rattle.rt_ring.specs.Slots.{Homes, AreInPlace, order_slot, outcome_slot}
+use Rattle.rt_ring.specs.Slots.{Homes, order_slot, outcome_slot}
 use Rattle.rt_ring.specs.Told.{Stocks}
-use Rattle.rt_ring.specs.Views.{IsTold, AreTold, KnowsOut, fresh_link, first_view, out_part, inward_part}
+use Rattle.rt_ring.specs.Views.{IsTold, fresh_link, first_view, out_part, inward_part}
 use Rattle.rt_ring.specs.declared.board.Known.{Known}
 use Rattle.rt_ring.specs.declared.board.Slot.{Slot}
 use Rattle.rt_ring.specs.declared.board.Slot.TheVariants.{Empty}
 use Rattle.rt_ring.specs.declared.board.Terms.{Terms}
-use Rattle.rt_ring.proofs.CarriedSlots.{spare-early}
 use Rattle.rt_ring.proofs.Seats.{at_end, only_one, one_sender, one_receiver, fresh_sender}
 use Rattle.rt_ring.proofs.SeatViews.{true-not_false}
 use Rattle.rt_ring.proofs.Stepping.{Rule, Owes, return-same}

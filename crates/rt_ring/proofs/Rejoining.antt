@@ -1,29 +1,17 @@
 -- The receiver's seat is handed over and joined to the sender's, which then knows both ends.
-use Rattle.std.proofs.Common.{◌≡◌, ℕ, ◌+◌, ◌-◌, ◌<◌, ◌≤◌, ⊎_elim, true, false, List, [], length, length-take, min, take, drop, get_or, set, refl, sym, ap, ◌∙◌, subst, arith, Option, Some}
-use Rattle.std.specs.Prelude.{slice_get, IfSome}
+use Rattle.std.proofs.Common.{◌≡◌, ℕ, ⊎_elim, true, false, List, length, set, sym, ◌∙◌, subst}
 use mathlib.Core.Option.{some}
 use lib.ListN.{get_elem?}
-use Rattle.atomic_table.specs.Table.{State, keeps, Allows, Splits, Joins}
+use Rattle.atomic_table.specs.Table.{Splits, Joins}
 use Rattle.atomic_table.proofs.Lists.{at_set}
 use Rattle.rt_ids.specs.declared.order.Order.{Order}
 use Rattle.rt_ids.specs.declared.order.Outcome.{Outcome}
-use Rattle.rt_link.specs.declared.ends.Outward.{Outward}
-use Rattle.rt_link.specs.declared.ends.Inward.{Inward}
-use Rattle.rt_link.specs.declared.plain.Whole.{Whole}
-use Rattle.rt_link.specs.Ends.{StartsWith, AreOf, AreNamed, Joined}
-use Rattle.rt_link.specs.Whole.{IsLink}
-use Rattle.rt_link.proofs.Lists.{StartsWith-take, slice_get-starts}
-use Rattle.rt_ring.specs.Carried.{Place}
-use Rattle.atomic_table.specs.Seated.{TableId}
-use Rattle.rt_ring.specs.Ends.{name_of}
-use Rattle.rt_ring.specs.Told.{Compares}
-use Rattle.rt_ring.specs.Views.{IsTold, KnowsOut, KnowsInward, both_parts, spent_view}
+use Rattle.rt_ring.specs.Views.{IsTold, both_parts, spent_view}
 use Rattle.rt_ring.specs.declared.board.Known.{Known}
-use Rattle.rt_ring.specs.declared.board.Slot.{Slot}
 use Rattle.rt_ring.specs.declared.board.Terms.{Terms}
 use Rattle.rt_ring.proofs.Seats.{at_end, one_sender, one_receiver, fresh_sender, fresh_receiver}
 use Rattle.rt_ring.proofs.SeatViews.{true-not_false}
-use Rattle.rt_ring.proofs.Stepping.{Rule, accept-same, Rule-same}
+use Rattle.rt_ring.proofs.Stepping.{Rule}
 
 module _ {J T : Type 0} (fits : Order J → Outcome J T → Type 0) (ready : Order J → Type 0) (terms : Terms) where
   -- the receiver's view moves to a new seat

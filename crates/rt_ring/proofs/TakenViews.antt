@@ -1,32 +1,10 @@
 -- What the two seats know after a look or a shut.
-use Rattle.std.proofs.Common.{◌≡◌, ℕ, ◌+◌, ◌*◌, ◌^◌, ◌<◌, ◌≤◌, Bool, true, false, List, [], ◌∷◌, length, set, get_or, refl, sym, ap, ap₂, ◌∙◌, arith, subst}
-use Rattle.std.specs.Prelude.{bit_or}
-use Rattle.std.proofs.lemmas.Nat.{or_block}
-use Rattle.std.specs.Int.Bits.{or_zero_r}
-use lib.ListN.{get_elem?}
-use mathlib.Core.Option.{some, none}
-use native.Mathlib.Decide.{dec_le}
-use Rattle.atomic_table.specs.Table.{State, step, keeps, takes, chain, Allows}
-use Rattle.rt_ids.specs.declared.order.Order.{Order}
-use Rattle.rt_ids.specs.declared.order.Outcome.{Outcome}
+use Rattle.std.proofs.Common.{◌+◌, ◌≤◌, true, length, refl, ap}
 use Rattle.rt_link.specs.declared.ends.Outward.{Outward}
 use Rattle.rt_link.specs.declared.ends.Inward.{Inward}
 use Rattle.rt_link.specs.declared.plain.Whole.{Whole}
 use Rattle.rt_link.proofs.Lists.{StartsWith-self}
-use Rattle.rt_link.proofs.WholeLaws.{IsLink-take, IsLink-shut}
-use Rattle.rt_ring.specs.Carried.{Place}
-use Rattle.rt_ring.specs.Rule.{gate_bit}
-use Rattle.rt_ring.specs.Slots.{order_slot, outcome_slot, order_at, AreInPlace}
-use Rattle.rt_ring.specs.After.{with_taken, with_shut}
-use Rattle.rt_ring.specs.Told.{SeesOrders, Looks, Closes}
 use Rattle.rt_ring.specs.Views.{KnowsOut, KnowsInward}
-use Rattle.rt_ring.specs.declared.board.Known.{Known}
-use Rattle.rt_ring.specs.declared.board.Slot.{Slot}
-use Rattle.rt_ring.specs.declared.board.Slot.TheVariants.{Empty}
-use Rattle.rt_ring.specs.declared.board.Terms.{Terms}
-use Rattle.rt_ring.proofs.SeatViews.{AreTold-receiver}
-use Rattle.rt_ring.proofs.TakenSlots.{order-there, vacant-there, AreInPlace-taken}
-use Rattle.rt_ring.proofs.Stepping.{Rule, Owes, accept-word, accept-same, Rule-receiver_learns}
 
 module _ {J T : Type 0} (link : Whole J T) (inward : Inward J T) (k : KnowsInward link inward) where
   -- all that was sent is seen

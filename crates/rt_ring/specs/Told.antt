@@ -9,7 +9,6 @@ use Rattle.rt_ring.specs.After.{with_sent, with_closed, with_got, with_taken, wi
 use Rattle.rt_ring.specs.Carried.{Place, spare, out_slots}
 use Rattle.rt_ring.specs.Rule.{gate_bit}
 use Rattle.rt_ring.specs.Slots.{order_slot, outcome_slot, order_at, outcome_at}
-use Rattle.rt_ring.specs.declared.board.Known.{Known}
 use Rattle.rt_ring.specs.declared.board.Slot.{Slot}
 use Rattle.rt_ring.specs.declared.board.Slot.TheVariants.{Empty, Sent, Back}
 
