@@ -14,17 +14,46 @@ const JOBS: u64 = 64000;
 const SINGLE: u64 = 10000;
 const ONE_WAY: u64 = 60000;
 
+// A job: a number, or as large as a script job.
+pub trait Load: Send + 'static {
+    fn make(number: u64) -> Self;
+    fn value(&self) -> u64;
+}
+
+impl Load for u64 {
+    fn make(number: u64) -> Self {
+        number
+    }
+    fn value(&self) -> u64 {
+        *self
+    }
+}
+
+pub struct Heavy {
+    words: [u64; 65],
+    value: u64,
+}
+
+impl Load for Heavy {
+    fn make(number: u64) -> Self {
+        Heavy { words: [number; 65], value: number }
+    }
+    fn value(&self) -> u64 {
+        self.value
+    }
+}
+
 #[allow(dead_code)]
-pub enum Order {
-    Job(u8, u64),
+pub enum Order<J> {
+    Job(u8, J),
     Create(u16),
     SetShares(u8, u16),
 }
 
 #[allow(dead_code)]
-pub enum Outcome {
+pub enum Outcome<J> {
     Finished(u64),
-    Returned(u8, Order),
+    Returned(u8, Order<J>),
     Answered(u8),
 }
 
@@ -75,16 +104,16 @@ mod apart_strict {
     form!(ApartStrict, true, 128);
 }
 
-struct Board<W> {
+struct Board<W, J> {
     words: W,
-    orders: Box<[UnsafeCell<MaybeUninit<Order>>]>,
-    outcomes: Box<[UnsafeCell<MaybeUninit<(u64, Outcome)>>]>,
+    orders: Box<[UnsafeCell<MaybeUninit<Order<J>>>]>,
+    outcomes: Box<[UnsafeCell<MaybeUninit<(u64, Outcome<J>)>>]>,
 }
 
-unsafe impl<W: Form> Sync for Board<W> {}
+unsafe impl<W: Form, J: Load> Sync for Board<W, J> {}
 
-pub struct Out<W> {
-    board: Arc<Board<W>>,
+pub struct Out<W, J> {
+    board: Arc<Board<W, J>>,
     capacity: u64,
     count: u64,
     collected: u64,
@@ -93,8 +122,8 @@ pub struct Out<W> {
     next_outcome: usize,
 }
 
-pub struct In<W> {
-    board: Arc<Board<W>>,
+pub struct In<W, J> {
+    board: Arc<Board<W, J>>,
     capacity: u64,
     taken: u64,
     given: u64,
@@ -104,12 +133,12 @@ pub struct In<W> {
 }
 
 #[allow(dead_code)]
-pub enum SendError {
-    Closed(Order, u64),
-    Full(Order),
+pub enum SendError<J> {
+    Closed(Order<J>, u64),
+    Full(Order<J>),
 }
 
-fn open<W: Form>(capacity: u64) -> (Out<W>, In<W>) {
+fn open<W: Form, J: Load>(capacity: u64) -> (Out<W, J>, In<W, J>) {
     let board = Arc::new(Board {
         words: W::new(),
         orders: (0..capacity).map(|_| UnsafeCell::new(MaybeUninit::uninit())).collect(),
@@ -126,8 +155,8 @@ fn next(place: usize, capacity: u64) -> usize {
     if place + 1 == capacity as usize { 0 } else { place + 1 }
 }
 
-impl<W: Form> Out<W> {
-    fn send(&mut self, order: Order) -> Result<u64, SendError> {
+impl<W: Form, J: Load> Out<W, J> {
+    fn send(&mut self, order: Order<J>) -> Result<u64, SendError<J>> {
         if self.count - self.redeemed == self.capacity {
             if self.board.words.accept().load(Ordering::Acquire) & GATE != 0 {
                 return Err(SendError::Closed(order, self.count));
@@ -149,7 +178,7 @@ impl<W: Form> Out<W> {
         }
     }
 
-    fn collect(&mut self) -> Option<(u64, Outcome)> {
+    fn collect(&mut self) -> Option<(u64, Outcome<J>)> {
         let order = if W::STRICT { Ordering::SeqCst } else { Ordering::Acquire };
         if self.board.words.given().load(order) == self.collected {
             return None;
@@ -161,8 +190,8 @@ impl<W: Form> Out<W> {
     }
 }
 
-impl<W: Form> In<W> {
-    fn take(&mut self) -> Option<(u64, Order)> {
+impl<W: Form, J: Load> In<W, J> {
+    fn take(&mut self) -> Option<(u64, Order<J>)> {
         let order = if W::STRICT { Ordering::SeqCst } else { Ordering::Acquire };
         if self.board.words.accept().load(order) == self.taken + self.gate {
             return None;
@@ -173,7 +202,7 @@ impl<W: Form> In<W> {
         Some((self.taken, found))
     }
 
-    fn give(&mut self, number: u64, outcome: Outcome) {
+    fn give(&mut self, number: u64, outcome: Outcome<J>) {
         unsafe { (*self.board.outcomes.get_unchecked(self.next_outcome).get()).write((number, outcome)) };
         self.given += 1;
         if W::STRICT {
@@ -191,11 +220,11 @@ impl<W: Form> In<W> {
     }
 }
 
-fn send<W: Form>(end: &mut Out<W>, number: u64) -> bool {
-    end.send(Order::Job(0, number)).is_ok()
+fn send<W: Form, J: Load>(end: &mut Out<W, J>, number: u64) -> bool {
+    end.send(Order::Job(0, J::make(number))).is_ok()
 }
 
-fn collect<W: Form>(end: &mut Out<W>) -> Option<u64> {
+fn collect<W: Form, J: Load>(end: &mut Out<W, J>) -> Option<u64> {
     let (_number, outcome) = end.collect()?;
     end.redeemed += 1;
     match outcome {
@@ -204,10 +233,10 @@ fn collect<W: Form>(end: &mut Out<W>) -> Option<u64> {
     }
 }
 
-fn serve<W: Form>(end: &mut In<W>) -> bool {
+fn serve<W: Form, J: Load>(end: &mut In<W, J>) -> bool {
     let Some((number, order)) = end.take() else { return false };
     let outcome = match order {
-        Order::Job(_, value) => Outcome::Finished(value),
+        Order::Job(_, job) => Outcome::Finished(job.value()),
         Order::Create(_) => Outcome::Answered(0),
         Order::SetShares(_, _) => Outcome::Answered(1),
     };
@@ -215,9 +244,9 @@ fn serve<W: Form>(end: &mut In<W>) -> bool {
     true
 }
 
-fn take<W: Form>(end: &mut In<W>) -> Option<u64> {
+fn take<W: Form, J: Load>(end: &mut In<W, J>) -> Option<u64> {
     match end.take()?.1 {
-        Order::Job(_, value) => Some(value),
+        Order::Job(_, job) => Some(job.value()),
         _ => Some(0),
     }
 }
@@ -231,7 +260,7 @@ fn pause(tries: u64) {
     }
 }
 
-fn wait_to_send<W: Form>(end: &mut Out<W>, number: u64) {
+fn wait_to_send<W: Form, J: Load>(end: &mut Out<W, J>, number: u64) {
     for tries in 0.. {
         if send(end, number) {
             return;
@@ -240,7 +269,7 @@ fn wait_to_send<W: Form>(end: &mut Out<W>, number: u64) {
     }
 }
 
-fn wait_for_answer<W: Form>(end: &mut Out<W>) -> u64 {
+fn wait_for_answer<W: Form, J: Load>(end: &mut Out<W, J>) -> u64 {
     for tries in 0.. {
         if let Some(answer) = collect(end) {
             return answer;
@@ -250,7 +279,7 @@ fn wait_for_answer<W: Form>(end: &mut Out<W>) -> u64 {
     0
 }
 
-fn wait_to_serve<W: Form>(end: &mut In<W>) {
+fn wait_to_serve<W: Form, J: Load>(end: &mut In<W, J>) {
     for tries in 0.. {
         if serve(end) {
             return;
@@ -259,7 +288,7 @@ fn wait_to_serve<W: Form>(end: &mut In<W>) {
     }
 }
 
-fn wait_to_take<W: Form>(end: &mut In<W>) -> u64 {
+fn wait_to_take<W: Form, J: Load>(end: &mut In<W, J>) -> u64 {
     for tries in 0.. {
         if let Some(number) = take(end) {
             return number;
@@ -270,7 +299,7 @@ fn wait_to_take<W: Form>(end: &mut In<W>) -> u64 {
 }
 
 #[inline(never)]
-fn send_all<W: Form>(mut end: Out<W>, jobs: u64, credits: u64) -> u64 {
+fn send_all<W: Form, J: Load>(mut end: Out<W, J>, jobs: u64, credits: u64) -> u64 {
     let mut sum = 0u64;
     for number in 0..jobs {
         if number >= credits {
@@ -285,7 +314,7 @@ fn send_all<W: Form>(mut end: Out<W>, jobs: u64, credits: u64) -> u64 {
 }
 
 #[inline(never)]
-fn serve_all<W: Form>(mut end: In<W>, jobs: u64) -> In<W> {
+fn serve_all<W: Form, J: Load>(mut end: In<W, J>, jobs: u64) -> In<W, J> {
     for _ in 0..jobs {
         wait_to_serve(&mut end);
     }
@@ -293,7 +322,7 @@ fn serve_all<W: Form>(mut end: In<W>, jobs: u64) -> In<W> {
 }
 
 #[inline(never)]
-fn send_one_way<W: Form>(mut end: Out<W>, jobs: u64) -> Out<W> {
+fn send_one_way<W: Form, J: Load>(mut end: Out<W, J>, jobs: u64) -> Out<W, J> {
     for number in 0..jobs {
         wait_to_send(&mut end, number);
     }
@@ -301,7 +330,7 @@ fn send_one_way<W: Form>(mut end: Out<W>, jobs: u64) -> Out<W> {
 }
 
 #[inline(never)]
-fn take_all<W: Form>(mut end: In<W>, jobs: u64) -> u64 {
+fn take_all<W: Form, J: Load>(mut end: In<W, J>, jobs: u64) -> u64 {
     let mut sum = 0u64;
     for _ in 0..jobs {
         sum = sum.wrapping_add(wait_to_take(&mut end));
@@ -310,7 +339,7 @@ fn take_all<W: Form>(mut end: In<W>, jobs: u64) -> u64 {
 }
 
 #[inline(never)]
-fn turn_all<W: Form>(mut front: Out<W>, mut behind: In<W>, turns: u64, credits: u64) -> u64 {
+fn turn_all<W: Form, J: Load>(mut front: Out<W, J>, mut behind: In<W, J>, turns: u64, credits: u64) -> u64 {
     let mut sum = 0u64;
     for turn in 0..turns {
         let first = turn * credits;
@@ -330,8 +359,8 @@ fn turn_all<W: Form>(mut front: Out<W>, mut behind: In<W>, turns: u64, credits: 
 // The nanoseconds of one measure, and a sum that must agree with that of the others.
 type Measured = (u128, u64);
 
-fn trips<W: Form>(capacity: u64, jobs: u64, credits: u64) -> Measured {
-    let (front, behind) = open::<W>(capacity);
+fn trips<W: Form, J: Load>(capacity: u64, jobs: u64, credits: u64) -> Measured {
+    let (front, behind) = open::<W, J>(capacity);
     let start = Instant::now();
     let other = std::thread::spawn(move || serve_all(behind, jobs));
     let sum = send_all(front, jobs, credits);
@@ -341,8 +370,8 @@ fn trips<W: Form>(capacity: u64, jobs: u64, credits: u64) -> Measured {
     (taken, sum)
 }
 
-fn one_way<W: Form>(jobs: u64) -> Measured {
-    let (front, behind) = open::<W>(jobs);
+fn one_way<W: Form, J: Load>(jobs: u64) -> Measured {
+    let (front, behind) = open::<W, J>(jobs);
     let start = Instant::now();
     let other = std::thread::spawn(move || take_all(behind, jobs));
     let _front = send_one_way(front, jobs);
@@ -350,8 +379,8 @@ fn one_way<W: Form>(jobs: u64) -> Measured {
     (start.elapsed().as_nanos(), sum)
 }
 
-fn alone<W: Form>(jobs: u64) -> Measured {
-    let (front, behind) = open::<W>(64);
+fn alone<W: Form, J: Load>(jobs: u64) -> Measured {
+    let (front, behind) = open::<W, J>(64);
     let start = Instant::now();
     let sum = turn_all(front, behind, jobs / 64, 64);
     (start.elapsed().as_nanos(), sum)
@@ -371,11 +400,13 @@ fn line(name: &str, jobs: u64, rounds: usize, measure: impl Fn() -> Measured) {
 }
 
 fn all<W: Form>(name: &str, rounds: usize) {
-    line(&format!("{name} one_way"), ONE_WAY, rounds, || one_way::<W>(ONE_WAY));
-    line(&format!("{name} trip_64"), JOBS, rounds, || trips::<W>(64, JOBS, 64));
-    line(&format!("{name} trip_1024"), JOBS, rounds, || trips::<W>(1024, JOBS, 1024));
-    line(&format!("{name} single"), SINGLE, rounds, || trips::<W>(64, SINGLE, 1));
-    line(&format!("{name} alone"), JOBS, rounds, || alone::<W>(JOBS));
+    line(&format!("{name} one_way"), ONE_WAY, rounds, || one_way::<W, u64>(ONE_WAY));
+    line(&format!("{name} trip_64"), JOBS, rounds, || trips::<W, u64>(64, JOBS, 64));
+    line(&format!("{name} trip_1024"), JOBS, rounds, || trips::<W, u64>(1024, JOBS, 1024));
+    line(&format!("{name} single"), SINGLE, rounds, || trips::<W, u64>(64, SINGLE, 1));
+    line(&format!("{name} alone"), JOBS, rounds, || alone::<W, u64>(JOBS));
+    line(&format!("{name} heavy_64"), JOBS, rounds, || trips::<W, Heavy>(64, JOBS, 64));
+    line(&format!("{name} heavy_alone"), JOBS, rounds, || alone::<W, Heavy>(JOBS));
 }
 
 fn main() {

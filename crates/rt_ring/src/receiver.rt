@@ -84,7 +84,7 @@ pub(crate) fn give<J: Task>(
     let shared = &board.shared;
     let empty = shared.exchange(seat, slot, Slot::Back(number, outcome));
     prove!(matches!(&empty, Slot::Empty));
-    // No word of the old slot is read so: its line comes over to be written, and only once.
+    // Forgotten and not matched: so the slot is written without being read, and its cache line crosses once.
     forget(empty);
     // step: give. The receiver alone changes the return word, so it knows what it finds.
     shared.swap::<Give>(seat, RETURN, given);

@@ -36,7 +36,7 @@ pub(crate) fn offer<J: Task>(
     let shared = &board.shared;
     let empty = shared.exchange(seat, slot, Slot::Sent(order));
     prove!(matches!(&empty, Slot::Empty));
-    // No word of the old slot is read so: its line comes over to be written, and only once.
+    // Forgotten and not matched: so the slot is written without being read, and its cache line crosses once.
     forget(empty);
     // step: accept. One try decides, since only the gate can make it fail.
     if shared.compare_exchange::<Accept>(seat, ACCEPT, last, last + 1) == last {
