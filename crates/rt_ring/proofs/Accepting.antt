@@ -1,23 +1,23 @@
--- The steps of the sender's seat on the accept word: accept and probe.
-use Rattle.std.proofs.Common.{◌≡◌, ◌≢◌, ℕ, ◌+◌, ◌^◌, ◌<◌, ◌≤◌, Bool, true, false, List, [], ◌∷◌, ◌++◌, length, set, get_or, eqb, refl, sym, ap, ◌∙◌, arith, subst, length-append, nat_lt, if◌then◌else◌}
+-- The sender has an order accepted.
+use Rattle.std.proofs.Common.{◌≡◌, ℕ, ◌+◌, ◌^◌, ◌<◌, ◌≤◌, true, false, List, [], ◌∷◌, ◌++◌, length, set, get_or, eqb, refl, sym, ap, ◌∙◌, arith, subst, length-append}
 use lib.ListN.{get_elem?}
-use mathlib.Core.Option.{some, none}
+use mathlib.Core.Option.{some}
 use native.Mathlib.Decide.{dec_le}
 use prog.Atomic.{either}
-use Rattle.atomic_table.specs.Table.{State, step, keeps, gives, chain, rest, Allows}
+use Rattle.atomic_table.specs.Table.{State, keeps, gives, chain, rest, Allows}
 use Rattle.atomic_table.proofs.Lists.{exchanged}
 use Rattle.rt_ids.specs.declared.order.Order.{Order}
 use Rattle.rt_ids.specs.declared.order.Outcome.{Outcome}
 use Rattle.rt_link.specs.declared.ends.Outward.{Outward}
 use Rattle.rt_link.specs.declared.ends.Inward.{Inward}
 use Rattle.rt_link.specs.declared.plain.Whole.{Whole}
-use Rattle.rt_link.specs.Whole.{IsLink}
 use Rattle.rt_link.proofs.Lists.{StartsWith-append}
 use Rattle.rt_link.proofs.WholeLaws.{IsLink-send}
 use Rattle.rt_ring.specs.Carried.{Place, spare}
 use Rattle.rt_ring.specs.Rule.{gate_bit}
 use Rattle.rt_ring.specs.Slots.{Homes, AreInPlace, order_slot, outcome_slot}
-use Rattle.rt_ring.specs.Told.{Accepts, Probes, with_sent, with_closed}
+use Rattle.rt_ring.specs.After.{with_sent, with_closed}
+use Rattle.rt_ring.specs.Told.{Accepts}
 use Rattle.rt_ring.specs.Views.{KnowsOut, KnowsInward}
 use Rattle.rt_ring.specs.declared.board.Known.{Known}
 use Rattle.rt_ring.specs.declared.board.Slot.{Slot}
@@ -25,12 +25,9 @@ use Rattle.rt_ring.specs.declared.board.Slot.TheVariants.{Empty, Sent, Back}
 use Rattle.rt_ring.specs.declared.board.Terms.{Terms}
 use Rattle.rt_ring.proofs.CarriedSlots.{spare-early, spare-late}
 use Rattle.rt_ring.proofs.SeatViews.{AreTold-sender}
-use Rattle.rt_ring.proofs.SlotMoves.{AreInPlace-sent_early, AreInPlace-sent_late}
-use Rattle.rt_ring.proofs.Stepping.{Rule, Owes, gate-open, gate-shut, accept-word, accept-same, Rule-same, Rule-sender_learns}
-
-not_closed : (closed gate : Bool) → (closed ≡ true → gate ≡ true) → gate ≡ false → closed ≡ false
-not_closed true gate shut is = sym (shut refl) ∙ is
-not_closed false gate shut is = refl
+use Rattle.rt_ring.proofs.SentSlots.{AreInPlace-sent_early, AreInPlace-sent_late}
+use Rattle.rt_ring.proofs.Stepping.{Rule, Owes, gate-open, gate-shut, accept-word}
+use Rattle.rt_ring.proofs.Probing.{not_closed, misses}
 
 module _ {J T : Type 0} where
   -- the order in the slot at the front
@@ -47,14 +44,6 @@ module _ {J T : Type 0} where
     sees = k.sees;
     got_seen = k.got_seen;
     gate = k.gate;
-  }
-
-  KnowsOut-closed : (link : Whole J T) (out : Outward J T) → link.shut ≡ true → KnowsOut link out → KnowsOut link (record out { closed = true })
-  KnowsOut-closed link out shut k = record {
-    knows = ap (λ (o : Outward J T). record o { closed = true }) k.knows;
-    sees = k.sees;
-    got_seen = k.got_seen;
-    gate = λ _. shut;
   }
 
   -- the receiver needs to know nothing of an order that is sent while the gate is open
@@ -154,12 +143,6 @@ module _ {J T : Type 0} (fits : Order J → Outcome J T → Type 0) (ready : Ord
     accepts-one (yes late) = subst (λ (z : List (ℕ × Slot J T)). Sends ((order_slot n k, Sent order) ∷ (z ++ more))) (sym (spare-late n k late)) (accepts-late late)
     accepts-one (no early) = subst (λ (z : List (ℕ × Slot J T)). Sends ((order_slot n k, Sent order) ∷ (z ++ more))) (sym (spare-early n k (omega arith))) (accepts-early (omega arith))
 
-  -- the gate was found shut
-  misses : (s : State (Slot J T) (Known J T)) (r : Rule fits ready terms s) (seat : ℕ) (view : Known J T) → get_elem? s.views seat ≡ some view → view.sends ≡ true → view.fresh ≡ false → r.link.shut ≡ true
-      → Rule fits ready terms record { words = set s.words 0 (get_or s.words 0 0); homes = s.homes; views = set s.views seat (with_closed view) }
-  misses s r seat view at go used shut = Rule-sender_learns fits ready terms s r 0 seat view (accept-same fits ready terms s r) at (record view.out { closed = true }) used go
-      (KnowsOut-closed r.link view.out shut ((r.views seat view at).sends go).1)
-
   pub accepts : (slots seat expected next : ℕ) (me : Place J T) (order : Order J) (more : List (ℕ × Slot J T)) → me.0.sends ≡ true → me.0.fresh ≡ false
       → me.1 ≡ (order_slot me.0.out.capacity (length me.0.out.sent), Sent order) ∷ (spare me.0.out.capacity (length me.0.out.sent) ++ more)
       → expected ≡ me.0.out.base + length me.0.out.sent → next ≡ expected + 1 → next < 2 ^ 63 → length me.0.out.sent < me.0.out.got + me.0.out.capacity → ready order
@@ -181,33 +164,6 @@ module _ {J T : Type 0} (fits : Order J → Outcome J T → Type 0) (ready : Ord
         with_closed view,
         keeps,
         tt,
-        misses s r seat view at go used (gate-shut (get_or s.words 0 0) expected r.link.shut (accept-word fits ready terms s r ∙ ap (λ (z : ℕ). z + gate_bit r.link.shut) (sym was)) miss),
+        misses fits ready terms s r seat view at go used (gate-shut (get_or s.words 0 0) expected r.link.shut (accept-word fits ready terms s r ∙ ap (λ (z : ℕ). z + gate_bit r.link.shut) (sym was)) miss),
         record { hit = λ hit. absurd (miss hit); miss = λ _. refl },
       )))
-
-  pub probes : (slots seat expected : ℕ) (me : Place J T) → me.0.sends ≡ true → me.0.fresh ≡ false → expected ≡ me.0.out.base + length me.0.out.sent
-      → Allows (Rule fits ready terms) slots seat me 0 (λ y. either (eqb y expected) expected y) (Probes expected me)
-  probes slots seat expected me go used is s r wide at _ =
-      let view : Known J T = me.0 in let out : Outward J T = view.out in
-      let k : KnowsOut r.link out = ((r.views seat view at).sends go).1 in
-      let count : length out.sent ≡ length r.link.sent = ap (λ (o : Outward J T). length o.sent) k.knows in
-      let base : out.base ≡ r.link.base = ap (λ (o : Outward J T). o.base) k.knows in
-      let was : expected ≡ r.link.base + length r.link.sent = omega arith in
-      exchanged (get_or s.words 0 0) expected expected (Owes fits ready terms s 0 seat me (Probes expected me))
-      (λ hit. subst (Owes fits ready terms s 0 seat me (Probes expected me)) hit (
-        view,
-        keeps,
-        tt,
-        Rule-same fits ready terms s r 0 seat view (accept-same fits ready terms s r) at,
-        record {
-          hit = λ _. (not_closed out.closed r.link.shut k.gate (gate-open expected (r.link.base + length r.link.sent) r.link.shut (sym hit ∙ accept-word fits ready terms s r) was), refl);
-          miss = λ miss. absurd (miss hit);
-        },
-      ))
-      (λ miss. (
-        with_closed view,
-        keeps,
-        tt,
-        misses s r seat view at go used (gate-shut (get_or s.words 0 0) expected r.link.shut (accept-word fits ready terms s r ∙ ap (λ (z : ℕ). z + gate_bit r.link.shut) (sym was)) miss),
-        record { hit = λ hit. absurd (miss hit); miss = λ _. refl },
-      ))

@@ -1,6 +1,6 @@
 -- What a seat carries, before and after its steps.
-use Rattle.std.proofs.Common.{◌≡◌, ℕ, zero, suc, ◌+◌, ◌-◌, ◌%◌, ◌<◌, ◌≤◌, Bool, true, false, List, [], ◌∷◌, ◌++◌, refl, sym, ap, ap₂, ◌∙◌, arith, append_assoc, append-nil, nat_lt, if◌then◌else◌}
-use native.Mathlib.Nat.{mod-eq_of_lt, add-mod_right}
+use Rattle.std.proofs.Common.{◌≡◌, ℕ, zero, suc, ◌+◌, ◌-◌, ◌%◌, ◌<◌, ◌≤◌, Bool, true, false, List, [], ◌∷◌, ◌++◌, sym, ap, ap₂, ◌∙◌, arith, append_assoc, nat_lt, if◌then◌else◌}
+use native.Mathlib.Nat.{add-mod_right}
 use Rattle.rt_ring.specs.Carried.{spare, out_slots, inward_slots}
 use Rattle.rt_ring.specs.Slots.{order_slot, outcome_slot}
 use Rattle.rt_ring.specs.declared.board.Slot.{Slot}

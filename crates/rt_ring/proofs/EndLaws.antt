@@ -1,12 +1,10 @@
 -- What is true of an end stays true through its calls.
-use Rattle.std.proofs.Common.{◌≡◌, ◌≢◌, ℕ, ◌+◌, ◌%◌, ◌^◌, ◌<◌, ◌≤◌, Bool, true, false, List, [], ◌∷◌, ◌++◌, length, length-append, Some, refl, sym, ap, ◌∙◌, subst, arith}
+use Rattle.std.proofs.Common.{◌≡◌, ◌≢◌, ℕ, ◌+◌, ◌%◌, ◌<◌, ◌≤◌, Bool, true, false, List, [], ◌∷◌, ◌++◌, length, length-append, Some, refl, sym, ap, ◌∙◌, subst, arith}
 use Rattle.std.specs.Prelude.{slice_get}
 use Rattle.std.proofs.lemmas.Option.{slice_get_within}
 use Rattle.atomic_table.specs.Seated.{TableId}
 use Rattle.rt_ids.specs.declared.order.Order.{Order}
 use Rattle.rt_ids.specs.declared.order.Outcome.{Outcome}
-use Rattle.rt_link.specs.declared.ends.Outward.{Outward}
-use Rattle.rt_link.specs.declared.ends.Inward.{Inward}
 use Rattle.rt_link.specs.Calls.{MayGive, Shuts}
 use Rattle.rt_link.specs.Ends.{AreOf, SoundOut, SoundIn}
 use Rattle.rt_link.proofs.Lists.{StartsWith-self}
@@ -14,7 +12,8 @@ use Rattle.rt_link.proofs.Numbers.{AreNamed-append, AreNamed-wider, AreNamed-roo
 use Rattle.rt_ring.specs.Carried.{Place, IsSender, IsReceiver}
 use Rattle.rt_ring.specs.Ends.{IsOut, IsInward}
 use Rattle.rt_ring.specs.Rule.{gate_bit}
-use Rattle.rt_ring.specs.Told.{SeesOrders, SeesOutcomes, with_got, with_taken, with_given}
+use Rattle.rt_ring.specs.After.{with_got, with_taken, with_given}
+use Rattle.rt_ring.specs.Told.{SeesOrders, SeesOutcomes}
 use Rattle.rt_ring.specs.declared.board.Known.{Known}
 
 -- a place that is the next one in turn

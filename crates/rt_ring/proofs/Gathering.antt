@@ -1,5 +1,5 @@
 -- The step of the sender's seat on the return word: gather.
-use Rattle.std.proofs.Common.{◌≡◌, ℕ, ◌+◌, ◌<◌, ◌≤◌, Bool, true, false, List, [], ◌∷◌, length, set, get_or, refl, sym, ap, ◌∙◌, arith, subst}
+use Rattle.std.proofs.Common.{◌≡◌, ℕ, ◌+◌, ◌<◌, ◌≤◌, true, false, ◌∷◌, length, set, get_or, refl, sym, ap, ◌∙◌, arith, subst}
 use lib.ListN.{get_elem?}
 use mathlib.Core.Option.{some, none}
 use native.Mathlib.Decide.{dec_le}
@@ -15,14 +15,15 @@ use Rattle.rt_link.proofs.Lists.{StartsWith-self}
 use Rattle.rt_link.proofs.WholeLaws.{IsLink-collect, IsLink-credit}
 use Rattle.rt_ring.specs.Carried.{Place}
 use Rattle.rt_ring.specs.Slots.{order_slot, outcome_slot, outcome_at}
-use Rattle.rt_ring.specs.Told.{SeesOutcomes, Gathers, with_got}
+use Rattle.rt_ring.specs.After.{with_got}
+use Rattle.rt_ring.specs.Told.{SeesOutcomes, Gathers}
 use Rattle.rt_ring.specs.Views.{KnowsOut, KnowsInward}
 use Rattle.rt_ring.specs.declared.board.Known.{Known}
 use Rattle.rt_ring.specs.declared.board.Slot.{Slot}
 use Rattle.rt_ring.specs.declared.board.Slot.TheVariants.{Empty}
 use Rattle.rt_ring.specs.declared.board.Terms.{Terms}
 use Rattle.rt_ring.proofs.SeatViews.{AreTold-sender}
-use Rattle.rt_ring.proofs.SlotMoves.{outcome-there, emptied-there, AreInPlace-got}
+use Rattle.rt_ring.proofs.GotSlots.{outcome-there, emptied-there, AreInPlace-got}
 use Rattle.rt_ring.proofs.Stepping.{Rule, Owes, return-word, return-same, Rule-sender_learns}
 
 module _ {J T : Type 0} (link : Whole J T) (out : Outward J T) (k : KnowsOut link out) where

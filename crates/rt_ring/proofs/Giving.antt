@@ -1,9 +1,8 @@
 -- The step of the receiver's seat on the return word: give.
-use Rattle.std.proofs.Common.{◌≡◌, ℕ, ◌+◌, ◌-◌, ◌<◌, ◌≤◌, Bool, true, false, List, [], ◌∷◌, ◌++◌, length, set, get_or, refl, sym, ap, ◌∙◌, arith, subst, length-append, Option}
+use Rattle.std.proofs.Common.{◌≡◌, ℕ, ◌+◌, ◌-◌, ◌<◌, ◌≤◌, true, false, List, [], ◌∷◌, ◌++◌, length, set, sym, ap, ◌∙◌, arith, subst, length-append, Option}
 use Rattle.std.specs.Prelude.{slice_get, IfSome}
-use lib.ListN.{get_elem?}
 use mathlib.Core.Option.{some}
-use Rattle.atomic_table.specs.Table.{State, gives, chain, rest, Allows}
+use Rattle.atomic_table.specs.Table.{gives, chain, rest, Allows}
 use Rattle.rt_ids.specs.declared.order.Order.{Order}
 use Rattle.rt_ids.specs.declared.order.Outcome.{Outcome}
 use Rattle.rt_link.specs.declared.ends.Outward.{Outward}
@@ -16,14 +15,15 @@ use Rattle.rt_link.proofs.WholeLaws.{IsLink-give, IsLink-awaits}
 use Rattle.rt_ring.specs.Carried.{Place}
 use Rattle.rt_ring.specs.Rule.{gate_bit}
 use Rattle.rt_ring.specs.Slots.{order_slot, outcome_slot}
-use Rattle.rt_ring.specs.Told.{Gives, with_given}
+use Rattle.rt_ring.specs.After.{with_given}
+use Rattle.rt_ring.specs.Told.{Gives}
 use Rattle.rt_ring.specs.Views.{KnowsOut, KnowsInward}
 use Rattle.rt_ring.specs.declared.board.Known.{Known}
 use Rattle.rt_ring.specs.declared.board.Slot.{Slot}
 use Rattle.rt_ring.specs.declared.board.Slot.TheVariants.{Empty, Sent, Back}
 use Rattle.rt_ring.specs.declared.board.Terms.{Terms}
 use Rattle.rt_ring.proofs.SeatViews.{AreTold-receiver}
-use Rattle.rt_ring.proofs.SlotMoves.{AreInPlace-given}
+use Rattle.rt_ring.proofs.GivenSlots.{AreInPlace-given}
 use Rattle.rt_ring.proofs.Stepping.{Rule, Owes}
 
 module _ {J T : Type 0} where

@@ -1,31 +1,31 @@
 -- The steps of the receiver's seat on the accept word: look and shut.
-use Rattle.std.proofs.Common.{◌≡◌, ℕ, ◌+◌, ◌*◌, ◌^◌, ◌<◌, ◌≤◌, Bool, true, false, List, [], ◌∷◌, length, set, get_or, refl, sym, ap, ap₂, ◌∙◌, arith, subst}
+use Rattle.std.proofs.Common.{◌≡◌, ℕ, ◌+◌, ◌*◌, ◌^◌, ◌<◌, ◌≤◌, Bool, true, false, List, [], ◌∷◌, length, set, get_or, refl, sym, ap, ap₂, ◌∙◌, arith}
 use Rattle.std.specs.Prelude.{bit_or}
 use Rattle.std.proofs.lemmas.Nat.{or_block}
 use Rattle.std.specs.Int.Bits.{or_zero_r}
 use lib.ListN.{get_elem?}
 use mathlib.Core.Option.{some, none}
 use native.Mathlib.Decide.{dec_le}
-use Rattle.atomic_table.specs.Table.{State, step, keeps, takes, chain, Allows}
+use Rattle.atomic_table.specs.Table.{State, keeps, takes, chain, Allows}
 use Rattle.rt_ids.specs.declared.order.Order.{Order}
 use Rattle.rt_ids.specs.declared.order.Outcome.{Outcome}
-use Rattle.rt_link.specs.declared.ends.Outward.{Outward}
 use Rattle.rt_link.specs.declared.ends.Inward.{Inward}
 use Rattle.rt_link.specs.declared.plain.Whole.{Whole}
-use Rattle.rt_link.proofs.Lists.{StartsWith-self}
 use Rattle.rt_link.proofs.WholeLaws.{IsLink-take, IsLink-shut}
 use Rattle.rt_ring.specs.Carried.{Place}
 use Rattle.rt_ring.specs.Rule.{gate_bit}
-use Rattle.rt_ring.specs.Slots.{order_slot, outcome_slot, order_at, AreInPlace}
-use Rattle.rt_ring.specs.Told.{SeesOrders, Looks, Closes, with_taken, with_shut}
-use Rattle.rt_ring.specs.Views.{KnowsOut, KnowsInward}
+use Rattle.rt_ring.specs.Slots.{order_slot, outcome_slot, order_at}
+use Rattle.rt_ring.specs.After.{with_taken, with_shut}
+use Rattle.rt_ring.specs.Told.{SeesOrders, Looks, Closes}
+use Rattle.rt_ring.specs.Views.{KnowsInward}
 use Rattle.rt_ring.specs.declared.board.Known.{Known}
 use Rattle.rt_ring.specs.declared.board.Slot.{Slot}
 use Rattle.rt_ring.specs.declared.board.Slot.TheVariants.{Empty}
 use Rattle.rt_ring.specs.declared.board.Terms.{Terms}
 use Rattle.rt_ring.proofs.SeatViews.{AreTold-receiver}
-use Rattle.rt_ring.proofs.SlotMoves.{order-there, vacant-there, AreInPlace-taken}
+use Rattle.rt_ring.proofs.TakenSlots.{order-there, vacant-there, AreInPlace-taken}
 use Rattle.rt_ring.proofs.Stepping.{Rule, Owes, accept-word, accept-same, Rule-receiver_learns}
+use Rattle.rt_ring.proofs.TakenViews.{KnowsInward-seen, KnowsInward-taken, KnowsInward-shut, KnowsOut-taken, KnowsOut-shut}
 
 -- a count with its top bit set
 count-or_gate : (count gate : ℕ) (shut : Bool) → count < 2 ^ 63 → gate ≡ 2 ^ 63 → bit_or (count + gate_bit shut) gate ≡ count + gate_bit true
@@ -37,40 +37,6 @@ count-or_gate count gate false small is =
     let zero : bit_or count 0 ≡ count = or_zero_r count in
     ap₂ bit_or (let e : count + 0 ≡ 0 * 2 ^ 63 + count = omega arith in e) (let e : gate ≡ 1 * 2 ^ 63 + 0 = omega arith in e)
     ∙ (or_block 63 0 1 count 0 small (omega arith) ∙ (let e : 2 ^ 63 + bit_or count 0 ≡ count + 2 ^ 63 = omega arith in e))
-
-module _ {J T : Type 0} (link : Whole J T) (inward : Inward J T) (k : KnowsInward link inward) where
-  -- all that was sent is seen
-  KnowsInward-seen : link.taken ≤ length link.sent → KnowsInward link (record inward { seen = link.sent })
-  KnowsInward-seen within = record {
-    knows = ap (λ (i : Inward J T). record i { seen = link.sent }) k.knows;
-    sees = StartsWith-self link.sent;
-    taken_seen = within;
-    final = λ _. refl;
-  }
-
-  KnowsInward-taken : link.taken + 1 ≤ length link.sent → KnowsInward (record link { taken = link.taken + 1 }) (record inward { seen = link.sent; taken = inward.taken + 1 })
-  KnowsInward-taken within = record {
-    knows = ap (λ (i : Inward J T). record i { seen = link.sent; taken = i.taken + 1 }) k.knows;
-    sees = StartsWith-self link.sent;
-    taken_seen = within;
-    final = λ _. refl;
-  }
-
-  KnowsInward-shut : link.taken ≤ length link.sent → KnowsInward (record link { shut = true }) (record inward { seen = link.sent; shut = true })
-  KnowsInward-shut within = record {
-    knows = ap (λ (i : Inward J T). record i { seen = link.sent; shut = true }) k.knows;
-    sees = StartsWith-self link.sent;
-    taken_seen = within;
-    final = λ _. refl;
-  }
-
-module _ {J T : Type 0} (link : Whole J T) (out : Outward J T) (k : KnowsOut link out) where
-  -- the sender needs to know nothing of a take, nor of a gate that is shut
-  KnowsOut-taken : KnowsOut (record link { taken = link.taken + 1 }) out
-  KnowsOut-taken = record { knows = k.knows; sees = k.sees; got_seen = k.got_seen; gate = k.gate }
-
-  KnowsOut-shut : KnowsOut (record link { shut = true }) out
-  KnowsOut-shut = record { knows = k.knows; sees = k.sees; got_seen = k.got_seen; gate = λ _. refl }
 
 module _ {J T : Type 0} (fits : Order J → Outcome J T → Type 0) (ready : Order J → Type 0) (terms : Terms) (slots seat : ℕ) (me : Place J T) (s : State (Slot J T) (Known J T)) (r : Rule fits ready terms s)
     (at : get_elem? s.views seat ≡ some me.0) (go : me.0.takes ≡ true) (used : me.0.fresh ≡ false) where

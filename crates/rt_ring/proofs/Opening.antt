@@ -1,28 +1,27 @@
 -- The table at the start, the first gather, and the seat that is parted.
-use Rattle.std.proofs.Common.{◌≡◌, ℕ, zero, suc, ◌+◌, ◌%◌, ◌^◌, ◌<◌, ◌≤◌, ◌⊎◌, inl, inr, ⊎_elim, true, false, List, [], ◌∷◌, ◌++◌, map, replicate, length, set, get_or, refl, sym, ap, ap₂, ◌∙◌, arith, subst, mod-lt, length-set}
+use Rattle.std.proofs.Common.{◌≡◌, ℕ, zero, suc, ◌+◌, ◌%◌, ◌^◌, ◌<◌, inr, ⊎_elim, true, false, List, [], ◌∷◌, map, replicate, length, set, get_or, refl, sym, ap, ap₂, ◌∙◌, arith, subst, mod-lt}
 use native.Mathlib.Nat.{mod-eq_of_lt}
-use mathlib.Core.Option.{some, none}
+use mathlib.Core.Option.{some}
 use lib.ListN.{get_elem?}
-use Rattle.atomic_table.specs.Table.{State, Act, step, keeps, takes, chain, opening, Valid, Allows, Splits, carried_after, homes_after}
-use Rattle.atomic_table.proofs.Lists.{at_set, set_else}
+use Rattle.atomic_table.specs.Table.{Act, opening, Allows, Splits, homes_after}
+use Rattle.atomic_table.proofs.Lists.{at_set}
 use Rattle.rt_ids.specs.declared.order.Order.{Order}
 use Rattle.rt_ids.specs.declared.order.Outcome.{Outcome}
 use Rattle.rt_link.specs.declared.ends.Outward.{Outward}
-use Rattle.rt_link.specs.declared.plain.Whole.{Whole}
 use Rattle.rt_link.proofs.Lists.{StartsWith-self}
 use Rattle.rt_link.proofs.WholeLaws.{IsLink-fresh}
 use Rattle.rt_ring.specs.Carried.{Place, out_slots}
-use Rattle.rt_ring.specs.Slots.{Homes, AreInPlace, order_slot, outcome_slot}
+use Rattle.rt_ring.specs.Slots.{Homes, order_slot, outcome_slot}
 use Rattle.rt_ring.specs.Told.{Stocks}
-use Rattle.rt_ring.specs.Views.{IsTold, AreTold, KnowsOut, fresh_link, first_view, out_part, inward_part}
+use Rattle.rt_ring.specs.Views.{IsTold, fresh_link, first_view, out_part, inward_part}
 use Rattle.rt_ring.specs.declared.board.Known.{Known}
 use Rattle.rt_ring.specs.declared.board.Slot.{Slot}
 use Rattle.rt_ring.specs.declared.board.Slot.TheVariants.{Empty}
 use Rattle.rt_ring.specs.declared.board.Terms.{Terms}
-use Rattle.rt_ring.proofs.CarriedSlots.{spare-early}
 use Rattle.rt_ring.proofs.Seats.{at_end, only_one, one_sender, one_receiver, fresh_sender}
 use Rattle.rt_ring.proofs.SeatViews.{true-not_false}
 use Rattle.rt_ring.proofs.Stepping.{Rule, Owes, return-same}
+use Rattle.rt_ring.proofs.FirstGather.{take_all, carried-take_all, homes-take_all, length-take_all, Valid-take_all}
 
 module _ {X : Type 0} where
   home-replicate : (k i : ℕ) (x : X) → i < k → get_elem? (map some (replicate k x)) i ≡ some (some x)
@@ -33,41 +32,6 @@ module _ {X : Type 0} where
   length-homes : (k : ℕ) (x : X) → length (map some (replicate k x)) ≡ k
   length-homes zero x = refl
   length-homes (suc k) x = ap suc (length-homes k x)
-
--- the slots from i on are taken, the last one first
-module _ {J T : Type 0} where
-  take_all : ℕ → ℕ → Act (Slot J T)
-  take_all i zero = keeps
-  take_all i (suc c) = chain (take_all (suc i) c) (takes i Empty)
-
-  -- in the first lap no outcome slot is spare
-  carried-take_all : (n i c : ℕ) → i + c ≤ n → carried_after [] (take_all i c) ≡ out_slots n i c
-  unfolding take_all
-  carried-take_all n i zero within = refl
-  carried-take_all n i (suc c) within =
-      let first : i % n ≡ i = mod-eq_of_lt (let h : i < n = omega arith in h) in
-      ap (λ (z : List (ℕ × Slot J T)). (i, Empty) ∷ z) (carried-take_all n (suc i) c (omega arith))
-      ∙ ap₂ (λ (k : ℕ) (z : List (ℕ × Slot J T)). (k, Empty) ∷ (z ++ out_slots n (suc i) c)) (sym first) (sym (spare-early n i (omega arith)))
-
-  homes-take_all : (homes : Homes J T) (i c j : ℕ) → (j < i) ⊎ (i + c ≤ j) → get_elem? (homes_after homes [] (take_all i c)) j ≡ get_elem? homes j
-  unfolding take_all
-  homes-take_all homes i zero j h = refl
-  homes-take_all homes i (suc c) j h =
-      set_else (homes_after homes [] (take_all (suc i) c)) i j none (λ e. ⊎_elim (λ (l : j < i). omega arith) (λ (g : i + suc c ≤ j). omega arith) h)
-      ∙ homes-take_all homes (suc i) c j (⊎_elim (λ (l : j < i). inl (omega arith)) (λ (g : i + suc c ≤ j). inr (omega arith)) h)
-
-  length-take_all : (homes : Homes J T) (i c : ℕ) → length (homes_after homes [] (take_all i c)) ≡ length homes
-  unfolding take_all
-  length-take_all homes i zero = refl
-  length-take_all homes i (suc c) = length-set (homes_after homes [] (take_all (suc i) c)) i none ∙ length-take_all homes (suc i) c
-
-  Valid-take_all : (homes : Homes J T) (i c : ℕ) → ((j : ℕ) → i ≤ j → j < i + c → get_elem? homes j ≡ some (some Empty)) → Valid homes [] (take_all i c)
-  unfolding take_all
-  Valid-take_all homes i zero all = tt
-  Valid-take_all homes i (suc c) all = (
-    Valid-take_all homes (suc i) c (λ j a b. all j (omega arith) (omega arith)),
-    homes-take_all homes (suc i) c i (inl (omega arith)) ∙ all i (omega arith) (omega arith),
-  )
 
 module _ {J T : Type 0} (fits : Order J → Outcome J T → Type 0) (ready : Order J → Type 0) (terms : Terms) where
   pub starts : (k : ℕ) → k ≡ terms.capacity + terms.capacity → terms.base < 2 ^ 63

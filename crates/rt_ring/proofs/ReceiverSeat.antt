@@ -1,5 +1,5 @@
 -- The receiver's seat through its calls: it carries the slots of the orders that have no outcome yet.
-use Rattle.std.proofs.Common.{◌≡◌, ◌≢◌, ℕ, ◌+◌, ◌-◌, ◌<◌, ◌≤◌, Option, Some, true, false, List, [], ◌∷◌, ◌++◌, length, length-append, refl, sym, ap, ap₂, ◌∙◌, subst, arith}
+use Rattle.std.proofs.Common.{◌≡◌, ◌≢◌, ℕ, ◌+◌, ◌-◌, ◌<◌, ◌≤◌, Option, Some, List, [], ◌∷◌, ◌++◌, length, length-append, refl, sym, ap, ap₂, ◌∙◌, subst, arith}
 use Rattle.std.specs.Prelude.{slice_get}
 use native.Mathlib.Decide.{dec_le}
 use Rattle.atomic_table.specs.Table.{rest, Allows}
@@ -9,8 +9,8 @@ use Rattle.rt_link.specs.Calls.{MayGive}
 use Rattle.rt_ring.specs.Carried.{Place, IsReceiver, inward_slots}
 use Rattle.rt_ring.specs.Rule.{gate_bit}
 use Rattle.rt_ring.specs.Slots.{order_slot, outcome_slot, slot_of_order}
-use Rattle.rt_ring.specs.Told.{SeesOrders, Looks, Gives, with_taken, with_shut, with_given}
-use Rattle.rt_ring.specs.declared.board.Known.{Known}
+use Rattle.rt_ring.specs.After.{with_taken, with_shut, with_given}
+use Rattle.rt_ring.specs.Told.{SeesOrders, Looks, Gives}
 use Rattle.rt_ring.specs.declared.board.Slot.{Slot}
 use Rattle.rt_ring.specs.declared.board.Slot.TheVariants.{Empty, Sent, Back}
 use Rattle.rt_ring.specs.declared.board.Terms.{Terms}

@@ -1,5 +1,5 @@
 -- What the seats know after one of them has made a step.
-use Rattle.std.proofs.Common.{◌≡◌, ℕ, true, false, ⊎_elim, List, set, sym, ap, ◌∙◌, subst}
+use Rattle.std.proofs.Common.{◌≡◌, ℕ, true, false, ⊎_elim, List, set, sym, ◌∙◌, subst}
 use mathlib.Core.Option.{some}
 use lib.ListN.{get_elem?}
 use Rattle.atomic_table.proofs.Lists.{at_set}

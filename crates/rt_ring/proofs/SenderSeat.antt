@@ -1,5 +1,5 @@
 -- The sender's seat through its calls: it carries the slots of the orders that it may send.
-use Rattle.std.proofs.Common.{◌≡◌, ◌≢◌, Option, Some, ℕ, suc, ◌+◌, ◌-◌, ◌^◌, ◌<◌, ◌≤◌, true, false, eqb, List, [], ◌∷◌, ◌++◌, length, length-append, refl, sym, ap, ap₂, ◌∙◌, subst, arith}
+use Rattle.std.proofs.Common.{◌≡◌, ◌≢◌, Option, Some, ℕ, ◌+◌, ◌-◌, ◌^◌, ◌<◌, ◌≤◌, false, eqb, List, [], ◌∷◌, ◌++◌, length, length-append, refl, sym, ap, ap₂, ◌∙◌, subst, arith}
 use Rattle.std.specs.Prelude.{slice_get}
 use native.Mathlib.Decide.{dec_le}
 use prog.Atomic.{either}
@@ -8,8 +8,8 @@ use Rattle.rt_ids.specs.declared.order.Order.{Order}
 use Rattle.rt_ids.specs.declared.order.Outcome.{Outcome}
 use Rattle.rt_ring.specs.Carried.{Place, IsSender, spare, out_slots}
 use Rattle.rt_ring.specs.Slots.{order_slot, outcome_slot, slot_of_outcome}
-use Rattle.rt_ring.specs.Told.{Accepts, SeesOutcomes, Gathers, with_sent, with_closed, with_got}
-use Rattle.rt_ring.specs.declared.board.Known.{Known}
+use Rattle.rt_ring.specs.After.{with_sent, with_closed, with_got}
+use Rattle.rt_ring.specs.Told.{Accepts, SeesOutcomes, Gathers}
 use Rattle.rt_ring.specs.declared.board.Slot.{Slot}
 use Rattle.rt_ring.specs.declared.board.Slot.TheVariants.{Empty, Sent, Back}
 use Rattle.rt_ring.specs.declared.board.Terms.{Terms}

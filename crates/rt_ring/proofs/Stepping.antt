@@ -1,5 +1,5 @@
 -- What each step owes, and the steps that change nothing but what one seat knows.
-use Rattle.std.proofs.Common.{◌≡◌, ◌≢◌, ℕ, ◌+◌, ◌^◌, ◌<◌, Bool, true, false, List, length, set, get_or, refl, sym, ap, ◌∙◌, arith, subst}
+use Rattle.std.proofs.Common.{◌≡◌, ◌≢◌, ℕ, ◌+◌, Bool, true, false, List, length, set, get_or, refl, sym, ap, ◌∙◌, arith, subst}
 use lib.ListN.{get_elem?}
 use mathlib.Core.Option.{some}
 use Rattle.atomic_table.specs.Table.{State, Act, Valid, stepped, carried_after}
@@ -9,7 +9,7 @@ use Rattle.rt_ids.specs.declared.order.Outcome.{Outcome}
 use Rattle.rt_link.specs.declared.ends.Outward.{Outward}
 use Rattle.rt_link.specs.declared.ends.Inward.{Inward}
 use Rattle.rt_ring.specs.Carried.{Place}
-use Rattle.rt_ring.specs.Rule.{IsRing, gate_bit, words_of}
+use Rattle.rt_ring.specs.Rule.{IsRing, gate_bit}
 use Rattle.rt_ring.specs.Views.{KnowsOut, KnowsInward, AreTold}
 use Rattle.rt_ring.specs.declared.board.Known.{Known}
 use Rattle.rt_ring.specs.declared.board.Slot.{Slot}

@@ -1,5 +1,6 @@
 -- Slots at home, when one of them goes or comes.
-use Rattle.std.proofs.Common.{◌≡◌, ◌≢◌, ℕ, zero, suc, ◌+◌, ◌%◌, ◌<◌, ◌≤◌, ◌⊎◌, inl, inr, ⊎_elim, List, length, set, sym, ap, ◌∙◌, arith, subst, mod-lt}
+use Rattle.std.proofs.Common.{◌≡◌, ◌≢◌, ℕ, suc, ◌+◌, ◌%◌, ◌<◌, ◌≤◌, ◌⊎◌, inl, inr, ⊎_elim, List, length, set, sym, ap, ◌∙◌, arith, subst, mod-lt, [], ◌∷◌, ◌++◌, Some, refl}
+use Rattle.std.specs.Prelude.{slice_get}
 use mathlib.Core.Option.{some}
 use mathlib.Core.Option as maybe
 use mathlib.Core.Logic.{dite}
@@ -8,6 +9,11 @@ use lib.ListN.{get_elem?}
 use Rattle.atomic_table.proofs.Lists.{set_here, set_else, one_turn}
 use Rattle.rt_ring.specs.Slots.{Homes, AreHome, order_slot, outcome_slot}
 use Rattle.rt_ring.specs.declared.board.Slot.{Slot}
+
+-- the last element of a list
+pub slice_get-last : {A : Type 0} (xs : List A) (last : A) → slice_get (xs ++ last ∷ []) (length xs) ≡ Some last
+slice_get-last [] last = refl
+slice_get-last (x ∷ xs) last = slice_get-last xs last
 
 -- two indexes of one lap have two slots
 abbrev pub HasLaps : (ℕ → ℕ) → ℕ → Type 0

@@ -5,38 +5,14 @@ use Rattle.rt_ids.specs.declared.order.Outcome.{Outcome}
 use Rattle.rt_link.specs.Ends.{StartsWith, AreOf, AreReady, Joined}
 use Rattle.rt_link.specs.declared.ends.Outward.{Outward}
 use Rattle.rt_link.specs.declared.ends.Inward.{Inward}
+use Rattle.rt_ring.specs.After.{with_sent, with_closed, with_got, with_taken, with_shut, with_given}
 use Rattle.rt_ring.specs.Carried.{Place, spare, out_slots}
 use Rattle.rt_ring.specs.Rule.{gate_bit}
 use Rattle.rt_ring.specs.Slots.{order_slot, outcome_slot, order_at, outcome_at}
-use Rattle.rt_ring.specs.declared.board.Known.{Known}
 use Rattle.rt_ring.specs.declared.board.Slot.{Slot}
 use Rattle.rt_ring.specs.declared.board.Slot.TheVariants.{Empty, Sent, Back}
 
 module _ {J T : Type 0} where
-  -- the view with one more order sent
-  abbrev pub with_sent : Known J T → Order J → Known J T
-  with_sent view order = record view { out = record view.out { sent = view.out.sent ++ order ∷ [] } }
-
-  -- the view with the gate found shut
-  abbrev pub with_closed : Known J T → Known J T
-  with_closed view = record view { out = record view.out { closed = true } }
-
-  -- the view with so many outcomes seen and got
-  abbrev pub with_got : Known J T → List (ℕ × Outcome J T) → ℕ → Known J T
-  with_got view seen got = record view { out = record view.out { seen = seen; got = got } }
-
-  -- the view with so many orders seen and taken
-  abbrev pub with_taken : Known J T → List (Order J) → ℕ → Known J T
-  with_taken view seen taken = record view { inward = record view.inward { seen = seen; taken = taken } }
-
-  -- the view with these orders seen, and the gate shut
-  abbrev pub with_shut : Known J T → List (Order J) → Known J T
-  with_shut view seen = record view { inward = record view.inward { seen = seen; shut = true } }
-
-  -- the view with one more outcome given
-  abbrev pub with_given : Known J T → ℕ → Outcome J T → Known J T
-  with_given view number outcome = record view { inward = record view.inward { given = view.inward.given ++ (number, outcome) ∷ [] } }
-
   -- accept: where the word was as expected, the gate was open, the order in the slot at the front is sent, and its slots are home; otherwise the gate is shut
   pub record Accepts (expected : ℕ) (old : Place J T) (found : ℕ) (new : Place J T) : Type 0 where
     pub hit : found ≡ expected

@@ -67,6 +67,7 @@ pub fn reunite<J: Task>(out: RingOut<J>, inward: RingIn<J>) -> Accounts
     // A seat that is joined may hold no slot, so the receiver's view moves to a new one first.
     let token = shared.split_seat::<Handover>(&mut second);
     shared.join_seat::<Halves>(&mut seat, token);
+    // step: the last load, by the seat that now knows both ends. No other thread has an end any more.
     let _word = shared.load::<Compare>(&mut seat, ACCEPT);
     Accounts {
         accepted: count,

@@ -7,12 +7,14 @@ ghost use Rattle.rt_link.specs.Fits.{Fits};
 ghost use Rattle.rt_ring.specs.Carried.{IsReceiver};
 ghost use Rattle.rt_ring.specs.Rule.{gate_bit};
 ghost use Rattle.rt_ring.specs.Slots.{order_slot, outcome_slot};
-ghost use Rattle.rt_ring.specs.Told.{SeesOrders, with_taken, with_shut, with_given};
+ghost use Rattle.rt_ring.specs.After.{with_taken, with_shut, with_given};
+ghost use Rattle.rt_ring.specs.Told.{SeesOrders};
 
 use crate::board::{ACCEPT, Board, GATE, Place, RETURN, Slot};
 use crate::plays::{Give, Look, Shut};
 use rt_ids::{Order, Outcome};
 use rt_jobs::Task;
+use std::mem::forget;
 
 /// The order of the next number, where the accept word shows it. `taken` is the accept word where it doesn't.
 pub(crate) fn look<J: Task>(
@@ -80,9 +82,10 @@ pub(crate) fn give<J: Task>(
     ensures gave { seat.new.me.0 ≡ with_given seat.old.me.0 number outcome }
 {
     let shared = &board.shared;
-    let Slot::Empty = shared.exchange(seat, slot, Slot::Back(number, outcome)) else {
-        unreachable!()
-    };
+    let empty = shared.exchange(seat, slot, Slot::Back(number, outcome));
+    prove!(matches!(&empty, Slot::Empty));
+    // Forgotten and not matched: so the slot is written without being read, and its cache line crosses once.
+    forget(empty);
     // step: give. The receiver alone changes the return word, so it knows what it finds.
     shared.swap::<Give>(seat, RETURN, given);
 }

@@ -5,12 +5,14 @@ ghost use Rattle.rt_jobs.specs.Ready.{HasReadyJob};
 ghost use Rattle.rt_link.specs.Fits.{Fits};
 ghost use Rattle.rt_ring.specs.Carried.{IsSender};
 ghost use Rattle.rt_ring.specs.Slots.{order_slot, outcome_slot};
-ghost use Rattle.rt_ring.specs.Told.{SeesOutcomes, with_sent, with_closed, with_got};
+ghost use Rattle.rt_ring.specs.After.{with_sent, with_closed, with_got};
+ghost use Rattle.rt_ring.specs.Told.{SeesOutcomes};
 
 use crate::board::{ACCEPT, Board, Place, RETURN, Slot};
 use crate::plays::{Accept, Gather, Probe};
 use rt_ids::{Order, Outcome};
 use rt_jobs::Task;
+use std::mem::forget;
 
 /// One try to have an order accepted under the number after `last`. The order comes back where the gate is shut.
 pub(crate) fn offer<J: Task>(
@@ -32,9 +34,10 @@ pub(crate) fn offer<J: Task>(
     ensures err { IfErr result (λ back. (back ≡ order) × (seat.new.me.0 ≡ with_closed seat.old.me.0)) }
 {
     let shared = &board.shared;
-    let Slot::Empty = shared.exchange(seat, slot, Slot::Sent(order)) else {
-        unreachable!()
-    };
+    let empty = shared.exchange(seat, slot, Slot::Sent(order));
+    prove!(matches!(&empty, Slot::Empty));
+    // Forgotten and not matched: so the slot is written without being read, and its cache line crosses once.
+    forget(empty);
     // step: accept. One try decides, since only the gate can make it fail.
     if shared.compare_exchange::<Accept>(seat, ACCEPT, last, last + 1) == last {
         return Ok(());

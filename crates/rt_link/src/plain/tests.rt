@@ -3,6 +3,8 @@ ghost use Rattle.rt_link.specs.Calls.{Sends};
 ghost use Rattle.rt_jobs.specs.Ready.{HasReadyJob};
 ghost use Rattle.rt_link.specs.Whole.{fresh};
 
+mod boxed;
+
 use super::{LAST_NUMBER, PlainLink};
 use crate::ends::{InEnd, OutEnd};
 use rt_ids::{ActorNo, Answer, CoreNo, JobId, Order, Outcome, QueueNo, Reason, SendError};

@@ -2,7 +2,8 @@ use Rattle.std.proofs.Common.{rules, ◌∙◌, ap, sym, subst, take}
 use Rattle.rt_jobs.specs.Ready.{HasReadyJob}
 use Rattle.rt_link.specs.Ends.{AreOf}
 use Rattle.rt_link.specs.Fits.{Fits}
-use Rattle.rt_ring.proofs.Rejoining.{same_table, hands_over, joins, compares, Compares-ends}
+use Rattle.rt_ring.proofs.BothEnds.{same_table, compares, Compares-ends}
+use Rattle.rt_ring.proofs.Rejoining.{hands_over, joins}
 use Rattle.rt_ring.proofs.accounts.reunite.Goals as goal
 
 pub split_seat-token-requires : goal.split_seat-token-requires

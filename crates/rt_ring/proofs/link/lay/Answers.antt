@@ -1,4 +1,4 @@
-use Rattle.std.proofs.Common.{rules, ◌≡◌, ◌+◌, ◌*◌, ◌∙◌, ap, sym, subst, arith, [], ◌∷◌}
+use Rattle.std.proofs.Common.{rules, ◌*◌, ◌∙◌, ap, sym, subst, arith, [], ◌∷◌}
 use Rattle.atomic_table.specs.Table.{opening}
 use Rattle.rt_jobs.specs.Ready.{HasReadyJob}
 use Rattle.rt_link.specs.Fits.{Fits}

@@ -2,8 +2,6 @@ use Rattle.std.proofs.Common.{rules, refl}
 use Rattle.rt_jobs.specs.Ready.{HasReadyJob}
 use Rattle.rt_link.specs.Fits.{Fits}
 use Rattle.rt_ring.proofs.Looking.{shuts}
-use Rattle.rt_ring.proofs.Giving.{gives-one}
-use Rattle.rt_ring.proofs.Gathering.{gathers}
 use Rattle.rt_ring.proofs.receiver.close.Goals as goal
 
 pub fetch_or-requires : goal.fetch_or-requires

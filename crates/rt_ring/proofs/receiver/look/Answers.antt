@@ -1,10 +1,10 @@
-use Rattle.std.proofs.Common.{rules, ◌∙◌, ap, Some}
+use Rattle.std.proofs.Common.{rules}
 use Rattle.rt_jobs.specs.Ready.{HasReadyJob}
 use Rattle.rt_link.specs.Fits.{Fits}
 use Rattle.rt_ring.specs.declared.board.Slot.TheVariants.{Sent}
 use Rattle.rt_ring.proofs.Looking.{looks}
-use Rattle.rt_ring.proofs.ReceiverSeat.{look-none, look-some, look-taken}
-use Rattle.rt_ring.proofs.Fronts.{turned_slot, read_slot, kept_slots, same_order}
+use Rattle.rt_ring.proofs.ReceiverSeat.{look-some, look-taken}
+use Rattle.rt_ring.proofs.Fronts.{turned_slot, read_slot, kept_slots}
 use Rattle.rt_ring.proofs.receiver.look.Goals as goal
 
 pub load-requires : goal.load-requires

@@ -1,10 +1,10 @@
-use Rattle.std.proofs.Common.{rules, ◌∙◌, ap, Some}
+use Rattle.std.proofs.Common.{rules}
 use Rattle.rt_jobs.specs.Ready.{HasReadyJob}
 use Rattle.rt_link.specs.Fits.{Fits}
 use Rattle.rt_ring.specs.declared.board.Slot.TheVariants.{Back}
 use Rattle.rt_ring.proofs.Gathering.{gathers}
 use Rattle.rt_ring.proofs.SenderSeat.{gather-none, gather-some, gather-got}
-use Rattle.rt_ring.proofs.Fronts.{turned_slot, read_slot, kept_slots, same_outcome}
+use Rattle.rt_ring.proofs.Fronts.{turned_slot, read_slot, kept_slots}
 use Rattle.rt_ring.proofs.sender.gather.Goals as goal
 
 pub load-requires : goal.load-requires

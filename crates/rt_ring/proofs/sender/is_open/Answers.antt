@@ -1,7 +1,7 @@
 use Rattle.std.proofs.Common.{rules}
 use Rattle.rt_jobs.specs.Ready.{HasReadyJob}
 use Rattle.rt_link.specs.Fits.{Fits}
-use Rattle.rt_ring.proofs.Accepting.{probes}
+use Rattle.rt_ring.proofs.Probing.{probes}
 use Rattle.rt_ring.proofs.sender.is_open.Goals as goal
 
 pub compare_exchange-requires : goal.compare_exchange-requires

@@ -1,4 +1,4 @@
-use Rattle.std.proofs.Common.{ap, sym, subst}
+use Rattle.std.proofs.Common.{sym, subst}
 use Rattle.rt_link.specs.Calls.{MayGive}
 use Rattle.rt_link.specs.Fits.{Fits}
 use Rattle.rt_ring.proofs.EndLaws.{IsInward-awaits, IsInward-given}

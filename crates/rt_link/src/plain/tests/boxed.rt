@@ -1,0 +1,102 @@
+//! Boxed jobs through a plain link.
+
+ghost use Rattle.std.specs.Prelude.{◌≡◌, false};
+
+use crate::ends::{InEnd, OutEnd};
+use crate::plain::PlainLink;
+use rt_ids::{ActorNo, CoreNo, Envelope, Order, Outcome, QueueNo, Reason};
+use rt_jobs::example::drive;
+use rt_jobs::{AnyJob, Job, OnceBox, Polled, Range, Step, once_job, polled_job};
+use std::alloc::{AllocError, Global};
+use std::test::Fail;
+
+/// Yields so often and then answers 9.
+#[derive(Drop)]
+struct Nine {
+    yields: u64,
+    ended: bool,
+}
+
+impl Polled for Nine {
+    ghost range = { λ _. record { least = 9; greatest = 9 } };
+
+    ghost ended = { λ job. job.ended };
+
+    fn poll(&mut self) -> Step<u64> {
+        if self.yields == 0 {
+            self.ended = true;
+            Step::Done(9)
+        } else {
+            self.yields -= 1;
+            Step::Yield
+        }
+    }
+
+    fn is_done(&self) -> bool {
+        self.ended
+    }
+
+    fn range(&self) -> Range {
+        Range {
+            least: 9,
+            greatest: 9,
+        }
+    }
+}
+
+/// Takes an order, polls its job to its end and gives the answer. Whether there was a job.
+fn answer_one<J: Job, I: InEnd<J>>(end: &mut I) -> bool {
+    let Some(Envelope { name, order }) = end.take() else {
+        return false;
+    };
+    let Order::Job(queue, job) = order else {
+        return false;
+    };
+    match drive(job, 9) {
+        Ok(out) => end.give(name.number, Outcome::Finished(out)),
+        Err(back) => {
+            let order = Order::Job(queue, back);
+            end.give(name.number, Outcome::Returned(Reason::NoQueue, order));
+        }
+    }
+    true
+}
+
+/// Sends a job through a link and answers it. Its answer, if it came back.
+fn trip<J: Job>(alloc: Global, job: J) -> Result<Option<J::Out>, AllocError>
+    requires open { J.done job ≡ false }
+    requires ready { J.CanPoll job }
+{
+    let mut link = PlainLink::<J>::open(alloc, ActorNo(1), CoreNo(2), 2)?;
+    let _sent = link.send(Order::Job(QueueNo(0), job)).is_ok();
+    let _answered = answer_one(&mut link);
+    match link.collect() {
+        Some((_, Outcome::Finished(answer))) => Ok(Some(answer)),
+        _ => Ok(None),
+    }
+}
+
+/// How many are outstanding of a link of boxed jobs.
+fn outstanding(link: &PlainLink<AnyJob>) -> u64 {
+    link.outstanding()
+}
+
+#[test]
+fn a_box_in_polls_through_a_link(rt: HostRuntime) -> Result<(), Fail> {
+    let work = Nine {
+        yields: 2,
+        ended: false,
+    };
+    let inside: Box<dyn Polled + Send> = Box::new(rt.alloc(), work)?;
+    assert_eq!(rt; trip(rt.alloc(), polled_job(inside))?, Some(9));
+    Ok(())
+}
+
+#[test]
+fn a_boxed_call_through_a_link(rt: HostRuntime) -> Result<(), Fail> {
+    let call: Box<dyn FnOnce() -> u64 + Send> = Box::new(rt.alloc(), || 7)?;
+    assert_eq!(rt; trip(rt.alloc(), once_job(OnceBox::new(call)))?, Some(7));
+    let link: PlainLink<AnyJob> = PlainLink::open(rt.alloc(), ActorNo(1), CoreNo(2), 2)?;
+    assert_eq!(rt; outstanding(&link), 0);
+    Ok(())
+}
