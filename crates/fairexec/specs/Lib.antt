@@ -1,0 +1,17 @@
+pub mod Numbers
+pub mod Words
+pub mod Causes
+pub mod Keywords
+pub mod Fields
+pub mod Lines
+pub mod Drafts
+pub mod Limits
+pub mod LineFaults
+pub mod Feeds
+pub mod Scripts
+pub mod ScriptFaults
+pub mod Whole
+pub mod Notes
+pub mod EngineFaults
+pub mod Telling
+pub mod Statuses
