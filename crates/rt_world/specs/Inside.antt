@@ -82,3 +82,15 @@ module _ {J T : Type 0} where
     pub links_are : (sender : ℕ) → sender ≤ parts.cores → length (row_of sender parts.links) ≡ parts.cores
     pub journals_are : length parts.journals ≡ parts.cores + 1
     pub rooms_are : (actor : ℕ) → actor ≤ parts.cores → (journal_view actor parts.journals).room ≡ parts.room
+
+module _ {J : Type 0} where
+  -- a core of each number, just opened
+  pub record AreOpened (cores cap : ℕ) (inside : List (CoreView J)) : Type 0 where
+    pub cores_are : length inside ≡ cores
+    pub each_opened : (core : ℕ) → core < cores → core_at core inside ≡ opened core cores ((cores + 1) * cap) 0
+
+module _ {T : Type 0} where
+  -- a journal of each actor, without a note
+  pub record AreEmpty (cores room : ℕ) (journals : List (JournalView T)) : Type 0 where
+    pub journals_are : length journals ≡ cores + 1
+    pub each_empty : (actor : ℕ) → actor ≤ cores → journal_view actor journals ≡ record { notes = []; room = room }

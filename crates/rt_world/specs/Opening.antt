@@ -1,5 +1,5 @@
 -- A world as it opens, and the numbers that it opens with.
-use Rattle.std.specs.Prelude.{◌≡◌, ℕ, ◌+◌, ◌*◌, ◌^◌, ◌<◌, ◌≤◌, [], length}
+use Rattle.std.specs.Prelude.{◌≡◌, ℕ, ◌+◌, ◌*◌, ◌^◌, ◌<◌, ◌≤◌, List, [], ◌∷◌, length, Result, Ok, Err}
 use Rattle.rt_ids.specs.declared.order.Order.TheVariants.{Create, SetShares}
 use Rattle.rt_ids.specs.declared.order.Order.{Order}
 use Rattle.rt_shares.specs.Charge.{InRange}
@@ -7,7 +7,13 @@ use Rattle.rt_jobs.specs.Ready.{HasReadyJob}
 use Rattle.rt_ids.specs.Lawful.{IsOpening}
 use Rattle.rt_world.specs.declared.event.Event.{Event}
 use Rattle.rt_world.specs.declared.event.Event.TheVariants.{Send, Deliver, Turn}
-use Rattle.rt_world.specs.State.{WorldView, journal_at, sent_at}
+use Rattle.rt_ids.specs.declared.note.Note.TheVariants.{Created}
+use Rattle.rt_ids.specs.Commands.{last_queue}
+use Rattle.rt_taskqueue.specs.declared.queues.CreateError.{CreateError}
+use Rattle.rt_taskqueue.specs.declared.queues.CreateError.TheVariants.{TooMany, Memory}
+use Rattle.rt_world.specs.declared.model.WorldError.{WorldError}
+use Rattle.rt_world.specs.declared.model.WorldError.TheVariants as why
+use Rattle.rt_world.specs.State.{WorldView, journal_at, sent_at, noted}
 
 -- 1 to 16 cores, links of capacity 1 to 1024, and journals of at most 2^24 notes
 pub record IsConfig (cores cap room : ℕ) : Type 0 where
@@ -40,3 +46,16 @@ HasShares _ = Unit {0}
 abbrev pub HasReadyEvent : {J : Type 0} → (Order J → Type 0) → Event J → Type 0
 HasReadyEvent ready (Send sender core order) = ready order
 HasReadyEvent ready _ = Unit {0}
+
+-- what an opening answers: a fresh world, or why there is none
+abbrev pub Opens : {J T : Type 0} → ℕ → ℕ → ℕ → Result (WorldView J T) WorldError → Type 0
+Opens cores cap room (Ok world) = IsConfig cores cap room × IsFresh cores cap room world
+Opens cores cap room (Err why.BadConfig) = IsConfig cores cap room → ⊥
+Opens cores cap room (Err why.Memory) = IsConfig cores cap room
+
+-- a queue is made before the first event, under the next number; a core that has 256 queues says so, else there was no memory
+abbrev pub CreatesAtOpening : {J T : Type 0} → ℕ → ℕ → WorldView J T → Result ℕ CreateError → WorldView J T → Type 0
+CreatesAtOpening core weight old (Ok queue) new =
+    (queue ≡ last_queue (journal_at core old) + 1) × (queue < 256) × (new ≡ noted core (Created queue weight ∷ []) old)
+CreatesAtOpening core weight old (Err TooMany) new = (last_queue (journal_at core old) + 1 ≡ 256) × (new ≡ old)
+CreatesAtOpening core weight old (Err Memory) new = (last_queue (journal_at core old) + 1 < 256) × (new ≡ old)

@@ -5,7 +5,8 @@ use Rattle.rt_world.specs.declared.event.Event.{Event}
 use Rattle.rt_world.specs.declared.event.Event.TheVariants.{Send, Deliver, Turn}
 use Rattle.rt_world.specs.declared.event.Reply.{Reply}
 use Rattle.rt_world.specs.declared.event.Reply.TheVariants as reply
-use Rattle.rt_world.specs.State.{WorldView, IsNearlyFull}
+use Rattle.rt_ids.specs.Assembly.{Assembly}
+use Rattle.rt_world.specs.State.{WorldView, IsNearlyFull, assembly_of}
 use Rattle.rt_world.specs.Sends.{actor_of, AreThere, Sends}
 use Rattle.rt_world.specs.Deliveries.{Delivers}
 use Rattle.rt_world.specs.Turns.{Turns}
@@ -31,3 +32,7 @@ module _ {J T : Type 0} (made : J → ℕ) (polls : J → ℕ → Step T → Opt
   IsRun [] old new = new ≡ old
   IsRun (event ∷ events) old new =
       (between : WorldView J T) × (answer : Reply J) × Happens event old between answer × IsRun events between new
+
+  -- these are the journals after a run of the events
+  abbrev pub RunsTo : List (Event J) → WorldView J T → Assembly T → Type 0
+  RunsTo events old assembly = (end : WorldView J T) × IsRun events old end × (assembly ≡ assembly_of end)

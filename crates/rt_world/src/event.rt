@@ -1,5 +1,8 @@
 //! Events of the model, each one atomic step of one actor, and what the actor is told.
 
+ghost use Rattle.std.specs.Prelude.{◌≡◌};
+ghost use Rattle.rt_world.specs.Sends.{actor_of};
+
 use rt_ids::{ActorNo, CoreNo, Order, SendError, Ticket};
 
 /// One step of one actor.
@@ -11,6 +14,19 @@ pub enum Event<J> {
     Deliver(CoreNo, ActorNo),
     /// The core picks a queue and polls its first job once. The time, in nanoseconds, counts where the job tells none of its own.
     Turn(CoreNo, u64),
+}
+
+impl<J> Event<J> {
+    /// The actor that makes the step.
+    pub fn actor(&self) -> ActorNo
+        ensures { result ≡ actor_of self.now }
+    {
+        match self {
+            Event::Send(from, _, _) => *from,
+            Event::Deliver(core, _) => ActorNo(core.0),
+            Event::Turn(core, _) => ActorNo(core.0),
+        }
+    }
 }
 
 /// What an event came to.

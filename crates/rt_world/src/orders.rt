@@ -6,20 +6,24 @@ ghost use Rattle.rt_world.specs.Opening.{HasShares};
 
 use rt_ids::Order;
 
-/// The order as a note tells it. A caller also learns that its shares are within their range.
-pub fn note_of<J>(order: &Order<J>) -> Order<()>
-    ensures value { result ≡ order_note order.now }
-    ensures shares { HasShares order.now }
+/// The order, and beside it the order as a note tells it. A caller also learns that its shares are within their range.
+pub fn with_note<J>(order: Order<J>) -> (Order<J>, Order<()>)
+    ensures same { result.0 ≡ order }
+    ensures note { result.1 ≡ order_note order }
+    ensures shares { HasShares order }
 {
     match order {
-        Order::Job(queue, _) => Order::Job(*queue, ()),
+        Order::Job(queue, job) => (Order::Job(queue, job), Order::Job(queue, ())),
         Order::Create(shares) => {
             let _in_range = shares.get();
-            Order::Create(*shares)
+            (Order::Create(shares), Order::Create(shares))
         }
         Order::SetShares(queue, shares) => {
             let _in_range = shares.get();
-            Order::SetShares(*queue, *shares)
+            (
+                Order::SetShares(queue, shares),
+                Order::SetShares(queue, shares),
+            )
         }
     }
 }

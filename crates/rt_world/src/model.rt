@@ -1,0 +1,86 @@
+//! The cores of one executor as one value, moved by events.
+
+ghost use Rattle.std.specs.Prelude.{◌≡◌, ◌≤◌};
+ghost use Rattle.rt_world.specs.State.{journal_at, assembly_of};
+
+use crate::assembly::Assembly;
+use crate::journal::Journal;
+use crate::links::Links;
+use rt_core::Core;
+use rt_ids::ActorNo;
+use rt_jobs::Task;
+use std::alloc::{AllocError, Allocator, Global};
+use std::marker::Model;
+
+mod events;
+mod opening;
+mod steps;
+
+/// The cores of one executor, the links between all actors, and a journal for each actor.
+///
+/// A contract sees the journals, and the orders that each link has accepted.
+#[derive(Drop)]
+pub struct World<J: Task<Out = u64>, A: Allocator + Clone = Global> {
+    cores: u8,
+    cap: u16,
+    room: u32,
+    inside: Vec<Core<J, A>>,
+    links: Links<J>,
+    journals: Vec<Journal<u64>>,
+}
+
+impl<J: Task<Out = u64>, A: Allocator + Clone> Model for World<J, A> {
+    ghost use Rattle.std.specs.Prelude.{ℕ};
+    ghost use Rattle.rt_world.specs.State.{WorldView};
+
+    ghost Value = { WorldView J ℕ };
+
+    ghost use Rattle.rt_jobs.specs.Ready.{HasReadyJob};
+    ghost use Rattle.rt_link.specs.Fits.{Fits};
+    ghost use Rattle.rt_world.specs.Inside.{world_of};
+    ghost use Rattle.rt_world.specs.Opening.{IsConfig};
+    ghost use Rattle.rt_world.specs.Tasks.{IsWorld};
+
+    ghost view = { λ w. world_of (record { cores = w.cores; cap = w.cap; room = w.room; inside = w.inside.items; links = w.links; journals = w.journals.items }) };
+
+    ghost invariant = { λ w.
+        IsConfig w.cores w.cap w.room
+        × IsWorld J.SameTask J.made J.Polls (Fits J.SameTask J.Answers) (HasReadyJob J.done J.CanPoll)
+        (record { cores = w.cores; cap = w.cap; room = w.room; inside = w.inside.items; links = w.links; journals = w.journals.items }) };
+}
+
+/// Why a world can't be opened.
+#[derive(Clone, Copy, PartialEq, Eq, Debug, thiserror::Error)]
+pub enum WorldError {
+    /// The cores aren't 1 to 16, the capacity of a link isn't 1 to 1024, or a journal is to have more than 2^24 notes.
+    #[error("cores, capacity or room out of range")]
+    BadConfig,
+    /// There is no memory for all of it.
+    #[error("out of memory")]
+    Memory,
+}
+
+impl From<AllocError> for WorldError {
+    ghost from_gives = { λ _ error. error ≡ WorldError.Memory };
+
+    fn from(_error: AllocError) -> Self {
+        WorldError::Memory
+    }
+}
+
+impl<J: Task<Out = u64>, A: Allocator + Clone> World<J, A> {
+    // The journals alone.
+    fn into_assembly(self) -> Assembly
+        ensures { result ≡ assembly_of self }
+    {
+        Assembly::of(self.cores, self.cap, self.journals)
+    }
+
+    /// The notes of one actor.
+    pub fn journal(&self, actor: ActorNo) -> &Journal<u64>
+        requires { actor ≤ self.now.cores }
+        ensures { result.now.notes ≡ journal_at actor self.now }
+    {
+        &self.journals[actor.0 as usize]
+    }
+}

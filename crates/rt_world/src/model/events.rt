@@ -1,0 +1,77 @@
+//! Events, one at a time and in a list.
+
+ghost use Rattle.std.specs.Prelude.{◌≡◌, ◌↔◌, ◌≤◌, All, IsTrue};
+ghost use Rattle.rt_ids.specs.Sound.{IsSound};
+ghost use Rattle.rt_jobs.specs.Ready.{HasReadyJob};
+ghost use Rattle.rt_world.specs.State.{IsNearlyFull};
+ghost use Rattle.rt_world.specs.Sends.{AreThere, actor_of};
+ghost use Rattle.rt_world.specs.Opening.{IsUnbegun, HasReadyEvent};
+ghost use Rattle.rt_world.specs.Runs.{Happens, RunsTo};
+
+use super::World;
+use crate::assembly::Assembly;
+use crate::event::{Event, Reply};
+use rt_ids::ActorNo;
+use rt_jobs::{Job, Task};
+use std::alloc::Allocator;
+
+impl<J: Task<Out = u64>, A: Allocator + Clone> World<J, A> {
+    /// Whether the actors and cores of the event exist.
+    fn has_actors(&self, event: &Event<J>) -> bool
+        ensures { IsTrue result ↔ AreThere self.now.cores event.now }
+    {
+        match event {
+            Event::Send(from, to, _) => from.0 <= self.cores && to.0 < self.cores,
+            Event::Deliver(core, from) => core.0 < self.cores && from.0 <= self.cores,
+            Event::Turn(core, _) => core.0 < self.cores,
+        }
+    }
+
+    /// Whether the actor's journal has fewer notes free than one event may need.
+    fn is_nearly_full(&self, actor: ActorNo) -> bool
+        requires { actor ≤ self.now.cores }
+        ensures { IsTrue result ↔ IsNearlyFull actor self.now }
+    {
+        let needed = 3 * self.cores as u32 * self.cap as u32 + 4;
+        self.journals[actor.0 as usize].free() < needed
+    }
+}
+
+impl<J: Job + Task<Out = u64>, A: Allocator + Clone> World<J, A> {
+    /// One event. The reply says what it came to, and the new notes of its actor's journal what was done.
+    ///
+    /// # Errors
+    ///
+    /// An event whose actor or core doesn't exist (`NoActor`), or whose actor's journal has fewer than `3 * cores * cap + 4` notes
+    /// free (`NoRoom`), changes nothing and comes back.
+    pub fn step(&mut self, event: Event<J>) -> Reply<J>
+        requires ready { HasReadyEvent (HasReadyJob J.done J.CanPoll) event }
+        ensures { Happens J.made J.Polls J.Answers event self.old self.new result }
+    {
+        if !self.has_actors(&event) {
+            return Reply::NoActor(event);
+        }
+        if self.is_nearly_full(event.actor()) {
+            return Reply::NoRoom(event);
+        }
+        match event {
+            Event::Send(from, to, order) => self.send(from, to, order),
+            Event::Deliver(core, from) => self.deliver(core, from),
+            Event::Turn(core, spent) => self.turn(core, spent),
+        }
+    }
+
+    /// All these events, one after another. Their journals are a run of the events, and they are sound together.
+    pub fn run(self, events: Vec<Event<J>>) -> Assembly
+        requires unbegun { IsUnbegun self }
+        requires ready { All (HasReadyEvent (HasReadyJob J.done J.CanPoll)) events.items }
+        ensures run { RunsTo J.made J.Polls J.Answers events.items self result }
+        ensures sound { IsSound result }
+    {
+        let mut world = self;
+        for event in events {
+            let _ = world.step(event);
+        }
+        world.into_assembly()
+    }
+}

@@ -1,0 +1,81 @@
+//! The three steps: an order is sent, the next one is delivered, a core makes a turn.
+
+ghost use Rattle.std.specs.Prelude.{◌≡◌, ◌≤◌, ◌<◌, ◌+◌, length};
+ghost use Rattle.rt_jobs.specs.Ready.{HasReadyJob};
+ghost use Rattle.rt_world.specs.State.{journal_at};
+ghost use Rattle.rt_world.specs.Sends.{Sends};
+ghost use Rattle.rt_world.specs.Deliveries.{Delivers};
+ghost use Rattle.rt_world.specs.Turns.{Turns};
+
+use super::World;
+use crate::event::Reply;
+use crate::orders::with_note;
+use rt_core::{PickError, Turn};
+use rt_ids::{ActorNo, CoreNo, Envelope, JobId, Note, Order, Ticket};
+use rt_jobs::{Job, Ran, Task};
+use std::alloc::Allocator;
+
+impl<J: Task<Out = u64>, A: Allocator + Clone> World<J, A> {
+    /// Sends the order.
+    pub(super) fn send(&mut self, from: ActorNo, to: CoreNo, order: Order<J>) -> Reply<J>
+        requires sender { from ≤ self.old.cores }
+        requires core { to < self.old.cores }
+        requires room { length (journal_at from self.old) + 4 ≤ self.old.room }
+        requires ready { HasReadyJob J.done J.CanPoll order }
+        ensures { Sends from to order self.old self.new result }
+    {
+        let (order, what) = with_note(order);
+        match self.links.send(from, to, order) {
+            Ok(number) => {
+                let ticket = Ticket::named(JobId { from, to, number });
+                let note = Note::Sent(ticket.name(), what);
+                self.journals[from.0 as usize].push(note);
+                Reply::Sent(ticket)
+            }
+            Err(error) => Reply::NotSent(error),
+        }
+    }
+
+    /// Takes the next submission of the actor to the core, which carries it out.
+    pub(super) fn deliver(&mut self, core: CoreNo, from: ActorNo) -> Reply<J>
+        requires core { core < self.old.cores }
+        requires sender { from ≤ self.old.cores }
+        requires room { length (journal_at core self.old) + 4 ≤ self.old.room }
+        ensures { Delivers core from self.old self.new result }
+    {
+        let index = core.0 as usize;
+        let Some(envelope) = self.links.take(from, core) else {
+            return Reply::Empty;
+        };
+        let Envelope { name, order } = envelope;
+        // The shares of a command are within their range, which the law of its journal asks.
+        let (order, _) = with_note(order);
+        let (_, notes) = self.inside[index].deliver(Envelope { name, order });
+        self.journals[index].push_all(notes.as_slice());
+        Reply::Noted
+    }
+}
+
+impl<J: Job + Task<Out = u64>, A: Allocator + Clone> World<J, A> {
+    /// Picks a queue of the core and polls its first job once.
+    pub(super) fn turn(&mut self, core: CoreNo, spent: u64) -> Reply<J>
+        requires core { core < self.old.cores }
+        requires room { length (journal_at core self.old) + 4 ≤ self.old.room }
+        ensures { Turns J.made J.Polls J.Answers core spent self.old self.new result }
+    {
+        let index = core.0 as usize;
+        let (picked, pick_notes) = self.inside[index].pick();
+        let job = match picked {
+            Ok(Turn::Start(_, _, job)) => job,
+            Ok(Turn::Resume(_, _, job)) => job,
+            Ok(Turn::Idle) => return Reply::Idle,
+            Err(PickError::Spent) => return Reply::Spent,
+            Err(PickError::Busy) => unreachable!(),
+        };
+        let ran = Ran::poll(job);
+        let (_, settle_notes) = self.inside[index].settle(ran, spent);
+        self.journals[index].push_all(pick_notes.as_slice());
+        self.journals[index].push_all(settle_notes.as_slice());
+        Reply::Noted
+    }
+}
