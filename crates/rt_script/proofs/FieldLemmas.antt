@@ -1,0 +1,16 @@
+-- What was read of parts, if the whole was read.
+use Rattle.std.proofs.Common.{◌≡◌, Result, Ok, Err, refl}
+use Rattle.rt_script.specs.declared.number.Flaw.{Flaw}
+use Rattle.rt_script.specs.declared.number.Flaw.TheVariants.{Misspelled, OutOfRange}
+use Rattle.rt_script.specs.Fields.{both, made}
+
+pub made_ok : {A B : Type 0} (f : A → B) (r : Result A Flaw) (b : B) → made f r ≡ Ok b → (a : A) × (r ≡ Ok a) × (b ≡ f a)
+made_ok f (Ok a) b e = (a, refl, cc)
+made_ok f (Err flaw) b e = cc
+
+pub both_ok : {A B : Type 0} (a : Result A Flaw) (b : Result B Flaw) (p : A × B) → both a b ≡ Ok p → (a ≡ Ok p.0) × (b ≡ Ok p.1)
+both_ok (Ok a) (Ok b) p e = (cc, cc)
+both_ok (Ok a) (Err f) p e = cc
+both_ok (Err f) (Ok b) p e = cc
+both_ok (Err Misspelled) (Err g) p e = cc
+both_ok (Err OutOfRange) (Err g) p e = cc
