@@ -14,3 +14,8 @@ pub mod WorldDeliveries
 pub mod PollsMade
 pub mod WorldDelivered
 pub mod WorldTurns
+pub mod SameLinks
+pub mod JournalReads
+pub mod SendResults
+pub mod DeliverResults
+pub mod DeliverSteps
