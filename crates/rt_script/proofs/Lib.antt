@@ -1,3 +1,4 @@
+pub mod EventLimits
 pub mod FieldLemmas
 pub mod KnownLemmas
 pub mod LimitLemmas
@@ -7,3 +8,4 @@ pub mod PollLemmas
 pub mod ReaderLemmas
 pub mod TextLemmas
 pub mod WordLemmas
+pub mod WorldSteps

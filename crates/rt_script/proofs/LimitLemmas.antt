@@ -5,6 +5,8 @@ use Rattle.std.proofs.lemmas.Grind.{common_steps}
 use Rattle.std.specs.List.{All, count_by}
 use Rattle.std.proofs.lemmas.List.Sums.{sum_by-append}
 use Rattle.std.proofs.lemmas.List.Elements.{All-push}
+use Rattle.rt_jobs.specs.Scripts.{Script}
+use Rattle.rt_world.specs.declared.event.Event.{Event}
 use Rattle.rt_script.specs.declared.number.Flaw.{Flaw}
 use Rattle.rt_script.specs.declared.number.Flaw.TheVariants.{Misspelled, OutOfRange}
 use Rattle.rt_script.specs.declared.fault.Cause.{Cause}
@@ -19,13 +21,9 @@ use Rattle.rt_script.specs.Words.{first, others, second, third, word_count}
 use Rattle.rt_script.specs.Fields.{both, made, core_field, shares_field, fixed_field}
 use Rattle.rt_script.specs.Lines.{size_line, queue_line, line_of, counts, first_line, keyword_line, later_line}
 use Rattle.rt_script.specs.Drafts.{Drafted, queue_lines, with_line}
-use Rattle.rt_script.specs.Limits.{IsSize, IsSized, ArePlaced, IsWithinLimits, IsCoreOf, MayFollow}
-use Rattle.rt_script.proofs.FieldLemmas.{made_ok, both_ok}
-
--- a number that was read is within its range
-within_ok : (least most : ℕ) (read : Option ℕ) (n : ℕ) → within least most read ≡ Ok n → (least ≤ n) × (n ≤ most)
-within_ok least most None n e = cc
-within_ok least most (Some m) n e = grind (arith, nat_tests)
+use Rattle.rt_script.specs.Limits.{IsSize, IsSized, ArePlaced, IsWithinLimits, IsCoreOf, MayFollow, AreEventsOf, IsEventFor, IsEventOf}
+use Rattle.rt_script.proofs.FieldLemmas.{made_ok, both_ok, within_ok}
+use Rattle.rt_script.proofs.EventLimits.{submit_line_ok, create_line_ok, shares_line_ok, deliver_line_ok, turn_line_ok}
 
 or_cause_ok : {A : Type 0} (r : Result A Flaw) (value : A) → or_cause r ≡ Ok value → r ≡ Ok value
 or_cause_ok (Ok a) value e = cc
@@ -50,11 +48,11 @@ queue_line_ok size ws line some e =
 
 line_of_ok : (k : Keyword) (size : ℕ × ℕ) (ws : List (List ℕ)) (line : Line) → 1 ≤ size.0 → line_of k size.0 ws ≡ Ok line → MayFollow (Some size) line
 line_of_ok keyword.Queue size ws line some e = queue_line_ok size ws line some e
-line_of_ok keyword.Submit size ws line some e = let m = made_ok _ _ _ e in rw m.2 tt
-line_of_ok keyword.Create size ws line some e = let m = made_ok _ _ _ e in rw m.2 tt
-line_of_ok keyword.Shares size ws line some e = let m = made_ok _ _ _ e in rw m.2 tt
-line_of_ok keyword.Deliver size ws line some e = let m = made_ok _ _ _ e in rw m.2 tt
-line_of_ok keyword.Turn size ws line some e = let m = made_ok _ _ _ e in rw m.2 tt
+line_of_ok keyword.Submit size ws line some e = submit_line_ok size ws line some e
+line_of_ok keyword.Create size ws line some e = create_line_ok size ws line some e
+line_of_ok keyword.Shares size ws line some e = shares_line_ok size ws line some e
+line_of_ok keyword.Deliver size ws line some e = deliver_line_ok size ws line some e
+line_of_ok keyword.Turn size ws line some e = turn_line_ok size ws line some e
 
 -- a choice that came to a value took a branch that has it
 cond_ok : {A : Type 0} (b : Bool) (r : Result A Cause) (cause : Cause) (value : A) → cond b r (Err cause) ≡ Ok value → r ≡ Ok value
@@ -99,6 +97,19 @@ limits_more draft queue limits core room = record {
   sized = limits.sized;
   placed = placed_more draft.size draft.queues queue limits.placed core;
   few = λ c. few_more c draft.queues queue (limits.few c) room;
+  happen = limits.happen;
+}
+
+happen_more : (size : Option (ℕ × ℕ)) (events : List (Event Script)) (event : Event Script) → AreEventsOf size events → IsEventFor size event → AreEventsOf size (events ++ event ∷ [])
+happen_more None events event happen here = absurd here
+happen_more (Some s) events event happen here = All-push (IsEventOf s.0) events event happen here
+
+pub limits_event : (draft : Drafted) (event : Event Script) → IsWithinLimits draft → IsEventFor draft.size event → IsWithinLimits (record { size = draft.size; queues = draft.queues; events = draft.events ++ event ∷ [] })
+limits_event draft event limits here = record {
+  sized = limits.sized;
+  placed = limits.placed;
+  few = limits.few;
+  happen = happen_more draft.size draft.events event limits.happen here;
 }
 
 pub IfOk-from_each : {A : Type 0} (r : Result A Cause) (P : A → Type 0) → ((a : A) → r ≡ Ok a → P a) → IfOk r P

@@ -16,3 +16,6 @@ pub mod EngineFaults
 pub mod Telling
 pub mod Statuses
 pub mod Replies
+pub mod Transcripts
+pub mod Rooms
+pub mod Outputs

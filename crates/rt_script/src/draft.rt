@@ -1,6 +1,6 @@
 //! A script as far as its lines are judged.
 
-ghost use Rattle.std.specs.Prelude.{◌≡◌, Ok, Err, IfOk, IfErr, OnOk, OnErr, length, nat_lt, IfSome, IsNone, None, ◌↔◌};
+ghost use Rattle.std.specs.Prelude.{◌≡◌, Ok, Err, IfOk, IfErr, OnOk, OnErr, length, nat_lt, ◌≤◌, ◌+◌, IfSome, IsNone, None, ◌↔◌};
 ghost use Rattle.rt_script.specs.Whole.{drafted};
 ghost use Rattle.rt_script.specs.Words.{words};
 ghost use Rattle.rt_script.specs.Drafts as spec;
@@ -85,6 +85,7 @@ impl Draft {
 
     /// The whole script, where the lines end here; None where none told the size.
     pub fn finish(self) -> Option<Script>
+        requires { length self.events ≤ 4096 }
         ensures whole { IfSome result (λ script. self ≡ drafted script) }
         ensures none { IsNone result ↔ (self.size ≡ None) }
     {
@@ -106,6 +107,7 @@ impl Draft {
     pub fn take(&mut self, text: &[u8]) -> Result<(), LineFault>
         ensures ok { OnOk result (spec.with_text self.old text.now ≡ Ok self.new) }
         ensures cause { IfErr result (IfCause (λ cause. spec.with_text self.old text.now ≡ Err cause)) }
+        ensures one_more { OnOk result (length self.new.events ≤ length self.old.events + 1) }
         ensures err { OnErr result (self.new ≡ self.old) }
     {
         if is_skipped(text) {
@@ -132,6 +134,7 @@ impl Draft {
         requires { MayFollow self.old.size line }
         ensures ok { OnOk result (spec.with_line self.old line ≡ Ok self.new) }
         ensures cause { IfErr result (IfCause (λ cause. spec.with_line self.old line ≡ Err cause)) }
+        ensures one_more { OnOk result (length self.new.events ≤ length self.old.events + 1) }
         ensures err { OnErr result (self.new ≡ self.old) }
     {
         match line {

@@ -1,6 +1,6 @@
 //! The text of a script, taken as it comes.
 
-ghost use Rattle.std.specs.Prelude.{ℕ, List, [], ◌∷◌, ◌++◌, ◌+◌, ◌≡◌, ◌≤◌, Ok, Err, IfOk, IfErr, OnOk, length};
+ghost use Rattle.std.specs.Prelude.{ℕ, List, [], ◌∷◌, ◌++◌, ◌+◌, ◌≡◌, ◌≤◌, Ok, Err, IfOk, IfErr, OnOk, OnErr, length};
 ghost use Rattle.rt_script.specs.Scripts as spec;
 ghost use Rattle.rt_script.specs.ScriptFaults.{IfFaulty};
 ghost use Rattle.rt_script.specs.Feeds.{HasNoFeed};
@@ -41,7 +41,7 @@ pub struct ScriptReader {
 }
 
 impl Model for ScriptReader {
-    ghost use Rattle.std.specs.Prelude.{◌≤◌};
+    ghost use Rattle.std.specs.Prelude.{◌≤◌, ◌<◌, length};
     ghost use Rattle.rt_script.specs.Scripts.{Reading};
     ghost use Rattle.rt_script.specs.Feeds.{HasNoFeed};
 
@@ -49,7 +49,9 @@ impl Model for ScriptReader {
 
     ghost view = { λ r. record { draft = r.draft; number = r.number; line = r.line.items } };
 
-    ghost invariant = { λ r. (1 ≤ r.number) × (r.number ≤ 4097) × HasNoFeed r.line.items };
+    // A line adds one event at most.
+    ghost invariant = { λ r. (1 ≤ r.number) × (r.number ≤ 4097) × HasNoFeed r.line.items
+        × (length r.draft.events < r.number) };
 }
 
 impl ScriptReader {
@@ -170,6 +172,8 @@ fn judge(draft: &mut Draft, number: u32, line: &[u8]) -> Result<(), ScriptFault>
     requires { length line.now ≤ 2048 }
     ensures ok { OnOk result (judged draft.old number line.now ≡ Ok draft.new) }
     ensures few { OnOk result (number ≤ 4096) }
+    ensures one_more { OnOk result (length draft.new.events ≤ length draft.old.events + 1) }
+    ensures err { OnErr result (draft.new ≡ draft.old) }
     ensures faulty { IfErr result (IfFaulty (λ fault. (fault.0 ≡ number)
         × (judged draft.old number line.now ≡ Err fault.1))) }
 {

@@ -1,7 +1,7 @@
 //! A whole script.
 
-ghost use Rattle.rt_script.specs.Limits.{IsSize, ArePlaced, HasFewQueues};
-ghost use Rattle.std.specs.Prelude.{Some};
+ghost use Rattle.std.specs.Prelude.{Some, length, ◌≤◌};
+ghost use Rattle.rt_script.specs.Limits.{IsSize, ArePlaced, HasFewQueues, AreEventsOf};
 
 use rt_ids::CoreNo;
 use rt_jobs::ScriptJob;
@@ -22,4 +22,6 @@ pub struct Script {
     ghost sized: { IsSize cores cap },
     ghost placed: { ArePlaced (Some (cores, cap)) queues.items },
     ghost few: { HasFewQueues queues.items },
+    ghost happen: { AreEventsOf (Some (cores, cap)) events.items },
+    ghost short: { length events.items ≤ 4096 },
 }
