@@ -1,8 +1,10 @@
 pub mod EventLimits
+pub mod EventTexts
 pub mod FieldLemmas
 pub mod KnownLemmas
 pub mod LimitLemmas
 pub mod NumberLemmas
+pub mod PrintLemmas
 pub mod PlaceLemmas
 pub mod PollLemmas
 pub mod ReaderLemmas
