@@ -1,6 +1,12 @@
 //! Runs scripts on the model of a thread-per-core executor with fair task queues.
 #![tactic(auto)]
 
+ghost use Rattle.std.specs.Prelude.{◌≡◌, ◌≢◌};
+ghost use Rattle.clap.specs.Words.{kind_of};
+ghost use Rattle.clap.specs.declared.error.kind.ErrorKind.TheVariants as command_kinds;
+ghost use Rattle.rt_script.specs.Statuses.{status_of};
+ghost use Rattle.rt_script.specs.declared.status.Status.TheVariants as status;
+
 use clap::error::ErrorKind as CommandErrorKind;
 use rt_script::{EngineFault, Status, run_script};
 use std::io::ErrorKind;
@@ -59,7 +65,9 @@ fn opening_fault(kind: ErrorKind) -> EngineFault {
 }
 
 /// Says on standard error what went wrong, if anything did. Where even that can't be said, the status is the same.
-fn ended<R: Eprint>(rt: &R, answer: Result<bool, EngineFault>) -> Status {
+fn ended<R: Eprint>(rt: &R, answer: Result<bool, EngineFault>) -> Status
+    ensures { result ≡ status_of answer }
+{
     if let Err(fault) = &answer {
         let _ = eprintln!(rt; "{fault}");
     }
@@ -76,7 +84,11 @@ fn words_refused<R: Eprint>(rt: &R, kind: ErrorKind) -> Status {
 }
 
 /// Help is printed as it was asked for; a mistake is told on standard error.
-fn command_refused<R: Print + Eprint>(rt: &R, error: &clap::Error) -> Status {
+fn command_refused<R: Print + Eprint>(rt: &R, error: &clap::Error) -> Status
+    ensures memory { kind_of error.now ≡ command_kinds.OutOfMemory → result ≡ status.Memory }
+    ensures mistake { kind_of error.now ≢ command_kinds.OutOfMemory → kind_of error.now ≢ command_kinds.DisplayHelp
+        → kind_of error.now ≢ command_kinds.DisplayVersion → result ≡ status.Refused }
+{
     if error.kind() == CommandErrorKind::OutOfMemory {
         return ended(rt, Err(EngineFault::Memory));
     }

@@ -15,6 +15,8 @@ pub mod script;
 pub mod source;
 pub mod status;
 pub mod steady;
+#[cfg(test)]
+mod tests;
 pub mod text;
 pub mod words;
 
