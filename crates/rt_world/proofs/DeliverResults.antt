@@ -1,39 +1,34 @@
 -- What the link and the core answer to a delivery, and what it means to the world.
-use Rattle.std.proofs.Common.{◌≡◌, inl, inr, ℕ, ◌+◌, ◌-◌, ◌<◌, ◌≤◌, Bool, true, false, List, [], ◌∷◌, ◌++◌, length, reverse, refl, sym, ◌∙◌, ap, subst, arith, set}
-use Rattle.std.specs.Prelude.{Option, Some, None, slice_get, nat_le}
+use Rattle.std.proofs.Common.{◌≡◌, inl, ℕ, ◌+◌, ◌<◌, ◌≤◌, true, false, List, [], ◌∷◌, length, reverse, refl, sym, ◌∙◌, ap, subst, arith}
+use Rattle.std.specs.Prelude.{Option, Some, slice_get}
 use Rattle.std.proofs.lemmas.Bool.{le-leb, lt-leb}
 use Rattle.rt_ids.specs.declared.names.JobId.{JobId}
 use Rattle.rt_ids.specs.declared.note.Note.{Note}
 use Rattle.rt_ids.specs.declared.note.Note.TheVariants as writes
 use Rattle.rt_ids.specs.declared.order.Answer.{Answer}
 use Rattle.rt_ids.specs.declared.order.Answer.TheVariants as answers
-use Rattle.rt_ids.specs.declared.order.Envelope.{Envelope}
 use Rattle.rt_ids.specs.declared.order.Order.{Order}
 use Rattle.rt_ids.specs.declared.order.Order.TheVariants.{Job, Create, SetShares}
 use Rattle.rt_ids.specs.declared.order.Outcome.{Outcome}
-use Rattle.rt_ids.specs.declared.order.Reason.TheVariants as why
 use Rattle.rt_ids.specs.Journal.{Journal}
 use Rattle.rt_ids.specs.Assembly.{is_command}
 use Rattle.rt_ids.specs.Commands.{last_queue, IsAnswer, has_effect}
 use Rattle.rt_jobs.specs.declared.job.Step.{Step}
 use Rattle.rt_jobs.specs.Steps.{IsSameTask}
 use Rattle.rt_link.specs.declared.plain.Whole.{Whole}
-use Rattle.rt_link.specs.Whole.{inward_of, IsLink}
-use Rattle.rt_link.specs.Calls.{Takes}
+use Rattle.rt_link.specs.Whole.{IsLink}
 use Rattle.rt_taskqueue.specs.Queues.{queue_count}
 use Rattle.rt_core.specs.declared.delivery.Delivered.{Delivered}
 use Rattle.rt_core.specs.declared.delivery.Delivered.TheVariants.{Took, Back, Answered}
-use Rattle.rt_core.specs.State.{CoreView, inside_count, delivered_of}
+use Rattle.rt_core.specs.State.{CoreView}
 use Rattle.rt_core.specs.Deliveries.{Delivers as CarriesOut, CountsAlone}
-use Rattle.rt_world.specs.State.{WorldView, order_note}
-use Rattle.rt_world.specs.Deliveries.{IsDelivery, Delivers}
+use Rattle.rt_world.specs.State.{order_note}
+use Rattle.rt_world.specs.Deliveries.{IsDelivery}
 use Rattle.rt_world.specs.Opening.{HasShares}
-use Rattle.rt_world.specs.declared.event.Reply.TheVariants as reply
 use Rattle.rt_world.specs.Links.{link_at, ChangesLink}
-use Rattle.rt_world.specs.Inside.{Parts, core_at, notes_at, world_of, IsCoreAtRest}
+use Rattle.rt_world.specs.Inside.{Parts, core_at, notes_at, IsCoreAtRest}
 use Rattle.rt_world.specs.Tasks.{IsWorld}
 use Rattle.rt_world.proofs.Kept.{open_core}
-use Rattle.rt_world.proofs.WorldAfter.{after}
 use Rattle.rt_world.proofs.WorldDelivered.{Results, goes_back, answers_alone, creates_queue, sets_shares, enters_queue}
 
 module _ {J T : Type 0} (same : J → J → Type 0) (made : J → ℕ) (polls : J → ℕ → Step T → Option ℕ → Type 0)

@@ -1,5 +1,5 @@
 -- A delivery, from what the link and the core answer to the step of its event.
-use Rattle.std.proofs.Common.{◌≡◌, ℕ, zero, suc, ◌+◌, ◌-◌, ◌<◌, ◌≤◌, Bool, true, false, List, [], ◌∷◌, ◌++◌, length, reverse, refl, sym, ◌∙◌, ap, subst, arith, get_or, set}
+use Rattle.std.proofs.Common.{◌≡◌, ℕ, zero, suc, ◌+◌, ◌<◌, ◌≤◌, List, [], ◌∷◌, ◌++◌, length, reverse, refl, sym, ◌∙◌, ap, subst, arith, get_or, set}
 use Rattle.std.specs.Prelude.{Option, Some, None, slice_get, map}
 use Rattle.std.proofs.lemmas.List.{get_or_default, map-set}
 use Rattle.rt_ids.specs.declared.names.JobId.{JobId}
@@ -7,7 +7,6 @@ use Rattle.rt_ids.specs.declared.note.Note.{Note}
 use Rattle.rt_ids.specs.declared.order.Envelope.{Envelope}
 use Rattle.rt_ids.specs.declared.order.Order.{Order}
 use Rattle.rt_ids.specs.declared.order.Outcome.{Outcome}
-use Rattle.rt_ids.specs.Journal.{Journal}
 use Rattle.rt_ids.specs.Filters.{accepted_orders, delivered_names}
 use Rattle.rt_jobs.specs.declared.job.Step.{Step}
 use Rattle.rt_jobs.specs.Steps.{IsSameTask}
@@ -25,7 +24,6 @@ use Rattle.rt_world.specs.Journals.{JournalView}
 use Rattle.rt_world.specs.Links.{link_at, ChangesLink}
 use Rattle.rt_world.specs.Inside.{Parts, core_at, notes_at, world_of, IsLinkBetween}
 use Rattle.rt_world.specs.Tasks.{IsWorld}
-use Rattle.rt_world.proofs.JournalReads.{journal_written}
 use Rattle.rt_world.proofs.SameLinks.{same_links, same_sent_lists}
 use Rattle.rt_world.proofs.WorldAfter.{after}
 use Rattle.rt_world.proofs.WorldDeliveries.{next_for_core, sender_known, room_for_one}
@@ -107,11 +105,10 @@ module _ {J T : Type 0} (same : J → J → Type 0) (made : J → ℕ) (polls : 
       pub may_deliver : (inside_count view < view.queues.room) × (envelope.name.from ≤ view.cores) × (envelope.name.number ≡ delivered_of envelope.name.from view + 1)
       may_deliver =
           subst (λ core. (inside_count core < core.queues.room) × (envelope.name.from ≤ core.cores) × (envelope.name.number ≡ delivered_of envelope.name.from core + 1)) (sym view_is)
-          (subst (λ id. (inside_count (core_at core old.inside) < (core_at core old.inside).queues.room) × (id.from ≤ (core_at core old.inside).cores) × (id.number ≡ delivered_of id.from (core_at core old.inside) + 1)) (sym name_is)
-          (
-          room_for_one same made polls fits ready old world sender core there core_there envelope.order at,
-          sender_known same made polls fits ready old world sender core there core_there envelope.order at,
-          next_for_core same made polls fits ready old world sender core there core_there envelope.order at,
+          (subst (λ id. (inside_count (core_at core old.inside) < (core_at core old.inside).queues.room) × (id.from ≤ (core_at core old.inside).cores) × (id.number ≡ delivered_of id.from (core_at core old.inside) + 1)) (sym name_is) (
+            room_for_one same made polls fits ready old world sender core there core_there envelope.order at,
+            sender_known same made polls fits ready old world sender core there core_there envelope.order at,
+            next_for_core same made polls fits ready old world sender core there core_there envelope.order at,
           ))
 
       module _ (order : Order J) (order_is : order ≡ envelope.order) (shares : HasShares envelope.order) (delivered : Delivered J) (new : CoreView J) (written : List (Note T))

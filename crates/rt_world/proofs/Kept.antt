@@ -1,5 +1,5 @@
 -- A core that agrees with a journal in which each note may stand, and what follows for a note that changes nothing of the core.
-use Rattle.std.proofs.Common.{◌≡◌, ℕ, ◌+◌, Bool, true, false, List, [], ◌∷◌, length, refl, sym, ◌∙◌, ap, subst, arith}
+use Rattle.std.proofs.Common.{◌≡◌, ℕ, ◌+◌, Bool, true, false, List, [], ◌∷◌, length, refl, sym, ◌∙◌, ap, subst, arith, add-zero}
 use Rattle.std.specs.Prelude.{Option, Some, None, nat_lt, ◌||◌}
 use Rattle.std.proofs.lemmas.Bool.{lt-ltb}
 use Rattle.rt_ids.specs.declared.names.JobId.{JobId}
@@ -17,6 +17,7 @@ use Rattle.rt_ids.specs.Lines.{line, queue_out, name_joining, name_leaving, name
 use Rattle.rt_ids.specs.Closing.{queue_mode, core_mode}
 use Rattle.rt_ids.specs.Clauses.{queue_just_picked}
 use Rattle.rt_ids.specs.Commands.{answer_due}
+use Rattle.rt_ids.specs.Picks.{pick_count, turns}
 use Rattle.rt_ids.specs.Lawful.{MayFollow, MayStand, takes_turn, IsEffectDue}
 use Rattle.rt_ids.proofs.WorkOfLines.{has_work-line}
 use Rattle.rt_ids.proofs.RuntimeSteps.{virtual_runtime-stays, floor-stays}
@@ -91,6 +92,7 @@ pub record IsCalm {T : Type 0} (note : Note T) (before : Journal T) : Type 0 whe
   pub takes : (name : JobId) → queue_entered name note ≡ None
   pub costs : (queue : ℕ) → charge_noted queue note before ≡ 0
   pub picks : runtime_picked note ≡ 0
+  pub no_turn : pick_count note ≡ 0
   pub starts : name_started note ≡ None
 
 -- what a calm note leaves as it was
@@ -99,6 +101,7 @@ pub record StaysCalm {J T : Type 0} (core : CoreView J) (journal : Journal T) : 
   pub marks : (queue : ℕ) → AreMarked journal (waiting_of queue core.queues)
   pub runtimes : (queue : ℕ) → runtime_of queue core ≡ virtual_runtime queue journal
   pub the_floor : core.floor ≡ floor journal
+  pub turns_made : core.turns ≡ turns journal
   pub out : IsJobOut core.out journal
 
 -- the core tells the same of its jobs as before
@@ -106,7 +109,12 @@ pub record SameJobs {J : Type 0} (old new : CoreView J) : Type 0 where
   pub lines : (queue : ℕ) → waiting_of queue new.queues ≡ waiting_of queue old.queues
   pub runtimes : (queue : ℕ) → runtime_of queue new ≡ runtime_of queue old
   pub the_floor : new.floor ≡ old.floor
+  pub turns_made : new.turns ≡ old.turns
   pub out : new.out ≡ old.out
+
+-- what is no pick makes no turn
+pub turns-stays : {T : Type 0} (note : Note T) (before : Journal T) → pick_count note ≡ 0 → turns (note ∷ before) ≡ turns before
+turns-stays note before none = ap (λ count. turns before + count) none ∙ add-zero (turns before)
 
 module _ {J T : Type 0} (note : Note T) (before : Journal T) (calm : IsCalm note before) where
   marks-calm : (waiting : List (JobId × Bool × J)) → AreMarked before waiting → AreMarked (note ∷ before) waiting
@@ -124,6 +132,7 @@ module _ {J T : Type 0} (note : Note T) (before : Journal T) (calm : IsCalm note
         subst (AreMarked (note ∷ before)) (sym (same.lines queue)) (marks-calm (waiting_of queue old.queues) (agrees.marks queue));
     runtimes = λ queue. same.runtimes queue ∙ agrees.runtimes queue ∙ sym (virtual_runtime-stays queue before note calm.enters (calm.costs queue));
     the_floor = same.the_floor ∙ agrees.the_floor ∙ sym (floor-stays note before calm.picks);
+    turns_made = same.turns_made ∙ (agrees.turns ∙ sym (turns-stays note before calm.no_turn));
     out = subst (λ out. IsJobOut out (note ∷ before)) (sym same.out) (out-calm old.out agrees.out);
   }
 
@@ -138,6 +147,7 @@ module _ {T : Type 0} (before : Journal T) where
     takes = λ name. refl;
     costs = λ queue. refl;
     picks = refl;
+    no_turn = refl;
     starts = refl;
   }
 
@@ -151,6 +161,7 @@ module _ {T : Type 0} (before : Journal T) where
     takes = λ name. refl;
     costs = λ queue. refl;
     picks = refl;
+    no_turn = refl;
     starts = refl;
   }
 
@@ -164,6 +175,7 @@ module _ {T : Type 0} (before : Journal T) where
     takes = λ name. refl;
     costs = λ queue. refl;
     picks = refl;
+    no_turn = refl;
     starts = refl;
   }
 
@@ -177,6 +189,7 @@ module _ {T : Type 0} (before : Journal T) where
     takes = λ name. refl;
     costs = λ queue. refl;
     picks = refl;
+    no_turn = refl;
     starts = refl;
   }
 
@@ -190,5 +203,6 @@ module _ {T : Type 0} (before : Journal T) where
     takes = λ name. refl;
     costs = λ queue. refl;
     picks = refl;
+    no_turn = refl;
     starts = refl;
   }

@@ -1,31 +1,19 @@
 -- What a core tells of itself stays what its journal says, as a job goes back and as a command is answered.
-use Rattle.std.proofs.Common.{◌≡◌, ◌⊎◌, inl, inr, ℕ, ◌+◌, ◌<◌, ◌≤◌, Bool, true, false, List, [], ◌∷◌, ◌++◌, length, refl, sym, ◌∙◌, ap, subst, arith, get_or, cond}
-use Rattle.std.specs.Prelude.{◌==◌, Option, Some, None, nat_le}
-use Rattle.std.proofs.lemmas.Bool.{eqb-true, eqb-false, le-leb, lt-leb}
-use Rattle.std.proofs.lemmas.List.{length-append, get_or_append_left}
-use Rattle.std.proofs.Math.Seq.{get_or-append_seam}
-use Rattle.rt_shares.specs.Charge.{InRange}
+use Rattle.std.proofs.Common.{◌≡◌, ℕ, ◌≤◌, false, ◌∷◌, length, refl, sym, ◌∙◌, ap, arith}
 use Rattle.rt_ids.specs.declared.names.JobId.{JobId}
-use Rattle.rt_ids.specs.declared.note.Note.{Note}
 use Rattle.rt_ids.specs.declared.note.Note.TheVariants as writes
 use Rattle.rt_ids.specs.declared.order.Order.{Order}
-use Rattle.rt_ids.specs.declared.order.Order.TheVariants as orders
 use Rattle.rt_ids.specs.declared.order.Reason.TheVariants as why
 use Rattle.rt_ids.specs.declared.order.Answer.{Answer}
-use Rattle.rt_ids.specs.declared.order.Answer.TheVariants as answers
-use Rattle.rt_ids.specs.Journal.{Journal, EachNote}
-use Rattle.rt_ids.specs.Runtimes.{shares}
-use Rattle.rt_ids.specs.Clauses.{queue_just_picked}
-use Rattle.rt_ids.specs.Commands.{last_queue, IsAnswer, answer_due, has_effect, queue_created}
-use Rattle.rt_ids.specs.Lawful.{MayFollow, MayStand, IsNextDelivered, IsNextQueue}
-use Rattle.rt_ids.proofs.Told.{one_longer}
-use Rattle.rt_ids.proofs.RuntimeSteps.{shares-created, shares-created_elsewhere, shares-set, shares-set_elsewhere}
+use Rattle.rt_ids.specs.Journal.{Journal}
+use Rattle.rt_ids.specs.Commands.{IsAnswer, has_effect}
+use Rattle.rt_ids.specs.Lawful.{MayStand, IsNextDelivered}
 use Rattle.rt_taskqueue.specs.Queues.{queue_count, waiting_of, shares_of}
-use Rattle.rt_core.specs.State.{CoreView, no_tally, tally_of, runtime_of}
-use Rattle.rt_core.specs.Deliveries.{Creates, Weighs, CountsAlone, counted}
+use Rattle.rt_core.specs.State.{CoreView, runtime_of}
+use Rattle.rt_core.specs.Deliveries.{CountsAlone}
 use Rattle.rt_world.specs.Agreement.{Agrees}
-use Rattle.rt_world.proofs.Kept.{IsKept, plainly_stands, open_queues, open_core, IsCalm, StaysCalm, stays_calm, SameJobs, calm_back, calm_answered, calm_created, calm_weighed}
-use Rattle.rt_world.proofs.KeptDeliveries.{IsCounted, senders_counted, delivered_counted, refusal-exists, refusal-missing}
+use Rattle.rt_world.proofs.Kept.{IsKept, plainly_stands, stays_calm, SameJobs, calm_back, calm_answered}
+use Rattle.rt_world.proofs.KeptDeliveries.{IsCounted, senders_counted, delivered_counted, refusal-missing}
 
 -- a delivery that changes nothing but its count
 module _ {J T : Type 0} (actor cap : ℕ) (old new : CoreView J) (name : JobId) (journal : Journal T) (kept : IsKept actor cap old journal)
@@ -38,6 +26,7 @@ module _ {J T : Type 0} (actor cap : ℕ) (old new : CoreView J) (name : JobId) 
     lines = λ queue. ap (λ core. waiting_of queue core.queues) counts;
     runtimes = λ queue. ap (λ core. runtime_of queue core) counts;
     the_floor = ap (λ core. core.floor) counts;
+    turns_made = ap (λ core. core.turns) counts;
     out = ap (λ core. core.out) counts;
   }
 
@@ -52,6 +41,7 @@ module _ {J T : Type 0} (actor cap : ℕ) (old new : CoreView J) (name : JobId) 
         marks = calm.marks;
         runtimes = calm.runtimes;
         the_floor = calm.the_floor;
+        turns = calm.turns_made;
         out = calm.out;
         weights = λ queue there. ap (λ core. shares_of queue core.queues) counts ∙ kept.agrees.weights queue (rw (← ap (λ core. queue_count core.queues) counts) there);
         out_exists = λ out at. rw (ap (λ core. queue_count core.queues) counts) (kept.agrees.out_exists out (sym (ap (λ core. core.out) counts) ∙ at));
@@ -69,6 +59,7 @@ module _ {J T : Type 0} (actor cap : ℕ) (old new : CoreView J) (name : JobId) 
         marks = calm.marks;
         runtimes = calm.runtimes;
         the_floor = calm.the_floor;
+        turns = calm.turns_made;
         out = calm.out;
         weights = λ queue there. ap (λ core. shares_of queue core.queues) counts ∙ kept.agrees.weights queue (rw (← ap (λ core. queue_count core.queues) counts) there);
         out_exists = λ out at. rw (ap (λ core. queue_count core.queues) counts) (kept.agrees.out_exists out (sym (ap (λ core. core.out) counts) ∙ at));

@@ -1,6 +1,6 @@
 -- What a core tells of itself stays what its journal says, as a queue is created and as a queue gets shares.
-use Rattle.std.proofs.Common.{◌≡◌, ◌⊎◌, inl, inr, ℕ, zero, suc, ◌+◌, ◌<◌, ◌≤◌, Bool, true, false, List, [], ◌∷◌, ◌++◌, length, refl, sym, ◌∙◌, ap, subst, arith, get_or}
-use Rattle.std.specs.Prelude.{◌==◌, Option, Some, None, nat_le}
+use Rattle.std.proofs.Common.{◌≡◌, inr, ℕ, zero, suc, ◌+◌, ◌<◌, ◌≤◌, Bool, true, false, List, [], ◌∷◌, ◌++◌, length, refl, sym, ◌∙◌, ap, subst, arith, get_or}
+use Rattle.std.specs.Prelude.{◌==◌, None, nat_le}
 use Rattle.std.proofs.lemmas.Bool.{eqb-true, eqb-false, le-leb, lt-leb}
 use Rattle.std.proofs.lemmas.List.{length-append}
 use Rattle.rt_shares.specs.Charge.{InRange}
@@ -9,15 +9,14 @@ use Rattle.rt_ids.specs.declared.note.Note.TheVariants as writes
 use Rattle.rt_ids.specs.declared.order.Order.TheVariants as orders
 use Rattle.rt_ids.specs.declared.order.Answer.{Answer}
 use Rattle.rt_ids.specs.declared.order.Answer.TheVariants as answers
-use Rattle.rt_ids.specs.Journal.{Journal, EachNote, list_told}
+use Rattle.rt_ids.specs.Journal.{Journal, list_told}
 use Rattle.rt_ids.specs.Runtimes.{shares}
 use Rattle.rt_ids.specs.Commands.{last_queue, IsAnswer, IsCreationAnswer, queue_created}
-use Rattle.rt_ids.specs.Lawful.{MayStand, IsNextDelivered}
+use Rattle.rt_ids.specs.Lawful.{IsNextDelivered}
 use Rattle.rt_ids.proofs.RuntimeSteps.{shares-created, shares-created_elsewhere, shares-set, shares-set_elsewhere}
-use Rattle.rt_taskqueue.specs.Queues.{queue_count, waiting_of, shares_of}
-use Rattle.rt_core.specs.declared.tally.Tally.{Tally}
+use Rattle.rt_taskqueue.specs.Queues.{queue_count, shares_of}
 use Rattle.rt_core.specs.State.{CoreView, no_tally, runtime_of}
-use Rattle.rt_core.specs.Deliveries.{Creates, Weighs, CountsAlone, counted}
+use Rattle.rt_core.specs.Deliveries.{Creates, Weighs, counted}
 use Rattle.rt_world.specs.Agreement.{Agrees}
 use Rattle.rt_world.proofs.Kept.{IsKept, open_core, stays_calm, SameJobs, calm_created, calm_weighed}
 use Rattle.rt_world.proofs.KeptAnswers.{agrees-answered, answered_stands}
@@ -43,6 +42,7 @@ module _ {J T : Type 0} (old new : CoreView J) (queue weight : ℕ) (journal : J
         marks = calm.marks;
         runtimes = calm.runtimes;
         the_floor = calm.the_floor;
+        turns = calm.turns_made;
         out = calm.out;
         weights = weights;
         out_exists = λ out at. omega (arith, creates.added.count, agrees.out_exists out (sym (ap (λ core. core.out) creates.rest) ∙ at));
@@ -54,6 +54,7 @@ module _ {J T : Type 0} (old new : CoreView J) (queue weight : ℕ) (journal : J
         lines = creates.added.same_lines;
         runtimes = λ other. ap (λ core. runtime_of other core) creates.rest ∙ ap (λ tally. tally.runtime) (get_or-append_default old.tallies no_tally other);
         the_floor = ap (λ core. core.floor) creates.rest;
+        turns_made = ap (λ core. core.turns) creates.rest;
         out = ap (λ core. core.out) creates.rest;
       }
 
@@ -82,6 +83,7 @@ module _ {J T : Type 0} (old new : CoreView J) (queue weight : ℕ) (journal : J
         marks = calm.marks;
         runtimes = calm.runtimes;
         the_floor = calm.the_floor;
+        turns = calm.turns_made;
         out = calm.out;
         weights = weights;
         out_exists = λ out at. rw weighs.shares.same_count (agrees.out_exists out (sym (ap (λ core. core.out) weighs.rest) ∙ at));
@@ -93,6 +95,7 @@ module _ {J T : Type 0} (old new : CoreView J) (queue weight : ℕ) (journal : J
         lines = weighs.shares.same_lines;
         runtimes = λ other. ap (λ core. runtime_of other core) weighs.rest;
         the_floor = ap (λ core. core.floor) weighs.rest;
+        turns_made = ap (λ core. core.turns) weighs.rest;
         out = ap (λ core. core.out) weighs.rest;
       }
 

@@ -1,38 +1,32 @@
 -- What a core tells of itself stays what its journal says, as a submission is delivered.
-use Rattle.std.proofs.Common.{◌≡◌, ◌⊎◌, inl, inr, ℕ, ◌+◌, ◌<◌, ◌≤◌, Bool, true, false, List, [], ◌∷◌, ◌++◌, length, refl, sym, ◌∙◌, ap, subst, arith, get_or, set, get_or-set_same, get_or-set_other, length-set, cond}
-use Rattle.std.specs.Prelude.{◌==◌, Option, Some, None, is_some, nat_le, max}
-use Rattle.std.proofs.lemmas.Bool.{eq-eqb, ne_eqb, eqb-true, eqb-false, le-leb, lt-leb, true≢false}
+use Rattle.std.proofs.Common.{◌≡◌, ℕ, ◌+◌, ◌<◌, ◌≤◌, Bool, true, false, [], ◌∷◌, ◌++◌, length, refl, sym, ◌∙◌, ap, subst, arith, get_or, set, get_or-set_same, get_or-set_other, length-set, cond}
+use Rattle.std.specs.Prelude.{◌==◌, Option, Some, None, is_some, max}
+use Rattle.std.proofs.lemmas.Bool.{eqb-true, eqb-false, le-leb, lt-leb, true≢false}
 use Rattle.std.proofs.lemmas.List.{map-append}
 use Rattle.std.proofs.lemmas.List.Elements.{All-append, All-cons, All-nil}
-use Rattle.rt_shares.specs.Charge.{InRange}
 use Rattle.rt_ids.specs.declared.names.JobId.{JobId}
-use Rattle.rt_ids.specs.declared.note.Note.{Note}
 use Rattle.rt_ids.specs.declared.note.Note.TheVariants as writes
-use Rattle.rt_ids.specs.declared.order.Order.{Order}
-use Rattle.rt_ids.specs.declared.order.Order.TheVariants as orders
 use Rattle.rt_ids.specs.declared.order.Reason.TheVariants as why
-use Rattle.rt_ids.specs.declared.order.Answer.{Answer}
-use Rattle.rt_ids.specs.declared.order.Answer.TheVariants as answers
 use Rattle.rt_ids.specs.Names.{same_name}
 use Rattle.rt_ids.specs.Journal.{Journal, EachNote, is_told, with_last}
 use Rattle.rt_ids.specs.Filters.{delivered_names, name_started, if_from}
 use Rattle.rt_ids.specs.Work.{has_work, queue_of}
-use Rattle.rt_ids.specs.Runtimes.{virtual_runtime, shares, floor}
-use Rattle.rt_ids.specs.Lines.{line, jobs_out}
-use Rattle.rt_ids.specs.Commands.{last_queue, refusal, IsAnswer, answer_due, has_effect}
-use Rattle.rt_ids.specs.Lawful.{MayFollow, MayStand, IsNextDelivered, IsEffectDue, takes_turn}
+use Rattle.rt_ids.specs.Runtimes.{virtual_runtime}
+use Rattle.rt_ids.specs.Lines.{line}
+use Rattle.rt_ids.specs.Commands.{last_queue, refusal}
+use Rattle.rt_ids.specs.Lawful.{MayFollow, MayStand, IsNextDelivered}
 use Rattle.rt_ids.proofs.Told.{one_longer}
-use Rattle.rt_ids.proofs.Known.{known_of, not_old, queue_stays, not_entering}
+use Rattle.rt_ids.proofs.Known.{known_of, not_old}
 use Rattle.rt_ids.proofs.Starts.{started_of}
 use Rattle.rt_ids.proofs.LineSteps.{line-took, line-took_elsewhere}
 use Rattle.std.proofs.lemmas.Bool.{false_from_ne_true}
 use Rattle.rt_ids.proofs.NameLemmas.{same_as_itself}
-use Rattle.rt_ids.proofs.RuntimeSteps.{virtual_runtime-took_idle, virtual_runtime-took_busy, virtual_runtime-took_elsewhere, floor-stays, shares-created, shares-created_elsewhere, shares-set, shares-set_elsewhere}
-use Rattle.rt_taskqueue.specs.Queues.{queue_count, waiting_of, shares_of}
+use Rattle.rt_ids.proofs.RuntimeSteps.{virtual_runtime-took_idle, virtual_runtime-took_busy, virtual_runtime-took_elsewhere, floor-stays}
+use Rattle.rt_taskqueue.specs.Queues.{waiting_of}
 use Rattle.rt_core.specs.State.{CoreView, JobOut, no_tally, tally_of, runtime_of, delivered_of, is_working, entry_runtime}
 use Rattle.rt_core.specs.Deliveries.{Enters, counted}
 use Rattle.rt_world.specs.Agreement.{Agrees, IsJobOut, AreMarked, names_of}
-use Rattle.rt_world.proofs.Kept.{IsKept, plainly_stands, open_queues, open_core, working}
+use Rattle.rt_world.proofs.Kept.{IsKept, plainly_stands, turns-stays, open_queues, open_core, working}
 
 -- the next name from its sender is counted
 pub record IsCounted {J T : Type 0} (actor : ℕ) (old new : CoreView J) (name : JobId) (journal : Journal T) : Type 0 where
@@ -182,6 +176,7 @@ module _ {J T : Type 0} (actor cap : ℕ) (old new : CoreView J) (name : JobId) 
       runtimes = took_runtimes;
       weights = λ other there. enters.line.same_shares other ∙ kept.agrees.weights other (rw (← enters.line.same_count) there);
       the_floor = ap (λ core. core.floor) enters.rest ∙ (kept.agrees.the_floor ∙ sym (floor-stays (writes.Took name queue) journal refl));
+      turns = ap (λ core. core.turns) enters.rest ∙ (kept.agrees.turns ∙ sym (turns-stays (writes.Took name queue) journal refl));
       out = subst (λ out. IsJobOut out (writes.Took name queue ∷ journal)) (sym (ap (λ core. core.out) enters.rest)) (took_out old.out kept.agrees.out);
       out_exists = λ out at. rw enters.line.same_count (kept.agrees.out_exists out (sym (ap (λ core. core.out) enters.rest) ∙ at));
       delivered = delivered_counted actor old new name journal took_counted kept.agrees;

@@ -1,21 +1,19 @@
 -- What a core tells of itself stays what its journal says, as a pick takes a job out; and the pick is right.
 use Rattle.std.proofs.Common.{◌≡◌, ℕ, ◌+◌, ◌<◌, ◌≤◌, Bool, true, false, List, [], ◌∷◌, length, refl, sym, ◌∙◌, ap, subst, arith, get_or, set, get_or-set_same, get_or-set_other, length-set}
 use Rattle.std.proofs.lemmas.List.{get_or_past}
-use Rattle.std.specs.Prelude.{◌==◌, ◌||◌, Option, Some, None, nat_le, max}
-use Rattle.std.proofs.lemmas.Bool.{false_from_ne_true, eqb-true, eqb-false, leb-true, leb-false, true≢false, or_parts}
+use Rattle.std.specs.Prelude.{◌==◌, Some, None, nat_le, max}
+use Rattle.std.proofs.lemmas.Bool.{false_from_ne_true, eqb-true, eqb-false, leb-true, leb-false}
 use Rattle.std.proofs.lemmas.Option.{same_Some}
-use Rattle.std.proofs.lemmas.List.Elements.{All-cons, All-nil, All-head, All-tail}
+use Rattle.std.proofs.lemmas.List.Elements.{All-head, All-tail}
 use Rattle.rt_ids.specs.declared.names.JobId.{JobId}
-use Rattle.rt_ids.specs.declared.note.Note.{Note}
 use Rattle.rt_ids.specs.declared.note.Note.TheVariants as writes
 use Rattle.rt_ids.specs.Keys.{KeyAtMost}
-use Rattle.rt_ids.specs.Names.{same_name}
-use Rattle.rt_ids.specs.Journal.{Journal, EachNote, is_told}
+use Rattle.rt_ids.specs.Journal.{Journal, is_told}
 use Rattle.rt_ids.specs.Filters.{name_started, delivered_names}
-use Rattle.rt_ids.specs.Work.{has_work, queue_of}
+use Rattle.rt_ids.specs.Work.{queue_of}
 use Rattle.rt_ids.specs.Runtimes.{virtual_runtime, floor, shares}
 use Rattle.rt_ids.specs.Lines.{line, jobs_out}
-use Rattle.rt_ids.specs.Picks.{IsEligible, IsRightPick}
+use Rattle.rt_ids.specs.Picks.{IsRightPick, turns}
 use Rattle.rt_ids.specs.Clauses.{queue_just_picked}
 use Rattle.rt_ids.specs.Commands.{return_reason, last_queue, answer_due}
 use Rattle.rt_ids.specs.Lawful.{MayStand, IsTurnOf}
@@ -23,39 +21,15 @@ use Rattle.rt_ids.proofs.JobsOut.{jobs_out-start, jobs_out-resume}
 use Rattle.rt_ids.proofs.Known.{known_of}
 use Rattle.rt_ids.proofs.LineDistinct.{Distinct, apart_of}
 use Rattle.rt_ids.proofs.LineSteps.{TurnLeaves, line-turn, line-turn_elsewhere}
-use Rattle.rt_ids.proofs.NameLemmas.{among, one_name, same_as_itself}
+use Rattle.rt_ids.proofs.NameLemmas.{among, same_as_itself}
 use Rattle.rt_ids.proofs.RuntimeSteps.{virtual_runtime-stays, floor-stays}
-use Rattle.rt_ids.proofs.Starts.{is_told-start_elsewhere}
 use Rattle.rt_ids.proofs.WorkOfLines.{right_pick_of_lines}
 use Rattle.rt_taskqueue.specs.Queues.{queue_count, waiting_of, shares_of, no_queue}
 use Rattle.rt_core.specs.State.{CoreView, JobOut, no_tally, tally_of, runtime_of, delivered_of}
 use Rattle.rt_core.specs.Turns.{TakesOut}
-use Rattle.rt_world.specs.Agreement.{Agrees, IsJobOut, AreMarked, names_of}
-use Rattle.rt_world.proofs.Kept.{IsKept, plainly_stands, open_queues, open_core}
-
--- the note of a poll
-abbrev pub poll_note : {T : Type 0} → JobId → Bool → Note T
-poll_note name false = writes.Start name
-poll_note name true = writes.Resume name
-
--- a name that isn't among some is none of them
-pub other_way : (name other : JobId) → same_name name other ≡ false → same_name other name ≡ false
-other_way name other apart =
-    false_from_ne_true _ (λ same. true≢false (sym (subst (λ one. same_name name one ≡ true) (sym (one_name other name same)) (same_as_itself name)) ∙ apart))
-
-module _ {J T : Type 0} (name : JobId) (before : Journal T) where
-  abbrev is_marked : Journal T → JobId × Bool × J → Type 0
-  is_marked journal entry = entry.1 ≡ is_told name_started entry.0 journal
-
-  -- who is another than the one that starts is marked as before
-  marks-start : (waiting : List (JobId × Bool × J)) → among name (names_of waiting) ≡ false → AreMarked before waiting →
-      AreMarked (writes.Start name ∷ before) waiting
-  marks-start [] apart marked = All-nil (is_marked (writes.Start name ∷ before))
-  marks-start (entry ∷ rest) apart marked =
-      let parts = or_parts (same_name name entry.0) (among name (names_of rest)) apart in
-      All-cons (is_marked (writes.Start name ∷ before)) entry rest
-      (All-head (is_marked before) entry rest marked ∙ sym (is_told-start_elsewhere name entry.0 before (other_way name entry.0 parts.0)))
-      (marks-start rest parts.1 (All-tail (is_marked before) entry rest marked))
+use Rattle.rt_world.specs.Agreement.{IsJobOut, AreMarked, names_of}
+use Rattle.rt_world.proofs.Kept.{IsKept, plainly_stands, turns-stays, open_queues, open_core}
+use Rattle.rt_world.proofs.PollNotes.{poll_note, is_marked, marks-start}
 
 -- a line is empty where there is no such queue
 no_line : {J : Type 0} (queue : ℕ) (core : CoreView J) → queue_count core.queues ≤ queue → waiting_of queue core.queues ≡ []
@@ -202,6 +176,10 @@ module _ {J T : Type 0} (actor cap : ℕ) (old new : CoreView J) (name : JobId) 
   floor_now false = ap (λ core. core.floor) takes.rest ∙ (ap (λ at. max at runtime) kept.agrees.the_floor ∙ sym (floor-stays (writes.Start name) picked refl))
   floor_now true = ap (λ core. core.floor) takes.rest ∙ (ap (λ at. max at runtime) kept.agrees.the_floor ∙ sym (floor-stays (writes.Resume name) picked refl))
 
+  turns_now : (before : Bool) → new.turns ≡ turns (poll_note name before ∷ picked)
+  turns_now false = ap (λ core. core.turns) takes.rest ∙ (ap (λ count. count + 1) kept.agrees.turns ∙ sym (turns-stays (writes.Start name) picked refl))
+  turns_now true = ap (λ core. core.turns) takes.rest ∙ (ap (λ count. count + 1) kept.agrees.turns ∙ sym (turns-stays (writes.Resume name) picked refl))
+
   out_now : (before : Bool) → IsJobOut new.out (poll_note name before ∷ picked)
   out_now false = subst (λ out. IsJobOut out (writes.Start name ∷ picked)) (sym (ap (λ core. core.out) takes.rest)) (jobs_out-start name picked nobody, its_queue)
   out_now true = subst (λ out. IsJobOut out (writes.Resume name ∷ picked)) (sym (ap (λ core. core.out) takes.rest)) (jobs_out-resume name picked nobody, its_queue)
@@ -240,6 +218,7 @@ module _ {J T : Type 0} (actor cap : ℕ) (old new : CoreView J) (name : JobId) 
       runtimes = runtimes_now was_started;
       weights = weights_now was_started;
       the_floor = floor_now was_started;
+      turns = turns_now was_started;
       out = out_now was_started;
       out_exists = one_out;
       delivered = delivered_now was_started;

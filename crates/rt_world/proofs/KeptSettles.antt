@@ -1,29 +1,26 @@
 -- What a core tells of itself stays what its journal says, as the poll of the job that is out is settled.
-use Rattle.std.proofs.Common.{◌≡◌, ℕ, ◌+◌, ◌<◌, ◌≤◌, Bool, true, false, List, [], ◌∷◌, ◌++◌, length, refl, sym, ◌∙◌, ap, subst, arith, get_or, set, get_or-set_same, get_or-set_other, length-set}
-use Rattle.std.specs.Prelude.{◌==◌, Option, Some, None, unwrap_or}
+use Rattle.std.proofs.Common.{◌≡◌, ℕ, ◌+◌, ◌<◌, Bool, true, false, [], ◌∷◌, ◌++◌, length, refl, sym, ◌∙◌, ap, subst, arith, get_or-set_same, get_or-set_other, length-set}
+use Rattle.std.specs.Prelude.{◌==◌, Some, None}
 use Rattle.std.proofs.lemmas.Bool.{eqb-true, eqb-false}
 use Rattle.std.proofs.lemmas.List.{map-append}
 use Rattle.std.proofs.lemmas.List.Elements.{All-append, All-cons, All-nil}
 use Rattle.rt_shares.specs.Charge.{charge}
 use Rattle.rt_ids.specs.declared.names.JobId.{JobId}
-use Rattle.rt_ids.specs.declared.note.Note.{Note}
 use Rattle.rt_ids.specs.declared.note.Note.TheVariants as writes
-use Rattle.rt_ids.specs.Journal.{Journal, EachNote, is_told}
+use Rattle.rt_ids.specs.Journal.{Journal, is_told}
 use Rattle.rt_ids.specs.Filters.{name_started}
 use Rattle.rt_ids.specs.Work.{queue_of}
-use Rattle.rt_ids.specs.Runtimes.{virtual_runtime, floor, shares}
+use Rattle.rt_ids.specs.Runtimes.{virtual_runtime, shares}
 use Rattle.rt_ids.specs.Lines.{line, jobs_out}
-use Rattle.rt_ids.specs.Lawful.{MayStand}
 use Rattle.rt_ids.proofs.JobsOut.{jobs_out-yield, jobs_out-done}
 use Rattle.rt_ids.proofs.LineSteps.{line-yield, line-yield_elsewhere, line-done}
 use Rattle.rt_ids.proofs.Starts.{is_told-alone}
 use Rattle.rt_ids.proofs.RuntimeSteps.{virtual_runtime-yield, virtual_runtime-yield_elsewhere, virtual_runtime-done, virtual_runtime-done_elsewhere, floor-stays}
 use Rattle.rt_taskqueue.specs.Queues.{QueuesView, queue_count, waiting_of, shares_of, ChangesLine}
-use Rattle.rt_core.specs.declared.tally.Tally.{Tally}
-use Rattle.rt_core.specs.State.{CoreView, JobOut, no_tally, tally_of, runtime_of}
+use Rattle.rt_core.specs.State.{CoreView, JobOut, no_tally, runtime_of}
 use Rattle.rt_core.specs.Turns.{settled_view}
-use Rattle.rt_world.specs.Agreement.{Agrees, IsJobOut, AreMarked, names_of}
-use Rattle.rt_world.proofs.Kept.{IsKept, plainly_stands}
+use Rattle.rt_world.specs.Agreement.{IsJobOut, AreMarked, names_of}
+use Rattle.rt_world.proofs.Kept.{IsKept, plainly_stands, turns-stays}
 
 none≢some : {A : Type 0} (item : A) → None ≡ Some item → ⊥
 none≢some item same = cc
@@ -70,6 +67,7 @@ module _ {J T : Type 0} (actor cap : ℕ) (old : CoreView J) (job : JobOut J) (t
       runtimes = runtimes;
       weights = λ other there. changes.same_shares other ∙ kept.agrees.weights other (rw (← changes.same_count) there);
       the_floor = kept.agrees.the_floor ∙ sym (floor-stays (writes.Yield job.name time) journal refl);
+      turns = kept.agrees.turns ∙ sym (turns-stays (writes.Yield job.name time) journal refl);
       out = jobs_out-yield job.name time journal is_out.0;
       out_exists = λ out none. absurd (none≢some out none);
       delivered = kept.agrees.delivered;
@@ -134,6 +132,7 @@ module _ {J T : Type 0} (actor cap : ℕ) (old : CoreView J) (job : JobOut J) (t
       runtimes = runtimes;
       weights = λ other there. ap (λ view. shares_of other view) same ∙ kept.agrees.weights other (rw (← ap queue_count same) there);
       the_floor = kept.agrees.the_floor ∙ sym (floor-stays (writes.Done job.name time value) journal refl);
+      turns = kept.agrees.turns ∙ sym (turns-stays (writes.Done job.name time value) journal refl);
       out = jobs_out-done job.name time value journal is_out.0;
       out_exists = λ out none. absurd (none≢some out none);
       delivered = kept.agrees.delivered;

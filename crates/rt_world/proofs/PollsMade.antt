@@ -1,15 +1,14 @@
 -- A job that was never delivered was never polled.
-use Rattle.std.proofs.Common.{◌≡◌, ℕ, ◌+◌, ◌≤◌, Bool, true, false, [], ◌∷◌, length, refl, sym, ◌∙◌, ap, subst, arith}
-use Rattle.std.specs.Prelude.{Option, Some, None}
+use Rattle.std.proofs.Common.{◌≡◌, ℕ, ◌+◌, true, false, [], ◌∷◌, refl, sym, ◌∙◌, ap, subst, arith}
 use Rattle.std.proofs.lemmas.Bool.{true≢false, false_from_ne_true}
 use Rattle.rt_ids.specs.declared.names.JobId.{JobId}
 use Rattle.rt_ids.specs.declared.note.Note.{Note}
 use Rattle.rt_ids.specs.declared.note.Note.TheVariants.{Yield, Done}
-use Rattle.rt_ids.specs.Names.{is_name, same_name}
+use Rattle.rt_ids.specs.Names.{is_name}
 use Rattle.rt_ids.specs.Journal.{Journal, EachNote}
 use Rattle.rt_ids.specs.Filters.{delivered_names, name_delivered}
 use Rattle.rt_ids.specs.Work.{number_if}
-use Rattle.rt_ids.specs.Lines.{jobs_out, name_settled}
+use Rattle.rt_ids.specs.Lines.{name_settled}
 use Rattle.rt_ids.specs.Lawful.{MayFollow, MayStand}
 use Rattle.rt_ids.proofs.Told.{grows}
 use Rattle.rt_ids.proofs.JobsOut.{alone_out}

@@ -1,5 +1,5 @@
 -- What the link answers to an order, and what it means to the world.
-use Rattle.std.proofs.Common.{◌≡◌, ℕ, ◌+◌, ◌-◌, ◌^◌, ◌<◌, ◌≤◌, Bool, true, false, List, [], ◌∷◌, ◌++◌, length, refl, sym, ◌∙◌, ap, subst, arith, get_or, set}
+use Rattle.std.proofs.Common.{◌≡◌, ℕ, ◌+◌, ◌<◌, ◌≤◌, true, false, List, [], ◌∷◌, ◌++◌, length, refl, sym, ◌∙◌, ap, subst, arith, get_or, set}
 use Rattle.std.specs.Prelude.{Option, Result, Ok, Err}
 use Rattle.std.proofs.lemmas.Bool.{true≢false}
 use Rattle.rt_ids.specs.declared.names.JobId.{JobId}
@@ -25,7 +25,9 @@ use Rattle.rt_world.proofs.JournalReads.{journal_written}
 use Rattle.rt_world.proofs.SameLinks.{same_links}
 use Rattle.rt_world.proofs.WorldAfter.{after}
 use Rattle.rt_world.proofs.WorldLists.{length-numbered}
-use Rattle.rt_world.proofs.WorldSends.{outstanding-accepted, world-sent, sends-now}
+use Rattle.rt_world.proofs.AllOutstanding.{outstanding-accepted}
+use Rattle.rt_world.proofs.SentLists.{sends-now}
+use Rattle.rt_world.proofs.WorldSends.{world-sent}
 use Rattle.rt_world.proofs.WorldViews.{journal_at-world}
 
 module _ {J T : Type 0} (same : J → J → Type 0) (made : J → ℕ) (polls : J → ℕ → Step T → Option ℕ → Type 0)
@@ -117,13 +119,12 @@ module _ {J T : Type 0} (same : J → J → Type 0) (made : J → ℕ) (polls : 
       let shut : true ≡ false = ap (λ out. out.closed) (sym refuses.2) ∙ (ap (λ link. link.shut) changes.changed ∙ is_between.open_gate) in
       absurd (true≢false shut)
   refused_sends (Full back) refuses = (refuses.0, omega (arith, outstanding, refuses.2, is_between.nothing_redeemed, is_between.capacity), refl)
-  refused_sends (Spent back) refuses =
-      (
-      refuses.0,
-      omega (arith, outstanding, refuses.2, is_between.nothing_redeemed, is_between.capacity),
-      accepted_count ∙ omega (arith, refuses.3, is_between.base),
-      refl,
-      )
+  refused_sends (Spent back) refuses = (
+    refuses.0,
+    omega (arith, outstanding, refuses.2, is_between.nothing_redeemed, is_between.capacity),
+    accepted_count ∙ omega (arith, refuses.3, is_between.base),
+    refl,
+  )
   refused_sends (NoCore back) refuses = absurd refuses
 
   pub refused_step : (error : SendError J) → Answers (Err error) → (before : WorldView J T) → world_of old ≡ before → (asked : Order J) → order ≡ asked →

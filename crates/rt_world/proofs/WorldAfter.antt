@@ -1,6 +1,6 @@
 -- A world at rest stays one where one actor's part of it changes as it may.
-use Rattle.std.proofs.Common.{◌≡◌, ℕ, ◌+◌, ◌-◌, ◌<◌, ◌≤◌, Bool, true, false, List, [], ◌∷◌, ◌++◌, length, refl, sym, ◌∙◌, ap, subst, arith, get_or, set, get_or-set_same, get_or-set_other, length-set}
-use Rattle.std.specs.Prelude.{◌==◌, Option, Some, None, slice_get, All}
+use Rattle.std.proofs.Common.{◌≡◌, ℕ, ◌-◌, ◌<◌, ◌≤◌, Bool, true, false, List, [], length, refl, sym, ◌∙◌, ap, subst, arith, set, get_or-set_same, get_or-set_other, length-set}
+use Rattle.std.specs.Prelude.{◌==◌, Option, Some, slice_get, All}
 use Rattle.std.proofs.lemmas.Bool.{eqb-true, eqb-false}
 use Rattle.rt_ids.specs.declared.names.JobId.{JobId}
 use Rattle.rt_ids.specs.declared.order.Order.{Order}
@@ -16,11 +16,10 @@ use Rattle.rt_link.specs.declared.plain.Whole.{Whole}
 use Rattle.rt_link.specs.Whole.{IsLink}
 use Rattle.rt_taskqueue.specs.Queues.{waiting_of}
 use Rattle.rt_core.specs.State.{CoreView}
-use Rattle.rt_world.specs.State.{WorldView, journal_at, order_under, assembly_of}
+use Rattle.rt_world.specs.State.{order_under, assembly_of}
 use Rattle.rt_world.specs.Turns.{polls_made}
 use Rattle.rt_world.specs.Links.{row_of, link_at}
-use Rattle.rt_world.specs.Journals.{JournalView}
-use Rattle.rt_world.specs.Inside.{Parts, AreAllThere, core_at, notes_at, journal_view, world_of, IsCoreAtRest, IsLinkBetween}
+use Rattle.rt_world.specs.Inside.{Parts, core_at, notes_at, journal_view, world_of, IsCoreAtRest, IsLinkBetween}
 use Rattle.rt_world.specs.Tasks.{OwesAfter, HasTask, IsWorld}
 use Rattle.rt_world.proofs.WorldViews.{journal_at-world, journal_of-world, sent_at-world, first_under-longer, slice_get-prefix, as_sent-stays}
 

@@ -1,9 +1,9 @@
 -- A world at rest stays one as its core carries out a delivery, and the delivery is the one of its event.
-use Rattle.std.proofs.Common.{◌≡◌, ◌⊎◌, inl, inr, ℕ, ◌+◌, ◌*◌, ◌-◌, ◌<◌, ◌≤◌, Bool, true, false, List, [], ◌∷◌, ◌++◌, length, refl, sym, ◌∙◌, ap, subst, arith, get_or, set, get_or-set_same, add-zero, zero-add}
-use Rattle.std.specs.Prelude.{◌==◌, Option, Some, None, slice_get, All, sum, reverse, nat_le, is_some}
-use Rattle.std.proofs.lemmas.Bool.{eqb-true, eqb-false, le-leb, lt-leb}
+use Rattle.std.proofs.Common.{◌≡◌, ℕ, ◌+◌, ◌-◌, ◌<◌, ◌≤◌, Bool, true, false, List, [], ◌∷◌, ◌++◌, length, refl, sym, ◌∙◌, ap, subst, arith, get_or, set, get_or-set_same, add-zero, zero-add}
+use Rattle.std.specs.Prelude.{◌==◌, Option, Some, None, slice_get, All, sum, is_some}
+use Rattle.std.proofs.lemmas.Bool.{eqb-true, eqb-false}
 use Rattle.std.proofs.lemmas.List.Sums.{sum_by-set}
-use Rattle.std.proofs.lemmas.List.Elements.{All-append, All-cons, All-nil, All-same}
+use Rattle.std.proofs.lemmas.List.Elements.{All-append, All-cons, All-nil}
 use Rattle.std.proofs.lemmas.List.{length-append}
 use Rattle.rt_shares.specs.Charge.{InRange}
 use Rattle.rt_ids.specs.declared.names.JobId.{JobId}
@@ -17,10 +17,9 @@ use Rattle.rt_ids.specs.declared.order.Answer.{Answer}
 use Rattle.rt_ids.specs.declared.order.Answer.TheVariants as answers
 use Rattle.rt_ids.specs.Journal.{Journal, EachNote}
 use Rattle.rt_ids.specs.Filters.{accepted_orders, delivered_names}
-use Rattle.rt_ids.specs.Lines.{jobs_out}
 use Rattle.rt_ids.specs.Assembly.{order_of, first_under, is_command}
 use Rattle.rt_ids.specs.Joining.{DeliversAsSent}
-use Rattle.rt_ids.specs.Commands.{last_queue, refusal, IsAnswer, effect_note, has_effect}
+use Rattle.rt_ids.specs.Commands.{refusal, IsAnswer, has_effect}
 use Rattle.rt_ids.specs.Work.{number_if}
 use Rattle.rt_ids.specs.Lawful.{IsLawful, IsNextDelivered}
 use Rattle.rt_jobs.specs.declared.job.Step.{Step}
@@ -28,19 +27,16 @@ use Rattle.rt_jobs.specs.Steps.{IsSameTask}
 use Rattle.rt_link.specs.declared.plain.Whole.{Whole}
 use Rattle.rt_link.specs.Whole.{IsLink}
 use Rattle.rt_taskqueue.specs.Queues.{queue_count, waiting_of, held_count}
-use Rattle.rt_core.specs.State.{CoreView, JobOut, inside_count, delivered_of, opened}
+use Rattle.rt_core.specs.State.{CoreView, inside_count, delivered_of, opened}
 use Rattle.rt_core.specs.Deliveries.{Enters, Creates, Weighs, CountsAlone, counted}
-use Rattle.rt_core.specs.Deliveries as core_does
-use Rattle.rt_core.specs.declared.delivery.Delivered.{Delivered}
-use Rattle.rt_core.specs.declared.delivery.Delivered.TheVariants as delivered
-use Rattle.rt_world.specs.State.{WorldView, order_note, journal_at, order_under, assembly_of}
-use Rattle.rt_world.specs.Deliveries.{IsDelivery, entry_note, with_effect, IsAnswered}
+use Rattle.rt_world.specs.State.{order_note, journal_at, order_under, assembly_of}
+use Rattle.rt_world.specs.Deliveries.{IsDelivery, entry_note}
 use Rattle.rt_world.specs.Turns.{polls_made}
 use Rattle.rt_world.specs.Links.{link_at, ChangesLink}
 use Rattle.rt_world.specs.Inside.{Parts, numbered_orders, core_at, notes_at, world_of, IsCoreAtRest}
 use Rattle.rt_world.specs.Tasks.{OwesAfter, HasTask, IsWorld}
-use Rattle.rt_world.specs.Agreement.{Agrees, IsJobOut}
-use Rattle.rt_world.proofs.Kept.{IsKept, open_core}
+use Rattle.rt_world.specs.Agreement.{IsJobOut}
+use Rattle.rt_world.proofs.Kept.{IsKept}
 use Rattle.rt_world.proofs.KeptDeliveries.{kept-took, refusal-exists, refusal-missing}
 use Rattle.rt_world.proofs.KeptAnswers.{kept-back, kept-answered}
 use Rattle.rt_world.proofs.KeptCommands.{kept-created, kept-weighed}

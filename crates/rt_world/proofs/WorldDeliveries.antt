@@ -1,34 +1,27 @@
 -- A world at rest stays one as a submission is delivered, and the core finds it to be the next one, with room for it.
-use Rattle.std.proofs.Common.{◌≡◌, ℕ, zero, suc, ◌+◌, ◌*◌, ◌-◌, ◌<◌, ◌≤◌, Bool, true, false, List, [], ◌∷◌, ◌++◌, length, refl, sym, ◌∙◌, ap, subst, arith, get_or, set, get_or-set_same, get_or-set_other, take, cond, length-set}
-use Rattle.std.specs.Prelude.{◌==◌, ◌&&◌, Option, Some, None, slice_get, map, sum, All}
+use Rattle.std.proofs.Common.{◌≡◌, ℕ, suc, ◌+◌, ◌*◌, ◌<◌, ◌≤◌, Bool, true, false, List, [], ◌∷◌, ◌++◌, length, refl, sym, ◌∙◌, ap, subst, arith, get_or, set, get_or-set_same, get_or-set_other, take, cond, length-set}
+use Rattle.std.specs.Prelude.{◌==◌, ◌&&◌, Option, Some, None, slice_get, map, sum}
 use Rattle.std.proofs.lemmas.Bool.{eqb-true, eqb-false, eq-eqb, ne_eqb, and_parts, true≢false}
-use Rattle.std.proofs.lemmas.List.{append-nil, length-append, length-map}
+use Rattle.std.proofs.lemmas.List.{append-nil, length-append}
 use Rattle.std.proofs.lemmas.List.Sums.{sum_by-set, sum_by-le}
 use Rattle.std.proofs.lemmas.List.Elements.{All-from_get_or}
 use Rattle.std.specs.Option.{option_map}
 use Rattle.std.proofs.lemmas.Option.{slice_get_within, slice_get-map}
 use Rattle.rt_ids.specs.declared.names.JobId.{JobId}
 use Rattle.rt_ids.specs.declared.order.Order.{Order}
-use Rattle.rt_ids.specs.declared.order.Order.TheVariants.{Job}
 use Rattle.rt_ids.specs.declared.order.Outcome.{Outcome}
-use Rattle.rt_ids.specs.Journal.{Journal, EachNote, with_last}
+use Rattle.rt_ids.specs.Journal.{Journal, with_last}
 use Rattle.rt_ids.specs.Filters.{accepted_orders, delivered_names, if_from}
-use Rattle.rt_ids.specs.Assembly.{IsPrefix}
-use Rattle.rt_ids.specs.Joining.{DeliversAsSent}
 use Rattle.rt_ids.specs.Lawful.{IsLawful, IsNextDelivered}
 use Rattle.rt_jobs.specs.declared.job.Step.{Step}
 use Rattle.rt_link.specs.declared.plain.Whole.{Whole}
 use Rattle.rt_link.specs.Whole.{IsLink}
-use Rattle.rt_taskqueue.specs.Queues.{waiting_of}
 use Rattle.rt_core.specs.State.{CoreView, inside_count, delivered_of, opened}
-use Rattle.rt_world.specs.State.{WorldView, order_note, assembly_of}
 use Rattle.rt_world.specs.Links.{link_at, ChangesLink}
-use Rattle.rt_world.specs.Inside.{Parts, core_at, notes_at, numbered_orders, world_of, IsCoreAtRest, IsLinkBetween}
-use Rattle.rt_world.specs.Tasks.{HasTask, IsWorld}
-use Rattle.rt_world.specs.Agreement.{Agrees}
-use Rattle.rt_world.proofs.Kept.{IsKept}
-use Rattle.rt_world.proofs.WorldLists.{length-numbered, slice_get-numbered, take-one_more}
-use Rattle.rt_world.proofs.WorldAfter.{after, Keeps, notes_now, notes_elsewhere, world_after}
+use Rattle.rt_world.specs.Inside.{Parts, core_at, notes_at, numbered_orders, IsCoreAtRest, IsLinkBetween}
+use Rattle.rt_world.specs.Tasks.{IsWorld}
+use Rattle.rt_world.proofs.WorldLists.{slice_get-numbered, take-one_more}
+use Rattle.rt_world.proofs.WorldAfter.{after, Keeps, notes_now, notes_elsewhere}
 
 slice_get-mapped : {A B : Type 0} (f : A → B) (items : List A) (place : ℕ) (item : A) → slice_get items place ≡ Some item → slice_get (map f items) place ≡ Some (f item)
 slice_get-mapped f items place item at = slice_get-map f items place ∙ ap (option_map f) at

@@ -1,7 +1,6 @@
 -- Lists by place, and the numbered orders of a link.
-use Rattle.std.proofs.Common.{◌≡◌, ℕ, zero, suc, ◌+◌, ◌<◌, ◌≤◌, List, [], ◌∷◌, ◌++◌, length, refl, sym, ◌∙◌, ap, arith, get_or, set, get_or-set_same, get_or-set_other, take}
-use Rattle.std.specs.Prelude.{Option, Some, None, slice_get, map}
-use Rattle.rt_ids.specs.declared.names.JobId.{JobId}
+use Rattle.std.proofs.Common.{◌≡◌, ℕ, zero, suc, ◌+◌, ◌≤◌, List, [], ◌∷◌, ◌++◌, length, refl, ◌∙◌, ap, arith, get_or, take}
+use Rattle.std.specs.Prelude.{Some, slice_get, map}
 use Rattle.rt_ids.specs.declared.order.Order.{Order}
 use Rattle.rt_world.specs.State.{order_note}
 use Rattle.rt_world.specs.Inside.{numbered_orders}

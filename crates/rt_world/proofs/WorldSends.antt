@@ -1,78 +1,32 @@
--- A world at rest stays one as an order is accepted, and the send is the one of its event.
-use Rattle.std.proofs.Common.{◌≡◌, ℕ, ◌+◌, ◌-◌, ◌<◌, ◌≤◌, ◌^◌, Bool, true, false, List, [], ◌∷◌, ◌++◌, length, refl, sym, ◌∙◌, ap, subst, arith, get_or, set, get_or-set_same, get_or-set_other, take, cond, add-zero, length-set}
-use Rattle.std.specs.Prelude.{◌==◌, Option, Some, None, Ok, map, All, filter, count_by, not, ◌||◌, ◌&&◌}
+-- A world at rest stays one as an order is accepted.
+use Rattle.std.proofs.Common.{◌≡◌, ℕ, ◌+◌, ◌<◌, ◌≤◌, ◌^◌, Bool, true, false, List, [], ◌∷◌, ◌++◌, length, refl, sym, ◌∙◌, ap, subst, arith, get_or, take, add-zero}
+use Rattle.std.specs.Prelude.{◌==◌, Option, Some, map, All, ◌&&◌}
 use Rattle.std.proofs.lemmas.Bool.{eqb-true, eqb-false, eq-eqb, ne_eqb, and_parts, true≢false}
-use Rattle.std.proofs.lemmas.List.Sums.{length-filter}
-use Rattle.std.proofs.lemmas.List.{map-set, ext_get_or, append-nil, map-append, length-append, length-map}
+use Rattle.std.proofs.lemmas.List.{append-nil, map-append, length-map}
 use Rattle.rt_ids.specs.declared.names.JobId.{JobId}
-use Rattle.rt_ids.specs.declared.note.Note.{Note}
 use Rattle.rt_ids.specs.declared.note.Note.TheVariants as writes
 use Rattle.rt_ids.specs.declared.order.Order.{Order}
 use Rattle.rt_ids.specs.declared.order.Order.TheVariants.{Job}
 use Rattle.rt_ids.specs.declared.order.Outcome.{Outcome}
-use Rattle.rt_ids.specs.Journal.{Journal, EachNote, is_told, with_last}
-use Rattle.rt_ids.specs.Filters.{accepted_orders, delivered_names, if_to}
+use Rattle.rt_ids.specs.Journal.{Journal, EachNote}
+use Rattle.rt_ids.specs.Filters.{accepted_orders, delivered_names}
 use Rattle.rt_ids.specs.Assembly.{IsPrefix, order_of}
 use Rattle.rt_ids.specs.Joining.{DeliversAsSent}
-use Rattle.rt_ids.specs.Outstanding.{outstanding_count, is_outstanding, name_redeemed, name_collected, name_detached}
-use Rattle.rt_ids.specs.Lawful.{IsLawful, IsNextSent, MayFollow, MayStand}
+use Rattle.rt_ids.specs.Lawful.{IsLawful, IsNextSent}
 use Rattle.rt_jobs.specs.declared.job.Step.{Step}
 use Rattle.rt_link.specs.declared.plain.Whole.{Whole}
 use Rattle.rt_link.specs.Whole.{IsLink}
-use Rattle.rt_core.specs.State.{CoreView}
-use Rattle.rt_world.specs.State.{WorldView, order_note, journal_at, assembly_of, sent_at, with_sent}
-use Rattle.rt_world.specs.Sends.{Sends}
-use Rattle.rt_world.specs.declared.event.Reply.TheVariants as reply
+use Rattle.rt_world.specs.State.{order_note, journal_at, assembly_of}
 use Rattle.rt_world.specs.Turns.{polls_made}
 use Rattle.rt_taskqueue.specs.Queues.{waiting_of}
-use Rattle.rt_world.specs.Links.{link_at, row_of, no_link, ChangesLink}
+use Rattle.rt_world.specs.Links.{link_at, ChangesLink}
 use Rattle.rt_world.specs.Inside.{Parts, core_at, notes_at, numbered_orders, world_of, IsCoreAtRest, IsLinkBetween}
 use Rattle.rt_world.specs.Tasks.{IsWorld, HasTask, OwesAfter}
-use Rattle.rt_world.specs.Agreement.{Agrees}
 use Rattle.rt_world.proofs.Kept.{plainly_stands, stays_calm, calm_sent, SameJobs}
-use Rattle.rt_world.proofs.WorldLists.{get_or-map, length-numbered, numbered-append, take-longer}
+use Rattle.rt_world.proofs.WorldLists.{length-numbered, numbered-append, take-longer}
 use Rattle.rt_world.proofs.WorldAfter.{after, Keeps, notes_now, notes_elsewhere, under_stays, order_stays, world_after}
-use Rattle.rt_world.proofs.WorldViews.{journal_at-world, sent_at-world, as_sent-stays}
-
--- all are kept that pass, and counted
-filter-all : {A : Type 0} (test : A → Bool) (items : List A) → ((item : A) → test item ≡ true) → filter test items ≡ items
-filter-all test [] all = refl
-filter-all test (item ∷ items) all =
-    ap (λ passed. cond passed (item ∷ filter test items) (filter test items)) (all item) ∙ ap (λ rest. item ∷ rest) (filter-all test items all)
-
-count_by-all : {A : Type 0} (test : A → Bool) (items : List A) → ((item : A) → test item ≡ true) → count_by test items ≡ length items
-count_by-all test items all = sym (length-filter test items) ∙ ap length (filter-all test items all)
-
--- a lawful journal redeems and collects nothing by now, so all that was accepted is outstanding
-module _ {T : Type 0} (actor cap : ℕ) where
-  nothing_redeemed : (name : JobId) (journal : Journal T) → EachNote (MayStand actor cap) journal → is_told name_redeemed name journal ≡ false
-  nothing_redeemed name [] notes = refl
-  nothing_redeemed name (note ∷ before) notes = by_note note notes.0.may_follow (nothing_redeemed name before notes.1)
-    where
-      by_note : (note : Note T) → MayFollow actor cap note before → is_told name_redeemed name before ≡ false → is_told name_redeemed name (note ∷ before) ≡ false
-      by_note (writes.Redeemed other outcome) law rest = absurd law
-      by_note _ law rest = rest
-
-  nothing_collected : (name : JobId) (journal : Journal T) → EachNote (MayStand actor cap) journal → is_told name_collected name journal ≡ false
-  nothing_collected name [] notes = refl
-  nothing_collected name (note ∷ before) notes = by_note note notes.0.may_follow (nothing_collected name before notes.1)
-    where
-      by_note : (note : Note T) → MayFollow actor cap note before → is_told name_collected name before ≡ false → is_told name_collected name (note ∷ before) ≡ false
-      by_note (writes.Collected other outcome) law rest = absurd law
-      by_note _ law rest = rest
-
-  all_outstanding : (name : JobId) (journal : Journal T) → EachNote (MayStand actor cap) journal → is_outstanding name journal ≡ true
-  all_outstanding name journal notes =
-      rw (nothing_redeemed name journal notes, nothing_collected name journal notes) (by_test (is_told name_detached name journal))
-    where
-      by_test : (test : Bool) → not (test && false) ≡ true
-      by_test true = refl
-      by_test false = refl
-
-  pub outstanding-accepted : (core : ℕ) (journal : Journal T) → EachNote (MayStand actor cap) journal →
-      outstanding_count core journal ≡ length (accepted_orders core journal)
-  outstanding-accepted core journal notes =
-      count_by-all (λ sent. is_outstanding sent.0 journal) (accepted_orders core journal) (λ sent. all_outstanding sent.0 journal notes)
+use Rattle.rt_world.proofs.WorldViews.{journal_at-world, as_sent-stays}
+use Rattle.rt_world.proofs.AllOutstanding.{outstanding-accepted}
 
 module _ {J T : Type 0} (same : J → J → Type 0) (made : J → ℕ) (polls : J → ℕ → Step T → Option ℕ → Type 0)
     (fits : Order J → Outcome J T → Type 0) (ready : Order J → Type 0)
@@ -126,7 +80,7 @@ module _ {J T : Type 0} (same : J → J → Type 0) (made : J → ℕ) (polls : 
   rest_longer known =
       let was = world.at_rest sender known in
       let view = core_at sender old.inside in
-      let same_jobs : SameJobs view view = record { lines = λ queue. refl; runtimes = λ queue. refl; the_floor = refl; out = refl } in
+      let same_jobs : SameJobs view view = record { lines = λ queue. refl; runtimes = λ queue. refl; the_floor = refl; turns_made = refl; out = refl } in
       let calm = stays_calm (writes.Sent name (order_note order)) journal (calm_sent journal name (order_note order)) view view same_jobs was.agrees in
       record {
         agrees = record {
@@ -138,6 +92,7 @@ module _ {J T : Type 0} (same : J → J → Type 0) (made : J → ℕ) (polls : 
           runtimes = calm.runtimes;
           weights = was.agrees.weights;
           the_floor = calm.the_floor;
+          turns = calm.turns_made;
           out = calm.out;
           out_exists = was.agrees.out_exists;
           delivered = was.agrees.delivered;
@@ -318,102 +273,3 @@ module _ {J T : Type 0} (same : J → J → Type 0) (made : J → ℕ) (polls : 
   -- the world is at rest again
   pub world-sent : IsWorld same made polls fits ready new
   world-sent = world_after same made polls fits ready old world sender there longer old.inside links sends_keep sent_as_before tasks_kept
-
-  -- the new lists of accepted orders are the old ones with one more at its place
-  pub sent-now : (world_of new).sent ≡ with_sent sender core order (world_of old)
-  sent-now = ext_get_or [] (world_of new).sent (with_sent sender core order (world_of old)) rows row
-    where
-      rows : length (world_of new).sent ≡ length (with_sent sender core order (world_of old))
-      rows =
-          length-map links (map (λ link. link.sent))
-          ∙ (changes.same_rows
-          ∙ (sym (length-map old.links (map (λ link. link.sent))) ∙ sym (length-set (world_of old).sent sender _)))
-
-      -- a row of the sender, with one more order at the core
-      row_here : map (λ link. link.sent) (row_of sender links) ≡ set (map (λ link. link.sent) (row_of sender old.links)) core (link.sent ++ order ∷ [])
-      row_here =
-          ext_get_or [] (map (λ link. link.sent) (row_of sender links)) (set (map (λ link. link.sent) (row_of sender old.links)) core (link.sent ++ order ∷ []))
-          (
-          length-map (row_of sender links) (λ link. link.sent)
-          ∙ (changes.same_cores sender
-          ∙ (sym (length-map (row_of sender old.links) (λ link. link.sent)) ∙ sym (length-set (map (λ link. link.sent) (row_of sender old.links)) core _)))
-          )
-          at_core
-        where
-          core_within : core < length (map (λ link. link.sent) (row_of sender old.links))
-          core_within = omega (arith, length-map (row_of sender old.links) (λ link. link.sent), world.all_there.links_are sender there, core_there)
-
-          at_core : (other : ℕ) → other < length (map (λ link. link.sent) (row_of sender links)) →
-              get_or (map (λ link. link.sent) (row_of sender links)) other [] ≡ get_or (set (map (λ link. link.sent) (row_of sender old.links)) core (link.sent ++ order ∷ [])) other []
-          at_core other within = by_test (other == core) refl
-            where
-              by_test : (test : Bool) → (other == core) ≡ test →
-                  get_or (map (λ link. link.sent) (row_of sender links)) other [] ≡ get_or (set (map (λ link. link.sent) (row_of sender old.links)) core (link.sent ++ order ∷ [])) other []
-              by_test true one =
-                  let here : other ≡ core = eqb-true other core one in
-                  subst (λ at. get_or (map (λ link. link.sent) (row_of sender links)) at [] ≡ get_or (set (map (λ link. link.sent) (row_of sender old.links)) core (link.sent ++ order ∷ [])) at []) (sym here)
-                  (
-                  get_or-map (λ link. link.sent) (row_of sender links) core (no_link sender core)
-                  ∙ (ap (λ link. link.sent) sent ∙ sym (get_or-set_same (map (λ link. link.sent) (row_of sender old.links)) core (link.sent ++ order ∷ []) [] core_within))
-                  )
-              by_test false apart =
-                  let away : other ≡ core → ⊥ = eqb-false other core apart in
-                  get_or-map (λ link. link.sent) (row_of sender links) other (no_link sender other)
-                  ∙ (ap (λ link. link.sent) (changes.others sender other (λ one two. away two))
-                  ∙ (sym (get_or-map (λ link. link.sent) (row_of sender old.links) other (no_link sender other))
-                  ∙ sym (get_or-set_other (map (λ link. link.sent) (row_of sender old.links)) core other (link.sent ++ order ∷ []) [] away)))
-
-      row_elsewhere : (actor : ℕ) → (actor ≡ sender → ⊥) → map (λ link. link.sent) (row_of actor links) ≡ map (λ link. link.sent) (row_of actor old.links)
-      row_elsewhere actor away =
-          ext_get_or [] (map (λ link. link.sent) (row_of actor links)) (map (λ link. link.sent) (row_of actor old.links))
-          (length-map (row_of actor links) (λ link. link.sent) ∙ (changes.same_cores actor ∙ sym (length-map (row_of actor old.links) (λ link. link.sent))))
-          (
-          λ other within.
-          get_or-map (λ link. link.sent) (row_of actor links) other (no_link actor other)
-          ∙ (ap (λ link. link.sent) (changes.others actor other (λ one two. away one))
-          ∙ sym (get_or-map (λ link. link.sent) (row_of actor old.links) other (no_link actor other)))
-          )
-
-      row : (actor : ℕ) → actor < length (world_of new).sent → get_or (world_of new).sent actor [] ≡ get_or (with_sent sender core order (world_of old)) actor []
-      row actor within = get_or-map (map (λ link. link.sent)) links actor [] ∙ by_test (actor == sender) refl
-        where
-          sender_within : sender < length (world_of old).sent
-          sender_within = omega (arith, length-map old.links (map (λ link. link.sent)), world.all_there.rows_are, there)
-
-          old_row : get_or (world_of old).sent sender [] ≡ map (λ link. link.sent) (row_of sender old.links)
-          old_row = get_or-map (map (λ link. link.sent)) old.links sender []
-
-          by_test : (test : Bool) → (actor == sender) ≡ test → map (λ link. link.sent) (row_of actor links) ≡ get_or (with_sent sender core order (world_of old)) actor []
-          by_test true one =
-              let here : actor ≡ sender = eqb-true actor sender one in
-              subst (λ at. map (λ link. link.sent) (row_of at links) ≡ get_or (with_sent sender core order (world_of old)) at []) (sym here)
-              (
-              row_here
-              ∙ (ap (λ row. set row core (link.sent ++ order ∷ [])) (sym old_row)
-              ∙ (ap (λ orders. set (get_or (world_of old).sent sender []) core (orders ++ order ∷ [])) (sym (sent_at-world old sender core))
-              ∙ sym (get_or-set_same (world_of old).sent sender (set (get_or (world_of old).sent sender []) core (sent_at sender core (world_of old) ++ order ∷ [])) [] sender_within)))
-              )
-          by_test false apart =
-              let away : actor ≡ sender → ⊥ = eqb-false actor sender apart in
-              row_elsewhere actor away
-              ∙ (sym (get_or-map (map (λ link. link.sent)) old.links actor [])
-              ∙ sym (get_or-set_other (world_of old).sent sender actor (set (get_or (world_of old).sent sender []) core (sent_at sender core (world_of old) ++ order ∷ [])) [] away))
-
-  -- the event's step is the one that the rules say
-  pub sends-now : Sends sender core order (world_of old) (world_of new) (reply.Sent name)
-  sends-now = (
-    subst (IsNextSent sender old.cap name) (sym (journal_at-world old sender)) next_sent,
-    refl,
-    λ i. record {
-      cores = old.cores;
-      cap = old.cap;
-      room = old.room;
-      journals = journals_now i;
-      sent = sent-now i;
-    },
-  )
-    where
-      journals_now : map (λ journal. journal.notes) new.journals ≡ set (world_of old).journals sender ((writes.Sent name (order_note order) ∷ []) ++ journal_at sender (world_of old))
-      journals_now =
-          map-set (λ journal. journal.notes) old.journals sender (record { notes = longer; room = old.room })
-          ∙ ap (λ notes. set (world_of old).journals sender (writes.Sent name (order_note order) ∷ notes)) (sym (journal_at-world old sender))

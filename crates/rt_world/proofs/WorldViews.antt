@@ -1,7 +1,7 @@
 -- The world that parts make, read back in the parts.
-use Rattle.std.proofs.Common.{◌≡◌, ℕ, zero, suc, ◌+◌, ◌-◌, ◌<◌, ◌≤◌, Bool, true, false, List, [], ◌∷◌, ◌++◌, length, refl, sym, ◌∙◌, ap, subst, arith, get_or, cond}
-use Rattle.std.specs.Prelude.{◌==◌, ◌&&◌, Option, Some, None, slice_get, map}
-use Rattle.std.proofs.lemmas.Bool.{eq-eqb, ne_eqb, true≢false, and_parts, false_from_ne_true}
+use Rattle.std.proofs.Common.{◌≡◌, ℕ, zero, suc, ◌+◌, Bool, true, false, List, [], ◌∷◌, ◌++◌, refl, sym, ◌∙◌, ap, subst, arith, get_or, cond}
+use Rattle.std.specs.Prelude.{Option, Some, None, slice_get, map}
+use Rattle.std.proofs.lemmas.Bool.{true≢false}
 use Rattle.std.proofs.lemmas.Option.{unwrap_or-slice_get}
 use Rattle.rt_ids.specs.declared.names.JobId.{JobId}
 use Rattle.rt_ids.specs.declared.note.Note.{Note}
@@ -10,11 +10,10 @@ use Rattle.rt_ids.specs.declared.order.Order.{Order}
 use Rattle.rt_ids.specs.declared.order.Order.TheVariants.{Job}
 use Rattle.rt_ids.specs.Names.{same_name}
 use Rattle.rt_ids.specs.Journal.{Journal, EachNote}
-use Rattle.rt_ids.specs.Filters.{accepted_orders}
-use Rattle.rt_ids.specs.Assembly.{Assembly, journal_of, IsPrefix, first_under, order_of, is_command}
+use Rattle.rt_ids.specs.Assembly.{Assembly, journal_of, first_under, order_of, is_command}
 use Rattle.rt_ids.specs.Joining.{DeliversAsSent}
 use Rattle.rt_ids.proofs.NameLemmas.{one_name, same_as_itself}
-use Rattle.rt_world.specs.State.{WorldView, order_note, journal_at, sent_at, order_under, assembly_of}
+use Rattle.rt_world.specs.State.{order_note, journal_at, sent_at, assembly_of}
 use Rattle.rt_world.specs.Links.{row_of, link_at, no_link}
 use Rattle.rt_world.specs.Inside.{Parts, notes_at, numbered_orders, world_of}
 use Rattle.rt_world.proofs.WorldLists.{get_or-map}

@@ -7,6 +7,7 @@ use Rattle.rt_ids.specs.Work.{queue_of}
 use Rattle.rt_ids.specs.Runtimes.{virtual_runtime, shares, floor}
 use Rattle.rt_ids.specs.Lines.{line, jobs_out}
 use Rattle.rt_ids.specs.Commands.{last_queue}
+use Rattle.rt_ids.specs.Picks.{turns}
 use Rattle.rt_taskqueue.specs.Queues.{queue_count, shares_of, waiting_of}
 use Rattle.rt_core.specs.State.{CoreView, JobOut, runtime_of, delivered_of}
 
@@ -33,6 +34,7 @@ module _ {J T : Type 0} where
     pub runtimes : (queue : ℕ) → runtime_of queue core ≡ virtual_runtime queue journal
     pub weights : (queue : ℕ) → queue < queue_count core.queues → shares_of queue core.queues ≡ shares queue journal
     pub the_floor : core.floor ≡ floor journal
+    pub turns : core.turns ≡ turns journal
     pub out : IsJobOut core.out journal
     pub out_exists : (job : JobOut J) → core.out ≡ Some job → job.queue < queue_count core.queues
     pub delivered : (sender : ℕ) → sender ≤ core.cores → delivered_of sender core ≡ length (delivered_names sender journal)

@@ -1,31 +1,18 @@
 -- What a delivery does: a job enters its queue or goes back, a command is carried out and answered.
-use Rattle.std.specs.Prelude.{◌≡◌, ◌⊎◌, ℕ, ◌+◌, ◌-◌, ◌^◌, ◌<◌, ◌≤◌, Bool, true, false, Option, Some, None, unwrap_or, slice_get, List, [], ◌∷◌, ◌++◌, length}
+use Rattle.std.specs.Prelude.{◌≡◌, ℕ, ◌+◌, Option, Some, None, slice_get, List, [], ◌∷◌, length}
 use Rattle.rt_ids.specs.declared.names.JobId.{JobId}
-use Rattle.rt_ids.specs.declared.names.Ticket.{Ticket}
 use Rattle.rt_ids.specs.declared.note.Note.{Note}
 use Rattle.rt_ids.specs.declared.note.Note.TheVariants as writes
 use Rattle.rt_ids.specs.declared.order.Order.{Order}
 use Rattle.rt_ids.specs.declared.order.Order.TheVariants.{Job, Create, SetShares}
 use Rattle.rt_ids.specs.declared.order.Reason.{Reason}
 use Rattle.rt_ids.specs.declared.order.Answer.{Answer}
-use Rattle.rt_ids.specs.declared.order.SendError.TheVariants.{Full, Spent}
-use Rattle.rt_ids.specs.Names.{is_name}
-use Rattle.rt_ids.specs.Journal.{Journal, is_told}
-use Rattle.rt_ids.specs.Filters.{accepted_orders, delivered_names, name_started}
-use Rattle.rt_ids.specs.Work.{has_work, number_if}
-use Rattle.rt_ids.specs.Lines.{line, name_settled}
-use Rattle.rt_ids.specs.Picks.{IsRightPick, turns}
-use Rattle.rt_ids.specs.Outstanding.{outstanding_count}
-use Rattle.rt_ids.specs.Commands.{refusal, return_reason, IsAnswer, effect_note}
-use Rattle.rt_ids.specs.Lawful.{IsNextSent}
-use Rattle.rt_jobs.specs.declared.job.Step.{Step}
-use Rattle.rt_jobs.specs.declared.job.Step.TheVariants as step
-use Rattle.rt_jobs.specs.Steps.{IfDone}
-use Rattle.rt_world.specs.declared.event.Event.{Event}
-use Rattle.rt_world.specs.declared.event.Event.TheVariants.{Send, Deliver, Turn}
+use Rattle.rt_ids.specs.Journal.{Journal}
+use Rattle.rt_ids.specs.Filters.{delivered_names}
+use Rattle.rt_ids.specs.Commands.{refusal, IsAnswer, effect_note}
 use Rattle.rt_world.specs.declared.event.Reply.{Reply}
 use Rattle.rt_world.specs.declared.event.Reply.TheVariants as reply
-use Rattle.rt_world.specs.State.{WorldView, order_note, journal_at, sent_at, order_under, noted, with_sent, IsNearlyFull}
+use Rattle.rt_world.specs.State.{WorldView, journal_at, sent_at, noted}
 
 module _ {T : Type 0} where
   -- a job enters its queue, or goes back

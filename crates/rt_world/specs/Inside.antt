@@ -1,21 +1,13 @@
 -- What the parts of a world are to each other: each core to its journal, each link to the journals of its two ends.
-use Rattle.std.specs.Prelude.{◌≡◌, ℕ, ◌+◌, ◌*◌, ◌<◌, ◌≤◌, Option, Some, None, false, Bool, List, [], ◌∷◌, length, map, sum, take, All, slice_index_or}
+use Rattle.std.specs.Prelude.{◌≡◌, ℕ, ◌+◌, ◌*◌, ◌<◌, ◌≤◌, None, false, List, [], ◌∷◌, length, map, sum, take, slice_index_or}
 use Rattle.rt_ids.specs.declared.names.JobId.{JobId}
 use Rattle.rt_ids.specs.declared.order.Order.{Order}
-use Rattle.rt_ids.specs.declared.order.Order.TheVariants.{Job}
-use Rattle.rt_ids.specs.declared.order.Outcome.{Outcome}
-use Rattle.rt_ids.specs.Journal.{Journal, EachNote}
-use Rattle.rt_ids.specs.Filters.{accepted_orders, delivered_names}
-use Rattle.rt_ids.specs.Lawful.{IsLawful}
-use Rattle.rt_ids.specs.Joining.{DeliversAsSent}
+use Rattle.rt_ids.specs.Journal.{Journal}
 use Rattle.rt_link.specs.declared.plain.Whole.{Whole}
-use Rattle.rt_link.specs.Whole.{IsLink}
-use Rattle.rt_taskqueue.specs.Queues.{waiting_of}
 use Rattle.rt_core.specs.State.{CoreView, inside_count, opened}
-use Rattle.rt_world.specs.State.{WorldView, order_note, journal_at, order_under, assembly_of}
-use Rattle.rt_world.specs.Turns.{polls_made}
+use Rattle.rt_world.specs.State.{WorldView, order_note}
 use Rattle.rt_world.specs.Journals.{JournalView}
-use Rattle.rt_world.specs.Links.{row_of, link_at}
+use Rattle.rt_world.specs.Links.{row_of}
 use Rattle.rt_world.specs.Agreement.{Agrees}
 
 -- the parts of a world: its cores, its links by sender and then by core, its journals by actor

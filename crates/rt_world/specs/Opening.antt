@@ -1,12 +1,11 @@
 -- A world as it opens, and the numbers that it opens with.
-use Rattle.std.specs.Prelude.{◌≡◌, ℕ, ◌+◌, ◌*◌, ◌^◌, ◌<◌, ◌≤◌, List, [], ◌∷◌, length, Result, Ok, Err}
+use Rattle.std.specs.Prelude.{◌≡◌, ℕ, ◌+◌, ◌^◌, ◌<◌, ◌≤◌, [], ◌∷◌, Result, Ok, Err}
 use Rattle.rt_ids.specs.declared.order.Order.TheVariants.{Create, SetShares}
 use Rattle.rt_ids.specs.declared.order.Order.{Order}
 use Rattle.rt_shares.specs.Charge.{InRange}
-use Rattle.rt_jobs.specs.Ready.{HasReadyJob}
 use Rattle.rt_ids.specs.Lawful.{IsOpening}
 use Rattle.rt_world.specs.declared.event.Event.{Event}
-use Rattle.rt_world.specs.declared.event.Event.TheVariants.{Send, Deliver, Turn}
+use Rattle.rt_world.specs.declared.event.Event.TheVariants.{Send}
 use Rattle.rt_ids.specs.declared.note.Note.TheVariants.{Created}
 use Rattle.rt_ids.specs.Commands.{last_queue}
 use Rattle.rt_taskqueue.specs.declared.queues.CreateError.{CreateError}

@@ -1,10 +1,10 @@
 -- The jobs inside have the tasks that were sent; and when a world is whole.
-use Rattle.std.specs.Prelude.{◌≡◌, ℕ, ◌+◌, ◌*◌, ◌<◌, ◌≤◌, Option, Some, Bool, List, length, All, slice_index_or}
+use Rattle.std.specs.Prelude.{◌≡◌, ℕ, ◌+◌, ◌<◌, ◌≤◌, Option, Some, All}
 use Rattle.rt_ids.specs.declared.names.JobId.{JobId}
 use Rattle.rt_ids.specs.declared.order.Order.{Order}
 use Rattle.rt_ids.specs.declared.order.Order.TheVariants.{Job}
 use Rattle.rt_ids.specs.declared.order.Outcome.{Outcome}
-use Rattle.rt_ids.specs.Journal.{Journal, EachNote}
+use Rattle.rt_ids.specs.Journal.{EachNote}
 use Rattle.rt_ids.specs.Filters.{accepted_orders, delivered_names}
 use Rattle.rt_ids.specs.Lawful.{IsLawful}
 use Rattle.rt_ids.specs.Joining.{DeliversAsSent}
@@ -13,7 +13,7 @@ use Rattle.rt_link.specs.Whole.{IsLink}
 use Rattle.rt_taskqueue.specs.Queues.{waiting_of}
 use Rattle.rt_world.specs.State.{WorldView, journal_at, order_under, assembly_of}
 use Rattle.rt_world.specs.Turns.{polls_made}
-use Rattle.rt_world.specs.Links.{row_of, link_at}
+use Rattle.rt_world.specs.Links.{link_at}
 use Rattle.rt_world.specs.Inside.{Parts, AreAllThere, core_at, notes_at, world_of, IsCoreAtRest, IsLinkBetween}
 
 module _ {J T : Type 0} (same : J → J → Type 0) (made : J → ℕ) (polls : J → ℕ → Step T → Option ℕ → Type 0) where

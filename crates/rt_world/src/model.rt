@@ -1,6 +1,7 @@
 //! The cores of one executor as one value, moved by events.
 
 ghost use Rattle.std.specs.Prelude.{◌≡◌, ◌≤◌};
+ghost use Rattle.rt_ids.specs.Sound.{IsSound};
 ghost use Rattle.rt_world.specs.State.{journal_at, assembly_of};
 
 use crate::assembly::Assembly;
@@ -15,6 +16,8 @@ use std::marker::Model;
 mod events;
 mod opening;
 mod steps;
+#[cfg(test)]
+mod tests;
 
 /// The cores of one executor, the links between all actors, and a journal for each actor.
 ///
@@ -61,6 +64,9 @@ pub enum WorldError {
 }
 
 impl From<AllocError> for WorldError {
+    ghost use Rattle.std.specs.Prelude.{◌≡◌};
+    ghost use Rattle.rt_world.specs.declared.model.WorldError.{WorldError};
+
     ghost from_gives = { λ _ error. error ≡ WorldError.Memory };
 
     fn from(_error: AllocError) -> Self {
@@ -69,11 +75,19 @@ impl From<AllocError> for WorldError {
 }
 
 impl<J: Task<Out = u64>, A: Allocator + Clone> World<J, A> {
-    // The journals alone.
+    // The journals alone, which are sound together.
     fn into_assembly(self) -> Assembly
-        ensures { result ≡ assembly_of self }
+        ensures value { result ≡ assembly_of self }
+        ensures sound { IsSound result }
     {
         Assembly::of(self.cores, self.cap, self.journals)
+    }
+
+    /// How many cores there are. The outside actor has the number behind them.
+    pub fn cores(&self) -> u8
+        ensures { result ≡ self.now.cores }
+    {
+        self.cores
     }
 
     /// The notes of one actor.

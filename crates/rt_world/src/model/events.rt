@@ -70,7 +70,7 @@ impl<J: Job + Task<Out = u64>, A: Allocator + Clone> World<J, A> {
     {
         let mut world = self;
         for event in events {
-            let _ = world.step(event);
+            drop(world.step(event));
         }
         world.into_assembly()
     }

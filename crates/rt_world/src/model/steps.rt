@@ -1,11 +1,12 @@
 //! The three steps: an order is sent, the next one is delivered, a core makes a turn.
 
-ghost use Rattle.std.specs.Prelude.{◌≡◌, ◌≤◌, ◌<◌, ◌+◌, length};
+ghost use Rattle.std.specs.Prelude.{◌≡◌, ◌≢◌, ◌≤◌, ◌<◌, ◌+◌, length, Err};
+ghost use Rattle.rt_core.specs.declared.turn.PickError.TheVariants.{Busy};
 ghost use Rattle.rt_jobs.specs.Ready.{HasReadyJob};
 ghost use Rattle.rt_world.specs.State.{journal_at};
 ghost use Rattle.rt_world.specs.Sends.{Sends};
 ghost use Rattle.rt_world.specs.Deliveries.{Delivers};
-ghost use Rattle.rt_world.specs.Turns.{Turns};
+ghost use Rattle.rt_world.specs.Turns.{Turns, job_or_reply};
 
 use super::World;
 use crate::event::Reply;
@@ -65,17 +66,28 @@ impl<J: Job + Task<Out = u64>, A: Allocator + Clone> World<J, A> {
     {
         let index = core.0 as usize;
         let (picked, pick_notes) = self.inside[index].pick();
-        let job = match picked {
-            Ok(Turn::Start(_, _, job)) => job,
-            Ok(Turn::Resume(_, _, job)) => job,
-            Ok(Turn::Idle) => return Reply::Idle,
-            Err(PickError::Spent) => return Reply::Spent,
-            Err(PickError::Busy) => unreachable!(),
+        let job = match job_or_reply(picked) {
+            Ok(job) => job,
+            Err(reply) => return reply,
         };
         let ran = Ran::poll(job);
         let (_, settle_notes) = self.inside[index].settle(ran, spent);
         self.journals[index].push_all(pick_notes.as_slice());
         self.journals[index].push_all(settle_notes.as_slice());
         Reply::Noted
+    }
+}
+
+// The job that a pick took out, or what the actor is told where it took none.
+fn job_or_reply<J: Drop>(picked: Result<Turn<J>, PickError>) -> Result<J, Reply<J>>
+    requires { picked ≢ Err Busy }
+    ensures { result ≡ job_or_reply picked }
+{
+    match picked {
+        Ok(Turn::Start(_, _, job)) => Ok(job),
+        Ok(Turn::Resume(_, _, job)) => Ok(job),
+        Ok(Turn::Idle) => Err(Reply::Idle),
+        Err(PickError::Spent) => Err(Reply::Spent),
+        Err(PickError::Busy) => unreachable!(),
     }
 }

@@ -1,4 +1,4 @@
-use Rattle.std.proofs.Common.{◌≡◌, ◌≤◌, ◌<◌, ◌+◌, length, refl, sym, ap, subst, ◌∙◌, List, [], ◌∷◌, ◌++◌, reverse, ℕ, arith, set, get_or}
+use Rattle.std.proofs.Common.{◌≡◌, ◌≤◌, ◌<◌, ◌+◌, length, sym, ap, subst, ◌∙◌, ◌++◌, reverse, arith, set, get_or}
 use Rattle.rt_world.specs.State.{journal_at}
 use Rattle.rt_world.proofs.JournalReads.{journal_free, journal_written}
 use Rattle.rt_world.proofs.DeliverSteps.{nothing_links, nothing_step, may_deliver, few, delivered_world, delivered_step}

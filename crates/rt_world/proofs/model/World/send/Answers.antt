@@ -1,14 +1,6 @@
-use Rattle.std.proofs.Common.{◌≡◌, ◌≤◌, ◌<◌, ◌+◌, length, refl, sym, ap, subst, ◌∙◌, List, [], ◌∷◌, ◌++◌, ℕ, arith, set, get_or}
-use Rattle.rt_ids.specs.declared.note.Note.TheVariants as writes
-use Rattle.rt_ids.specs.declared.order.Order.{Order}
-use Rattle.rt_jobs.specs.Ready.{HasReadyJob}
-use Rattle.rt_link.specs.Fits.{Fits}
+use Rattle.std.proofs.Common.{◌≡◌, ◌≤◌, ◌<◌, ◌+◌, length, sym, ap, subst, ◌∙◌, arith, set, get_or}
 use Rattle.rt_world.specs.State.{journal_at, order_note}
-use Rattle.rt_world.specs.Sends.{Sends}
-use Rattle.rt_world.specs.declared.event.Reply.TheVariants as reply
-use Rattle.rt_world.specs.Inside.{Parts, world_of}
-use Rattle.rt_world.specs.Tasks.{IsWorld}
-use Rattle.rt_world.proofs.JournalReads.{journal_free, journal_written}
+use Rattle.rt_world.proofs.JournalReads.{journal_free}
 use Rattle.rt_world.proofs.SendResults.{note_written, accepted_world, accepted_step, refused_links, refused_step}
 use Rattle.rt_world.proofs.model.World.send.Goals as goal
 
@@ -41,10 +33,9 @@ invariant_of-self g c =
     ∙ note_written _ _ _ _ _ _ world c.args.from c.args.to there core_there order links c.send.ensures.changes c.send.ensures.law c.in-Ok.number
     c.index_mut.result.now c.push.new.self read c.name.result c.with_note-order.result.1 (c.name.ensures ∙ c.named-ticket.ensures)
     (c.with_note-order.ensures.note ∙ sym (ap order_note c.with_note-order.ensures.same)) c.push.ensures.notes in
-    rw journals
-    (
-    c.self.invariant.0,
-    accepted_world _ _ _ _ _ _ world c.args.from c.args.to there core_there order links c.send.ensures.changes c.send.ensures.law c.in-Ok.number c.in-Ok.ensures.sends,
+    rw journals (
+      c.self.invariant.0,
+      accepted_world _ _ _ _ _ _ world c.args.from c.args.to there core_there order links c.send.ensures.changes c.send.ensures.law c.in-Ok.number c.in-Ok.ensures.sends,
     )
 
 pub invariant_of-self-in-Err : goal.invariant_of-self-in-Err

@@ -1,0 +1,133 @@
+-- What a core of a world at rest answers to a pick: the job that it takes out, or what the actor is told.
+use Rattle.std.proofs.Common.{◌≡◌, ℕ, ◌-◌, ◌^◌, ◌<◌, Bool, true, false, List, [], ◌∷◌, refl, sym, ◌∙◌, ap, subst, arith, get_or, set}
+use Rattle.std.specs.Prelude.{Option, None, Result, Ok, Err}
+use Rattle.std.proofs.lemmas.List.{get_or_default, set-get_or}
+use Rattle.rt_ids.specs.declared.names.JobId.{JobId}
+use Rattle.rt_ids.specs.declared.note.Note.{Note}
+use Rattle.rt_ids.specs.declared.note.Note.TheVariants as writes
+use Rattle.rt_ids.specs.declared.order.Order.{Order}
+use Rattle.rt_ids.specs.declared.order.Outcome.{Outcome}
+use Rattle.rt_ids.specs.Lawful.{IsLawful}
+use Rattle.rt_ids.specs.Lines.{line}
+use Rattle.rt_ids.specs.Picks.{turns}
+use Rattle.rt_ids.specs.Work.{has_work}
+use Rattle.rt_ids.proofs.WorkOfLines.{no_work, work_of_line}
+use Rattle.rt_jobs.specs.declared.job.Step.{Step}
+use Rattle.rt_jobs.specs.Ready.{IsReady}
+use Rattle.rt_taskqueue.specs.Queues.{waiting_of}
+use Rattle.rt_core.specs.declared.turn.Turn.{Turn}
+use Rattle.rt_core.specs.declared.turn.Turn.TheVariants.{Start, Resume, Idle}
+use Rattle.rt_core.specs.declared.turn.PickError.{PickError}
+use Rattle.rt_core.specs.declared.turn.PickError.TheVariants.{Busy, Spent}
+use Rattle.rt_core.specs.State.{CoreView, runtime_of, opened}
+use Rattle.rt_core.specs.Turns.{TakesOut, Picks}
+use Rattle.rt_core.specs.Answers.{IsReadyTurn}
+use Rattle.rt_world.specs.declared.event.Reply.{Reply}
+use Rattle.rt_world.specs.declared.event.Reply.TheVariants as reply
+use Rattle.rt_world.specs.State.{journal_at}
+use Rattle.rt_world.specs.Turns.{Turns, job_or_reply}
+use Rattle.rt_world.specs.Inside.{Parts, core_at, notes_at, world_of, IsCoreAtRest}
+use Rattle.rt_world.specs.Tasks.{IsWorld}
+use Rattle.rt_world.specs.Agreement.{names_of}
+use Rattle.rt_world.proofs.PollNotes.{poll_note}
+use Rattle.rt_world.proofs.WorldViews.{journal_at-world}
+
+-- a job was taken out by a pick, which made these notes
+pub record IsTaken {J T : Type 0} (old : CoreView J) (job : J) (new : CoreView J) (written : List (Note T)) : Type 0 where
+  pub name : JobId
+  pub queue : ℕ
+  pub was_started : Bool
+  pub takes : TakesOut old name queue was_started job new
+  pub notes : written ≡ writes.Pick queue (runtime_of queue old) ∷ poll_note name was_started ∷ []
+
+module _ {J T : Type 0} (old : CoreView J) (new : CoreView J) (written : List (Note T)) (job : J) where
+  pub taken : (picked : Result (Turn J) PickError) → Picks old picked new written → job_or_reply picked ≡ Ok job → IsTaken old job new written
+  taken (Ok (Start name queue out)) picks is =
+      let one : out ≡ job = cc in
+      record { name = name; queue = queue; was_started = false; takes = subst (λ job. TakesOut old name queue false job new) one picks.0; notes = picks.1 }
+  taken (Ok (Resume name queue out)) picks is =
+      let one : out ≡ job = cc in
+      record { name = name; queue = queue; was_started = true; takes = subst (λ job. TakesOut old name queue true job new) one picks.0; notes = picks.1 }
+  taken (Ok Idle) picks is = cc
+  taken (Err error) picks is = cc
+
+  pub ready_to_poll : (done : J → Bool) (can_poll : J → Type 0) (picked : Result (Turn J) PickError) → IsReadyTurn done can_poll picked →
+      job_or_reply picked ≡ Ok job → IsReady done can_poll job
+  ready_to_poll done can_poll (Ok (Start name queue out)) ready is = let one : out ≡ job = cc in subst (IsReady done can_poll) one ready
+  ready_to_poll done can_poll (Ok (Resume name queue out)) ready is = let one : out ≡ job = cc in subst (IsReady done can_poll) one ready
+  ready_to_poll done can_poll (Ok Idle) ready is = cc
+  ready_to_poll done can_poll (Err error) ready is = cc
+
+module _ {J T : Type 0} (same : J → J → Type 0) (made : J → ℕ) (polls : J → ℕ → Step T → Option ℕ → Type 0)
+    (fits : Order J → Outcome J T → Type 0) (ready : Order J → Type 0)
+    (old : Parts J T) (world : IsWorld same made polls fits ready old) (core : ℕ) (core_there : core < old.cores)
+    (view : CoreView J) (view_is : view ≡ get_or old.inside core view)
+    (picked : Result (Turn J) PickError) (new : CoreView J) (written : List (Note T)) (picks : Picks view picked new written) where
+  rest : IsCoreAtRest core old.cores old.cap (core_at core old.inside) (notes_at core old.journals)
+  rest = world.at_rest core core_there
+
+  lawful : IsLawful core old.cap (notes_at core old.journals)
+  lawful = world.lawful core (omega (arith, core_there))
+
+  -- the core that the call borrows is the one of its number
+  pub viewed : core_at core old.inside ≡ view
+  viewed = get_or_default old.inside core (opened 0 0 0 0) view (omega (arith, world.all_there.cores_are, core_there)) ∙ sym view_is
+
+  free : view.out ≡ None
+  free = ap (λ core. core.out) (sym viewed) ∙ rest.free
+
+  -- no job of a core at rest is out
+  pub not_busy : picked ≡ Err Busy → ⊥
+  not_busy busy = (subst (λ picked. Picks view picked new written) busy picks).0 free
+
+  lines : (queue : ℕ) → names_of (waiting_of queue view.queues) ≡ line queue (notes_at core old.journals)
+  lines queue = subst (λ view. names_of (waiting_of queue view.queues) ≡ line queue (notes_at core old.journals)) viewed (rest.agrees.lines queue)
+
+  idle : ((queue : ℕ) → waiting_of queue view.queues ≡ []) → (queue : ℕ) → has_work queue (journal_at core (world_of old)) ≡ false
+  idle empty queue =
+      ap (has_work queue) (journal_at-world old core)
+      ∙ no_work core old.cap queue (notes_at core old.journals) lawful.notes (sym (lines queue) ∙ ap names_of (empty queue)) lawful.nobody_out
+
+  works : (queue : ℕ) → (waiting_of queue view.queues ≡ [] → ⊥) → has_work queue (journal_at core (world_of old)) ≡ true
+  works queue some = ap (has_work queue) (journal_at-world old core) ∙ by_line (waiting_of queue view.queues) refl
+    where
+      by_line : (waiting : List (JobId × Bool × J)) → waiting_of queue view.queues ≡ waiting → has_work queue (notes_at core old.journals) ≡ true
+      by_line [] none = absurd (some none)
+      by_line (entry ∷ others) first =
+          work_of_line core old.cap queue (notes_at core old.journals) lawful.notes entry.0 (names_of others) (sym (lines queue) ∙ ap names_of first)
+
+  all_turns : view.turns ≡ 2 ^ 64 - 1 → turns (journal_at core (world_of old)) ≡ 2 ^ 64 - 1
+  all_turns used =
+      ap turns (journal_at-world old core) ∙ (sym rest.agrees.turns ∙ (ap (λ core. core.turns) viewed ∙ used))
+
+  -- where no job is taken out, the reply is the one of a turn that changes nothing
+  pub no_turn : (answers : J → T → Type 0) (spent : ℕ) (told : Reply J) → job_or_reply picked ≡ Err told →
+      Turns made polls answers core spent (world_of old) (world_of old) told
+  no_turn answers spent told is = by_pick picked picks is
+    where
+      by_pick : (picked : Result (Turn J) PickError) → Picks view picked new written → job_or_reply picked ≡ Err told →
+          Turns made polls answers core spent (world_of old) (world_of old) told
+      by_pick (Ok (Start name queue out)) picks is = cc
+      by_pick (Ok (Resume name queue out)) picks is = cc
+      by_pick (Ok Idle) picks is =
+          let one : reply.Idle ≡ told = cc in
+          subst (Turns made polls answers core spent (world_of old) (world_of old)) one (idle picks.1, refl)
+      by_pick (Err Busy) picks is = absurd (picks.0 free)
+      by_pick (Err Spent) picks is =
+          let one : reply.Spent ≡ told = cc in
+          subst (Turns made polls answers core spent (world_of old) (world_of old)) one
+          (all_turns picks.1, (picks.2.0, works picks.2.0 picks.2.1), refl)
+
+  -- where no job is taken out, the core stays as it was
+  pub same_core : (told : Reply J) → job_or_reply picked ≡ Err told → set old.inside core new ≡ old.inside
+  same_core told is = ap (set old.inside core) (by_pick picked picks is ∙ view_is) ∙ set-get_or old.inside core view
+    where
+      by_pick : (picked : Result (Turn J) PickError) → Picks view picked new written → job_or_reply picked ≡ Err told → new ≡ view
+      by_pick (Ok (Start name queue out)) picks is = cc
+      by_pick (Ok (Resume name queue out)) picks is = cc
+      by_pick (Ok Idle) picks is = picks.2
+      by_pick (Err Busy) picks is = picks.1
+      by_pick (Err Spent) picks is = picks.3
+
+  pub world_stays : (told : Reply J) → job_or_reply picked ≡ Err told → IsWorld same made polls fits ready (record old { inside = set old.inside core new })
+  world_stays told is = subst (λ inside. IsWorld same made polls fits ready (record old { inside = inside })) (sym (same_core told is)) world

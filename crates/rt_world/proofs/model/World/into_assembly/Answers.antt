@@ -1,0 +1,7 @@
+use Rattle.std.proofs.Common.{sym, subst}
+use Rattle.rt_ids.specs.Sound.{IsSound}
+use Rattle.rt_world.proofs.WorldSound.{world_sound}
+use Rattle.rt_world.proofs.model.World.into_assembly.Goals as goal
+
+pub returns-clause-sound : goal.returns-clause-sound
+returns-clause-sound g c = subst IsSound (sym c.of.ensures) (world_sound _ _ _ _ _ _ c.self.invariant.1)

@@ -1,0 +1,33 @@
+use Rattle.std.proofs.Common.{refl, sym, subst, ◌∙◌}
+use Rattle.std.proofs.lemmas.Iterator.Adapters.{YieldsList-from_vec}
+use Rattle.std.proofs.lemmas.Iterator.Consumers.{YieldsList-turn, YieldsList-end}
+use Rattle.std.proofs.lemmas.List.{map-id}
+use Rattle.rt_jobs.specs.Ready.{HasReadyJob}
+use Rattle.rt_world.specs.Opening.{HasReadyEvent}
+use Rattle.rt_world.specs.Runs.{IsRun}
+use Rattle.rt_world.proofs.RunSteps.{run_longer}
+use Rattle.rt_world.proofs.model.World.run.Goals as goal
+
+pub loop-event-init : goal.loop-event-init
+loop-event-init g c = refl
+
+pub step-requires : goal.step-requires
+step-requires g c =
+    let all = YieldsList-from_vec {s = c.into_iter-event-iterator.result} c.args.events.items c.into_iter-event-iterator.ensures.into_iter_gives.0 (c.into_iter-event-iterator.ensures.into_iter_gives.1 ∙ c.args.events.ok.0) in
+    let turn = YieldsList-turn all c.loop-event.yielded c.loop-event.event-iterator c.loop-event.yielded_by _ c.next.new.self c.in-Some.event c.in-Some.is c.next.ensures.steps in
+    record { ready = subst (HasReadyEvent (HasReadyJob g.J.Task.done g.J.Task.CanPoll)) (sym turn.1) (c.requires.ready _ c.in-Some.event turn.0) }
+
+pub loop-event-preserved : goal.loop-event-preserved
+loop-event-preserved g c = run_longer _ _ _ c.loop-event.yielded _ _ _ c.in-Some.event _ c.loop-event.invariant c.step.ensures
+
+pub returns-clause-run : goal.returns-clause-run
+returns-clause-run g c =
+    let all = YieldsList-from_vec {s = c.into_iter-event-iterator.result} c.args.events.items c.into_iter-event-iterator.ensures.into_iter_gives.0 (c.into_iter-event-iterator.ensures.into_iter_gives.1 ∙ c.args.events.ok.0) in
+    let end = YieldsList-end all c.loop-event.yielded c.loop-event.event-iterator c.loop-event.yielded_by _ c.next.new.self c.in-None.is c.next.ensures.steps in (
+      c.loop-event.world,
+      subst (λ events. IsRun g.J.Task.made g.J.Task.Polls g.J.Task.Answers events c.args.self c.loop-event.world) (sym (map-id c.loop-event.yielded) ∙ end.0) c.loop-event.invariant,
+      c.into_assembly.ensures.value,
+    )
+
+pub returns-clause-sound : goal.returns-clause-sound
+returns-clause-sound g c = c.into_assembly.ensures.sound

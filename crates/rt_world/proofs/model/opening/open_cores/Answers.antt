@@ -1,0 +1,9 @@
+use Rattle.std.proofs.Common.{arith}
+use Rattle.rt_world.proofs.PartOpening.{AreFirstOpened-push}
+use Rattle.rt_world.proofs.model.opening.open_cores.Goals as goal
+
+pub loop-core-preserved : goal.loop-core-preserved
+loop-core-preserved g c = (
+  omega (arith, c.loop-core.invariant.0, c.push_reserved.ensures.capacity),
+  rw c.push_reserved.ensures.items (AreFirstOpened-push c.loop-core.core c.args.cores c.args.cap _ _ c.loop-core.invariant.1 c.in_ok-opened.ensures),
+)
