@@ -34,3 +34,9 @@ Appends-more a b c bytes done count within fits first second =
     let most = length-take (length bytes - done) (drop done bytes) in
     let joined : take done bytes ++ take count (take (length bytes - done) (drop done bytes)) ≡ take (done + count) bytes = ap (λ xs. take done bytes ++ xs) (take-take count (length bytes - done) (drop done bytes) (omega arith)) ∙ sym (take-add done count bytes) in
     subst (Appends a c) joined (Appends-trans a b c _ _ first second)
+
+pub Appends-more_kept : (a b c : Option (List ℕ)) (bs : List ℕ) → Appends a b bs → Keeps b c → Appends a c bs
+Appends-more_kept None b c bs p q = tt
+Appends-more_kept (Some x) None c bs p q = absurd p
+Appends-more_kept (Some x) (Some y) None bs p q = absurd q
+Appends-more_kept (Some x) (Some y) (Some z) bs p q = q ∙ p

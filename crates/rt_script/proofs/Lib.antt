@@ -4,6 +4,7 @@ pub mod FieldLemmas
 pub mod KnownLemmas
 pub mod LimitLemmas
 pub mod NumberLemmas
+pub mod OpeningLemmas
 pub mod PrintLemmas
 pub mod PlaceLemmas
 pub mod PollLemmas
