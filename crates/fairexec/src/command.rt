@@ -1,0 +1,33 @@
+//! The command line. Nothing here reads, prints or runs anything.
+
+use clap::{Arg, Command};
+use std::alloc::{AllocError, Global};
+
+/// The argument that names the file to read.
+pub const FILE: &str = "FILE";
+
+/// What follows the options in each help.
+const EXAMPLE_AND_STATUSES: &str = "\
+Example:
+  fairexec run examples/fair_shares.script
+
+Exit status:
+  0  all is done
+  2  the script or the command line was refused
+  3  a read or a write failed
+  4  there was no memory";
+
+/// The commands and arguments of the program, with their help.
+pub fn command<'a>(alloc: Global) -> Result<Command<'a>, AllocError> {
+    let file = Arg::new(alloc, FILE).help("The script; without it, standard input is read");
+    let run = Command::new(alloc, "run")
+        .about("Runs a script, and prints what happens as notes, one a line")
+        .arg(file)?
+        .after_help(EXAMPLE_AND_STATUSES);
+    Command::new(alloc, "fairexec")
+        .bin_name("fairexec")?
+        .about("Runs scripts on the model of a thread-per-core executor with fair task queues")
+        .subcommand_required(true)
+        .after_help(EXAMPLE_AND_STATUSES)
+        .subcommand(run)
+}

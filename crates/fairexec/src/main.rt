@@ -1,0 +1,103 @@
+//! Runs scripts on the model of a thread-per-core executor with fair task queues.
+#![tactic(auto)]
+
+ghost use Rattle.std.specs.Prelude.{◌≡◌, ◌≢◌};
+ghost use Rattle.clap.specs.Words.{kind_of};
+ghost use Rattle.clap.specs.declared.error.kind.ErrorKind.TheVariants as command_kinds;
+ghost use Rattle.rt_script.specs.Statuses.{status_of};
+ghost use Rattle.rt_script.specs.declared.status.Status.TheVariants as status;
+
+use clap::error::ErrorKind as CommandErrorKind;
+use rt_script::{EngineFault, Status, run_script};
+use std::io::ErrorKind;
+use std::process::ExitCode;
+use std::rt::{Env, Files};
+use std::{env, fs, io};
+
+mod command;
+
+fn main(rt: HostRuntime) -> ExitCode {
+    ExitCode::from(program(&rt).code())
+}
+
+/// Does what the command line asks for, and answers how it ended.
+fn program<R: Files + Input + Print + Eprint + Env + AllocGlobal>(rt: &R) -> Status {
+    let args = match env::args(rt) {
+        Ok(args) => args,
+        Err(error) => return words_refused(rt, error.kind()),
+    };
+    let Ok(words) = args.collect::<Vec<String>>(rt.alloc()) else {
+        return ended(rt, Err(EngineFault::Memory));
+    };
+    let Ok(command) = command::command(rt.alloc()) else {
+        return ended(rt, Err(EngineFault::Memory));
+    };
+    match command.try_get_matches_from(words.as_slice()) {
+        Ok(matches) => match matches.subcommand() {
+            Some((_, found)) => ended(rt, run(rt, found.get_str(command::FILE))),
+            None => Status::Refused,
+        },
+        Err(error) => command_refused(rt, &error),
+    }
+}
+
+/// Runs the script of the file, or of standard input.
+fn run<R: Files + Input + Print + AllocGlobal>(
+    rt: &R,
+    file: Option<&str>,
+) -> Result<bool, EngineFault> {
+    let mut sink = io::writer(rt);
+    match file {
+        None => run_script(rt.alloc(), &mut rt.reader(), &mut sink),
+        Some(path) => match fs::open(rt, path) {
+            Ok(mut source) => run_script(rt.alloc(), &mut source, &mut sink),
+            Err(error) => Err(opening_fault(error.kind())),
+        },
+    }
+}
+
+/// Why a file can't be opened.
+fn opening_fault(kind: ErrorKind) -> EngineFault {
+    match kind {
+        ErrorKind::OutOfMemory => EngineFault::Memory,
+        _ => EngineFault::Read,
+    }
+}
+
+/// Says on standard error what went wrong, if anything did. Where even that can't be said, the status is the same.
+fn ended<R: Eprint>(rt: &R, answer: Result<bool, EngineFault>) -> Status
+    ensures { result ≡ status_of answer }
+{
+    if let Err(fault) = &answer {
+        let _ = eprintln!(rt; "{fault}");
+    }
+    Status::of(&answer)
+}
+
+/// The words of the command line can't be read as text.
+fn words_refused<R: Eprint>(rt: &R, kind: ErrorKind) -> Status {
+    if kind == ErrorKind::OutOfMemory {
+        return ended(rt, Err(EngineFault::Memory));
+    }
+    let _ = eprintln!(rt; "error: the command line is not UTF-8");
+    Status::Refused
+}
+
+/// Help is printed as it was asked for; a mistake is told on standard error.
+fn command_refused<R: Print + Eprint>(rt: &R, error: &clap::Error) -> Status
+    ensures memory { kind_of error.now ≡ command_kinds.OutOfMemory → result ≡ status.Memory }
+    ensures mistake { kind_of error.now ≢ command_kinds.OutOfMemory → kind_of error.now ≢ command_kinds.DisplayHelp
+        → kind_of error.now ≢ command_kinds.DisplayVersion → result ≡ status.Refused }
+{
+    if error.kind() == CommandErrorKind::OutOfMemory {
+        return ended(rt, Err(EngineFault::Memory));
+    }
+    let printed = error.print(rt);
+    if error.use_stderr() {
+        return Status::Refused;
+    }
+    match printed {
+        Ok(()) => Status::Done,
+        Err(_) => ended(rt, Err(EngineFault::Write)),
+    }
+}

@@ -1,0 +1,89 @@
+-- The events that a script's lines tell: their actors exist, and their jobs have made no poll.
+use Rattle.std.proofs.Common.{◌≡◌, ℕ, ◌+◌, ◌-◌, ◌≤◌, ◌<◌, List, [], ◌∷◌, length, Option, Some, None, Result, Ok, refl, arith, ◌==◌}
+use Rattle.std.proofs.lemmas.Bool.Decides.{nat_tests}
+use Rattle.rt_ids.specs.declared.order.Order.TheVariants as order
+use Rattle.rt_jobs.specs.declared.poll.Poll.{Poll}
+use Rattle.rt_jobs.specs.Scripts.{Script}
+use Rattle.rt_jobs.specs.Ready.{HasReadyJob}
+use Rattle.rt_world.specs.Sends.{AreThere}
+use Rattle.rt_world.specs.Opening.{HasReadyEvent}
+use Rattle.rt_world.specs.declared.event.Event.{Event}
+use Rattle.rt_world.specs.declared.event.Event.TheVariants.{Send, Deliver, Turn}
+use Rattle.rt_script.specs.declared.line.Line.{Line}
+use Rattle.rt_script.specs.Numbers.{number_of}
+use Rattle.rt_script.specs.Words.{first, second, others}
+use Rattle.rt_script.specs.Fields.{core_field, actor_field, polls_field, job_field}
+use Rattle.rt_script.specs.Lines.{link_fields, submit_line, create_line, shares_line, deliver_line, turn_line}
+use Rattle.rt_script.specs.Limits.{IsEventOf, MayFollow}
+use Rattle.rt_script.proofs.FieldLemmas.{made_ok, both_ok, within_ok}
+
+-- the actors of such an event exist
+pub are_there : (cores : ℕ) (event : Event Script) → IsEventOf cores event → AreThere cores event
+are_there cores (Send sender core order) here = (here.sender, here.core)
+are_there cores (Deliver core sender) here = (here.core, here.sender)
+are_there cores (Turn core spent) here = here.core
+
+-- and its job may be polled
+pub is_ready : (cores : ℕ) (event : Event Script) → IsEventOf cores event → HasReadyEvent (HasReadyJob (λ job. job.polled == length job.polls) (λ job. Unit {0})) event
+is_ready cores (Send sender core (order.Job queue job)) here = (grind (arith, nat_tests, here.some_polls, here.none_made), tt)
+is_ready cores (Send sender core (order.Create weight)) here = tt
+is_ready cores (Send sender core (order.SetShares queue weight)) here = tt
+is_ready cores (Deliver core sender) here = tt
+is_ready cores (Turn core spent) here = tt
+
+core_ok : (cores : ℕ) (word : List ℕ) (core : ℕ) → 1 ≤ cores → core_field cores word ≡ Ok core → core < cores
+core_ok cores word core some e = let within = within_ok 0 (cores - 1) (number_of word) core e in omega arith
+
+actor_ok : (cores : ℕ) (word : List ℕ) (actor : ℕ) → actor_field cores word ≡ Ok actor → actor ≤ cores
+actor_ok cores word actor e = (within_ok 0 cores (number_of word) actor e).1
+
+link_ok : (cores : ℕ) (ws : List (List ℕ)) (link : ℕ × ℕ) → 1 ≤ cores → link_fields cores ws ≡ Ok link → (link.0 ≤ cores) × (link.1 < cores)
+link_ok cores ws link some e =
+    let b = both_ok _ _ _ e in
+    (actor_ok cores (first ws) link.0 b.0, core_ok cores (second ws) link.1 some b.1)
+
+some_polls : (ws : List (List ℕ)) (polls : List Poll) → polls_field ws ≡ Ok polls → 1 ≤ length polls
+some_polls [] polls e = cc
+some_polls (word ∷ []) polls e = let m = made_ok _ _ _ e in rw m.2 (omega arith)
+some_polls (word ∷ next ∷ rest) polls e = let m = made_ok _ _ _ e in rw m.2 (omega arith)
+
+fresh_ok : (ws : List (List ℕ)) (job : Script) → job_field ws ≡ Ok job → (job.polled ≡ 0) × (1 ≤ length job.polls)
+fresh_ok ws job e = let m = made_ok _ _ _ e in rw m.2 (refl, some_polls ws m.0 m.1)
+
+pub submit_line_ok : (size : ℕ × ℕ) (ws : List (List ℕ)) (line : Line) → 1 ≤ size.0 → submit_line size.0 ws ≡ Ok line → MayFollow (Some size) line
+submit_line_ok size ws line some e =
+    let m = made_ok _ _ _ e in
+    let b = both_ok _ _ _ m.1 in
+    let d = both_ok _ _ _ b.1 in
+    let link = link_ok size.0 ws (m.0).0 some b.0 in
+    let fresh = fresh_ok (others (others (others ws))) ((m.0).1).1 d.1 in
+    rw m.2 (record { sender = link.0; core = link.1; some_polls = fresh.1; none_made = fresh.0 })
+
+pub create_line_ok : (size : ℕ × ℕ) (ws : List (List ℕ)) (line : Line) → 1 ≤ size.0 → create_line size.0 ws ≡ Ok line → MayFollow (Some size) line
+create_line_ok size ws line some e =
+    let m = made_ok _ _ _ e in
+    let b = both_ok _ _ _ m.1 in
+    let link = link_ok size.0 ws (m.0).0 some b.0 in
+    rw m.2 (record { sender = link.0; core = link.1; some_polls = omega arith; none_made = refl })
+
+pub shares_line_ok : (size : ℕ × ℕ) (ws : List (List ℕ)) (line : Line) → 1 ≤ size.0 → shares_line size.0 ws ≡ Ok line → MayFollow (Some size) line
+shares_line_ok size ws line some e =
+    let m = made_ok _ _ _ e in
+    let b = both_ok _ _ _ m.1 in
+    let link = link_ok size.0 ws (m.0).0 some b.0 in
+    rw m.2 (record { sender = link.0; core = link.1; some_polls = omega arith; none_made = refl })
+
+pub deliver_line_ok : (size : ℕ × ℕ) (ws : List (List ℕ)) (line : Line) → 1 ≤ size.0 → deliver_line size.0 ws ≡ Ok line → MayFollow (Some size) line
+deliver_line_ok size ws line some e =
+    let m = made_ok _ _ _ e in
+    let b = both_ok _ _ _ m.1 in
+    let core = core_ok size.0 (first ws) (m.0).0 some b.0 in
+    let sender = actor_ok size.0 (second ws) (m.0).1 b.1 in
+    rw m.2 (record { sender = sender; core = core; some_polls = omega arith; none_made = refl })
+
+pub turn_line_ok : (size : ℕ × ℕ) (ws : List (List ℕ)) (line : Line) → 1 ≤ size.0 → turn_line size.0 ws ≡ Ok line → MayFollow (Some size) line
+turn_line_ok size ws line some e =
+    let m = made_ok _ _ _ e in
+    let core = core_ok size.0 (first ws) m.0 some m.1 in
+    let sender : m.0 ≤ size.0 = omega arith in
+    rw m.2 (record { sender = sender; core = core; some_polls = omega arith; none_made = refl })

@@ -1,0 +1,8 @@
+use Rattle.std.proofs.Common.{arith, rules}
+use Rattle.rt_script.proofs.LimitLemmas.{limits_more}
+use Rattle.rt_script.proofs.draft.Draft.add.Goals as goal
+
+pub invariant_of-self-in-Continue-1 : goal.invariant_of-self-in-Continue-1
+invariant_of-self-in-Continue-1 c =
+    rw c.in_ok-push-in-Queue.ensures.items
+    (limits_more (record { size = c.self.inside.size; queues = c.self.inside.queues.items; events = c.self.inside.events.items }) (c.in-Queue.core, c.in-Queue.shares) c.self.invariant (search rules) (search rules))

@@ -1,0 +1,169 @@
+//! A script as far as its lines are judged.
+
+ghost use Rattle.std.specs.Prelude.{◌≡◌, Ok, Err, IfOk, IfErr, OnOk, OnErr, length, nat_lt, ◌≤◌, ◌+◌, IfSome, IsNone, None, ◌↔◌};
+ghost use Rattle.rt_script.specs.Whole.{drafted};
+ghost use Rattle.rt_script.specs.Words.{words};
+ghost use Rattle.rt_script.specs.Drafts as spec;
+ghost use Rattle.rt_script.specs.Limits.{MayFollow};
+ghost use Rattle.rt_script.specs.LineFaults.{IfCause};
+
+use crate::fault::Cause;
+use crate::line::{Line, first_line, later_line};
+use crate::script::Script;
+use rt_ids::CoreNo;
+use rt_jobs::ScriptJob;
+use rt_shares::Shares;
+use rt_world::Event;
+use std::alloc::{AllocFailed, Global};
+use std::marker::Model;
+
+/// The most `queue` lines of a core: with queue 0 they make 256.
+const MOST_QUEUE_LINES: usize = 255;
+
+/// Why a line isn't taken.
+#[derive(Clone, Copy, PartialEq, Eq, Debug)]
+pub enum LineFault {
+    /// There is something wrong with it.
+    Text(Cause),
+    /// There is no memory to keep it.
+    Memory,
+}
+
+impl From<Cause> for LineFault {
+    ghost use Rattle.std.specs.Prelude.{◌≡◌};
+    ghost use Rattle.rt_script.specs.declared.draft.LineFault.TheVariants.{Text};
+
+    ghost from_gives = { λ cause fault. fault ≡ Text cause };
+
+    fn from(cause: Cause) -> LineFault {
+        LineFault::Text(cause)
+    }
+}
+
+impl<T: Drop> From<AllocFailed<T>> for LineFault {
+    ghost use Rattle.std.specs.Prelude.{◌≡◌};
+    ghost use Rattle.rt_script.specs.declared.draft.LineFault.TheVariants.{Memory};
+
+    ghost from_gives = { λ _ fault. fault ≡ Memory };
+
+    fn from(_failed: AllocFailed<T>) -> LineFault {
+        LineFault::Memory
+    }
+}
+
+/// A script as far as its lines are judged.
+#[derive(Drop)]
+pub struct Draft {
+    size: Option<(u8, u16)>,
+    queues: Vec<(CoreNo, Shares)>,
+    events: Vec<Event<ScriptJob>>,
+}
+
+impl Model for Draft {
+    ghost use Rattle.rt_script.specs.Drafts.{Drafted};
+    ghost use Rattle.rt_script.specs.Limits.{IsWithinLimits};
+
+    ghost Value = { Drafted };
+
+    ghost view = { λ d. record { size = d.size; queues = d.queues.items; events = d.events.items } };
+
+    ghost invariant = { λ d. IsWithinLimits
+        (record { size = d.size; queues = d.queues.items; events = d.events.items }) };
+}
+
+impl Draft {
+    /// Before the first line.
+    pub fn new(alloc: Global) -> Draft
+        ensures { result ≡ spec.empty_draft }
+    {
+        Draft {
+            size: None,
+            queues: Vec::new(alloc),
+            events: Vec::new(alloc),
+        }
+    }
+
+    /// The whole script, where the lines end here; None where none told the size.
+    pub fn finish(self) -> Option<Script>
+        requires { length self.events ≤ 4096 }
+        ensures whole { IfSome result (λ script. self ≡ drafted script) }
+        ensures none { IsNone result ↔ (self.size ≡ None) }
+    {
+        let Draft {
+            size,
+            queues,
+            events,
+        } = self;
+        let (cores, cap) = size?;
+        Some(Script {
+            cores,
+            cap,
+            queues,
+            events,
+        })
+    }
+
+    /// Takes one line that isn't too long.
+    pub fn take(&mut self, text: &[u8]) -> Result<(), LineFault>
+        ensures ok { OnOk result (spec.with_text self.old text.now ≡ Ok self.new) }
+        ensures cause { IfErr result (IfCause (λ cause. spec.with_text self.old text.now ≡ Err cause)) }
+        ensures one_more { OnOk result (length self.new.events ≤ length self.old.events + 1) }
+        ensures err { OnErr result (self.new ≡ self.old) }
+    {
+        if is_skipped(text) {
+            return Ok(());
+        }
+        let line = self.line_at(text)?;
+        self.add(line)
+    }
+
+    /// What a line that isn't skipped says at its place.
+    fn line_at(&self, text: &[u8]) -> Result<Line, Cause>
+        ensures line { result
+            ≡ spec.line_at self.now.size (nat_lt 0 (length self.now.events)) (words text.now) }
+        ensures follows { IfOk result (MayFollow self.now.size) }
+    {
+        match self.size {
+            None => first_line(text),
+            Some((cores, _)) => later_line(text, cores, !self.events.is_empty()),
+        }
+    }
+
+    /// Takes what a line says.
+    fn add(&mut self, line: Line) -> Result<(), LineFault>
+        requires { MayFollow self.old.size line }
+        ensures ok { OnOk result (spec.with_line self.old line ≡ Ok self.new) }
+        ensures cause { IfErr result (IfCause (λ cause. spec.with_line self.old line ≡ Err cause)) }
+        ensures one_more { OnOk result (length self.new.events ≤ length self.old.events + 1) }
+        ensures err { OnErr result (self.new ≡ self.old) }
+    {
+        match line {
+            Line::Size(cores, cap) => self.size = Some((cores, cap)),
+            Line::Queue(core, shares) => {
+                if self.queue_lines(core) >= MOST_QUEUE_LINES {
+                    return Err(LineFault::Text(Cause::TooManyQueues));
+                }
+                self.queues.push((core, shares))?;
+            }
+            Line::Step(event) => self.events.push(event)?,
+        }
+        Ok(())
+    }
+
+    /// How many `queue` lines the core has.
+    fn queue_lines(&self, core: CoreNo) -> usize
+        ensures { result ≡ spec.queue_lines core self.now.queues }
+    {
+        self.queues.iter().filter(|queue| queue.0 == core).count()
+    }
+}
+
+/// Whether the line is empty or begins with `#`.
+fn is_skipped(line: &[u8]) -> bool
+    ensures { result ≡ spec.is_skipped line.now }
+{
+    match line {
+        [] => true,
+        [first, ..] => *first == b'#',
+    }
+}

@@ -1,0 +1,27 @@
+//! A whole script.
+
+ghost use Rattle.std.specs.Prelude.{Some, length, ◌≤◌};
+ghost use Rattle.rt_script.specs.Limits.{IsSize, ArePlaced, HasFewQueues, AreEventsOf};
+
+use rt_ids::CoreNo;
+use rt_jobs::ScriptJob;
+use rt_shares::Shares;
+use rt_world::Event;
+
+/// A whole script, well spelled and within the limits of a system.
+#[derive(Drop)]
+pub struct Script {
+    /// How many cores there are.
+    pub cores: u8,
+    /// How many submissions each link may have outstanding.
+    pub cap: u16,
+    /// The queues to create at the opening, by core, in order.
+    pub queues: Vec<(CoreNo, Shares)>,
+    /// What then happens, in order.
+    pub events: Vec<Event<ScriptJob>>,
+    ghost sized: { IsSize cores cap },
+    ghost placed: { ArePlaced (Some (cores, cap)) queues.items },
+    ghost few: { HasFewQueues queues.items },
+    ghost happen: { AreEventsOf (Some (cores, cap)) events.items },
+    ghost short: { length events.items ≤ 4096 },
+}

@@ -1,0 +1,38 @@
+//! Reads a whole script before anything is done.
+
+ghost use Rattle.std.specs.Prelude.{◌≡◌, ◌≢◌, Ok, Err, IfOk, IfErr, IfSome};
+ghost use Rattle.rt_script.specs.declared.fault.EngineFault.TheVariants.{Write};
+ghost use Rattle.rt_script.specs.Scripts.{script_of};
+ghost use Rattle.rt_script.specs.EngineFaults.{IfText};
+ghost use Rattle.rt_script.specs.Whole.{drafted};
+
+use crate::fault::EngineFault;
+use crate::reader::ScriptReader;
+use crate::script::Script;
+use crate::steady::read_some;
+use std::alloc::Global;
+use std::io::Read;
+
+/// So much is read at once, if it is there.
+const CHUNK: usize = 8192;
+
+/// The script that the source tells, read and judged to its end.
+pub fn read_script<R: Read>(alloc: Global, source: &mut R) -> Result<Script, EngineFault>
+    ensures ok { IfOk result (λ script.
+        IfSome (R.remaining source.old) (λ text. script_of text ≡ Ok (drafted script))) }
+    ensures faulty { IfErr result (IfText (λ fault.
+        IfSome (R.remaining source.old) (λ text. script_of text ≡ Err fault))) }
+    ensures device { IfErr result (λ fault. fault ≢ Write) }
+{
+    let mut chunk = [0u8; CHUNK];
+    let mut reader = ScriptReader::new(alloc);
+    loop {
+        let Ok(count) = read_some(source, &mut chunk) else {
+            return Err(EngineFault::Read);
+        };
+        if count == 0 {
+            return Ok(reader.finish()?);
+        }
+        reader.feed(&chunk[..count])?;
+    }
+}
