@@ -9,6 +9,7 @@ mod receiver;
 pub mod ring_in;
 pub mod ring_out;
 mod sender;
+mod slots;
 #[cfg(test)]
 mod tests;
 mod turns;

@@ -12,6 +12,7 @@ ghost use Rattle.rt_ring.specs.Told.{SeesOrders};
 
 use crate::board::{ACCEPT, Board, GATE, Place, RETURN, Slot};
 use crate::plays::{Give, Look, Shut};
+use crate::slots::move_out;
 use rt_ids::{Order, Outcome};
 use rt_jobs::Task;
 use std::mem::forget;
@@ -41,7 +42,7 @@ pub(crate) fn look<J: Task>(
         return None;
     }
     seat.turn();
-    let Slot::Sent(order) = shared.exchange(seat, slot, Slot::Empty) else {
+    let Slot::Sent(order) = move_out(board, seat, slot) else {
         unreachable!()
     };
     seat.turn();

@@ -10,6 +10,7 @@ ghost use Rattle.rt_ring.specs.Told.{SeesOutcomes};
 
 use crate::board::{ACCEPT, Board, Place, RETURN, Slot};
 use crate::plays::{Accept, Gather, Probe};
+use crate::slots::move_out;
 use rt_ids::{Order, Outcome};
 use rt_jobs::Task;
 use std::mem::forget;
@@ -42,7 +43,7 @@ pub(crate) fn offer<J: Task>(
     if shared.compare_exchange::<Accept>(seat, ACCEPT, last, last + 1) == last {
         return Ok(());
     }
-    let Slot::Sent(back) = shared.exchange(seat, slot, Slot::Empty) else {
+    let Slot::Sent(back) = move_out(board, seat, slot) else {
         unreachable!()
     };
     Err(back)
@@ -90,7 +91,7 @@ pub(crate) fn gather<J: Task>(
         return None;
     }
     seat.turn();
-    let Slot::Back(number, outcome) = shared.exchange(seat, slot, Slot::Empty) else {
+    let Slot::Back(number, outcome) = move_out(board, seat, slot) else {
         unreachable!()
     };
     seat.turn();

@@ -14,18 +14,18 @@ load-requires g c = (
   looks (Fits g.J.Task.SameTask g.J.Task.Answers) (HasReadyJob g.J.Task.done g.J.Task.CanPoll) _ _ _ _ c.requires.receiver.takes c.requires.receiver.used,
 )
 
-pub exchange-requires : goal.exchange-requires
-exchange-requires g c =
+pub move_out-requires : goal.move_out-requires
+move_out-requires g c =
     let t = look-some _ c.args.seat.now.me c.load.new.seat.me c.load.result c.args.taken c.load.ensures.2 c.requires.receiver c.requires.number c.if-load-taken.false in
     (search rules, (Sent t.0, turned_slot _ _ _ _ _ _ c.load.new.seat.me c.turn.new.self.me t.2 c.turn.ensures.2 c.args.slot c.requires.slot))
 
 pub unreachable-requires : goal.unreachable-requires
 unreachable-requires g c =
     let t = look-some _ c.args.seat.now.me c.load.new.seat.me c.load.result c.args.taken c.load.ensures.2 c.requires.receiver c.requires.number c.if-load-taken.false in
-    c.in_default.not-Sent t.0 (read_slot _ _ _ _ _ _ c.load.new.seat.me c.turn.new.self.me t.2 c.turn.ensures.2 c.args.slot c.requires.slot c.exchange.result c.exchange.ensures.2)
+    c.in_default.not-Sent t.0 (read_slot _ _ _ _ _ _ c.load.new.seat.me c.turn.new.self.me t.2 c.turn.ensures.2 c.args.slot c.requires.slot c.move_out.result c.move_out.ensures.2)
 
 pub returns-clause-receiver : goal.returns-clause-receiver
 returns-clause-receiver g c =
     let t = look-some _ c.args.seat.now.me c.load.new.seat.me c.load.result c.args.taken c.load.ensures.2 c.requires.receiver c.requires.number c.if-load-taken.false in
-    let kept = kept_slots _ _ _ _ _ _ c.load.new.seat.me c.turn.new.self.me t.2 c.turn.ensures.2 c.args.slot c.requires.slot _ c.exchange.new.seat.me c.turn-2.new.self.me c.exchange.ensures.3 c.turn-2.ensures.2 in
+    let kept = kept_slots _ _ _ _ _ _ c.load.new.seat.me c.turn.new.self.me t.2 c.turn.ensures.2 c.args.slot c.requires.slot _ c.move_out.new.seat.me c.turn-2.new.self.me c.move_out.ensures.3 c.turn-2.ensures.2 in
     (look-taken _ c.args.seat.now.me c.load.new.seat.me c.load.result c.args.taken c.load.ensures.2 c.requires.receiver c.requires.number c.args.slot t.0 c.turn-2.new.self.me c.requires.slot c.requires.owed t.1 kept).0

@@ -25,8 +25,8 @@ returns-then-compare_exchange-last-clause-sender g c =
     (offer-hit c.args.seat.now.me c.exchange-empty.new.seat.me c.args.slot c.args.last c.args.order c.requires.sender c.exchange-empty.ensures.3 c.requires.slot c.requires.room
     c.compare_exchange.result c.compare_exchange.new.seat.me c.compare_exchange.ensures.2 c.if-compare_exchange-last.true).2
 
-pub exchange-requires : goal.exchange-requires
-exchange-requires g c =
+pub move_out-requires : goal.move_out-requires
+move_out-requires g c =
     let lost = offer-miss c.args.seat.now.me c.exchange-empty.new.seat.me c.args.slot c.args.last c.args.order c.requires.sender c.exchange-empty.ensures.3 c.requires.slot c.requires.room
     c.compare_exchange.result c.compare_exchange.new.seat.me c.compare_exchange.ensures.2 c.if-compare_exchange-last.false in
     (search rules, (Sent c.args.order, begins _ _ _ (ap (λ m. m.1) lost)))
