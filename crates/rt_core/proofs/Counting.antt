@@ -1,12 +1,12 @@
 -- The counts inside a core after each step.
-use Rattle.std.proofs.Common.{◌≡◌, inl, inr, ℕ, suc, zero, ◌+◌, ◌<◌, ◌≤◌, List, [], ◌∷◌, ◌++◌, length, Option, Some, None, refl, sym, ap, ◌∙◌, subst, arith, length-append}
+use Rattle.std.proofs.Common.{◌≡◌, ℕ, suc, zero, ◌+◌, ◌<◌, ◌≤◌, List, [], ◌∷◌, ◌++◌, length, Option, Some, None, refl, sym, ap, ◌∙◌, subst, arith, length-append}
 use Rattle.std.specs.Prelude.{Bool, true, false, ◌-◌, IfSome, is_some, slice_index_or}
 use Rattle.rt_ids.specs.declared.names.JobId.{JobId}
 use Rattle.rt_ids.specs.declared.names.Key.{Key}
 use Rattle.rt_ids.specs.Work.{number_if}
-use Rattle.rt_taskqueue.specs.Queues.{QueuesView, waiting_of, shares_of, queue_count, held_count, ChangesLine, ChangesShares, AddsQueue, IsWithinLimits}
-use Rattle.rt_core.specs.State.{CoreView, JobOut, inside_count, runtime_of}
-use Rattle.rt_core.specs.Inside.{job_out, may_run, unsettled_count, IsCounted, IsListed}
+use Rattle.rt_taskqueue.specs.Queues.{QueuesView, waiting_of, queue_count, held_count, ChangesLine, ChangesShares, AddsQueue, IsWithinLimits}
+use Rattle.rt_core.specs.State.{CoreView, JobOut, runtime_of}
+use Rattle.rt_core.specs.Inside.{job_out, unsettled_count, IsCounted, IsListed}
 use Rattle.rt_core.specs.declared.out.Out.{Out}
 use Rattle.rt_core.proofs.Entries.{may_run-same, entry_of-same, IsListed-kept}
 

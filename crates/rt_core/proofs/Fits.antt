@@ -1,11 +1,10 @@
 -- No count of a core outgrows its turns.
-use Rattle.std.proofs.Common.{◌≡◌, inl, inr, ℕ, ◌+◌, ◌*◌, ◌^◌, ◌<◌, ◌≤◌, Bool, true, false, cond, List, [], ◌∷◌, ◌++◌, length, max, refl, sym, ap, ◌∙◌, arith}
-use Rattle.std.specs.Prelude.{All, slice_index_or, slice_set}
+use Rattle.std.proofs.Common.{◌≡◌, inl, inr, ℕ, ◌+◌, ◌*◌, ◌^◌, ◌≤◌, Bool, true, false, cond, length, max, arith}
 use Rattle.std.proofs.lemmas.Bool.{cases_lt}
 use Rattle.std.proofs.lemmas.List.{get_or_past}
-use Rattle.std.proofs.lemmas.List.Elements.{All-set, All-push, All-weaker, All-get_or}
+use Rattle.std.proofs.lemmas.List.Elements.{All-get_or}
 use Rattle.rt_core.specs.declared.tally.Tally.{Tally}
-use Rattle.rt_core.specs.State.{CoreView, no_tally, tally_of, runtime_of, IsBounded}
+use Rattle.rt_core.specs.State.{CoreView, no_tally, tally_of, IsBounded}
 use Rattle.rt_core.specs.Inside.{FitsTurns, IsWithinTurns, unsettled_count}
 
 pub no_tally_fits : (turns unsettled floor : ℕ) → floor + unsettled * 2 ^ 50 ≤ turns * 2 ^ 50 → FitsTurns turns unsettled no_tally

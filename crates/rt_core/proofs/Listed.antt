@@ -1,9 +1,9 @@
 -- Which virtual runtime a queue has among keys that rise.
-use Rattle.std.proofs.Common.{◌≡◌, ◌≢◌, inl, inr, ℕ, ◌<◌, ◌≤◌, Bool, true, false, cond, List, [], ◌∷◌, Option, Some, None, refl, sym, ap, ◌∙◌, arith, eqb}
+use Rattle.std.proofs.Common.{◌≡◌, ◌≢◌, inl, inr, ℕ, Bool, true, false, cond, List, [], ◌∷◌, Some, None, refl, sym, ap, ◌∙◌, arith, eqb}
 use Rattle.std.proofs.lemmas.Bool.{eqb-true, eq-eqb, true≢false}
 use Rattle.std.proofs.lemmas.Bool.Decides.{eqb_tells}
 use Rattle.rt_ids.specs.declared.names.Key.{Key}
-use Rattle.rt_ids.specs.Keys.{KeyBefore, KeyAtMost}
+use Rattle.rt_ids.specs.Keys.{KeyAtMost}
 use Rattle.rt_timeline.specs.Rising.{StandsBefore, stands_before, EachKey, IsRising, LacksQueue, inserted}
 use Rattle.rt_core.specs.Inside.{runtime_listed}
 

@@ -1,21 +1,19 @@
 -- What holds inside a core, part by part, after each step.
-use Rattle.std.proofs.Common.{◌≡◌, ◌≢◌, inl, inr, ℕ, ◌+◌, ◌*◌, ◌^◌, ◌<◌, ◌≤◌, Bool, true, false, cond, List, [], ◌∷◌, ◌++◌, length, max, Option, Some, None, refl, sym, ap, ◌∙◌, subst, arith, eqb, length-append, length-set}
+use Rattle.std.proofs.Common.{◌≡◌, ◌≢◌, inl, inr, ℕ, ◌+◌, ◌<◌, Bool, true, false, List, [], ◌∷◌, ◌++◌, length, Option, Some, None, refl, sym, ap, ◌∙◌, subst, arith, length-append}
 use Rattle.std.specs.Prelude.{◌⊎◌, ◌&&◌, ◌||◌, not, is_some, All, IfSome, slice_index_or, slice_set}
 use Rattle.std.proofs.lemmas.Bool.{cases_eq}
-use Rattle.std.proofs.lemmas.List.Elements.{All-set, All-push, All-tail, All-head, All-weaker, All-get_or, All-same}
+use Rattle.std.proofs.lemmas.List.Elements.{All-push, All-same}
 use Rattle.rt_ids.specs.declared.names.JobId.{JobId}
 use Rattle.rt_ids.specs.declared.names.Key.{Key}
 use Rattle.rt_ids.specs.Names.{is_number}
 use Rattle.rt_ids.specs.Work.{number_if}
 use Rattle.rt_jobs.specs.Ready.{IsReady}
-use Rattle.rt_taskqueue.specs.Queues.{QueuesView, waiting_of, queue_count, held_count, ChangesLine, IsWithinLimits}
+use Rattle.rt_taskqueue.specs.Queues.{waiting_of, queue_count, ChangesLine, IsWithinLimits}
 use Rattle.rt_core.specs.declared.tally.Tally.{Tally}
-use Rattle.rt_core.specs.State.{CoreView, JobOut, no_tally, is_any, queue_out, tally_of, runtime_of, is_working, inside_count}
+use Rattle.rt_core.specs.State.{CoreView, JobOut, no_tally, is_any, queue_out, is_working}
 use Rattle.rt_timeline.specs.Rising.{inserted}
-use Rattle.rt_core.specs.Inside.{runtime_listed, may_run, unsettled_count, FitsTurns, IsCounted, IsListed, IsPollable, IsWithinTurns}
-use Rattle.rt_core.proofs.Listed.{eqb-self, eqb-apart}
-use Rattle.rt_core.proofs.Entries.{is_any-push, entry_of, may_run-same, entry_of-same, entry_of-none, entry_of-some, runtime_of-set_other, runtime_of-set_same, IsListed-kept, IsListed-inserted, IsListed-taken}
-use Rattle.rt_core.proofs.Fits.{tally_fits, other_fits, settled_fits}
+use Rattle.rt_core.specs.Inside.{may_run, unsettled_count, IsCounted, IsListed, IsPollable}
+use Rattle.rt_core.proofs.Entries.{is_any-push, entry_of, may_run-same, entry_of-same, entry_of-none, entry_of-some, runtime_of-set_other, runtime_of-set_same, IsListed-kept, IsListed-inserted}
 
 both_false : (any out : Bool) → (any || out) ≡ false → (any ≡ false) × (out ≡ false)
 both_false true out e = cc

@@ -7,7 +7,7 @@ use Rattle.rt_ids.specs.declared.note.Note.TheVariants as notes
 use Rattle.rt_jobs.specs.declared.job.Step.{Step}
 use Rattle.rt_jobs.specs.declared.job.Step.TheVariants as step
 use Rattle.rt_jobs.specs.Steps.{AfterPoll, IsSameTask}
-use Rattle.rt_taskqueue.specs.Queues.{QueuesView, waiting_of, ChangesLine}
+use Rattle.rt_taskqueue.specs.Queues.{waiting_of, ChangesLine}
 use Rattle.rt_core.specs.declared.turn.Settled.TheVariants.{Yielded, Finished}
 use Rattle.rt_core.specs.State.{CoreView, JobOut}
 use Rattle.rt_core.specs.Turns.{settled_view, Settles, SettlesOut}

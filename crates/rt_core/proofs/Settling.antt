@@ -1,17 +1,16 @@
 -- What holds inside a core as the job that is out comes back.
-use Rattle.std.proofs.Common.{◌≡◌, ◌≢◌, inl, inr, ℕ, ◌+◌, ◌*◌, ◌^◌, ◌<◌, ◌≤◌, Bool, true, false, cond, List, [], ◌∷◌, ◌++◌, length, Option, Some, None, refl, sym, ap, ◌∙◌, subst, arith, eqb, length-append}
-use Rattle.std.specs.Prelude.{◌⊎◌, ◌&&◌, not, All, IfSome, is_some, slice_set}
+use Rattle.std.proofs.Common.{◌≡◌, ◌≢◌, inl, inr, ℕ, ◌<◌, Bool, true, false, List, length, Option, Some, None, refl, sym, ap, ◌∙◌, subst, arith}
+use Rattle.std.specs.Prelude.{◌⊎◌, ◌&&◌, not, All, is_some, slice_set}
 use Rattle.std.proofs.lemmas.Bool.{cases_eq}
 use Rattle.std.proofs.lemmas.List.Elements.{All-set, All-weaker}
-use Rattle.rt_ids.specs.declared.names.JobId.{JobId}
 use Rattle.rt_ids.specs.declared.names.Key.{Key}
 use Rattle.rt_ids.specs.Names.{is_number}
 use Rattle.rt_ids.specs.Work.{number_if}
-use Rattle.rt_taskqueue.specs.Queues.{QueuesView, waiting_of, queue_count, held_count, ChangesLine, IsWithinLimits}
+use Rattle.rt_taskqueue.specs.Queues.{waiting_of}
 use Rattle.rt_core.specs.declared.tally.Tally.{Tally}
-use Rattle.rt_core.specs.State.{CoreView, JobOut, is_any, queue_out, inside_count}
+use Rattle.rt_core.specs.State.{CoreView, JobOut, is_any, queue_out}
 use Rattle.rt_timeline.specs.Rising.{inserted}
-use Rattle.rt_core.specs.Inside.{may_run, unsettled_count, FitsTurns, IsCounted, IsListed, IsWithinTurns}
+use Rattle.rt_core.specs.Inside.{may_run, unsettled_count, FitsTurns, IsListed, IsWithinTurns}
 use Rattle.rt_core.proofs.Listed.{eqb-self, eqb-apart}
 use Rattle.rt_core.proofs.Entries.{entry_of, entry_of-same, entry_of-none, entry_of-some, runtime_of-set_other, runtime_of-set_same, IsListed-kept, IsListed-inserted}
 use Rattle.rt_core.proofs.Fits.{settled_fits}

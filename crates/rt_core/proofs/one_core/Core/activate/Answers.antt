@@ -1,7 +1,6 @@
-use Rattle.std.proofs.Common.{◌≡◌, ◌<◌, true, false, refl, sym, ◌∙◌, ap, subst, arith, length, length-set}
+use Rattle.std.proofs.Common.{◌≡◌, ◌<◌, false, refl, sym, ◌∙◌, ap, subst, arith, length, length-set}
 use Rattle.std.specs.Prelude.{Bool, List, slice_set, slice_index_or}
 use Rattle.std.proofs.lemmas.List.Elements.{All-set}
-use Rattle.rt_ids.specs.declared.names.Key.{Key}
 use Rattle.rt_taskqueue.specs.Queues.{queue_count}
 use Rattle.rt_core.specs.declared.tally.Tally.{Tally}
 use Rattle.rt_taskqueue.specs.Slips.{queues_alone}

@@ -1,10 +1,10 @@
-use Rattle.std.proofs.Common.{◌≡◌, ◌+◌, ◌<◌, List, [], ◌∷◌, ◌++◌, refl, sym, ◌∙◌, ap, subst, arith, length, length-append}
+use Rattle.std.proofs.Common.{List, [], ◌∷◌, refl, ◌∙◌, ap, subst, arith, length, length-append}
 use Rattle.std.specs.Prelude.{slice_index_or}
 use Rattle.std.proofs.lemmas.List.Elements.{All-push}
 use Rattle.rt_taskqueue.specs.Queues.{queue_count, AddsQueue}
 use Rattle.rt_core.specs.declared.tally.Tally.{Tally}
 use Rattle.rt_taskqueue.specs.Slips.{queues_alone}
-use Rattle.rt_core.specs.State.{CoreView, no_tally}
+use Rattle.rt_core.specs.State.{no_tally}
 use Rattle.rt_core.specs.Inside.{core_view, job_out, unsettled_count, FitsTurns}
 use Rattle.rt_core.proofs.Fits.{no_tally_fits, IsBounded-from_turns}
 use Rattle.rt_core.proofs.Parts.{IsPollable-same}

@@ -1,4 +1,4 @@
-use Rattle.std.proofs.Common.{◌≡◌, ◌≤◌, Result, subst, arith}
+use Rattle.std.proofs.Common.{subst, arith}
 use Rattle.rt_core.specs.Deliveries.{CreatesQueue}
 use Rattle.rt_core.proofs.Outcomes.{same_cores, delivers_created}
 use Rattle.rt_core.proofs.one_core.Core.deliver_create.Goals as goal

@@ -1,7 +1,7 @@
-use Rattle.std.proofs.Common.{◌≡◌, ◌+◌, ◌<◌, ◌≤◌, Bool, true, false, length, Option, Some, None, refl, sym, ◌∙◌, ap, subst, arith, length-set}
+use Rattle.std.proofs.Common.{◌≡◌, ◌<◌, true, length, Option, Some, None, refl, sym, ◌∙◌, ap, subst, arith, length-set}
 use Rattle.std.specs.Prelude.{is_some, slice_index_or, slice_set}
 use Rattle.rt_ids.specs.Work.{number_if}
-use Rattle.rt_taskqueue.specs.Queues.{queue_count, waiting_of, shares_of}
+use Rattle.rt_taskqueue.specs.Queues.{waiting_of, shares_of}
 use Rattle.rt_taskqueue.specs.Slips.{queues_alone}
 use Rattle.rt_core.specs.State.{JobOut, is_any}
 use Rattle.rt_core.specs.Inside.{core_view, job_out, unsettled_count, FitsTurns}
@@ -11,7 +11,7 @@ use Rattle.rt_core.proofs.Counting.{IsCounted-finishes, some_inside}
 use Rattle.rt_core.proofs.Entries.{is_any-from_some}
 use Rattle.rt_core.proofs.Listed.{LacksQueue-from_none}
 use Rattle.rt_core.proofs.Parts.{IsPollable-same}
-use Rattle.rt_core.proofs.Settling.{out_entry, IsListed-again, IsListed-no_more, IsWithinTurns-settles}
+use Rattle.rt_core.proofs.Settling.{out_entry, IsListed-again, IsWithinTurns-settles}
 use Rattle.rt_core.proofs.SlipsKept.{KeepsSlips-inserted, slip_there}
 use Rattle.rt_core.proofs.one_core.Core.finish_out.Goals as goal
 

@@ -1,5 +1,5 @@
 use Rattle.std.proofs.Common.{sym, ◌∙◌, ap, subst}
-use Rattle.std.specs.Prelude.{Option, unwrap_or}
+use Rattle.std.specs.Prelude.{unwrap_or}
 use Rattle.rt_jobs.specs.Steps.{IfDone}
 use Rattle.rt_core.proofs.PollsSettled.{settles_yield, settles_done, answers_out}
 use Rattle.rt_core.proofs.one_core.Core.settle.Goals as goal

@@ -1,12 +1,12 @@
-use Rattle.std.proofs.Common.{◌≡◌, ◌+◌, ◌*◌, ◌^◌, ◌<◌, ◌≤◌, Bool, false, List, [], ◌∷◌, length, max, drop, Option, Some, None, refl, sym, ◌∙◌, ap, subst, arith, length-set}
+use Rattle.std.proofs.Common.{◌≡◌, ◌+◌, ◌*◌, ◌^◌, ◌<◌, ◌≤◌, Bool, false, List, ◌∷◌, length, max, drop, Option, Some, None, refl, sym, ◌∙◌, ap, subst, arith, length-set}
 use Rattle.std.specs.Prelude.{All, is_some, slice_index_or, slice_set}
 use Rattle.std.proofs.lemmas.List.Elements.{All-head, All-tail}
 use Rattle.rt_ids.specs.Work.{number_if}
 use Rattle.rt_jobs.specs.Ready.{IsReady}
-use Rattle.rt_taskqueue.specs.Queues.{queue_count, waiting_of, ChangesLine}
+use Rattle.rt_taskqueue.specs.Queues.{waiting_of, ChangesLine}
 use Rattle.rt_core.specs.declared.tally.Tally.{Tally}
 use Rattle.rt_taskqueue.specs.Slips.{queues_alone}
-use Rattle.rt_core.specs.State.{CoreView, JobOut, no_tally, runtime_of}
+use Rattle.rt_core.specs.State.{CoreView, JobOut}
 use Rattle.rt_core.specs.Inside.{core_view, job_out, KeepsSlips, unsettled_count, FitsTurns}
 use Rattle.rt_core.proofs.Charging.{tally_read}
 use Rattle.rt_core.proofs.Counting.{IsCounted-picks}

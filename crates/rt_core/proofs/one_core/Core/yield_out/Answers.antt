@@ -1,7 +1,7 @@
-use Rattle.std.proofs.Common.{◌≡◌, ◌+◌, ◌<◌, ◌≤◌, Bool, true, false, length, List, Option, Some, None, refl, sym, ◌∙◌, ap, subst, arith, length-set}
+use Rattle.std.proofs.Common.{◌≡◌, ◌<◌, Bool, true, false, length, List, Option, Some, None, refl, sym, ◌∙◌, ap, subst, arith, length-set}
 use Rattle.std.specs.Prelude.{is_some, slice_index_or, slice_set}
 use Rattle.rt_ids.specs.Work.{number_if}
-use Rattle.rt_taskqueue.specs.Queues.{queue_count, waiting_of, shares_of}
+use Rattle.rt_taskqueue.specs.Queues.{waiting_of, shares_of}
 use Rattle.rt_taskqueue.specs.Slips.{queues_alone}
 use Rattle.rt_core.specs.State.{JobOut, is_any}
 use Rattle.rt_core.specs.Inside.{core_view, job_out, unsettled_count, FitsTurns}

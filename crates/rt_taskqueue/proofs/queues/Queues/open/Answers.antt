@@ -1,4 +1,4 @@
-use Rattle.std.proofs.Common.{◌≡◌, refl, sym, ◌∙◌, ap, arith}
+use Rattle.std.proofs.Common.{arith}
 use Rattle.rt_taskqueue.proofs.OwnSlips.{HasOwnSlips-one}
 use Rattle.rt_taskqueue.proofs.queues.Queues.open.Goals as goal
 

@@ -1,4 +1,4 @@
-use Rattle.std.proofs.Common.{◌≡◌, ◌<◌, length, map, None, ap, sym, ◌∙◌, arith}
+use Rattle.std.proofs.Common.{◌<◌, length, map, None, ap, sym, ◌∙◌, arith}
 use Rattle.std.specs.Prelude.{is_some}
 use Rattle.rt_taskqueue.specs.Slips.{SlippedView, queues_alone, has_slip}
 use Rattle.rt_taskqueue.proofs.PlainLemmas.{exists-plain}
