@@ -1,27 +1,22 @@
 -- What the lines of a script say keeps within the limits.
-use Rattle.std.proofs.Common.{IfOk, eqb, ap, zero-add, ◌∙◌, ◌⊎◌, ◌≡◌, ◌≢◌, ℕ, ◌+◌, ◌-◌, ◌≤◌, ◌<◌, ◌++◌, ◌==◌, ◌&&◌, Bool, true, false, not, cond, List, [], ◌∷◌, length, Option, Some, None, Result, Ok, Err, refl, sym, arith, nat_lt, nat_le, rules}
-use Rattle.std.proofs.lemmas.Bool.Decides.{nat_tests, eqb_tells}
-use Rattle.std.proofs.lemmas.Grind.{common_steps}
-use Rattle.std.specs.List.{All, count_by}
+use Rattle.std.proofs.Common.{IfOk, eqb, ap, zero-add, ◌∙◌, ◌≡◌, ℕ, ◌+◌, ◌-◌, ◌≤◌, ◌<◌, ◌++◌, ◌==◌, Bool, true, false, cond, List, [], ◌∷◌, Option, Some, None, Result, Ok, Err, refl, arith}
+use Rattle.std.proofs.lemmas.Bool.Decides.{nat_tests}
 use Rattle.std.proofs.lemmas.List.Sums.{sum_by-append}
 use Rattle.std.proofs.lemmas.List.Elements.{All-push}
 use Rattle.rt_jobs.specs.Scripts.{Script}
 use Rattle.rt_world.specs.declared.event.Event.{Event}
 use Rattle.rt_script.specs.declared.number.Flaw.{Flaw}
-use Rattle.rt_script.specs.declared.number.Flaw.TheVariants.{Misspelled, OutOfRange}
 use Rattle.rt_script.specs.declared.fault.Cause.{Cause}
 use Rattle.rt_script.specs.declared.line.Line.{Line}
-use Rattle.rt_script.specs.declared.line.Line.TheVariants.{Size, Queue, Step}
 use Rattle.rt_script.specs.declared.keyword.Keyword.{Keyword}
 use Rattle.rt_script.specs.declared.keyword.Keyword.TheVariants as keyword
 use Rattle.rt_script.specs.Causes.{or_cause}
-use Rattle.rt_script.specs.Numbers.{number_of, within}
-use Rattle.rt_script.specs.Keywords.{keyword_of, takes, is_queue}
-use Rattle.rt_script.specs.Words.{first, others, second, third, word_count}
-use Rattle.rt_script.specs.Fields.{both, made, core_field, shares_field, fixed_field}
-use Rattle.rt_script.specs.Lines.{size_line, queue_line, line_of, counts, first_line, keyword_line, later_line}
-use Rattle.rt_script.specs.Drafts.{Drafted, queue_lines, with_line}
-use Rattle.rt_script.specs.Limits.{IsSize, IsSized, ArePlaced, IsWithinLimits, IsCoreOf, MayFollow, AreEventsOf, IsEventFor, IsEventOf}
+use Rattle.rt_script.specs.Numbers.{number_of}
+use Rattle.rt_script.specs.Keywords.{keyword_of}
+use Rattle.rt_script.specs.Words.{first, others, third}
+use Rattle.rt_script.specs.Lines.{size_line, queue_line, line_of, first_line, keyword_line, later_line}
+use Rattle.rt_script.specs.Drafts.{Drafted, queue_lines}
+use Rattle.rt_script.specs.Limits.{ArePlaced, IsWithinLimits, IsCoreOf, MayFollow, AreEventsOf, IsEventFor, IsEventOf}
 use Rattle.rt_script.proofs.FieldLemmas.{made_ok, both_ok, within_ok}
 use Rattle.rt_script.proofs.EventLimits.{submit_line_ok, create_line_ok, shares_line_ok, deliver_line_ok, turn_line_ok}
 

@@ -1,5 +1,5 @@
 -- A world with its queues, before the first event.
-use Rattle.std.proofs.Common.{◌≡◌, ℕ, ◌+◌, ◌≤◌, List, [], ◌∷◌, ◌++◌, length, Option, Some, refl, sym, ap, ◌∙◌, subst, arith, All}
+use Rattle.std.proofs.Common.{◌≡◌, ℕ, List, [], ◌∷◌, ◌++◌, length, Option, refl, sym, ap, ◌∙◌, subst, arith, All}
 use Rattle.std.specs.Io.KnownBytes.{Keeps, Appends}
 use Rattle.std.proofs.KnownBytes.{Appends-trans}
 use Rattle.rt_ids.specs.Commands.{last_queue}
@@ -8,11 +8,10 @@ use Rattle.rt_jobs.specs.Scripts.{Script}
 use Rattle.rt_world.specs.declared.event.Event.{Event}
 use Rattle.rt_world.specs.Opening.{IsFresh}
 use Rattle.rt_world.specs.State.{journal_at}
-use Rattle.rt_script.specs.Drafts.{queue_lines}
 use Rattle.rt_script.specs.Limits.{HasFewQueues, IsEventOf}
 use Rattle.rt_script.specs.Outputs.{WritesAll}
 use Rattle.rt_script.specs.Rooms.{MayMake, IsRoomy}
-use Rattle.rt_script.specs.Transcripts.{ScriptWorld, PrintsAll, script_room, with_queue, with_queues}
+use Rattle.rt_script.specs.Transcripts.{ScriptWorld, script_room, with_queue, with_queues}
 use Rattle.rt_script.proofs.KnownLemmas.{Appends-more_kept}
 
 -- in a fresh world all queues of a script may be made

@@ -1,11 +1,11 @@
 -- How the polls of a job are read one after another.
-use Rattle.std.proofs.Common.{suc, ◌≡◌, ◌≤◌, ◌+◌, ℕ, ◌++◌, List, [], ◌∷◌, length, Option, Result, Ok, Err, refl, ap, sym, ◌∙◌, append_assoc, arith, cond, true, false, Bool, eqb}
+use Rattle.std.proofs.Common.{suc, ◌≡◌, ◌≤◌, ◌+◌, ℕ, ◌++◌, List, [], ◌∷◌, length, Result, Ok, Err, refl, ap, sym, ◌∙◌, append_assoc, arith, cond, true, false, Bool, eqb}
 use Rattle.rt_jobs.specs.declared.poll.Poll.{Poll}
 use Rattle.rt_jobs.specs.declared.poll.Poll.TheVariants.{Yield, Done}
 use Rattle.rt_jobs.specs.Scripts.{EndsDone, IsScript}
 use Rattle.rt_script.specs.declared.number.Flaw.{Flaw}
 use Rattle.rt_script.specs.declared.number.Flaw.TheVariants.{Misspelled, OutOfRange}
-use Rattle.rt_script.specs.Fields.{both, made, yield_field, done_field, polls_field, count_field}
+use Rattle.rt_script.specs.Fields.{both, made, yield_field, done_field, polls_field}
 use Rattle.rt_script.specs.Words.{first, others}
 use Rattle.rt_script.proofs.FieldLemmas.{made_ok, both_ok}
 

@@ -1,5 +1,5 @@
 -- Notes as lines, one after another.
-use Rattle.std.proofs.Common.{◌≡◌, ℕ, zero, suc, ◌+◌, List, [], ◌∷◌, ◌++◌, length, Option, Some, None, refl, sym, ap, ◌∙◌, subst, arith, append_assoc, codes, drop}
+use Rattle.std.proofs.Common.{◌≡◌, ℕ, zero, suc, ◌+◌, List, [], ◌∷◌, ◌++◌, Some, None, refl, sym, ap, ◌∙◌, arith, append_assoc, codes, drop}
 use Rattle.std.specs.Prelude.{slice_get}
 use Rattle.rt_ids.specs.declared.note.Note.{Note}
 use Rattle.rt_script.specs.Notes.{note_line}

@@ -1,13 +1,12 @@
 -- How a text falls into lines while it is read.
-use Rattle.std.proofs.Common.{◌≡◌, ◌≢◌, ℕ, ◌+◌, ◌≤◌, ◌++◌, ◌==◌, Bool, true, false, List, [], ◌∷◌, length, Result, Ok, Err, refl, ap, sym, ◌∙◌, append_assoc, arith, eqb}
+use Rattle.std.proofs.Common.{◌≡◌, ℕ, ◌+◌, ◌≤◌, ◌++◌, ◌==◌, Bool, true, false, List, [], ◌∷◌, length, Ok, Err, refl, ap, sym, ◌∙◌, arith}
 use Rattle.std.proofs.lemmas.List.Splits.{slice_split_none, slice_split-cons_no, slice_split-cons_yes}
-use Rattle.std.proofs.lemmas.List.Elements.{All-head, All-tail, All-push}
+use Rattle.std.proofs.lemmas.List.Elements.{All-head, All-tail}
 use Rattle.std.specs.List.{slice_split, onto_first}
 use Rattle.std.proofs.lemmas.List.{append-nil}
-use Rattle.rt_script.specs.declared.fault.Cause.{Cause}
 use Rattle.rt_script.specs.Feeds.{HasNoFeed}
-use Rattle.rt_script.specs.Drafts.{Drafted, judged}
-use Rattle.rt_script.specs.Scripts.{ended_lines, text_lines, Fault, go_on, judged_from, whole, Reading, script_from}
+use Rattle.rt_script.specs.Drafts.{judged}
+use Rattle.rt_script.specs.Scripts.{ended_lines, text_lines, Fault, go_on, judged_from, Reading, script_from}
 
 abbrev is_feed : ℕ → Bool
 is_feed byte = byte == 10

@@ -1,5 +1,5 @@
 -- A world after one event: its size stays, and its journals have at most four notes more.
-use Rattle.std.proofs.Common.{◌≡◌, ◌≢◌, ◌⊎◌, inl, inr, ℕ, zero, suc, ◌+◌, ◌*◌, ◌≤◌, ◌<◌, List, [], ◌∷◌, ◌++◌, length, Option, Some, None, refl, sym, ap, ◌∙◌, subst, arith, set, get_or, get_or-set_same, get_or-set_other, length-append, slice_get, unwrap_or}
+use Rattle.std.proofs.Common.{◌≡◌, ◌≢◌, ◌⊎◌, inl, inr, ℕ, zero, suc, ◌+◌, ◌≤◌, ◌<◌, List, [], ◌∷◌, ◌++◌, length, Option, Some, None, refl, sym, ap, ◌∙◌, subst, arith, get_or, get_or-set_same, get_or-set_other, length-append, slice_get, unwrap_or}
 use Rattle.std.proofs.lemmas.List.{set_past}
 use Rattle.rt_ids.specs.declared.names.JobId.{JobId}
 use Rattle.rt_ids.specs.declared.note.Note.{Note}
@@ -14,7 +14,7 @@ use Rattle.rt_world.specs.declared.event.Event.{Event}
 use Rattle.rt_world.specs.declared.event.Event.TheVariants.{Send, Deliver, Turn}
 use Rattle.rt_world.specs.declared.event.Reply.{Reply}
 use Rattle.rt_world.specs.declared.event.Reply.TheVariants as reply
-use Rattle.rt_world.specs.State.{WorldView, journal_at, noted, order_note, with_sent, IsNearlyFull}
+use Rattle.rt_world.specs.State.{journal_at, noted, order_note, with_sent, IsNearlyFull}
 use Rattle.rt_world.specs.Sends.{actor_of, AreThere, Sends}
 use Rattle.rt_world.specs.Deliveries.{IsDelivery, with_effect, Delivers}
 use Rattle.rt_world.specs.Turns.{Turns, settle_note, poll_note}

@@ -1,5 +1,5 @@
 -- A script as far as its lines are judged.
-use Rattle.std.specs.Prelude.{ℕ, ◌==◌, ◌++◌, ◌∷◌, [], Bool, true, false, List, length, Option, Some, None, Result, Ok, Err, nat_lt, if◌then◌else◌, count_by}
+use Rattle.std.specs.Prelude.{ℕ, ◌==◌, ◌++◌, ◌∷◌, [], Bool, true, List, length, Option, Some, None, Result, Ok, Err, nat_lt, if◌then◌else◌, count_by}
 use Rattle.rt_jobs.specs.Scripts.{Script}
 use Rattle.rt_world.specs.declared.event.Event.{Event}
 use Rattle.rt_script.specs.declared.line.Line.{Line}

@@ -1,5 +1,5 @@
 -- Why a run stops.
-use Rattle.std.specs.Prelude.{ℕ, ◌++◌, List, codes, decimal, Option, None, Some, ◌≡◌}
+use Rattle.std.specs.Prelude.{ℕ, ◌++◌, List, codes, decimal}
 use Rattle.rt_script.specs.declared.fault.Cause.{Cause}
 use Rattle.rt_script.specs.declared.fault.EngineFault.{EngineFault}
 use Rattle.rt_script.specs.declared.fault.EngineFault.TheVariants.{Text, Read, Write, Memory}

@@ -1,8 +1,7 @@
 -- What one line of a script says.
-use Rattle.std.specs.Prelude.{ℕ, ◌&&◌, ◌==◌, not, Bool, true, false, List, codes, length, Option, Some, None, Result, Ok, Err, if◌then◌else◌}
+use Rattle.std.specs.Prelude.{ℕ, ◌&&◌, ◌==◌, not, Bool, false, List, codes, Option, Some, None, Result, Err, if◌then◌else◌}
 use Rattle.std.specs.Str.{bytes_eq}
 use Rattle.rt_ids.specs.declared.order.Order.TheVariants as order
-use Rattle.rt_jobs.specs.Scripts.{Script}
 use Rattle.rt_world.specs.declared.event.Event.TheVariants.{Send, Deliver, Turn}
 use Rattle.rt_script.specs.declared.number.Flaw.{Flaw}
 use Rattle.rt_script.specs.declared.line.Line.{Line}

@@ -1,5 +1,5 @@
 -- The words of a line.
-use Rattle.std.specs.Prelude.{ℕ, ◌&&◌, Bool, List, [], ◌∷◌, length, nat_lt, ◌==◌, Option, Some, None, if◌then◌else◌}
+use Rattle.std.specs.Prelude.{ℕ, Bool, List, [], ◌∷◌, length, nat_lt, ◌==◌, Option, Some, None, if◌then◌else◌}
 use Rattle.std.specs.List.{slice_split, list_all}
 
 -- what stands between the spaces of a line: as many words as it has spaces, and one more

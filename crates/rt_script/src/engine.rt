@@ -1,6 +1,6 @@
 //! Runs a script on the model, and prints what happens.
 
-ghost use Rattle.std.specs.Prelude.{◌≡◌, ◌≢◌, ◌≤◌, ◌<◌, ◌+◌, ◌++◌, [], ℕ, List, length, drop, reverse, IfOk, IfErr, OnOk, OnErr, IfSome, Err, Some, string_bytes};
+ghost use Rattle.std.specs.Prelude.{◌≡◌, ◌≢◌, ◌≤◌, ◌<◌, ◌+◌, ◌++◌, [], ℕ, List, length, drop, reverse, IfOk, IfErr, OnOk, OnErr, IfSome, Err, Some, true, string_bytes};
 ghost use Rattle.std.specs.Io.KnownBytes.{Keeps, Appends};
 ghost use Rattle.rt_world.specs.Opening.{IsFresh, IsUnbegun};
 ghost use Rattle.rt_world.specs.Sends.{actor_of};
@@ -48,8 +48,8 @@ pub fn run_script<R: Read, W: Write>(
     source: &mut R,
     sink: &mut W,
 ) -> Result<bool, EngineFault>
-    ensures done { IfOk result (λ done.
-        IsDone (R.remaining source.old) (W.contents sink.old) (W.contents sink.new)) }
+    ensures done { IfOk result (λ done. (done ≡ true)
+        × IsDone (R.remaining source.old) (W.contents sink.old) (W.contents sink.new)) }
     ensures faulty { IfErr result (IfText (λ fault.
         IfSome (R.remaining source.old) (λ text. script_of text ≡ Err fault))) }
     ensures silent { IfErr result (IfUnread (Keeps (W.contents sink.old) (W.contents sink.new))) }

@@ -1,4 +1,4 @@
-use Rattle.std.proofs.Common.{subst, sym, ap, ◌∙◌, refl, string_bytes}
+use Rattle.std.proofs.Common.{subst, sym, ap, ◌∙◌, refl}
 use Rattle.rt_script.specs.Rooms.{MayMake}
 use Rattle.rt_script.specs.Transcripts.{PrintsAll, with_queues}
 use Rattle.rt_script.proofs.OpeningLemmas.{fresh_may_make, made_roomy, made_events, all_written}

@@ -1,6 +1,5 @@
-use Rattle.std.proofs.Common.{sym, ap, ◌∙◌, ◌++◌, append-nil, string_bytes, None, arith}
+use Rattle.std.proofs.Common.{sym, ◌∙◌, append-nil, string_bytes, None, arith}
 use Rattle.std.proofs.lemmas.Result.{on_ok_weaker}
-use Rattle.rt_script.specs.Transcripts.{quiet_text}
 use Rattle.rt_script.proofs.EventTexts.{notes_printed, quiet_printed}
 use Rattle.rt_script.proofs.engine.print_event.Goals as goal
 

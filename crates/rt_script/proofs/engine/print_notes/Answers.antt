@@ -1,5 +1,4 @@
-use Rattle.std.proofs.Common.{ap, sym, ◌++◌, drop, ◌∙◌, ◌≡◌, reverse, string_bytes}
-use Rattle.std.specs.Prelude.{slice_get, Some, None}
+use Rattle.std.proofs.Common.{ap, sym, ◌++◌, drop, ◌∙◌, reverse, string_bytes}
 use Rattle.rt_script.specs.Transcripts.{note_lines}
 use Rattle.rt_script.proofs.PrintLemmas.{next_line, no_line}
 use Rattle.rt_script.proofs.engine.print_notes.Goals as goal

@@ -1,4 +1,4 @@
-use Rattle.std.proofs.Common.{◌≡◌, ◌≤◌, length, sym, ap, ◌∙◌, arith, rules}
+use Rattle.std.proofs.Common.{arith}
 use Rattle.rt_script.proofs.PollLemmas.{joined_more, length-others}
 use Rattle.rt_script.proofs.polls.read_polls.Goals as goal
 

@@ -1,4 +1,4 @@
-use Rattle.std.proofs.Common.{◌-◌, ◌≤◌, length, take, drop, arith, length-take, length-drop, min}
+use Rattle.std.proofs.Common.{◌-◌, ◌≤◌, length, take, drop, arith, length-take}
 use Rattle.rt_script.proofs.KnownLemmas.{Appends-more}
 use Rattle.rt_script.proofs.steady.write_all.Goals as goal
 

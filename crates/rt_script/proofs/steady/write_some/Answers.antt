@@ -1,5 +1,3 @@
-use Rattle.std.proofs.Common.{[], take, List, ℕ}
-use Rattle.std.specs.Io.KnownBytes.{Appends}
 use Rattle.rt_script.proofs.KnownLemmas.{Keeps-from_none, Keeps-chain}
 use Rattle.rt_script.proofs.steady.write_some.Goals as goal
 

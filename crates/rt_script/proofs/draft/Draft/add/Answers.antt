@@ -1,4 +1,4 @@
-use Rattle.std.proofs.Common.{arith, rules}
+use Rattle.std.proofs.Common.{rules}
 use Rattle.rt_script.proofs.LimitLemmas.{limits_more}
 use Rattle.rt_script.proofs.draft.Draft.add.Goals as goal
 

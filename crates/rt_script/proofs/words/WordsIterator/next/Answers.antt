@@ -1,4 +1,4 @@
-use Rattle.std.proofs.Common.{◌∙◌, rules, arith}
+use Rattle.std.proofs.Common.{◌∙◌, rules}
 use Rattle.rt_script.proofs.WordLemmas.{words_at, words_end, words_shown}
 use Rattle.rt_script.proofs.words.WordsIterator.next.Goals as goal
 
