@@ -4,64 +4,20 @@ ghost use Rattle.rt_jobs.specs.Ready.{HasReadyJob};
 use crate::{Core, Delivered, Notes, PickError, Settled, Turn};
 use linked_list_allocator::LocalHeap;
 use rt_ids::{ActorNo, Answer, CoreNo, Envelope, JobId, Note, Order, QueueNo, Reason};
-use rt_jobs::{Job, Poll, Ran, ScriptJob, Step, Task};
+use rt_jobs::{Poll, Ran, ScriptJob, Task};
 use rt_shares::Shares;
 use rt_taskqueue::CreateError;
 use std::alloc::{AllocError, Allocator, Global};
 use std::process::Abort;
 use std::test::Fail;
 
+mod steps;
+
+use steps::Steps;
+
 const FIRST: QueueNo = QueueNo(0);
 
 const SECOND: QueueNo = QueueNo(1);
-
-/// A job that yields so many times, then answers 0, and tells no time.
-#[derive(PartialEq, Eq, Debug, Drop)]
-struct Steps {
-    left: u8,
-    done: bool,
-}
-
-impl Task for Steps {
-    ghost use Rattle.std.specs.Prelude.{None};
-
-    type Out = u64;
-
-    ghost SameTask = { λ _ _. Unit {0} };
-
-    ghost done = { λ steps. steps.done };
-
-    ghost made = { λ _. 0 };
-
-    ghost says = { λ _. None };
-
-    ghost Polls = { λ _ _ _ _. Unit {0} };
-
-    ghost Answers = { λ _ _. Unit {0} };
-
-    ghost same_task = { record { itself = λ _. tt; back = λ _ _ _. tt; along = λ _ _ _ _ _. tt } };
-
-    ghost answers_same = { λ _ _ _ _ _. tt };
-
-    fn is_done(&self) -> bool {
-        self.done
-    }
-
-    fn told(&self) -> Option<u64> {
-        None
-    }
-}
-
-impl Job for Steps {
-    fn poll(&mut self) -> Step<u64> {
-        if self.left > 0 {
-            self.left -= 1;
-            return Step::Yield;
-        }
-        self.done = true;
-        Step::Done(0)
-    }
-}
 
 fn name(number: u64) -> JobId {
     JobId {
