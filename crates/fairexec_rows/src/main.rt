@@ -6,10 +6,9 @@
 
 use rt_script::{EngineFault, Status, run_script};
 use std::alloc::Global;
-use std::io;
 use std::process::ExitCode;
 use std::rt::Files;
-use std::{fs, str};
+use std::{fs, io, str};
 
 fn main(rt: HostRuntime) -> io::Result<ExitCode> {
     let rows = fs::read_to_string(&rt, "rows")?;
