@@ -6,7 +6,18 @@ use Rattle.rt_ids.specs.declared.names.Key.{Key}
 use Rattle.rt_timeline.specs.Tree.{KeyTree, fewest, IsFilled, IsLow}
 use Rattle.rt_timeline.specs.declared.tree.Link.{Link}
 use Rattle.rt_timeline.specs.declared.tree.Link.TheVariants.{Empty, Top}
-use Rattle.rt_timeline.specs.Nodes.{key_of, seen, DifferByAtMost, IsBalanced}
+use Rattle.rt_timeline.specs.declared.tree.Lean.{Lean}
+use Rattle.rt_timeline.specs.declared.tree.Lean.TheVariants.{Left, Even, Right}
+use Rattle.rt_timeline.specs.Nodes.{key_of, seen, Leans, IsBalanced}
+
+-- neither height is more than one above the other
+abbrev DifferByOne : ℕ → ℕ → Type 0
+DifferByOne one other = (one ≤ other + 1) × (other ≤ one + 1)
+
+Leans-near : (lean : Lean) (left right : ℕ) → Leans lean left right → DifferByOne left right
+Leans-near Left left right leans = (omega arith, omega arith)
+Leans-near Even left right leans = (omega arith, omega arith)
+Leans-near Right left right leans = (omega arith, omega arith)
 
 fewest-rises : (height : ℕ) → fewest height ≤ fewest (suc height)
 fewest-rises zero = omega arith
@@ -18,7 +29,7 @@ fewest-suc zero = omega arith
 fewest-suc (suc height) = omega (arith, fewest-rises height)
 
 -- two trees of heights that differ by at most one, joined by one key
-fewest-joined : (left right m n : ℕ) → fewest left ≤ m + 1 → fewest right ≤ n + 1 → DifferByAtMost 1 left right → fewest (max left right + 1) ≤ (m + suc n) + 1
+fewest-joined : (left right m n : ℕ) → fewest left ≤ m + 1 → fewest right ≤ n + 1 → DifferByOne left right → fewest (max left right + 1) ≤ (m + suc n) + 1
 fewest-joined left right m n many more near =
     elim (cases_order left right) [
       | inl same ↦ let e : max left right + 1 ≡ suc left = omega arith in rw e (let s : fewest right ≡ fewest left = cc in omega (arith, fewest-suc left))
@@ -26,14 +37,14 @@ fewest-joined left right m n many more near =
       | inr (inr higher) ↦ let r : left ≡ suc right = omega arith in let e : max left right + 1 ≡ suc (suc right) = omega arith in rw e (let s : fewest left ≡ fewest (suc right) = cc in omega (arith, fewest-rises right))
     ]
 
-pub IsFilled-joined : (left : KeyTree) (key : Key) (right : KeyTree) → IsFilled left → IsFilled right → DifferByAtMost 1 left.height right.height → IsFilled (record { keys = left.keys ++ key ∷ right.keys; height = max left.height right.height + 1 })
+pub IsFilled-joined : (left : KeyTree) (key : Key) (right : KeyTree) → IsFilled left → IsFilled right → DifferByOne left.height right.height → IsFilled (record { keys = left.keys ++ key ∷ right.keys; height = max left.height right.height + 1 })
 IsFilled-joined left key right many more near =
     rw length-append (fewest-joined left.height right.height (length left.keys) (length right.keys) many more near)
 
 pub IsFilled-seen : {A : Type 0} (root : Link A) → IsBalanced root → IsFilled (seen root)
 IsFilled-seen Empty balanced = omega arith
 IsFilled-seen (Top node) balanced =
-    rw balanced.stored (IsFilled-joined node.value.left (key_of node.value) node.value.right balanced.left_filled balanced.right_filled balanced.near)
+    IsFilled-joined node.value.left (key_of node.value) node.value.right balanced.left_filled balanced.right_filled (Leans-near node.value.lean node.value.left.height node.value.right.height balanced.leans)
 
 fewest-pos : (height : ℕ) → 1 ≤ fewest height
 fewest-pos zero = omega arith

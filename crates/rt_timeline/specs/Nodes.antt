@@ -1,10 +1,12 @@
 -- What a node of the tree is seen as with its two sides, and what holds of it.
-use Rattle.std.specs.Prelude.{◌≡◌, ℕ, ◌+◌, ◌^◌, ◌<◌, ◌≤◌, max, List, [], ◌∷◌, ◌++◌, length}
+use Rattle.std.specs.Prelude.{◌≡◌, ℕ, ◌+◌, ◌<◌, Bool, true, false, max, List, [], ◌∷◌, ◌++◌}
 use Rattle.rt_ids.specs.declared.names.Key.{Key}
+use Rattle.rt_timeline.specs.declared.tree.Lean.{Lean}
+use Rattle.rt_timeline.specs.declared.tree.Lean.TheVariants.{Left, Even, Right}
 use Rattle.rt_timeline.specs.declared.tree.Node.{Node}
 use Rattle.rt_timeline.specs.declared.tree.Link.{Link}
 use Rattle.rt_timeline.specs.declared.tree.Link.TheVariants.{Empty, Top}
-use Rattle.rt_timeline.specs.Tree.{KeyTree, empty_tree, fewest, IsFilled}
+use Rattle.rt_timeline.specs.Tree.{KeyTree, empty_tree, IsFilled}
 
 -- the key that the node holds
 abbrev pub key_of : {A : Type 0} → Node A → Key
@@ -14,49 +16,66 @@ key_of node = record { vr = node.vr; queue = node.queue }
 abbrev pub keys_of : {A : Type 0} → Node A → List Key
 keys_of node = node.left.keys ++ key_of node ∷ node.right.keys
 
--- the keys in order, and the height that the top node stores
+-- the keys in order, and one level more than the higher side has
 abbrev pub seen : {A : Type 0} → Link A → KeyTree
 seen Empty = empty_tree
-seen (Top node) = record { keys = keys_of node.value; height = node.value.height }
+seen (Top node) = record { keys = keys_of node.value; height = max node.value.left.height node.value.right.height + 1 }
 
--- neither height is more than this above the other
-abbrev pub DifferByAtMost : ℕ → ℕ → ℕ → Type 0
-DifferByAtMost by one other = (one ≤ other + by) × (other ≤ one + by)
+-- the side that the lean names is one level higher than the other
+abbrev pub Leans : Lean → ℕ → ℕ → Type 0
+Leans Left left right = left ≡ right + 1
+Leans Even left right = left ≡ right
+Leans Right left right = right ≡ left + 1
 
--- a node over two sides stores its height in 16 bits, its sides differ by at most one level, and each has keys enough
-pub record IsInBalance (left right : KeyTree) (height : ℕ) : Type 0 where
-  pub stored : height ≡ max left.height right.height + 1
-  pub fits : height < 2 ^ 16
-  pub near : DifferByAtMost 1 left.height right.height
+-- a node over two sides leans as it says, and each side has keys enough
+pub record IsInBalance (left right : KeyTree) (lean : Lean) : Type 0 where
+  pub leans : Leans lean left.height right.height
   pub left_filled : IsFilled left
   pub right_filled : IsFilled right
 
 -- the top node is in balance, if there is one
 abbrev pub IsBalanced : {A : Type 0} → Link A → Type 0
 IsBalanced Empty = Unit {0}
-IsBalanced (Top node) = IsInBalance node.value.left node.value.right node.value.height
-
--- the node with the height that its sides give it
-abbrev pub IsSettled : {A : Type 0} → Node A → Node A → Type 0
-IsSettled node settled = settled ≡ record node { height = max node.left.height node.right.height + 1 }
+IsBalanced (Top node) = IsInBalance node.value.left node.value.right node.value.lean
 
 -- a node out of any tree, with nothing on its sides
 abbrev pub IsLoose : {A : Type 0} → Node A → Type 0
 IsLoose node = (node.left ≡ empty_tree) × (node.right ≡ empty_tree)
 
--- the heights of the sides leave room for one more, and differ by at most two
-abbrev pub IsNearlyBalanced : {A : Type 0} → Link A → Type 0
-IsNearlyBalanced Empty = Unit {0}
-IsNearlyBalanced (Top node) = (max node.value.left.height node.value.right.height < 65535) × DifferByAtMost 2 node.value.left.height node.value.right.height
+-- the left side is one level higher against the right one than the lean says
+abbrev pub TiltsLeft : {A : Type 0} → Link A → Type 0
+TiltsLeft Empty = ⊥
+TiltsLeft (Top node) = Leans node.value.lean node.value.left.height (node.value.right.height + 1)
 
--- the height of what a node with sides of these heights settles to
-abbrev pub IsHeightAfterRebalance : ℕ → ℕ → ℕ → Type 0
-IsHeightAfterRebalance left right height = (max left right ≤ height) × (height ≤ max left right + 1) × (DifferByAtMost 1 left right → height ≡ max left right + 1)
+-- the right side is one level higher against the left one than the lean says
+abbrev pub TiltsRight : {A : Type 0} → Link A → Type 0
+TiltsRight Empty = ⊥
+TiltsRight (Top node) = Leans node.value.lean (node.value.left.height + 1) node.value.right.height
 
--- the new node is balanced, has the same keys, and has a height that the old sides allow
-abbrev pub RebalancesTo : {A : Type 0} → Link A → Link A → Type 0
-RebalancesTo Empty new = new ≡ Empty
-RebalancesTo (Top node) new = IsBalanced new × ((seen new).keys ≡ keys_of node.value) × IsHeightAfterRebalance node.value.left.height node.value.right.height (seen new).height
+-- the left side is two levels higher than the right one
+abbrev pub IsTwoHigherOnLeft : {A : Type 0} → Link A → Type 0
+IsTwoHigherOnLeft Empty = ⊥
+IsTwoHigherOnLeft (Top node) = node.value.left.height ≡ node.value.right.height + 2
+
+-- the right side is two levels higher than the left one
+abbrev pub IsTwoHigherOnRight : {A : Type 0} → Link A → Type 0
+IsTwoHigherOnRight Empty = ⊥
+IsTwoHigherOnRight (Top node) = node.value.right.height ≡ node.value.left.height + 2
+
+-- the height of what a node settles to whose sides have these heights: its sides are even then, or one has a level more
+abbrev pub IsTiltHeight : Bool → ℕ → ℕ → ℕ → Type 0
+IsTiltHeight true lower higher height = height + height ≡ lower + higher + 2
+IsTiltHeight false lower higher height = (lower < higher) × (height ≡ higher + 1)
+
+-- the new node is balanced, has the same keys, and has the height that the old sides, of which the left one tilts, allow
+abbrev pub IsUprightLeft : {A : Type 0} → Link A → Link A → Bool → Type 0
+IsUprightLeft Empty new even = ⊥
+IsUprightLeft (Top node) new even = IsBalanced new × ((seen new).keys ≡ keys_of node.value) × IsTiltHeight even node.value.right.height node.value.left.height (seen new).height
+
+-- the same where the right one tilts
+abbrev pub IsUprightRight : {A : Type 0} → Link A → Link A → Bool → Type 0
+IsUprightRight Empty new even = ⊥
+IsUprightRight (Top node) new even = IsBalanced new × ((seen new).keys ≡ keys_of node.value) × IsTiltHeight even node.value.left.height node.value.right.height (seen new).height
 
 -- there is a top node, with nothing on its left
 abbrev pub HasOnlyRight : {A : Type 0} → Link A → Type 0

@@ -45,8 +45,6 @@ impl<A: Allocator> Timeline<A> {
         requires absent { LacksQueue slip self.old.keys }
         ensures keys { self.new.keys ≡ inserted (record { vr = vr; queue = slip }) self.old.keys }
     {
-        // At most 256 queues: the tree is low, and the number of its levels fits.
-        prove!(self.tree.height() <= 18);
         self.tree.insert(slip.into_node(vr));
         self.len += 1;
     }
@@ -70,7 +68,7 @@ impl<A: Allocator> Timeline<A> {
         if self.len == 0 {
             return None;
         }
-        let node = self.tree.take_first();
+        let (node, _lower) = self.tree.take_first();
         self.len -= 1;
         Some((node.key(), Slip::from_node(node)))
     }
@@ -83,7 +81,7 @@ impl<A: Allocator> Timeline<A> {
         ensures slip { IfSome result (λ slip. slip ≡ key.queue) }
         ensures absent { IfSome result (λ slip. LacksQueue slip self.new.keys) }
     {
-        let node = self.tree.remove(&key)?;
+        let (node, _lower) = self.tree.remove(&key)?;
         self.len -= 1;
         Some(Slip::from_node(node))
     }
@@ -118,7 +116,8 @@ impl<A: Allocator> Timeline<A> {
         ensures value { result ≡ self.now.height }
         ensures low { IsLow self.now }
     {
-        usize::from(self.tree.height())
+        self.tree.know_filled();
+        self.tree.height()
     }
 
     /// All slips, by rising key.

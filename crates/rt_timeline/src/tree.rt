@@ -1,5 +1,5 @@
 //! The tree behind the timeline: balanced nodes, each seen with what hangs on it as keys and a height.
-ghost use Rattle.std.specs.Prelude.{◌≡◌, ◌+◌, ◌<◌, ◌≤◌, ◌↔◌, ◌∷◌, length, Some, is_some, IfSome, IfNone, IsTrue};
+ghost use Rattle.std.specs.Prelude.{◌≡◌, ◌+◌, ◌^◌, ◌<◌, ◌↔◌, ◌∷◌, true, false, length, Some, is_some, IfSome, IfNone, IsTrue};
 ghost use Rattle.rt_timeline.specs.Rising.{IsRising, stands_before, has_key, has_queue, first_key, inserted, removed};
 ghost use Rattle.rt_timeline.specs.Tree.{empty_tree, IsFilled};
 ghost use Rattle.rt_timeline.specs.Nodes.{seen, key_of, keys_of, IsBalanced, IsLoose};
@@ -11,7 +11,7 @@ use std::mem;
 
 mod balance;
 
-use balance::{parted, rebalance, settled, without_left};
+use balance::{parted, put, tilt_left, tilt_right, without_left};
 
 /// A side of a node, or the whole: balanced at every level.
 #[cycle(tree)]
@@ -27,12 +27,20 @@ pub(crate) enum Link<A: Allocator> {
     Top(Box<Node<A>, A>),
 }
 
+/// Which side of a node is one level higher.
+#[derive(Clone, Copy, Drop)]
+pub(crate) enum Lean {
+    Left,
+    Even,
+    Right,
+}
+
 #[cycle(tree)]
 #[derive(Drop)]
 pub(crate) struct Node<A: Allocator> {
     pub(crate) vr: u128,
     pub(crate) queue: QueueNo,
-    height: u16,
+    lean: Lean,
     left: Tree<A>,
     right: Tree<A>,
 }
@@ -63,20 +71,30 @@ impl<A: Allocator> Tree<A> {
         Tree { root: Link::Empty }
     }
 
-    pub(crate) fn height(&self) -> u16
-        ensures value { result ≡ self.now.height }
-        ensures filled { IsFilled self.now }
-        ensures empty { result ≡ 0 → self.now ≡ empty_tree }
-        ensures some { 0 < result → 0 < length self.now.keys }
+    /// How many levels the tree has. It goes down the higher side.
+    pub(crate) fn height(&self) -> usize
+        requires { self.now.height < 2 ^ 16 }
+        ensures { result ≡ self.now.height }
     {
         match &self.root {
             Link::Empty => 0,
-            Link::Top(node) => node.height,
+            Link::Top(node) => match node.lean {
+                Lean::Right => node.right.height() + 1,
+                Lean::Left | Lean::Even => node.left.height() + 1,
+            },
         }
     }
 
+    /// For the proofs alone: a tree has as many keys as its height asks for.
+    pub(crate) fn know_filled(&self)
+        ensures { IsFilled self.now }
+    {
+        let _root = &self.root;
+    }
+
     fn is_empty(&self) -> bool
-        ensures { IsTrue result ↔ (self.now ≡ empty_tree) }
+        ensures empty { IsTrue result ↔ (self.now ≡ empty_tree) }
+        ensures some { result ≡ false → 0 < length self.now.keys }
     {
         match &self.root {
             Link::Empty => true,
@@ -104,7 +122,7 @@ impl<A: Allocator> Node<A> {
         Node {
             vr: 0,
             queue,
-            height: 0,
+            lean: Lean::Even,
             left: Tree::new(),
             right: Tree::new(),
         }
@@ -167,100 +185,103 @@ impl<A: Allocator> Tree<A> {
         }
     }
 
-    /// Puts a node in the place of its key.
+    /// Puts a node in the place of its key, and tells whether the tree is as high as before.
     #[tactic(auto, using(crate::proofs::Rising::around))]
-    pub(crate) fn insert(&mut self, node: Box<Node<A>, A>)
+    pub(crate) fn insert(&mut self, mut node: Box<Node<A>, A>) -> bool
         requires loose { IsLoose node.value }
         requires rising { IsRising self.old.keys }
-        requires room { self.old.height < 65535 }
         ensures keys { self.new.keys ≡ inserted (key_of node.value) self.old.keys }
-        ensures not_lower { self.old.height ≤ self.new.height }
-        ensures at_most_one_higher { self.new.height ≤ self.old.height + 1 }
+        ensures as_high { result ≡ true → self.new.height ≡ self.old.height }
+        ensures higher { result ≡ false → self.new.height ≡ self.old.height + 1 }
     {
         match &mut self.root {
             Link::Empty => {
-                self.root = Link::Top(settled(node));
+                node.lean = Lean::Even;
+                put(&mut self.root, node);
+                false
             }
             Link::Top(top) => {
                 let top: &mut Node<A> = top;
                 if is_before(&node.key(), &top.key()) {
-                    let before = top.left.height();
-                    top.left.insert(node);
-                    if top.left.height() != before {
-                        rebalance(&mut self.root);
+                    let as_high = top.left.insert(node);
+                    top.left.know_filled();
+                    if as_high {
+                        return true;
                     }
+                    tilt_left(&mut self.root)
                 } else {
-                    let before = top.right.height();
-                    top.right.insert(node);
-                    if top.right.height() != before {
-                        rebalance(&mut self.root);
+                    let as_high = top.right.insert(node);
+                    top.right.know_filled();
+                    if as_high {
+                        return true;
                     }
+                    tilt_right(&mut self.root)
                 }
             }
         }
     }
 
-    /// Takes the node of the first key out.
-    pub(crate) fn take_first(&mut self) -> Box<Node<A>, A>
+    /// Takes the node of the first key out, and tells whether the tree is one level lower.
+    pub(crate) fn take_first(&mut self) -> (Box<Node<A>, A>, bool)
         requires { 0 < length self.old.keys }
-        ensures first { self.old.keys ≡ key_of result.value ∷ self.new.keys }
-        ensures loose { IsLoose result.value }
-        ensures not_higher { self.new.height ≤ self.old.height }
-        ensures at_most_one_lower { self.old.height ≤ self.new.height + 1 }
+        ensures first { self.old.keys ≡ key_of result.0.value ∷ self.new.keys }
+        ensures loose { IsLoose result.0.value }
+        ensures lower { result.1 ≡ true → self.old.height ≡ self.new.height + 1 }
+        ensures as_high { result.1 ≡ false → self.old.height ≡ self.new.height }
     {
         match &mut self.root {
             Link::Empty => unreachable!(),
             Link::Top(top) => {
                 let top: &mut Node<A> = top;
-                let before = top.left.height();
-                if before == 0 {
-                    return without_left(&mut self.root);
+                if top.left.is_empty() {
+                    return (without_left(&mut self.root), true);
                 }
-                let first = top.left.take_first();
-                if top.left.height() != before {
-                    rebalance(&mut self.root);
+                let (first, lower) = top.left.take_first();
+                top.left.know_filled();
+                if !lower {
+                    return (first, false);
                 }
-                first
+                (first, tilt_right(&mut self.root))
             }
         }
     }
 
-    /// Takes the node of this key out, if it is there.
+    /// Takes the node of this key out, if it is there, and tells whether the tree is one level lower.
     #[tactic(auto, using(crate::proofs::Rising::around))]
-    pub(crate) fn remove(&mut self, key: &Key) -> Option<Box<Node<A>, A>>
+    pub(crate) fn remove(&mut self, key: &Key) -> Option<(Box<Node<A>, A>, bool)>
         requires { IsRising self.old.keys }
         ensures found { is_some result ≡ has_key key.now self.old.keys }
         ensures unchanged { IfNone result (self.new ≡ self.old) }
         ensures keys { self.new.keys ≡ removed key.now self.old.keys }
-        ensures same_key { IfSome result (λ node. key_of node.value ≡ key.now) }
-        ensures loose { IfSome result (λ node. IsLoose node.value) }
-        ensures not_higher { self.new.height ≤ self.old.height }
-        ensures at_most_one_lower { self.old.height ≤ self.new.height + 1 }
+        ensures same_key { IfSome result (λ taken. key_of taken.0.value ≡ key.now) }
+        ensures loose { IfSome result (λ taken. IsLoose taken.0.value) }
+        ensures lower { IfSome result (λ taken. taken.1 ≡ true → self.old.height ≡ self.new.height + 1) }
+        ensures as_high { IfSome result (λ taken. taken.1 ≡ false → self.old.height ≡ self.new.height) }
     {
         if let Link::Top(top) = &mut self.root {
             let top: &mut Node<A> = top;
             if is_before(key, &top.key()) {
-                let before = top.left.height();
-                let found = top.left.remove(key);
-                if top.left.height() != before {
-                    rebalance(&mut self.root);
+                let (node, lower) = top.left.remove(key)?;
+                top.left.know_filled();
+                if !lower {
+                    return Some((node, false));
                 }
-                return found;
+                return Some((node, tilt_right(&mut self.root)));
             }
             if is_before(&top.key(), key) {
-                let before = top.right.height();
-                let found = top.right.remove(key);
-                if top.right.height() != before {
-                    rebalance(&mut self.root);
+                let (node, lower) = top.right.remove(key)?;
+                top.right.know_filled();
+                if !lower {
+                    return Some((node, false));
                 }
-                return found;
+                return Some((node, tilt_left(&mut self.root)));
             }
         }
         match mem::replace(&mut self.root, Link::Empty) {
             Link::Top(top) => {
-                let (node, rest) = parted(top);
+                let (node, rest, lower) = parted(top);
                 self.root = rest.open();
-                Some(node)
+                Some((node, lower))
             }
             Link::Empty => None,
         }

@@ -1,16 +1,8 @@
-use Rattle.std.proofs.Common.{◌≡◌, ◌+◌, ◌^◌, ◌<◌, ◌≤◌, length, arith, subst}
+use Rattle.std.proofs.Common.{◌≡◌, ◌+◌, ◌<◌, length, arith}
 use Rattle.rt_ids.specs.declared.names.Key.{Key}
 use Rattle.rt_timeline.specs.Rising.{LacksQueue, IsOfQueues}
-use Rattle.rt_timeline.proofs.Heights.{IsLow-from_filled}
 use Rattle.rt_timeline.proofs.Queues.{length-le-256, length-inserted, IsOfQueues-inserted}
 use Rattle.rt_timeline.proofs.timeline.Timeline.insert.Goals as goal
-
-pub prove-unreachable-requires : goal.prove-unreachable-requires
-prove-unreachable-requires g c =
-    let tree = c.self.inside.tree in
-    let few = length-le-256 tree.keys c.self.invariant.0 in
-    let low : tree.height ≤ 18 = IsLow-from_filled tree c.height.ensures.filled 9 (omega arith) in
-    omega arith
 
 pub overflow_add-self : goal.overflow_add-self
 overflow_add-self g c = omega (arith, length-le-256 c.self.inside.tree.keys c.self.invariant.0)
