@@ -1,12 +1,12 @@
 -- The polls of a script job, by what the job keeps of them.
-use Rattle.std.proofs.Common.{◌≡◌, ℕ, zero, suc, ◌+◌, ◌-◌, ◌<◌, ◌≤◌, List, [], ◌∷◌, ◌++◌, length, map, get_or, refl, arith, sym, ◌∙◌, true, false, eq-eqb}
+use Rattle.std.proofs.Common.{◌≡◌, ℕ, zero, suc, ◌+◌, ◌<◌, ◌≤◌, List, [], ◌∷◌, ◌++◌, length, map, get_or, refl, arith, sym, ◌∙◌, false, eq-eqb}
 use Rattle.std.specs.Prelude.{Some, slice_get, ◌==◌}
 use Rattle.std.proofs.lemmas.Bool.{true≢false}
 use Rattle.rt_jobs.specs.declared.poll.Poll.{Poll}
 use Rattle.rt_jobs.specs.declared.poll.Poll.TheVariants as poll
 use Rattle.rt_jobs.specs.declared.poll.Yielding.{Yielding}
 use Rattle.rt_jobs.specs.declared.job.Step.TheVariants as steps
-use Rattle.rt_jobs.specs.Scripts.{script_polls, yielding_poll, EndsDone, IsScript, Does, IsAnswer, time_of, time_told}
+use Rattle.rt_jobs.specs.Scripts.{script_polls, yielding_poll, EndsDone, IsScript, Does, IsAnswer, time_told}
 
 -- one poll more than those that yield
 pub length-script_polls : (yields : List Yielding) (told value : ℕ) → length (script_polls yields told value) ≡ length yields + 1

@@ -1,5 +1,5 @@
 -- The order of keys, and the test of it.
-use Rattle.std.proofs.Common.{◌≡◌, ◌⊎◌, ℕ, ◌<◌, Bool, true, false, sym, inl, inr, arith, Decides}
+use Rattle.std.proofs.Common.{◌≡◌, true, false, sym, inl, inr, arith, Decides}
 use Rattle.std.proofs.lemmas.Bool.{false_from_ne_true, both_ways, cases_order}
 use Rattle.std.proofs.lemmas.Bool.Decides.{Decides-and, Decides-or, Decides-ltb, Decides-eqb, not_from_Decides}
 use Rattle.rt_ids.specs.declared.names.Key.{Key}

@@ -1,5 +1,5 @@
 -- How many keys a balanced tree has at least.
-use Rattle.std.proofs.Common.{◌≡◌, ◌⊎◌, ℕ, zero, suc, ◌+◌, ◌*◌, ◌<◌, ◌≤◌, ◌^◌, max, ◌∷◌, ◌++◌, length, inl, inr, arith, length-append}
+use Rattle.std.proofs.Common.{◌≡◌, ℕ, zero, suc, ◌+◌, ◌*◌, ◌<◌, ◌≤◌, ◌^◌, max, ◌∷◌, ◌++◌, length, inl, inr, arith, length-append}
 use Rattle.std.proofs.lemmas.Bool.{cases_order}
 use Rattle.std.proofs.Math.Nat.{pow-suc}
 use Rattle.rt_ids.specs.declared.names.Key.{Key}

@@ -1,6 +1,6 @@
 -- Keys that come and go in a list by their place, as in a sorted `Vec`.
-use Rattle.std.proofs.Common.{◌≡◌, ◌≢◌, ℕ, zero, suc, ◌<◌, Bool, true, false, cond, ◌||◌, eqb, List, [], ◌∷◌, ◌++◌, take, drop, refl, sym, ap, ◌∙◌, inl, inr}
-use Rattle.std.specs.List.{insert, remove, position_or_len, list_any}
+use Rattle.std.proofs.Common.{◌≡◌, ℕ, Bool, true, false, ◌||◌, eqb, List, [], ◌∷◌, refl, ap, inl, inr}
+use Rattle.std.specs.List.{insert, remove, position_or_len}
 use Rattle.std.proofs.Math.Numerals.{one-add}
 use Rattle.std.proofs.lemmas.Bool.{cases_Bool, both_ways}
 use Rattle.rt_ids.specs.declared.names.Key.{Key}

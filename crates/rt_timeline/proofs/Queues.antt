@@ -1,5 +1,5 @@
 -- The queues of the keys of a timeline, where a key comes or goes.
-use Rattle.std.proofs.Common.{◌≡◌, ◌≢◌, ℕ, suc, ◌+◌, ◌<◌, ◌≤◌, Bool, true, false, not, cond, ◌||◌, eqb, List, [], ◌∷◌, length, refl, sym, ap, ◌∙◌, inl, inr, arith}
+use Rattle.std.proofs.Common.{◌≡◌, ◌≢◌, ℕ, ◌+◌, ◌<◌, ◌≤◌, true, false, eqb, List, [], ◌∷◌, length, refl, sym, inl, inr, arith}
 use Rattle.std.specs.List.{list_any, IsDistinct, AllByRecursion}
 use Rattle.std.proofs.lemmas.Bool.{cases_Bool, or_cases, or_parts, both_ways, ne_eqb, eqb-true, eqb-false}
 use Rattle.std.proofs.lemmas.List.{length-map}
@@ -7,7 +7,7 @@ use Rattle.std.proofs.lemmas.Map.Steps.{length-le_from_distinct_below}
 use Rattle.rt_ids.specs.declared.names.Key.{Key}
 use Rattle.rt_timeline.specs.Rising.{StandsBefore, stands_before, same_key, EachKey, IsRising, LacksQueue, HasDistinctQueues, IsOfQueues, has_queue, inserted, removed, queues_of}
 use Rattle.rt_timeline.proofs.Before.{Decides-stands_before, Decides-same_key, StandsBefore-trans, same_key-between}
-use Rattle.rt_timeline.proofs.Rising.{AreOthers, EachKey-weaker, removed-others, others_behind}
+use Rattle.rt_timeline.proofs.Rising.{EachKey-weaker}
 
 other_numbers : (queue : ℕ) (keys : List Key) → LacksQueue queue keys → AllByRecursion (λ other. eqb queue other ≡ false) (queues_of keys)
 other_numbers queue [] lacks = tt

@@ -1,9 +1,9 @@
 -- How many keys are left where one is removed, and that its queue is none of theirs.
-use Rattle.std.proofs.Common.{◌≡◌, ◌≢◌, ℕ, zero, suc, ◌+◌, ◌<◌, Bool, true, false, not, cond, ◌||◌, List, [], ◌∷◌, length, get_or, Contains, refl, sym, ap, ◌∙◌, inl, inr, arith, Decides}
+use Rattle.std.proofs.Common.{◌≡◌, ◌≢◌, ℕ, zero, suc, ◌+◌, ◌<◌, true, false, List, [], ◌∷◌, length, get_or, Contains, refl, sym, ap, ◌∙◌, inl, inr, arith, Decides}
 use Rattle.std.proofs.lemmas.Bool.{cases_Bool, both_ways, or_left, or_right}
 use Rattle.std.proofs.lemmas.Map.Views.{Contains-from_any}
 use Rattle.rt_ids.specs.declared.names.Key.{Key}
-use Rattle.rt_timeline.specs.Rising.{StandsBefore, same_key, EachKey, IsRising, LacksQueue, HasDistinctQueues, has_key, removed}
+use Rattle.rt_timeline.specs.Rising.{same_key, IsRising, LacksQueue, HasDistinctQueues, has_key, removed}
 use Rattle.rt_timeline.proofs.Before.{Decides-same_key}
 use Rattle.rt_timeline.proofs.Rising.{EachKey-weaker, removed-same}
 

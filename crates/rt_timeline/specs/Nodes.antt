@@ -1,5 +1,5 @@
 -- What a node of the tree is seen as with its two sides, and what holds of it.
-use Rattle.std.specs.Prelude.{◌≡◌, ℕ, ◌+◌, ◌<◌, Bool, true, false, max, List, [], ◌∷◌, ◌++◌}
+use Rattle.std.specs.Prelude.{◌≡◌, ℕ, ◌+◌, ◌<◌, Bool, true, false, max, List, ◌∷◌, ◌++◌}
 use Rattle.rt_ids.specs.declared.names.Key.{Key}
 use Rattle.rt_timeline.specs.declared.tree.Lean.{Lean}
 use Rattle.rt_timeline.specs.declared.tree.Lean.TheVariants.{Left, Even, Right}

@@ -1,5 +1,5 @@
 -- What a contract sees of a tree of keys, and when the tree is balanced.
-use Rattle.std.specs.Prelude.{◌≡◌, ℕ, zero, suc, ◌+◌, ◌*◌, ◌^◌, ◌<◌, ◌≤◌, max, List, [], ◌∷◌, ◌++◌, length}
+use Rattle.std.specs.Prelude.{ℕ, zero, suc, ◌+◌, ◌*◌, ◌^◌, ◌<◌, ◌≤◌, List, [], length}
 use Rattle.rt_ids.specs.declared.names.Key.{Key}
 
 -- the keys in rising order, and how many levels the tree has

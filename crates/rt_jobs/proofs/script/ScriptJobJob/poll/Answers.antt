@@ -1,4 +1,4 @@
-use Rattle.std.proofs.Common.{◌≡◌, arith, add-one}
+use Rattle.std.proofs.Common.{arith, add-one}
 use Rattle.rt_jobs.proofs.ScriptLemmas.{Does-yield, Does-last, IsAnswer-script_polls, last_is_next}
 use Rattle.rt_jobs.proofs.script.ScriptJobJob.poll.Goals as goal
 use Rattle.rt_jobs.proofs.script.ScriptJobJob.poll.Goals.{then-place-yields, else-place-yields}

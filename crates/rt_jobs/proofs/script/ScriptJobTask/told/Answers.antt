@@ -1,4 +1,4 @@
-use Rattle.std.proofs.Common.{◌≡◌, ◌+◌, ◌-◌, ◌<◌, suc, length, arith}
+use Rattle.std.proofs.Common.{◌-◌, arith}
 use Rattle.rt_jobs.proofs.ScriptLemmas.{length-script_polls, time_told-yield, time_told-last}
 use Rattle.rt_jobs.proofs.script.ScriptJobTask.told.Goals as goal
 

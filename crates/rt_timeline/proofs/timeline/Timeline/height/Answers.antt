@@ -1,5 +1,5 @@
-use Rattle.std.proofs.Common.{◌^◌, ◌<◌, ◌≤◌, arith, subst}
-use Rattle.rt_timeline.specs.Tree.{IsFilled, IsLow}
+use Rattle.std.proofs.Common.{◌≤◌, arith, subst}
+use Rattle.rt_timeline.specs.Tree.{IsFilled}
 use Rattle.rt_timeline.proofs.Heights.{IsLow-from_filled}
 use Rattle.rt_timeline.proofs.Queues.{length-le-256}
 use Rattle.rt_timeline.proofs.timeline.Timeline.height.Goals as goal

@@ -1,6 +1,6 @@
-use Rattle.std.proofs.Common.{◌≡◌, ◌+◌, ◌<◌, length, arith}
+use Rattle.std.proofs.Common.{arith}
 use Rattle.rt_ids.specs.declared.names.Key.{Key}
-use Rattle.rt_timeline.specs.Rising.{LacksQueue, IsOfQueues}
+use Rattle.rt_timeline.specs.Rising.{LacksQueue}
 use Rattle.rt_timeline.proofs.Queues.{length-le-256, length-inserted, IsOfQueues-inserted}
 use Rattle.rt_timeline.proofs.timeline.Timeline.insert.Goals as goal
 

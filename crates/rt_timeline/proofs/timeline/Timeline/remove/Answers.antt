@@ -1,5 +1,5 @@
-use Rattle.std.proofs.Common.{◌≡◌, ◌+◌, ◌≤◌, true, length, Contains, sym, refl, ◌∙◌, arith, rules}
-use Rattle.rt_timeline.specs.Rising.{has_key, removed}
+use Rattle.std.proofs.Common.{◌≡◌, true, Contains, refl, arith, rules}
+use Rattle.rt_timeline.specs.Rising.{has_key}
 use Rattle.rt_timeline.proofs.Queues.{IsOfQueues-removed}
 use Rattle.rt_timeline.proofs.Removed.{length-removed, LacksQueue-removed, Decides-has_key}
 use Rattle.rt_timeline.proofs.timeline.Timeline.remove.Goals as goal
