@@ -4,6 +4,10 @@
 //! `NAME.refused` is the line that tells why.
 #![tactic(auto)]
 
+ghost use Rattle.std.specs.Prelude.{◌≡◌, ◌++◌, Err, IfOk, codes, decimal, string_bytes};
+ghost use Rattle.rt_script.specs.EngineFaults.{fault_text};
+ghost use Rattle.rt_script.specs.Statuses.{code_of, status_of};
+
 use rt_script::{EngineFault, Status, run_script};
 use std::alloc::Global;
 use std::process::ExitCode;
@@ -47,7 +51,10 @@ fn is_as_written<R: Files + AllocGlobal>(rt: &R, name: &str) -> io::Result<bool>
 }
 
 /// What is told of a refusal: the exit status, and the line.
-fn told(alloc: Global, fault: EngineFault) -> io::Result<String> {
+fn told(alloc: Global, fault: EngineFault) -> io::Result<String>
+    ensures { IfOk result (λ text. string_bytes text
+        ≡ codes "status " ++ decimal (code_of (status_of (Err fault))) ++ codes "\n" ++ fault_text fault ++ codes "\n") }
+{
     let status = Status::of(&Err(fault)).code();
     Ok(format!(in alloc; "status {status}\n{fault}\n")?)
 }
