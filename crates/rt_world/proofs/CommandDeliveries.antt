@@ -23,6 +23,7 @@ use Rattle.rt_core.specs.State.{CoreView, inside_count}
 use Rattle.rt_core.specs.Deliveries.{Creates, Weighs, counted}
 use Rattle.rt_world.specs.State.{order_note, assembly_of}
 use Rattle.rt_world.specs.Deliveries.{IsDelivery}
+use Rattle.rt_world.specs.Turns.{polls_made}
 use Rattle.rt_world.specs.Links.{link_at, ChangesLink}
 use Rattle.rt_world.specs.Inside.{Parts, core_at, notes_at, world_of}
 use Rattle.rt_world.specs.Tasks.{IsWorld}
@@ -60,6 +61,9 @@ module _ {J T : Type 0} (same : J → J → Type 0) (made : J → ℕ) (polls : 
   sent_as : (what : Order J) → order ≡ what → order_of name (assembly_of (world_of old)) ≡ Some (order_note what)
   sent_as = next_delivery.sent_as same made polls fits ready old world sender core there core_there order at number next
 
+  was_polls_twice : (which : JobId) → polls_made which journal + 0 + 0 ≡ polls_made which journal
+  was_polls_twice = delivered.was_polls_twice same made polls fits ready is_same old world sender core there core_there order at number next links changes taken law
+
   abbrev IsCarriedOut : CoreView J → Journal T → Type 0
   IsCarriedOut = delivered.IsCarriedOut same made polls fits ready is_same old world sender core there core_there order at number next links changes taken law
 
@@ -70,13 +74,25 @@ module _ {J T : Type 0} (same : J → J → Type 0) (made : J → ℕ) (polls : 
   pub creates_queue : (after_core : CoreView J) (queue weight : ℕ) → order ≡ Create weight → InRange weight → queue ≡ queue_count view.queues →
       Creates view weight after_core → after_core.delivered ≡ counted name view →
       Results after_core (writes.Created queue weight ∷ writes.Answered name (answers.Created queue) ∷ [])
-  creates_queue after_core queue weight is in_range number_is creates now = (
-    delivered.delivered_world same made polls fits ready is_same old world sender core there core_there order at number next links changes taken law after_core (writes.Created queue weight ∷ writes.Answered name (answers.Created queue) ∷ journal) done
-        (tt, (ap is_command (delivered.stays_sent same made polls fits ready is_same old world sender core there core_there order at number next links changes taken law after_core (writes.Created queue weight ∷ writes.Answered name (answers.Created queue) ∷ journal) done name (Create weight) (sent_as (Create weight) is)), delivered.journal_sent same made polls fits ready is_same old world sender core there core_there order at number next links changes taken law after_core (writes.Created queue weight ∷ writes.Answered name (answers.Created queue) ∷ journal) done))
-        (delivered.tasks_same same made polls fits ready is_same old world sender core there core_there order at number next links changes taken law after_core (writes.Created queue weight ∷ writes.Answered name (answers.Created queue) ∷ journal) done creates.added.same_lines (delivered.was_polls_twice same made polls fits ready is_same old world sender core there core_there order at number next links changes taken law)),
-    subst (λ what. IsDelivery name what journal (writes.Created queue weight ∷ writes.Answered name (answers.Created queue) ∷ [])) (sym is)
-        (answers.Created queue, answered.0, refl),
-  )
+  creates_queue after_core queue weight is in_range number_is creates now =
+      let sent =
+      delivered.stays_sent same made polls fits ready is_same old world sender core there core_there order at number next links changes taken law
+      after_core (writes.Created queue weight ∷ writes.Answered name (answers.Created queue) ∷ journal) done in
+      let journal_sent =
+      delivered.journal_sent same made polls fits ready is_same old world sender core there core_there order at number next links changes taken law
+      after_core (writes.Created queue weight ∷ writes.Answered name (answers.Created queue) ∷ journal) done in
+      let tasks =
+      delivered.tasks_same same made polls fits ready is_same old world sender core there core_there order at number next links changes taken law
+      after_core (writes.Created queue weight ∷ writes.Answered name (answers.Created queue) ∷ journal) done in
+      let world_after =
+      delivered.delivered_world same made polls fits ready is_same old world sender core there core_there order at number next links changes taken law
+      after_core (writes.Created queue weight ∷ writes.Answered name (answers.Created queue) ∷ journal) done in (
+        world_after
+            (tt, (ap is_command (sent name (Create weight) (sent_as (Create weight) is)), journal_sent))
+            (tasks creates.added.same_lines was_polls_twice),
+        subst (λ what. IsDelivery name what journal (writes.Created queue weight ∷ writes.Answered name (answers.Created queue) ∷ [])) (sym is)
+            (answers.Created queue, answered.0, refl),
+      )
     where
       answered : IsAnswer (Create weight) (answers.Created queue) journal × IsKept core old.cap after_core (writes.Created queue weight ∷ writes.Answered name (answers.Created queue) ∷ journal)
       answered = kept-created core old.cap view after_core name queue weight journal kept is_next its_sender in_range now number_is creates
@@ -101,13 +117,25 @@ module _ {J T : Type 0} (same : J → J → Type 0) (made : J → ℕ) (polls : 
   pub sets_shares : (after_core : CoreView J) (queue weight : ℕ) → order ≡ SetShares queue weight → InRange weight →
       Weighs view queue weight after_core → after_core.delivered ≡ counted name view →
       Results after_core (writes.SharesSet queue weight ∷ writes.Answered name answers.SharesSet ∷ [])
-  sets_shares after_core queue weight is in_range weighs now = (
-    delivered.delivered_world same made polls fits ready is_same old world sender core there core_there order at number next links changes taken law after_core (writes.SharesSet queue weight ∷ writes.Answered name answers.SharesSet ∷ journal) done
-        (tt, (ap is_command (delivered.stays_sent same made polls fits ready is_same old world sender core there core_there order at number next links changes taken law after_core (writes.SharesSet queue weight ∷ writes.Answered name answers.SharesSet ∷ journal) done name (SetShares queue weight) (sent_as (SetShares queue weight) is)), delivered.journal_sent same made polls fits ready is_same old world sender core there core_there order at number next links changes taken law after_core (writes.SharesSet queue weight ∷ writes.Answered name answers.SharesSet ∷ journal) done))
-        (delivered.tasks_same same made polls fits ready is_same old world sender core there core_there order at number next links changes taken law after_core (writes.SharesSet queue weight ∷ writes.Answered name answers.SharesSet ∷ journal) done weighs.shares.same_lines (delivered.was_polls_twice same made polls fits ready is_same old world sender core there core_there order at number next links changes taken law)),
-    subst (λ what. IsDelivery name what journal (writes.SharesSet queue weight ∷ writes.Answered name answers.SharesSet ∷ [])) (sym is)
-        (answers.SharesSet, answered.0, refl),
-  )
+  sets_shares after_core queue weight is in_range weighs now =
+      let sent =
+      delivered.stays_sent same made polls fits ready is_same old world sender core there core_there order at number next links changes taken law
+      after_core (writes.SharesSet queue weight ∷ writes.Answered name answers.SharesSet ∷ journal) done in
+      let journal_sent =
+      delivered.journal_sent same made polls fits ready is_same old world sender core there core_there order at number next links changes taken law
+      after_core (writes.SharesSet queue weight ∷ writes.Answered name answers.SharesSet ∷ journal) done in
+      let tasks =
+      delivered.tasks_same same made polls fits ready is_same old world sender core there core_there order at number next links changes taken law
+      after_core (writes.SharesSet queue weight ∷ writes.Answered name answers.SharesSet ∷ journal) done in
+      let world_after =
+      delivered.delivered_world same made polls fits ready is_same old world sender core there core_there order at number next links changes taken law
+      after_core (writes.SharesSet queue weight ∷ writes.Answered name answers.SharesSet ∷ journal) done in (
+        world_after
+            (tt, (ap is_command (sent name (SetShares queue weight) (sent_as (SetShares queue weight) is)), journal_sent))
+            (tasks weighs.shares.same_lines was_polls_twice),
+        subst (λ what. IsDelivery name what journal (writes.SharesSet queue weight ∷ writes.Answered name answers.SharesSet ∷ [])) (sym is)
+            (answers.SharesSet, answered.0, refl),
+      )
     where
       answered : IsAnswer (SetShares queue weight) answers.SharesSet journal × IsKept core old.cap after_core (writes.SharesSet queue weight ∷ writes.Answered name answers.SharesSet ∷ journal)
       answered = kept-weighed core old.cap view after_core name queue weight journal kept is_next its_sender in_range now weighs

@@ -75,6 +75,9 @@ module _ {J T : Type 0} (same : J → J → Type 0) (made : J → ℕ) (polls : 
   sent_as : (what : Order J) → order ≡ what → order_of name (assembly_of (world_of old)) ≡ Some (order_note what)
   sent_as = next_delivery.sent_as same made polls fits ready old world sender core there core_there order at number next
 
+  was_polls : (which : JobId) → polls_made which journal + 0 ≡ polls_made which journal
+  was_polls = delivered.was_polls same made polls fits ready is_same old world sender core there core_there order at number next links changes taken law
+
   abbrev IsCarriedOut : CoreView J → Journal T → Type 0
   IsCarriedOut = delivered.IsCarriedOut same made polls fits ready is_same old world sender core there core_there order at number next links changes taken law
 
@@ -102,8 +105,12 @@ module _ {J T : Type 0} (same : J → J → Type 0) (made : J → ℕ) (polls : 
 
     never_polled : polls_made name (journal_at core (world_of (after same made polls fits ready old core took (set old.inside core after_core) links))) ≡ 0
     never_polled =
-        ap (polls_made name) (journal_at-world (delivered.new same made polls fits ready is_same old world sender core there core_there order at number next links changes taken law after_core took took_done) core ∙ notes_now same made polls fits ready old world core (delivered.known same made polls fits ready is_same old world sender core there core_there order at number next links changes taken law after_core took took_done) took (set old.inside core after_core) links)
-        ∙ (delivered.was_polls same made polls fits ready is_same old world sender core there core_there order at number next links changes taken law name ∙ polls_made-fresh core old.cap name journal was_lawful.notes fresh)
+        ap (polls_made name)
+        (
+        journal_at-world (after same made polls fits ready old core took (set old.inside core after_core) links) core
+        ∙ notes_now same made polls fits ready old world core (omega (arith, core_there)) took (set old.inside core after_core) links
+        )
+        ∙ (was_polls name ∙ polls_made-fresh core old.cap name journal was_lawful.notes fresh)
       where
         fresh : number ≤ length (delivered_names sender journal) → ⊥
         fresh late = omega (arith, late, is_next.next)
@@ -111,7 +118,8 @@ module _ {J T : Type 0} (same : J → J → Type 0) (made : J → ℕ) (polls : 
     entering : HasTask same made polls (world_of (after same made polls fits ready old core took (set old.inside core after_core) links)) core queue name job
     entering = record {
       sent = job;
-      task = delivered.stays_under same made polls fits ready is_same old world sender core there core_there order at number next links changes taken law after_core took took_done name (Job queue job) (under_name ∙ ap Some is);
+      task = delivered.stays_under same made polls fits ready is_same old world sender core there core_there order at number next links changes taken law
+          after_core took took_done name (Job queue job) (under_name ∙ ap Some is);
       same_task = is_same.itself job;
       owes = subst (λ count. OwesAfter same made polls job count job) (sym never_polled) (λ more step told owed. subst (λ place. polls job (made job + place) step told) (sym (zero-add more)) owed);
     }
@@ -122,7 +130,8 @@ module _ {J T : Type 0} (same : J → J → Type 0) (made : J → ℕ) (polls : 
     tasks_of_old : (other : ℕ) → All (HasItsTask other) (waiting_of other view.queues)
     tasks_of_old other place default within =
         let entry = get_or (waiting_of other view.queues) place default in
-        delivered.stays_task same made polls fits ready is_same old world sender core there core_there order at number next links changes taken law after_core took took_done other entry.0 entry.2 (delivered.was_polls same made polls fits ready is_same old world sender core there core_there order at number next links changes taken law entry.0) (world.tasks core other core_there place default within)
+        delivered.stays_task same made polls fits ready is_same old world sender core there core_there order at number next links changes taken law
+        after_core took took_done other entry.0 entry.2 (was_polls entry.0) (world.tasks core other core_there place default within)
 
     tasks_took : (other : ℕ) → All (HasItsTask other) (waiting_of other after_core.queues)
     tasks_took other = by_test (other == queue) refl
@@ -141,10 +150,19 @@ module _ {J T : Type 0} (same : J → J → Type 0) (made : J → ℕ) (polls : 
         by_test false apart = subst (All (HasItsTask other)) (sym (enters.line.others other (eqb-false other queue apart))) (tasks_of_old other)
 
     pub enters_queue : Results after_core (writes.Took name queue ∷ [])
-    enters_queue = (
-      delivered.delivered_world same made polls fits ready is_same old world sender core there core_there order at number next links changes taken law after_core took took_done (delivered.stays_sent same made polls fits ready is_same old world sender core there core_there order at number next links changes taken law after_core took took_done name (Job queue tt) (sent_as (Job queue job) is), delivered.journal_sent same made polls fits ready is_same old world sender core there core_there order at number next links changes taken law after_core took took_done) tasks_took,
-      subst (λ what. IsDelivery name what journal (writes.Took name queue ∷ [])) (sym is) (ap (λ reason. entry_note name queue reason ∷ []) (sym accepted)),
-    )
+    enters_queue =
+        let sent =
+        delivered.stays_sent same made polls fits ready is_same old world sender core there core_there order at number next links changes taken law
+        after_core took took_done in
+        let journal_sent =
+        delivered.journal_sent same made polls fits ready is_same old world sender core there core_there order at number next links changes taken law
+        after_core took took_done in
+        let world_after =
+        delivered.delivered_world same made polls fits ready is_same old world sender core there core_there order at number next links changes taken law
+        after_core took took_done in (
+          world_after (sent name (Job queue tt) (sent_as (Job queue job) is), journal_sent) tasks_took,
+          subst (λ what. IsDelivery name what journal (writes.Took name queue ∷ [])) (sym is) (ap (λ reason. entry_note name queue reason ∷ []) (sym accepted)),
+        )
       where
         accepted : refusal queue journal ≡ None
         accepted = refusal-exists core old.cap journal was_lawful.notes queue (omega (arith, enters.exists, rest.agrees.last))

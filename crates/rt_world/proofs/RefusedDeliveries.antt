@@ -22,6 +22,7 @@ use Rattle.rt_core.specs.State.{CoreView, inside_count}
 use Rattle.rt_core.specs.Deliveries.{CountsAlone}
 use Rattle.rt_world.specs.State.{order_note, assembly_of}
 use Rattle.rt_world.specs.Deliveries.{IsDelivery, entry_note}
+use Rattle.rt_world.specs.Turns.{polls_made}
 use Rattle.rt_world.specs.Links.{link_at, ChangesLink}
 use Rattle.rt_world.specs.Inside.{Parts, core_at, notes_at, world_of, IsCoreAtRest}
 use Rattle.rt_world.specs.Tasks.{IsWorld}
@@ -69,6 +70,9 @@ module _ {J T : Type 0} (same : J → J → Type 0) (made : J → ℕ) (polls : 
   sent_as : (what : Order J) → order ≡ what → order_of name (assembly_of (world_of old)) ≡ Some (order_note what)
   sent_as = next_delivery.sent_as same made polls fits ready old world sender core there core_there order at number next
 
+  was_polls : (which : JobId) → polls_made which journal + 0 ≡ polls_made which journal
+  was_polls = delivered.was_polls same made polls fits ready is_same old world sender core there core_there order at number next links changes taken law
+
   abbrev IsCarriedOut : CoreView J → Journal T → Type 0
   IsCarriedOut = delivered.IsCarriedOut same made polls fits ready is_same old world sender core there core_there order at number next links changes taken law
 
@@ -84,11 +88,23 @@ module _ {J T : Type 0} (same : J → J → Type 0) (made : J → ℕ) (polls : 
     inside_alone = let equal : inside_count after_core ≡ inside_count view = ap inside_count counts in omega (arith, equal)
 
     pub goes_back : (queue : ℕ) (job : J) → order ≡ Job queue job → queue_count view.queues ≤ queue → Results after_core (writes.Back name why.NoQueue ∷ [])
-    goes_back queue job is missing = (
-      delivered.delivered_world same made polls fits ready is_same old world sender core there core_there order at number next links changes taken law after_core (writes.Back name why.NoQueue ∷ journal) done ((queue, delivered.stays_sent same made polls fits ready is_same old world sender core there core_there order at number next links changes taken law after_core (writes.Back name why.NoQueue ∷ journal) done name (Job queue tt) (sent_as (Job queue job) is)), delivered.journal_sent same made polls fits ready is_same old world sender core there core_there order at number next links changes taken law after_core (writes.Back name why.NoQueue ∷ journal) done)
-          (delivered.tasks_same same made polls fits ready is_same old world sender core there core_there order at number next links changes taken law after_core (writes.Back name why.NoQueue ∷ journal) done lines_alone (delivered.was_polls same made polls fits ready is_same old world sender core there core_there order at number next links changes taken law)),
-      subst (λ what. IsDelivery name what journal (writes.Back name why.NoQueue ∷ [])) (sym is) (ap (λ reason. entry_note name queue reason ∷ []) (sym refused)),
-    )
+    goes_back queue job is missing =
+        let sent =
+        delivered.stays_sent same made polls fits ready is_same old world sender core there core_there order at number next links changes taken law
+        after_core (writes.Back name why.NoQueue ∷ journal) done in
+        let journal_sent =
+        delivered.journal_sent same made polls fits ready is_same old world sender core there core_there order at number next links changes taken law
+        after_core (writes.Back name why.NoQueue ∷ journal) done in
+        let tasks =
+        delivered.tasks_same same made polls fits ready is_same old world sender core there core_there order at number next links changes taken law
+        after_core (writes.Back name why.NoQueue ∷ journal) done in
+        let world_after =
+        delivered.delivered_world same made polls fits ready is_same old world sender core there core_there order at number next links changes taken law
+        after_core (writes.Back name why.NoQueue ∷ journal) done in (
+          world_after ((queue, sent name (Job queue tt) (sent_as (Job queue job) is)), journal_sent)
+              (tasks lines_alone was_polls),
+          subst (λ what. IsDelivery name what journal (writes.Back name why.NoQueue ∷ [])) (sym is) (ap (λ reason. entry_note name queue reason ∷ []) (sym refused)),
+        )
       where
         refused : refusal queue journal ≡ Some why.NoQueue
         refused = refusal-missing core old.cap journal was_lawful.notes queue (omega (arith, missing, rest.agrees.last))
@@ -107,12 +123,24 @@ module _ {J T : Type 0} (same : J → J → Type 0) (made : J → ℕ) (polls : 
     -- a command is answered, and nothing else is done
     pub answers_alone : (answer : Answer) → is_command (Some (order_note order)) ≡ true → IsAnswer (order_note order) answer journal → has_effect answer ≡ false →
         (IsDelivery name order journal (writes.Answered name answer ∷ [])) → Results after_core (writes.Answered name answer ∷ [])
-    answers_alone answer command right plain delivery = (
-      delivered.delivered_world same made polls fits ready is_same old world sender core there core_there order at number next links changes taken law after_core (writes.Answered name answer ∷ journal) done
-          (ap is_command (delivered.stays_sent same made polls fits ready is_same old world sender core there core_there order at number next links changes taken law after_core (writes.Answered name answer ∷ journal) done name (order_note order) sent_as_order) ∙ command, delivered.journal_sent same made polls fits ready is_same old world sender core there core_there order at number next links changes taken law after_core (writes.Answered name answer ∷ journal) done)
-          (delivered.tasks_same same made polls fits ready is_same old world sender core there core_there order at number next links changes taken law after_core (writes.Answered name answer ∷ journal) done lines_alone (delivered.was_polls same made polls fits ready is_same old world sender core there core_there order at number next links changes taken law)),
-      delivery,
-    )
+    answers_alone answer command right plain delivery =
+        let sent =
+        delivered.stays_sent same made polls fits ready is_same old world sender core there core_there order at number next links changes taken law
+        after_core (writes.Answered name answer ∷ journal) done in
+        let journal_sent =
+        delivered.journal_sent same made polls fits ready is_same old world sender core there core_there order at number next links changes taken law
+        after_core (writes.Answered name answer ∷ journal) done in
+        let tasks =
+        delivered.tasks_same same made polls fits ready is_same old world sender core there core_there order at number next links changes taken law
+        after_core (writes.Answered name answer ∷ journal) done in
+        let world_after =
+        delivered.delivered_world same made polls fits ready is_same old world sender core there core_there order at number next links changes taken law
+        after_core (writes.Answered name answer ∷ journal) done in (
+          world_after
+              (ap is_command (sent name (order_note order) sent_as_order) ∙ command, journal_sent)
+              (tasks lines_alone was_polls),
+          delivery,
+        )
       where
         done : IsCarriedOut after_core (writes.Answered name answer ∷ journal)
         done = record {
