@@ -1,5 +1,8 @@
 //! The command line. Nothing here reads, prints or runs anything.
 
+ghost use Rattle.std.specs.Prelude.{◌≡◌, ◌∷◌, [], false, IfOk, codes};
+ghost use Rattle.clap.specs.Words.{is_broken, subcommand_names};
+
 use clap::{Arg, Command};
 use std::alloc::{AllocError, Global};
 
@@ -18,7 +21,10 @@ Exit status:
   4  there was no memory";
 
 /// The commands and arguments of the program, with their help.
-pub fn command<'a>(alloc: Global) -> Result<Command<'a>, AllocError> {
+pub fn command<'a>(alloc: Global) -> Result<Command<'a>, AllocError>
+    ensures names { IfOk result (λ command. subcommand_names command ≡ codes "run" ∷ []) }
+    ensures whole { IfOk result (λ command. is_broken command ≡ false) }
+{
     let file = Arg::new(alloc, FILE).help("The script; without it, standard input is read");
     let run = Command::new(alloc, "run")
         .about("Runs a script, and prints what happens as notes, one a line")

@@ -1,11 +1,13 @@
 //! Runs scripts on the model of a thread-per-core executor with fair task queues.
 #![tactic(auto)]
 
-ghost use Rattle.std.specs.Prelude.{◌≡◌, ◌≢◌};
+ghost use Rattle.std.specs.Prelude.{◌≡◌, ◌≢◌, true, IfOk};
+ghost use Rattle.std.specs.declared.io.ErrorKind.TheVariants as kinds;
 ghost use Rattle.clap.specs.Words.{kind_of};
 ghost use Rattle.clap.specs.declared.error.kind.ErrorKind.TheVariants as command_kinds;
 ghost use Rattle.rt_script.specs.Statuses.{status_of};
 ghost use Rattle.rt_script.specs.declared.status.Status.TheVariants as status;
+ghost use Rattle.rt_script.specs.declared.fault.EngineFault.TheVariants as faults;
 
 use clap::error::ErrorKind as CommandErrorKind;
 use rt_script::{EngineFault, Status, run_script};
@@ -20,8 +22,10 @@ fn main(rt: HostRuntime) -> ExitCode {
     ExitCode::from(program(&rt).code())
 }
 
-/// Does what the command line asks for, and answers how it ended.
-fn program<R: Files + Input + Print + Eprint + Env + AllocGlobal>(rt: &R) -> Status {
+/// Does what the command line asks for, and answers how it ended. A run judges nothing, so no fault is found.
+fn program<R: Files + Input + Print + Eprint + Env + AllocGlobal>(rt: &R) -> Status
+    ensures { result ≢ status.FaultFound }
+{
     let args = match env::args(rt) {
         Ok(args) => args,
         Err(error) => return words_refused(rt, error.kind()),
@@ -45,7 +49,9 @@ fn program<R: Files + Input + Print + Eprint + Env + AllocGlobal>(rt: &R) -> Sta
 fn run<R: Files + Input + Print + AllocGlobal>(
     rt: &R,
     file: Option<&str>,
-) -> Result<bool, EngineFault> {
+) -> Result<bool, EngineFault>
+    ensures { IfOk result (λ done. done ≡ true) }
+{
     let mut sink = io::writer(rt);
     match file {
         None => run_script(rt.alloc(), &mut rt.reader(), &mut sink),
@@ -57,7 +63,10 @@ fn run<R: Files + Input + Print + AllocGlobal>(
 }
 
 /// Why a file can't be opened.
-fn opening_fault(kind: ErrorKind) -> EngineFault {
+fn opening_fault(kind: ErrorKind) -> EngineFault
+    ensures memory { kind ≡ kinds.OutOfMemory → result ≡ faults.Memory }
+    ensures other { kind ≢ kinds.OutOfMemory → result ≡ faults.Read }
+{
     match kind {
         ErrorKind::OutOfMemory => EngineFault::Memory,
         _ => EngineFault::Read,
@@ -75,7 +84,10 @@ fn ended<R: Eprint>(rt: &R, answer: Result<bool, EngineFault>) -> Status
 }
 
 /// The words of the command line can't be read as text.
-fn words_refused<R: Eprint>(rt: &R, kind: ErrorKind) -> Status {
+fn words_refused<R: Eprint>(rt: &R, kind: ErrorKind) -> Status
+    ensures memory { kind ≡ kinds.OutOfMemory → result ≡ status.Memory }
+    ensures other { kind ≢ kinds.OutOfMemory → result ≡ status.Refused }
+{
     if kind == ErrorKind::OutOfMemory {
         return ended(rt, Err(EngineFault::Memory));
     }
@@ -88,6 +100,7 @@ fn command_refused<R: Print + Eprint>(rt: &R, error: &clap::Error) -> Status
     ensures memory { kind_of error.now ≡ command_kinds.OutOfMemory → result ≡ status.Memory }
     ensures mistake { kind_of error.now ≢ command_kinds.OutOfMemory → kind_of error.now ≢ command_kinds.DisplayHelp
         → kind_of error.now ≢ command_kinds.DisplayVersion → result ≡ status.Refused }
+    ensures judged { result ≢ status.FaultFound }
 {
     if error.kind() == CommandErrorKind::OutOfMemory {
         return ended(rt, Err(EngineFault::Memory));

@@ -4,6 +4,12 @@
 //! `NAME.refused` is the line that tells why.
 #![tactic(auto)]
 
+ghost use Rattle.std.specs.Prelude.{◌≡◌, ◌++◌, Err, IfOk, IfErr, codes, decimal, string_bytes};
+ghost use Rattle.std.specs.IoError.{error_kind};
+ghost use Rattle.std.specs.declared.io.ErrorKind.TheVariants.{OutOfMemory};
+ghost use Rattle.rt_script.specs.EngineFaults.{fault_text};
+ghost use Rattle.rt_script.specs.Statuses.{code_of, status_of};
+
 use rt_script::{EngineFault, Status, run_script};
 use std::alloc::Global;
 use std::process::ExitCode;
@@ -47,7 +53,11 @@ fn is_as_written<R: Files + AllocGlobal>(rt: &R, name: &str) -> io::Result<bool>
 }
 
 /// What is told of a refusal: the exit status, and the line.
-fn told(alloc: Global, fault: EngineFault) -> io::Result<String> {
+fn told(alloc: Global, fault: EngineFault) -> io::Result<String>
+    ensures text { IfOk result (λ text. string_bytes text
+        ≡ codes "status " ++ decimal (code_of (status_of (Err fault))) ++ codes "\n" ++ fault_text fault ++ codes "\n") }
+    ensures memory { IfErr result (λ error. error_kind error ≡ OutOfMemory) }
+{
     let status = Status::of(&Err(fault)).code();
     Ok(format!(in alloc; "status {status}\n{fault}\n")?)
 }

@@ -32,3 +32,14 @@ IfUnread fact (Text line cause) = fact
 IfUnread fact Read = fact
 IfUnread fact Write = Unit {0}
 IfUnread fact Memory = Unit {0}
+
+-- the source tells a whole script
+abbrev pub TellsScript : Option (List ℕ) → Type 0
+TellsScript source = (script : Drafted) × IfSome source (λ text. script_of text ≡ Ok script)
+
+-- a fact of a text whose output couldn't be written
+abbrev pub IfUnwritten : Type 0 → EngineFault → Type 0
+IfUnwritten fact (Text line cause) = Unit {0}
+IfUnwritten fact Read = Unit {0}
+IfUnwritten fact Write = fact
+IfUnwritten fact Memory = Unit {0}

@@ -8,7 +8,7 @@ ghost use Rattle.rt_world.specs.State.{journal_at};
 ghost use Rattle.rt_script.specs.EngineFaults.{IfText};
 ghost use Rattle.rt_script.specs.Limits.{IsSize, ArePlaced, AreEventsOf, IsEventOf};
 ghost use Rattle.rt_ids.specs.Commands.{last_queue};
-ghost use Rattle.rt_script.specs.Outputs.{WritesAll, IsDone, IfUnread};
+ghost use Rattle.rt_script.specs.Outputs.{WritesAll, IsDone, IfUnread, TellsScript, IfUnwritten};
 ghost use Rattle.rt_script.specs.Rooms.{IsRoomy, MayMake};
 ghost use Rattle.rt_script.specs.Scripts.{script_of};
 ghost use Rattle.rt_script.specs.Transcripts.{IsOutput, Prints, note_lines, script_room, with_queue, with_queues};
@@ -53,6 +53,7 @@ pub fn run_script<R: Read, W: Write>(
     ensures faulty { IfErr result (IfText (λ fault.
         IfSome (R.remaining source.old) (λ text. script_of text ≡ Err fault))) }
     ensures silent { IfErr result (IfUnread (Keeps (W.contents sink.old) (W.contents sink.new))) }
+    ensures judged { IfErr result (IfUnwritten (TellsScript (R.remaining source.old))) }
 {
     let script = read_script(alloc, source)?;
     play(alloc, script, sink)?;

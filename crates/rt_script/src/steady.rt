@@ -34,10 +34,10 @@ pub fn read_some<R: Read>(source: &mut R, room: &mut [u8]) -> Result<usize, Devi
     Err(DeviceFault)
 }
 
-/// Writes all of the bytes. After a fault the first of them are written.
+/// Writes all of the bytes. After a fault the first of them are written, and not all.
 pub fn write_all<W: Write>(sink: &mut W, bytes: &[u8]) -> Result<(), DeviceFault>
     ensures ok { OnOk result (Appends (W.contents sink.old) (W.contents sink.new) bytes.now) }
-    ensures err { OnErr result ((count : ℕ) × (count ≤ length bytes.now)
+    ensures err { OnErr result ((count : ℕ) × (count < length bytes.now)
         × Appends (W.contents sink.old) (W.contents sink.new) (take count bytes.now)) }
 {
     let mut written = 0;

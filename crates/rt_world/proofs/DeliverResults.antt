@@ -29,7 +29,10 @@ use Rattle.rt_world.specs.Links.{link_at, ChangesLink}
 use Rattle.rt_world.specs.Inside.{Parts, core_at, notes_at, IsCoreAtRest}
 use Rattle.rt_world.specs.Tasks.{IsWorld}
 use Rattle.rt_world.proofs.Kept.{open_core}
-use Rattle.rt_world.proofs.WorldDelivered.{Results, goes_back, answers_alone, creates_queue, sets_shares, enters_queue}
+use Rattle.rt_world.proofs.WorldDelivered.{Results}
+use Rattle.rt_world.proofs.RefusedDeliveries.{goes_back, answers_alone}
+use Rattle.rt_world.proofs.CommandDeliveries.{creates_queue, sets_shares}
+use Rattle.rt_world.proofs.JobDeliveries.{enters_queue}
 
 module _ {J T : Type 0} (same : J → J → Type 0) (made : J → ℕ) (polls : J → ℕ → Step T → Option ℕ → Type 0)
     (fits : Order J → Outcome J T → Type 0) (ready : Order J → Type 0) (is_same : IsSameTask same)

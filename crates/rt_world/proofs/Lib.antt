@@ -14,11 +14,17 @@ pub mod WorldAfter
 pub mod WorldQuiet
 pub mod FreshParts
 pub mod AllOutstanding
+pub mod SentNotes
+pub mod SentLinks
 pub mod WorldSends
 pub mod SentLists
 pub mod WorldDeliveries
 pub mod PollsMade
+pub mod NextDelivery
 pub mod WorldDelivered
+pub mod RefusedDeliveries
+pub mod CommandDeliveries
+pub mod JobDeliveries
 pub mod TurnNotes
 pub mod TurnTasks
 pub mod WorldTurns

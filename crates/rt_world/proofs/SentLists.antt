@@ -21,7 +21,7 @@ use Rattle.rt_world.specs.Tasks.{IsWorld}
 use Rattle.rt_world.proofs.WorldLists.{get_or-map}
 use Rattle.rt_world.proofs.WorldAfter.{after}
 use Rattle.rt_world.proofs.WorldViews.{journal_at-world, sent_at-world}
-use Rattle.rt_world.proofs.WorldSends.{next_sent}
+use Rattle.rt_world.proofs.SentNotes.{next_sent}
 
 module _ {J T : Type 0} (same : J → J → Type 0) (made : J → ℕ) (polls : J → ℕ → Step T → Option ℕ → Type 0)
     (fits : Order J → Outcome J T → Type 0) (ready : Order J → Type 0)

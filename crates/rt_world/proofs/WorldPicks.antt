@@ -13,19 +13,17 @@ use Rattle.rt_ids.specs.Picks.{turns}
 use Rattle.rt_ids.specs.Work.{has_work}
 use Rattle.rt_ids.proofs.WorkOfLines.{no_work, work_of_line}
 use Rattle.rt_jobs.specs.declared.job.Step.{Step}
-use Rattle.rt_jobs.specs.Ready.{IsReady}
 use Rattle.rt_taskqueue.specs.Queues.{waiting_of}
 use Rattle.rt_core.specs.declared.turn.Turn.{Turn}
-use Rattle.rt_core.specs.declared.turn.Turn.TheVariants.{Start, Resume, Idle}
 use Rattle.rt_core.specs.declared.turn.PickError.{PickError}
-use Rattle.rt_core.specs.declared.turn.PickError.TheVariants.{Busy, Spent}
+use Rattle.rt_core.specs.declared.turn.PickError.TheVariants.{Busy}
 use Rattle.rt_core.specs.State.{CoreView, runtime_of, opened}
 use Rattle.rt_core.specs.Turns.{TakesOut, Picks}
-use Rattle.rt_core.specs.Answers.{IsReadyTurn}
 use Rattle.rt_world.specs.declared.event.Reply.{Reply}
 use Rattle.rt_world.specs.declared.event.Reply.TheVariants as reply
 use Rattle.rt_world.specs.State.{journal_at}
-use Rattle.rt_world.specs.Turns.{Turns, job_or_reply}
+use Rattle.rt_world.specs.Turns.{Turns}
+use Rattle.rt_world.specs.PickedJobs.{turn_of, TookOut, TookNone}
 use Rattle.rt_world.specs.Inside.{Parts, core_at, notes_at, world_of, IsCoreAtRest}
 use Rattle.rt_world.specs.Tasks.{IsWorld}
 use Rattle.rt_world.specs.Agreement.{names_of}
@@ -41,22 +39,12 @@ pub record IsTaken {J T : Type 0} (old : CoreView J) (job : J) (new : CoreView J
   pub notes : written ≡ writes.Pick queue (runtime_of queue old) ∷ poll_note name was_started ∷ []
 
 module _ {J T : Type 0} (old : CoreView J) (new : CoreView J) (written : List (Note T)) (job : J) where
-  pub taken : (picked : Result (Turn J) PickError) → Picks old picked new written → job_or_reply picked ≡ Ok job → IsTaken old job new written
-  taken (Ok (Start name queue out)) picks is =
-      let one : out ≡ job = cc in
-      record { name = name; queue = queue; was_started = false; takes = subst (λ job. TakesOut old name queue false job new) one picks.0; notes = picks.1 }
-  taken (Ok (Resume name queue out)) picks is =
-      let one : out ≡ job = cc in
-      record { name = name; queue = queue; was_started = true; takes = subst (λ job. TakesOut old name queue true job new) one picks.0; notes = picks.1 }
-  taken (Ok Idle) picks is = cc
-  taken (Err error) picks is = cc
-
-  pub ready_to_poll : (done : J → Bool) (can_poll : J → Type 0) (picked : Result (Turn J) PickError) → IsReadyTurn done can_poll picked →
-      job_or_reply picked ≡ Ok job → IsReady done can_poll job
-  ready_to_poll done can_poll (Ok (Start name queue out)) ready is = let one : out ≡ job = cc in subst (IsReady done can_poll) one ready
-  ready_to_poll done can_poll (Ok (Resume name queue out)) ready is = let one : out ≡ job = cc in subst (IsReady done can_poll) one ready
-  ready_to_poll done can_poll (Ok Idle) ready is = cc
-  ready_to_poll done can_poll (Err error) ready is = cc
+  pub taken : (picked : Result (Turn J) PickError) → Picks old picked new written → TookOut picked job → IsTaken old job new written
+  taken picked picks out = by_start out.was_started (subst (λ picked. Picks old picked new written) out.turn picks)
+    where
+      by_start : (was_started : Bool) → Picks old (Ok (turn_of was_started out.name out.queue job)) new written → IsTaken old job new written
+      by_start false picks = record { name = out.name; queue = out.queue; was_started = false; takes = picks.0; notes = picks.1 }
+      by_start true picks = record { name = out.name; queue = out.queue; was_started = true; takes = picks.0; notes = picks.1 }
 
 module _ {J T : Type 0} (same : J → J → Type 0) (made : J → ℕ) (polls : J → ℕ → Step T → Option ℕ → Type 0)
     (fits : Order J → Outcome J T → Type 0) (ready : Order J → Type 0)
@@ -101,33 +89,32 @@ module _ {J T : Type 0} (same : J → J → Type 0) (made : J → ℕ) (polls : 
       ap turns (journal_at-world old core) ∙ (sym rest.agrees.turns ∙ (ap (λ core. core.turns) viewed ∙ used))
 
   -- where no job is taken out, the reply is the one of a turn that changes nothing
-  pub no_turn : (answers : J → T → Type 0) (spent : ℕ) (told : Reply J) → job_or_reply picked ≡ Err told →
+  pub no_turn : (answers : J → T → Type 0) (spent : ℕ) (told : Reply J) → TookNone picked told →
       Turns made polls answers core spent (world_of old) (world_of old) told
-  no_turn answers spent told is = by_pick picked picks is
-    where
-      by_pick : (picked : Result (Turn J) PickError) → Picks view picked new written → job_or_reply picked ≡ Err told →
-          Turns made polls answers core spent (world_of old) (world_of old) told
-      by_pick (Ok (Start name queue out)) picks is = cc
-      by_pick (Ok (Resume name queue out)) picks is = cc
-      by_pick (Ok Idle) picks is =
-          let one : reply.Idle ≡ told = cc in
-          subst (Turns made polls answers core spent (world_of old) (world_of old)) one (idle picks.1, refl)
-      by_pick (Err Busy) picks is = absurd (picks.0 free)
-      by_pick (Err Spent) picks is =
-          let one : reply.Spent ≡ told = cc in
-          subst (Turns made polls answers core spent (world_of old) (world_of old)) one
-          (all_turns picks.1, (picks.2.0, works picks.2.0 picks.2.1), refl)
+  no_turn answers spent reply.Idle none = let empty = subst (λ picked. Picks view picked new written) none picks in (idle empty.1, refl)
+  no_turn answers spent reply.Spent none =
+      let used = subst (λ picked. Picks view picked new written) none picks in
+      (all_turns used.1, (used.2.0, works used.2.0 used.2.1), refl)
+  no_turn answers spent (reply.Sent name) none = absurd none
+  no_turn answers spent (reply.NotSent error) none = absurd none
+  no_turn answers spent reply.Noted none = absurd none
+  no_turn answers spent reply.Empty none = absurd none
+  no_turn answers spent (reply.NoActor back) none = absurd none
+  no_turn answers spent (reply.NoRoom back) none = absurd none
 
   -- where no job is taken out, the core stays as it was
-  pub same_core : (told : Reply J) → job_or_reply picked ≡ Err told → set old.inside core new ≡ old.inside
-  same_core told is = ap (set old.inside core) (by_pick picked picks is ∙ view_is) ∙ set-get_or old.inside core view
-    where
-      by_pick : (picked : Result (Turn J) PickError) → Picks view picked new written → job_or_reply picked ≡ Err told → new ≡ view
-      by_pick (Ok (Start name queue out)) picks is = cc
-      by_pick (Ok (Resume name queue out)) picks is = cc
-      by_pick (Ok Idle) picks is = picks.2
-      by_pick (Err Busy) picks is = picks.1
-      by_pick (Err Spent) picks is = picks.3
+  stays : (told : Reply J) → TookNone picked told → new ≡ view
+  stays reply.Idle none = (subst (λ picked. Picks view picked new written) none picks).2
+  stays reply.Spent none = (subst (λ picked. Picks view picked new written) none picks).3
+  stays (reply.Sent name) none = absurd none
+  stays (reply.NotSent error) none = absurd none
+  stays reply.Noted none = absurd none
+  stays reply.Empty none = absurd none
+  stays (reply.NoActor back) none = absurd none
+  stays (reply.NoRoom back) none = absurd none
 
-  pub world_stays : (told : Reply J) → job_or_reply picked ≡ Err told → IsWorld same made polls fits ready (record old { inside = set old.inside core new })
-  world_stays told is = subst (λ inside. IsWorld same made polls fits ready (record old { inside = inside })) (sym (same_core told is)) world
+  pub world_stays : (told : Reply J) → TookNone picked told → IsWorld same made polls fits ready (record old { inside = set old.inside core new })
+  world_stays told none = subst (λ inside. IsWorld same made polls fits ready (record old { inside = inside })) (sym same_core) world
+    where
+      same_core : set old.inside core new ≡ old.inside
+      same_core = ap (set old.inside core) (stays told none ∙ view_is) ∙ set-get_or old.inside core view

@@ -1,6 +1,6 @@
 -- A core of a world at rest picks, polls and settles: the world is at rest again, and the turn is the one of its event.
 use Rattle.std.proofs.Common.{◌≡◌, ℕ, ◌+◌, ◌<◌, ◌≤◌, List, [], ◌∷◌, ◌++◌, length, reverse, refl, sym, ◌∙◌, ap, subst, arith, get_or, set, get_or-set_same}
-use Rattle.std.specs.Prelude.{Option, Some, Result, Ok, unwrap_or}
+use Rattle.std.specs.Prelude.{Option, Some, Result, unwrap_or}
 use Rattle.std.proofs.lemmas.List.{get_or_default, set-set}
 use Rattle.std.proofs.lemmas.Option.{same_Some}
 use Rattle.rt_ids.specs.declared.note.Note.{Note}
@@ -20,7 +20,8 @@ use Rattle.rt_core.specs.Turns.{TakesOut, Picks, Settles, SettlesOut}
 use Rattle.rt_core.specs.Answers.{IsTaskOut}
 use Rattle.rt_world.specs.Journals.{JournalView}
 use Rattle.rt_world.specs.State.{journal_at}
-use Rattle.rt_world.specs.Turns.{settle_note, IsPoll, job_or_reply}
+use Rattle.rt_world.specs.Turns.{settle_note, IsPoll}
+use Rattle.rt_world.specs.PickedJobs.{TookOut}
 use Rattle.rt_world.specs.Inside.{Parts, core_at, notes_at, journal_view, world_of}
 use Rattle.rt_world.specs.Tasks.{IsWorld}
 use Rattle.rt_world.proofs.PollNotes.{poll_note}
@@ -45,7 +46,7 @@ module _ {J T : Type 0} (same : J → J → Type 0) (made : J → ℕ) (polls : 
     (old : Parts J T) (world : IsWorld same made polls fits ready old) (core : ℕ) (core_there : core < old.cores)
     (view : CoreView J) (view_is : view ≡ get_or old.inside core view)
     (picked : Result (Turn J) PickError) (middle : CoreView J) (written : List (Note T)) (picks : Picks view picked middle written)
-    (job : J) (is_job : job_or_reply picked ≡ Ok job) where
+    (job : J) (is_job : TookOut picked job) where
   out : IsTaken view job middle written
   out = taken view middle written job picked picks is_job
 

@@ -2,6 +2,7 @@ pub mod State
 pub mod Sends
 pub mod Deliveries
 pub mod Turns
+pub mod PickedJobs
 pub mod Runs
 pub mod Agreement
 pub mod Journals

@@ -1,5 +1,5 @@
 -- Turns: the right pick, and one poll of the first job of its line.
-use Rattle.std.specs.Prelude.{◌≡◌, ℕ, ◌+◌, ◌-◌, ◌^◌, Option, Some, None, Result, Ok, Err, true, false, unwrap_or, Bool, List, [], ◌∷◌}
+use Rattle.std.specs.Prelude.{◌≡◌, ℕ, ◌+◌, ◌-◌, ◌^◌, Option, Some, None, true, false, unwrap_or, Bool, List, [], ◌∷◌}
 use Rattle.rt_ids.specs.declared.names.JobId.{JobId}
 use Rattle.rt_ids.specs.declared.note.Note.TheVariants as writes
 use Rattle.rt_ids.specs.declared.order.Order.TheVariants.{Job}
@@ -14,9 +14,6 @@ use Rattle.rt_ids.specs.Commands.{return_reason}
 use Rattle.rt_jobs.specs.declared.job.Step.{Step}
 use Rattle.rt_jobs.specs.declared.job.Step.TheVariants as step
 use Rattle.rt_jobs.specs.Steps.{IfDone}
-use Rattle.rt_core.specs.declared.turn.Turn.{Turn}
-use Rattle.rt_core.specs.declared.turn.Turn.TheVariants.{Start, Resume, Idle}
-use Rattle.rt_core.specs.declared.turn.PickError.{PickError}
 use Rattle.rt_world.specs.declared.event.Reply.{Reply}
 use Rattle.rt_world.specs.declared.event.Reply.TheVariants as reply
 use Rattle.rt_world.specs.State.{WorldView, journal_at, order_under, noted}
@@ -33,13 +30,6 @@ poll_note name true = writes.Resume name
 abbrev pub settle_note : {T : Type 0} → JobId → ℕ → Step T → Note T
 settle_note name time (step.Done out) = writes.Done name time out
 settle_note name time step.Yield = writes.Yield name time
-
--- the job that a pick took out, or what the actor is told where it took none
-abbrev pub job_or_reply : {J : Type 0} → Result (Turn J) PickError → Result J (Reply J)
-job_or_reply (Ok (Start name queue job)) = Ok job
-job_or_reply (Ok (Resume name queue job)) = Ok job
-job_or_reply (Ok Idle) = Err reply.Idle
-job_or_reply (Err error) = Err reply.Spent
 
 -- the words of a task: the polls that it made before, what a poll owes, and what may answer it
 module _ {J T : Type 0} (made : J → ℕ) (polls : J → ℕ → Step T → Option ℕ → Type 0) (answers : J → T → Type 0) where

@@ -1,12 +1,13 @@
 //! The three steps: an order is sent, the next one is delivered, a core makes a turn.
 
-ghost use Rattle.std.specs.Prelude.{◌≡◌, ◌≢◌, ◌≤◌, ◌<◌, ◌+◌, length, Err};
+ghost use Rattle.std.specs.Prelude.{◌≡◌, ◌≢◌, ◌≤◌, ◌<◌, ◌+◌, length, Err, IfOk, IfErr};
 ghost use Rattle.rt_core.specs.declared.turn.PickError.TheVariants.{Busy};
 ghost use Rattle.rt_jobs.specs.Ready.{HasReadyJob};
 ghost use Rattle.rt_world.specs.State.{journal_at};
 ghost use Rattle.rt_world.specs.Sends.{Sends};
 ghost use Rattle.rt_world.specs.Deliveries.{Delivers};
-ghost use Rattle.rt_world.specs.Turns.{Turns, job_or_reply};
+ghost use Rattle.rt_world.specs.Turns.{Turns};
+ghost use Rattle.rt_world.specs.PickedJobs.{TookOut, TookNone};
 
 use super::World;
 use crate::event::Reply;
@@ -81,7 +82,8 @@ impl<J: Job + Task<Out = u64>, A: Allocator + Clone> World<J, A> {
 // The job that a pick took out, or what the actor is told where it took none.
 fn job_or_reply<J: Drop>(picked: Result<Turn<J>, PickError>) -> Result<J, Reply<J>>
     requires { picked ≢ Err Busy }
-    ensures { result ≡ job_or_reply picked }
+    ensures job { IfOk result (TookOut picked) }
+    ensures reply { IfErr result (TookNone picked) }
 {
     match picked {
         Ok(Turn::Start(_, _, job)) => Ok(job),

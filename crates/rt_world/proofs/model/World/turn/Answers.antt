@@ -1,5 +1,7 @@
-use Rattle.std.proofs.Common.{◌<◌, ◌+◌, ◌≤◌, length, sym, ◌∙◌, ap, subst, arith}
+use Rattle.std.proofs.Common.{◌<◌, ◌+◌, ◌≤◌, length, sym, ap, subst, arith}
+use Rattle.std.proofs.lemmas.Result.{IfOk-at_ok, IfErr-at_err}
 use Rattle.rt_world.specs.State.{journal_at}
+use Rattle.rt_world.specs.PickedJobs.{TookOut, TookNone}
 use Rattle.rt_world.proofs.WorldPicks.{not_busy, no_turn, world_stays}
 use Rattle.rt_world.proofs.WorldPolled.{first_room, task_out, second_room, world_now, poll_now}
 use Rattle.rt_world.proofs.model.World.turn.Goals as goal
@@ -14,21 +16,21 @@ invariant_of-self g c =
     let there : c.core.inside.0 < c.self.inside.cores = omega (arith, c.core.view_is, c.requires.core, ap (λ world. world.cores) c.self.view_is) in (
       c.self.invariant.0,
       world_stays _ _ _ _ _ _ c.self.invariant.1 c.core.inside.0 there c.index_mut.result.now c.index_mut.ensures.value c.pick-picked.result.0 c.pick-picked.new.self c.pick-picked.result.1.items c.pick-picked.ensures.picks
-          c.in-Err.reply (sym c.job_or_reply.ensures ∙ c.in-Err.is),
+          c.in-Err.reply (IfErr-at_err (TookNone c.pick-picked.result.0) c.in-Err.is c.job_or_reply.ensures.reply),
     )
 
 pub returns-in-Err : goal.returns-in-Err
 returns-in-Err g c =
     let there : c.core.inside.0 < c.self.inside.cores = omega (arith, c.core.view_is, c.requires.core, ap (λ world. world.cores) c.self.view_is) in
     rw (← c.self.view_is, ← c.core.view_is) (no_turn _ _ _ _ _ _ c.self.invariant.1 c.core.inside.0 there c.index_mut.result.now c.index_mut.ensures.value c.pick-picked.result.0 c.pick-picked.new.self c.pick-picked.result.1.items c.pick-picked.ensures.picks
-    g.J.Task.Answers c.args.spent c.in-Err.reply (sym c.job_or_reply.ensures ∙ c.in-Err.is))
+    g.J.Task.Answers c.args.spent c.in-Err.reply (IfErr-at_err (TookNone c.pick-picked.result.0) c.in-Err.is c.job_or_reply.ensures.reply))
 
 pub settle-settle_notes-requires : goal.settle-settle_notes-requires
 settle-settle_notes-requires g c =
     let there : c.core.inside.0 < c.self.inside.cores = omega (arith, c.core.view_is, c.requires.core, ap (λ world. world.cores) c.self.view_is) in (
       omega arith,
       task_out _ _ _ _ _ g.met.J.Task.same_task _ c.self.invariant.1 c.core.inside.0 there c.index_mut.result.now c.index_mut.ensures.value c.pick-picked.result.0 c.pick-picked.new.self c.pick-picked.result.1.items c.pick-picked.ensures.picks
-          c.in-Ok.job (sym c.job_or_reply.ensures ∙ c.in-Ok.is)
+          c.in-Ok.job (IfOk-at_ok (TookOut c.pick-picked.result.0) c.in-Ok.is c.job_or_reply.ensures.job)
           c.index_mut-2.result.now c.index_mut-2.ensures.value c.poll-ran.result.before c.poll-ran.ensures.before,
     )
 
@@ -38,7 +40,7 @@ push_all-requires g c =
     let room = subst (λ world. length (journal_at c.core.inside.0 world) + 4 ≤ world.room) (sym c.self.view_is)
     (subst (λ core. length (journal_at core c.args.self.now) + 4 ≤ c.args.self.now.room) (sym c.core.view_is) c.requires.room) in
     let free = first_room _ _ _ _ _ g.met.J.Task.same_task _ c.self.invariant.1 c.core.inside.0 there c.index_mut.result.now c.index_mut.ensures.value c.pick-picked.result.0 c.pick-picked.new.self c.pick-picked.result.1.items c.pick-picked.ensures.picks
-    c.in-Ok.job (sym c.job_or_reply.ensures ∙ c.in-Ok.is)
+    c.in-Ok.job (IfOk-at_ok (TookOut c.pick-picked.result.0) c.in-Ok.is c.job_or_reply.ensures.job)
     c.index_mut-3.result.now c.index_mut-3.ensures.value room in
     record { free = omega (arith, free, ap length c.as_slice.ensures.value) }
 
@@ -48,7 +50,7 @@ push_all-requires-2 g c =
     let room = subst (λ world. length (journal_at c.core.inside.0 world) + 4 ≤ world.room) (sym c.self.view_is)
     (subst (λ core. length (journal_at core c.args.self.now) + 4 ≤ c.args.self.now.room) (sym c.core.view_is) c.requires.room) in
     let free = second_room _ _ _ _ _ g.met.J.Task.same_task _ c.self.invariant.1 c.core.inside.0 there c.index_mut.result.now c.index_mut.ensures.value c.pick-picked.result.0 c.pick-picked.new.self c.pick-picked.result.1.items c.pick-picked.ensures.picks
-    c.in-Ok.job (sym c.job_or_reply.ensures ∙ c.in-Ok.is)
+    c.in-Ok.job (IfOk-at_ok (TookOut c.pick-picked.result.0) c.in-Ok.is c.job_or_reply.ensures.job)
     c.index_mut-2.result.now c.index_mut-2.ensures.value g.J.Task.Answers c.poll-ran.result
     (record { before = c.poll-ran.ensures.before; owed = c.poll-ran.ensures.owed; answered = c.poll-ran.ensures.answers; same_task = c.poll-ran.ensures.same; later = c.poll-ran.ensures.later }) c.args.spent
     c.settle-settle_notes.result.0 c.settle-settle_notes.new.self c.settle-settle_notes.result.1.items c.settle-settle_notes.ensures.settles
@@ -62,7 +64,7 @@ invariant_of-self-2 g c =
     let there : c.core.inside.0 < c.self.inside.cores = omega (arith, c.core.view_is, c.requires.core, ap (λ world. world.cores) c.self.view_is) in (
       c.self.invariant.0,
       world_now _ _ _ _ _ g.met.J.Task.same_task _ c.self.invariant.1 c.core.inside.0 there c.index_mut.result.now c.index_mut.ensures.value c.pick-picked.result.0 c.pick-picked.new.self c.pick-picked.result.1.items c.pick-picked.ensures.picks
-          c.in-Ok.job (sym c.job_or_reply.ensures ∙ c.in-Ok.is)
+          c.in-Ok.job (IfOk-at_ok (TookOut c.pick-picked.result.0) c.in-Ok.is c.job_or_reply.ensures.job)
           c.index_mut-2.result.now c.index_mut-2.ensures.value g.J.Task.Answers c.poll-ran.result
           (record { before = c.poll-ran.ensures.before; owed = c.poll-ran.ensures.owed; answered = c.poll-ran.ensures.answers; same_task = c.poll-ran.ensures.same; later = c.poll-ran.ensures.later }) c.args.spent
           c.settle-settle_notes.result.0 c.settle-settle_notes.new.self c.settle-settle_notes.result.1.items c.settle-settle_notes.ensures.settles
@@ -77,7 +79,7 @@ pub returns : goal.returns
 returns g c =
     let there : c.core.inside.0 < c.self.inside.cores = omega (arith, c.core.view_is, c.requires.core, ap (λ world. world.cores) c.self.view_is) in
     rw (← c.self.view_is, ← c.core.view_is) (poll_now _ _ _ _ _ g.met.J.Task.same_task _ c.self.invariant.1 c.core.inside.0 there c.index_mut.result.now c.index_mut.ensures.value c.pick-picked.result.0 c.pick-picked.new.self c.pick-picked.result.1.items c.pick-picked.ensures.picks
-    c.in-Ok.job (sym c.job_or_reply.ensures ∙ c.in-Ok.is)
+    c.in-Ok.job (IfOk-at_ok (TookOut c.pick-picked.result.0) c.in-Ok.is c.job_or_reply.ensures.job)
     c.index_mut-2.result.now c.index_mut-2.ensures.value g.J.Task.Answers c.poll-ran.result
     (record { before = c.poll-ran.ensures.before; owed = c.poll-ran.ensures.owed; answered = c.poll-ran.ensures.answers; same_task = c.poll-ran.ensures.same; later = c.poll-ran.ensures.later }) c.args.spent
     c.settle-settle_notes.result.0 c.settle-settle_notes.new.self c.settle-settle_notes.result.1.items c.settle-settle_notes.ensures.settles
