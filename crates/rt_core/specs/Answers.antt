@@ -1,5 +1,5 @@
 -- Facts of the job that is out and of its answer.
-use Rattle.std.specs.Prelude.{◌≡◌, Bool, Option, Some, None, Result, Ok, Err}
+use Rattle.std.specs.Prelude.{Bool, Option, Some, None, Result, Ok, Err}
 use Rattle.rt_jobs.specs.Ready.{IsReady}
 use Rattle.rt_core.specs.declared.turn.Turn.{Turn}
 use Rattle.rt_core.specs.declared.turn.Turn.TheVariants.{Start, Resume, Idle}

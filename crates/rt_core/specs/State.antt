@@ -1,5 +1,5 @@
 -- What a core is, as its callers see it.
-use Rattle.std.specs.Prelude.{◌≡◌, ℕ, ◌+◌, ◌*◌, ◌^◌, ◌≤◌, ◌||◌, Bool, true, false, Option, Some, None, is_some, slice_index_or, replicate, List, [], ◌∷◌, if◌then◌else◌}
+use Rattle.std.specs.Prelude.{ℕ, ◌+◌, ◌*◌, ◌^◌, ◌≤◌, ◌||◌, Bool, true, false, Option, Some, None, is_some, slice_index_or, replicate, List, [], ◌∷◌, if◌then◌else◌}
 use Rattle.rt_shares.specs.Charge.{placed}
 use Rattle.rt_ids.specs.declared.names.JobId.{JobId}
 use Rattle.rt_ids.specs.Names.{is_number}

@@ -1,5 +1,5 @@
 -- What a turn does: a pick takes the first job of the right queue out, and settling its poll charges the queue.
-use Rattle.std.specs.Prelude.{◌≡◌, ℕ, ◌+◌, ◌-◌, ◌^◌, max, List, [], ◌∷◌, ◌++◌, slice_set, Bool, true, false, Option, Some, None, unwrap_or, Result, Ok, Err}
+use Rattle.std.specs.Prelude.{◌≡◌, ℕ, ◌+◌, ◌-◌, ◌^◌, max, List, [], ◌∷◌, ◌++◌, slice_set, Bool, true, false, Some, None, unwrap_or, Result, Ok, Err}
 use Rattle.rt_shares.specs.Charge.{charge, clamped}
 use Rattle.rt_ids.specs.declared.names.JobId.{JobId}
 use Rattle.rt_ids.specs.declared.note.Note.{Note}
