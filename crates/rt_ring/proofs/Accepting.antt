@@ -21,22 +21,16 @@ use Rattle.rt_ring.specs.Told.{Accepts}
 use Rattle.rt_ring.specs.Views.{KnowsOut, KnowsInward}
 use Rattle.rt_ring.specs.declared.board.Known.{Known}
 use Rattle.rt_ring.specs.declared.board.Slot.{Slot}
-use Rattle.rt_ring.specs.declared.board.Slot.TheVariants.{Empty, Sent, Back}
+use Rattle.rt_ring.specs.Slots.{Empty, Sent}
 use Rattle.rt_ring.specs.declared.board.Terms.{Terms}
 use Rattle.rt_ring.proofs.CarriedSlots.{spare-early, spare-late}
 use Rattle.rt_ring.proofs.SeatViews.{AreTold-sender}
+use Rattle.rt_ring.proofs.Fronts.{front_order}
 use Rattle.rt_ring.proofs.SentSlots.{AreInPlace-sent_early, AreInPlace-sent_late}
 use Rattle.rt_ring.proofs.Stepping.{Rule, Owes, gate-open, gate-shut, accept-word}
 use Rattle.rt_ring.proofs.Probing.{not_closed, misses}
 
 module _ {J T : Type 0} where
-  -- the order in the slot at the front
-  abbrev front_order : Order J → List (ℕ × Slot J T) → Order J
-  front_order other [] = other
-  front_order other ((k, Empty) ∷ slots) = other
-  front_order other ((k, Sent order) ∷ slots) = order
-  front_order other ((k, Back number outcome) ∷ slots) = other
-
   KnowsOut-sent : (link : Whole J T) (out : Outward J T) (order : Order J) → KnowsOut link out
       → KnowsOut (record link { sent = link.sent ++ order ∷ [] }) (record out { sent = out.sent ++ order ∷ [] })
   KnowsOut-sent link out order k = record {
@@ -116,7 +110,7 @@ module _ {J T : Type 0} (fits : Order J → Outcome J T → Type 0) (ready : Ord
         hit = λ _. (
           not_closed view.out.closed r.link.shut knows.gate ungated,
           λ other rests e. let both = e ∙ ap (λ (z : List (ℕ × Slot J T)). (order_slot view.out.capacity (length view.out.sent), Sent other) ∷ (z ++ rests)) (spare-early view.out.capacity (length view.out.sent) (omega (arith, capacity-is, count-is))) in
-              λ i. (with_sent view (front_order order (both i)), rest (both i)),
+              let same = front_order _ _ order other _ _ both in λ i. (with_sent view (same i), rest (both i)),
         );
         miss = λ miss. absurd (miss hit);
       },
@@ -133,7 +127,7 @@ module _ {J T : Type 0} (fits : Order J → Outcome J T → Type 0) (ready : Ord
         hit = λ _. (
           not_closed view.out.closed r.link.shut knows.gate ungated,
           λ other rests e. let both = e ∙ ap (λ (z : List (ℕ × Slot J T)). (order_slot view.out.capacity (length view.out.sent), Sent other) ∷ (z ++ rests)) (spare-late view.out.capacity (length view.out.sent) (omega (arith, capacity-is, count-is))) in
-              λ i. (with_sent view (front_order order (both i)), rest (rest (both i))),
+              let same = front_order _ _ order other _ _ both in λ i. (with_sent view (same i), rest (rest (both i))),
         );
         miss = λ miss. absurd (miss hit);
       },

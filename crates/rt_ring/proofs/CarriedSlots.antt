@@ -4,7 +4,7 @@ use native.Mathlib.Nat.{add-mod_right}
 use Rattle.rt_ring.specs.Carried.{spare, out_slots, inward_slots}
 use Rattle.rt_ring.specs.Slots.{order_slot, outcome_slot}
 use Rattle.rt_ring.specs.declared.board.Slot.{Slot}
-use Rattle.rt_ring.specs.declared.board.Slot.TheVariants.{Empty}
+use Rattle.rt_ring.specs.Slots.{Empty}
 
 is_lt : (a b : ℕ) → a < b → nat_lt a b ≡ true
 is_lt a b h = search (arith)

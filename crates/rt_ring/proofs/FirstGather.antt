@@ -8,7 +8,7 @@ use Rattle.atomic_table.proofs.Lists.{set_else}
 use Rattle.rt_ring.specs.Carried.{out_slots}
 use Rattle.rt_ring.specs.Slots.{Homes}
 use Rattle.rt_ring.specs.declared.board.Slot.{Slot}
-use Rattle.rt_ring.specs.declared.board.Slot.TheVariants.{Empty}
+use Rattle.rt_ring.specs.Slots.{Empty}
 use Rattle.rt_ring.proofs.CarriedSlots.{spare-early}
 
 -- the slots from i on are taken, the last one first

@@ -1,11 +1,15 @@
 -- What a seat carries, read at its front.
-use Rattle.std.proofs.Common.{◌≡◌, ℕ, zero, suc, ◌<◌, List, [], ◌∷◌, ◌++◌, length, refl, sym, ap, ◌∙◌, arith, Some}
+use Rattle.std.proofs.Common.{◌≡◌, ℕ, zero, suc, ◌<◌, List, [], ◌∷◌, ◌++◌, length, refl, sym, ap, ◌∙◌, arith, Option, Some, None}
 use Rattle.std.specs.Prelude.{slice_get}
 use Rattle.atomic_table.specs.Table.{rest, turned}
 use Rattle.rt_ids.specs.declared.order.Order.{Order}
+use Rattle.rt_ids.specs.declared.order.Order.TheVariants.{Job, Create, SetShares}
 use Rattle.rt_ids.specs.declared.order.Outcome.{Outcome}
+use Rattle.rt_ids.specs.declared.order.Outcome.TheVariants.{Finished, Returned, Answered}
+use Rattle.rt_ring.specs.declared.board.Label.{Label}
+use Rattle.rt_ring.specs.declared.board.Label.TheVariants as label
 use Rattle.rt_ring.specs.declared.board.Slot.{Slot}
-use Rattle.rt_ring.specs.declared.board.Slot.TheVariants.{Empty, Sent, Back}
+use Rattle.rt_ring.specs.Slots.{bare, job_of, Sent, Back}
 
 pub slice_get-there : {A : Type 0} (xs : List A) (i : ℕ) → i < length xs → (x : A) × (slice_get xs i ≡ Some x)
 slice_get-there [] i h = absurd (omega arith)
@@ -45,20 +49,54 @@ module _ {X V : Type 0} (i j : ℕ) (a b : X) (l : List (ℕ × X)) (view : V) (
   kept_slots z wrote last wrote_is last_is =
       last_is ∙ (ap (λ (q : V × List (ℕ × X)). (q.0, turned q.1)) wrote_is ∙ ap (λ (q : V × List (ℕ × X)). (q.0, rest q.1 ++ (k, z) ∷ [])) after_turn)
 
+-- an order is what it is without its job, and its job
+module _ {J : Type 0} where
+  abbrev whole_or : Order J → Order (Unit {0}) → Option J → Order J
+  whole_or other (Job queue task) (Some job) = Job queue job
+  whole_or other (Job queue task) None = other
+  whole_or other (Create shares) job = Create shares
+  whole_or other (SetShares queue shares) job = SetShares queue shares
+
+  whole_or-bare : (other order : Order J) → whole_or other (bare order) (job_of order) ≡ order
+  whole_or-bare other (Job queue job) = refl
+  whole_or-bare other (Create shares) = refl
+  whole_or-bare other (SetShares queue shares) = refl
+
 -- what a slot holds is one thing
 module _ {J T : Type 0} where
-  abbrev order_or : Order J → Slot J T → Order J
-  order_or other Empty = other
-  order_or other (Sent order) = order
-  order_or other (Back number outcome) = other
+  abbrev order_in : Order J → Label T → Option J → Order J
+  order_in other (label.Sent number order) job = whole_or other order job
+  order_in other _ job = other
+
+  Sent-injective : (a b : Order J) → Sent {T = T} a ≡ Sent b → a ≡ b
+  Sent-injective a b e = sym (whole_or-bare a a) ∙ (ap (λ (x : Slot J T). order_in a x.label x.job) e ∙ whole_or-bare a b)
 
   pub same_order : (a b : Order J) (x : Slot J T) → x ≡ Sent a → x ≡ Sent b → a ≡ b
-  same_order a b x p q = ap (order_or a) (sym p ∙ q)
+  same_order a b x p q = Sent-injective a b (sym p ∙ q)
 
-  abbrev outcome_or : ℕ × Outcome J T → Slot J T → ℕ × Outcome J T
-  outcome_or other Empty = other
-  outcome_or other (Sent order) = other
-  outcome_or other (Back number outcome) = (number, outcome)
+  pub front_order : (k j : ℕ) (a b : Order J) (xs ys : List (ℕ × Slot J T)) → (k, Sent a) ∷ xs ≡ (j, Sent b) ∷ ys → a ≡ b
+  front_order k j a b xs ys e = Sent-injective a b (same_front k j (Sent a) (Sent b) xs ys e)
+
+  abbrev outcome_in : ℕ × Outcome J T → Label T → Option J → ℕ × Outcome J T
+  outcome_in other (label.Finished number out) job = (number, Finished out)
+  outcome_in other (label.Returned number reason (Job queue task)) (Some job) = (number, Returned reason (Job queue job))
+  outcome_in other (label.Returned number reason (Create shares)) job = (number, Returned reason (Create shares))
+  outcome_in other (label.Returned number reason (SetShares queue shares)) job = (number, Returned reason (SetShares queue shares))
+  outcome_in other (label.Answered number answer) job = (number, Answered answer)
+  outcome_in other _ _ = other
+
+  outcome_in-Back : (other : ℕ × Outcome J T) (number : ℕ) (outcome : Outcome J T) → outcome_in other (Back number outcome).label (Back number outcome).job ≡ (number, outcome)
+  outcome_in-Back other number (Finished out) = refl
+  outcome_in-Back other number (Returned reason (Job queue job)) = refl
+  outcome_in-Back other number (Returned reason (Create shares)) = refl
+  outcome_in-Back other number (Returned reason (SetShares queue shares)) = refl
+  outcome_in-Back other number (Answered answer) = refl
+
+  Back-injective : (a b : ℕ × Outcome J T) → Back a.0 a.1 ≡ Back b.0 b.1 → a ≡ b
+  Back-injective a b e = sym (outcome_in-Back a a.0 a.1) ∙ (ap (λ (x : Slot J T). outcome_in a x.label x.job) e ∙ outcome_in-Back a b.0 b.1)
 
   pub same_outcome : (a b : ℕ × Outcome J T) (x : Slot J T) → x ≡ Back a.0 a.1 → x ≡ Back b.0 b.1 → a ≡ b
-  same_outcome a b x p q = ap (outcome_or a) (sym p ∙ q)
+  same_outcome a b x p q = Back-injective a b (sym p ∙ q)
+
+  pub front_outcome : (k j : ℕ) (a b : ℕ × Outcome J T) (xs ys : List (ℕ × Slot J T)) → (k, Back a.0 a.1) ∷ xs ≡ (j, Back b.0 b.1) ∷ ys → a ≡ b
+  front_outcome k j a b xs ys e = Back-injective a b (same_front k j (Back a.0 a.1) (Back b.0 b.1) xs ys e)

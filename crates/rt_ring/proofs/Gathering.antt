@@ -20,7 +20,7 @@ use Rattle.rt_ring.specs.Told.{SeesOutcomes, Gathers}
 use Rattle.rt_ring.specs.Views.{KnowsOut, KnowsInward}
 use Rattle.rt_ring.specs.declared.board.Known.{Known}
 use Rattle.rt_ring.specs.declared.board.Slot.{Slot}
-use Rattle.rt_ring.specs.declared.board.Slot.TheVariants.{Empty}
+use Rattle.rt_ring.specs.Slots.{Empty}
 use Rattle.rt_ring.specs.declared.board.Terms.{Terms}
 use Rattle.rt_ring.proofs.SeatViews.{AreTold-sender}
 use Rattle.rt_ring.proofs.GotSlots.{outcome-there, emptied-there, AreInPlace-got}

@@ -20,20 +20,14 @@ use Rattle.rt_ring.specs.Told.{Gives}
 use Rattle.rt_ring.specs.Views.{KnowsOut, KnowsInward}
 use Rattle.rt_ring.specs.declared.board.Known.{Known}
 use Rattle.rt_ring.specs.declared.board.Slot.{Slot}
-use Rattle.rt_ring.specs.declared.board.Slot.TheVariants.{Empty, Sent, Back}
+use Rattle.rt_ring.specs.Slots.{Empty, Back}
 use Rattle.rt_ring.specs.declared.board.Terms.{Terms}
 use Rattle.rt_ring.proofs.SeatViews.{AreTold-receiver}
+use Rattle.rt_ring.proofs.Fronts.{front_outcome}
 use Rattle.rt_ring.proofs.GivenSlots.{AreInPlace-given}
 use Rattle.rt_ring.proofs.Stepping.{Rule, Owes}
 
 module _ {J T : Type 0} where
-  -- the outcome in the slot at the front
-  abbrev front_outcome : ℕ × Outcome J T → List (ℕ × Slot J T) → ℕ × Outcome J T
-  front_outcome other [] = other
-  front_outcome other ((k, Empty) ∷ slots) = other
-  front_outcome other ((k, Sent order) ∷ slots) = other
-  front_outcome other ((k, Back number outcome) ∷ slots) = (number, outcome)
-
   KnowsInward-given : (link : Whole J T) (number : ℕ) (outcome : Outcome J T) (inward : Inward J T) → KnowsInward link inward
       → KnowsInward (record link { given = link.given ++ (number, outcome) ∷ [] }) (record inward { given = inward.given ++ (number, outcome) ∷ [] })
   KnowsInward-given link number outcome inward k = record {
@@ -99,5 +93,5 @@ module _ {J T : Type 0} (fits : Order J → Outcome J T → Type 0) (ready : Ord
           views = AreTold-receiver r.link later s.homes (set (set s.homes o (some (Back number outcome))) e (some Empty)) r.sender r.receiver seat s.views view r.views at used
               (record inward { given = inward.given ++ (number, outcome) ∷ [] }) go (KnowsInward-given r.link number outcome inward k) (KnowsOut-given r.link number outcome);
         },
-        record { gave = λ number' outcome' more' both i. (with_given view (front_outcome (number, outcome) (both i)).0 (front_outcome (number, outcome) (both i)).1, rest (rest (both i))) },
+        record { gave = λ number' outcome' more' both. let same = front_outcome _ _ (number, outcome) (number', outcome') _ _ both in λ i. (with_given view (same i).0 (same i).1, rest (rest (both i))) },
       )

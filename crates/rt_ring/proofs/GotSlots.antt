@@ -8,7 +8,7 @@ use Rattle.rt_ids.specs.declared.order.Outcome.{Outcome}
 use Rattle.rt_link.specs.Whole.{IsLink}
 use Rattle.rt_link.specs.declared.plain.Whole.{Whole}
 use Rattle.rt_ring.specs.Slots.{Homes, AreInPlace, order_slot, outcome_slot, order_at, outcome_at, nothing_at}
-use Rattle.rt_ring.specs.declared.board.Slot.TheVariants.{Empty}
+use Rattle.rt_ring.specs.Slots.{Empty}
 use Rattle.rt_ring.proofs.Windows.{order-laps, outcome-laps, order-not_outcome, AreHome-outside, AreHome-within, orders-stay, outcomes-stay}
 
 module _ {J T : Type 0} (fits : Order J → Outcome J T → Type 0) (ready : Order J → Type 0) (link : Whole J T) (law : IsLink fits ready link) (credits : link.redeemed ≡ link.got)

@@ -16,7 +16,7 @@ use Rattle.rt_ring.specs.Told.{Stocks}
 use Rattle.rt_ring.specs.Views.{IsTold, fresh_link, first_view, out_part, inward_part}
 use Rattle.rt_ring.specs.declared.board.Known.{Known}
 use Rattle.rt_ring.specs.declared.board.Slot.{Slot}
-use Rattle.rt_ring.specs.declared.board.Slot.TheVariants.{Empty}
+use Rattle.rt_ring.specs.Slots.{Empty}
 use Rattle.rt_ring.specs.declared.board.Terms.{Terms}
 use Rattle.rt_ring.proofs.Seats.{at_end, only_one, one_sender, one_receiver, fresh_sender}
 use Rattle.rt_ring.proofs.SeatViews.{true-not_false}

@@ -12,7 +12,7 @@ use Rattle.rt_ring.specs.Slots.{order_slot, outcome_slot, slot_of_order}
 use Rattle.rt_ring.specs.After.{with_taken, with_shut, with_given}
 use Rattle.rt_ring.specs.Told.{SeesOrders, Looks, Gives}
 use Rattle.rt_ring.specs.declared.board.Slot.{Slot}
-use Rattle.rt_ring.specs.declared.board.Slot.TheVariants.{Empty, Sent, Back}
+use Rattle.rt_ring.specs.Slots.{Empty, Sent, Back}
 use Rattle.rt_ring.specs.declared.board.Terms.{Terms}
 use Rattle.rt_ring.proofs.CarriedSlots.{inward_slots-next, inward_slots-more}
 use Rattle.rt_ring.proofs.Fronts.{slice_get-there}

@@ -11,7 +11,7 @@ use Rattle.rt_ring.specs.Slots.{order_slot, outcome_slot, slot_of_outcome}
 use Rattle.rt_ring.specs.After.{with_sent, with_closed, with_got}
 use Rattle.rt_ring.specs.Told.{Accepts, SeesOutcomes, Gathers}
 use Rattle.rt_ring.specs.declared.board.Slot.{Slot}
-use Rattle.rt_ring.specs.declared.board.Slot.TheVariants.{Empty, Sent, Back}
+use Rattle.rt_ring.specs.Slots.{Empty, Sent, Back}
 use Rattle.rt_ring.specs.declared.board.Terms.{Terms}
 use Rattle.rt_ring.proofs.Accepting.{accepts}
 use Rattle.rt_ring.proofs.Fronts.{slice_get-there}

@@ -7,7 +7,7 @@ use Rattle.rt_link.specs.Whole.{IsLink}
 use Rattle.rt_link.specs.declared.plain.Whole.{Whole}
 use Rattle.rt_link.proofs.Lists.{slice_get-starts}
 use Rattle.rt_ring.specs.Slots.{Homes, AreHome, AreInPlace, order_slot, outcome_slot, order_at, outcome_at, nothing_at, slot_of_order}
-use Rattle.rt_ring.specs.declared.board.Slot.TheVariants.{Empty, Sent}
+use Rattle.rt_ring.specs.Slots.{Empty, Sent}
 use Rattle.rt_ring.proofs.Windows.{slice_get-last, order-laps, outcome-laps, order-below, outcome-below, AreHome-outside, AreHome-more, AreHome-within, orders-stay, outcomes-stay}
 
 module _ {J T : Type 0} (fits : Order J → Outcome J T → Type 0) (ready : Order J → Type 0) (link : Whole J T) (law : IsLink fits ready link) (credits : link.redeemed ≡ link.got)

@@ -4,7 +4,7 @@ use Rattle.atomic_table.specs.Table.{Me}
 use Rattle.rt_ring.specs.Slots.{order_slot, outcome_slot}
 use Rattle.rt_ring.specs.declared.board.Known.{Known}
 use Rattle.rt_ring.specs.declared.board.Slot.{Slot}
-use Rattle.rt_ring.specs.declared.board.Slot.TheVariants.{Empty}
+use Rattle.rt_ring.specs.Slots.{Empty}
 
 -- a seat: what it knows, and the slots that are out with it
 abbrev pub Place : Type 0 → Type 0 → Type 0

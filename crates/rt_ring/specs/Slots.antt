@@ -4,10 +4,13 @@ use mathlib.Core.Option.{some}
 use mathlib.Core.Option as maybe
 use lib.ListN.{get_elem?}
 use Rattle.rt_ids.specs.declared.order.Order.{Order}
+use Rattle.rt_ids.specs.declared.order.Order.TheVariants.{Job, Create, SetShares}
 use Rattle.rt_ids.specs.declared.order.Outcome.{Outcome}
+use Rattle.rt_ids.specs.declared.order.Outcome.TheVariants.{Finished, Returned, Answered}
 use Rattle.rt_link.specs.declared.plain.Whole.{Whole}
 use Rattle.rt_ring.specs.declared.board.Slot.{Slot}
-use Rattle.rt_ring.specs.declared.board.Slot.TheVariants.{Empty, Sent, Back}
+use Rattle.rt_ring.specs.declared.board.Label.{Label}
+use Rattle.rt_ring.specs.declared.board.Label.TheVariants as label
 
 -- the slot of the order at an index of those sent
 abbrev pub order_slot : ℕ → ℕ → ℕ
@@ -21,7 +24,42 @@ outcome_slot capacity index = capacity + index % capacity
 abbrev pub Homes : Type 0 → Type 0 → Type 0
 Homes J T = List (maybe.Option (Slot J T))
 
+module _ {J : Type 0} where
+  -- an order without its job
+  abbrev pub bare : Order J → Order (Unit {0})
+  bare (Job queue job) = Job queue tt
+  bare (Create shares) = Create shares
+  bare (SetShares queue shares) = SetShares queue shares
+
+  -- the job of an order, if it has one
+  abbrev pub job_of : Order J → Option J
+  job_of (Job queue job) = Some job
+  job_of (Create shares) = None
+  job_of (SetShares queue shares) = None
+
 module _ {J T : Type 0} where
+  -- an outcome without a job, with its order's number
+  abbrev pub label_of : ℕ → Outcome J T → Label T
+  label_of number (Finished out) = label.Finished number out
+  label_of number (Returned reason order) = label.Returned number reason (bare order)
+  label_of number (Answered answer) = label.Answered number answer
+
+  -- the job that an outcome hands back, if it does
+  abbrev pub job_back : Outcome J T → Option J
+  job_back (Finished out) = None
+  job_back (Returned reason order) = job_of order
+  job_back (Answered answer) = None
+
+  -- a slot with nothing in it, with an order, and with an outcome and its order's number
+  abbrev pub Empty : Slot J T
+  Empty = record { label = label.Empty; job = None }
+
+  abbrev pub Sent : Order J → Slot J T
+  Sent order = record { label = label.Sent 0 (bare order); job = job_of order }
+
+  abbrev pub Back : ℕ → Outcome J T → Slot J T
+  Back number outcome = record { label = label_of number outcome; job = job_back outcome }
+
   -- a slot with this order, if there is one
   abbrev pub slot_of_order : Option (Order J) → Slot J T
   slot_of_order (Some order) = Sent order

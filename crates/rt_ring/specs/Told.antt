@@ -10,7 +10,7 @@ use Rattle.rt_ring.specs.Carried.{Place, spare, out_slots}
 use Rattle.rt_ring.specs.Rule.{gate_bit}
 use Rattle.rt_ring.specs.Slots.{order_slot, outcome_slot, order_at, outcome_at}
 use Rattle.rt_ring.specs.declared.board.Slot.{Slot}
-use Rattle.rt_ring.specs.declared.board.Slot.TheVariants.{Empty, Sent, Back}
+use Rattle.rt_ring.specs.Slots.{Empty, Sent, Back}
 
 module _ {J T : Type 0} where
   -- accept: where the word was as expected, the gate was open, the order in the slot at the front is sent, and its slots are home; otherwise the gate is shut

@@ -13,7 +13,7 @@
 //! them by more than the capacity and what was not got yet. A slot is out with both ends.
 
 use atomic_table::{Seat, Table, TableRule};
-use rt_ids::{ActorNo, CoreNo, Order, Outcome};
+use rt_ids::{ActorNo, Answer, CoreNo, Order, Reason};
 use rt_jobs::Task;
 use rt_link::{Inward, Outward};
 use std::alloc::Global;
@@ -28,16 +28,31 @@ pub(crate) const RETURN: usize = 1;
 /// The top bit of the accept word.
 pub(crate) const GATE: u64 = 1 << 63;
 
+/// What a slot holds, without a job. An outcome stands with its order's number.
+///
+/// An order has 0 in that place, so that in each variant the first field is as large as a word: then no field lies in the tag's
+/// word, and a label is written by whole words.
+#[derive(Drop)]
+pub enum Label<T> {
+    Empty,
+    Sent(u64, Order<()>),
+    Finished(u64, T),
+    Returned(u64, Reason, Order<()>),
+    Answered(u64, Answer),
+}
+
 /// What a slot holds.
 ///
 /// Of the orders sent, the one at index `i` goes through slot `i % capacity`; of the outcomes given, the one at index
 /// `i` goes through slot `capacity + i % capacity`.
+///
+/// A job lies apart from the rest, since it may be large: an outcome that hands none back is given and got without a byte of
+/// its place.
 #[derive(Drop)]
-pub enum Slot<J, T> {
-    Empty,
-    Sent(Order<J>),
-    /// An outcome, with its order's number.
-    Back(u64, Outcome<J, T>),
+pub struct Slot<J, T> {
+    pub label: Label<T>,
+    /// The job of an order, or of one that is handed back.
+    pub job: Option<J>,
 }
 
 /// What the table is told when it is made.

@@ -4,9 +4,9 @@ ghost use Rattle.std.specs.Prelude.{◌≡◌, ◌+◌, ◌^◌, ◌<◌, false,
 ghost use Rattle.rt_link.specs.Whole.{fresh, out_of, inward_of};
 ghost use Rattle.rt_ring.specs.Carried.{out_slots};
 ghost use Rattle.rt_ring.specs.Views.{first_view, out_part, inward_part};
-ghost use Rattle.rt_ring.specs.declared.board.Slot.TheVariants.{Empty};
+ghost use Rattle.rt_ring.specs.Slots.{Empty};
 
-use crate::board::{Board, Place, RETURN, Slot, Terms};
+use crate::board::{Board, Label, Place, RETURN, Slot, Terms};
 use crate::plays::{Halves, Stock};
 use crate::ring_in::RingIn;
 use crate::ring_out::RingOut;
@@ -136,7 +136,10 @@ fn empty_slots<J: Task>(alloc: Global, count: usize) -> Result<Vec<Slot<J, J::Ou
 {
     let mut slots = Vec::with_capacity(alloc, count)?;
     for _ in 0..count {
-        slots.push(Slot::Empty)?;
+        slots.push(Slot {
+            label: Label::Empty,
+            job: None,
+        })?;
     }
     Ok(slots)
 }

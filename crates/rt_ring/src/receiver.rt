@@ -10,12 +10,11 @@ ghost use Rattle.rt_ring.specs.Slots.{order_slot, outcome_slot};
 ghost use Rattle.rt_ring.specs.After.{with_taken, with_shut, with_given};
 ghost use Rattle.rt_ring.specs.Told.{SeesOrders};
 
-use crate::board::{ACCEPT, Board, GATE, Place, RETURN, Slot};
+use crate::board::{ACCEPT, Board, GATE, Place, RETURN};
 use crate::plays::{Give, Look, Shut};
-use crate::slots::move_out;
+use crate::slots::{put_outcome, take_order};
 use rt_ids::{Order, Outcome};
 use rt_jobs::Task;
-use std::mem::forget;
 
 /// The order of the next number, where the accept word shows it. `taken` is the accept word where it doesn't.
 pub(crate) fn look<J: Task>(
@@ -42,9 +41,7 @@ pub(crate) fn look<J: Task>(
         return None;
     }
     seat.turn();
-    let Slot::Sent(order) = move_out(board, seat, slot) else {
-        unreachable!()
-    };
+    let order = take_order(board, seat, slot);
     seat.turn();
     Some(order)
 }
@@ -83,10 +80,7 @@ pub(crate) fn give<J: Task>(
     ensures gave { seat.new.me.0 ≡ with_given seat.old.me.0 number outcome }
 {
     let shared = &board.shared;
-    let empty = shared.exchange(seat, slot, Slot::Back(number, outcome));
-    prove!(matches!(&empty, Slot::Empty));
-    // Forgotten and not matched: so the slot is written without being read, and its cache line crosses once.
-    forget(empty);
+    put_outcome(board, seat, slot, number, outcome);
     // step: give. The receiver alone changes the return word, so it knows what it finds.
     shared.swap::<Give>(seat, RETURN, given);
 }

@@ -8,12 +8,11 @@ ghost use Rattle.rt_ring.specs.Slots.{order_slot, outcome_slot};
 ghost use Rattle.rt_ring.specs.After.{with_sent, with_closed, with_got};
 ghost use Rattle.rt_ring.specs.Told.{SeesOutcomes};
 
-use crate::board::{ACCEPT, Board, Place, RETURN, Slot};
+use crate::board::{ACCEPT, Board, Place, RETURN};
 use crate::plays::{Accept, Gather, Probe};
-use crate::slots::move_out;
+use crate::slots::{put_order, take_order, take_outcome};
 use rt_ids::{Order, Outcome};
 use rt_jobs::Task;
-use std::mem::forget;
 
 /// One try to have an order accepted under the number after `last`. The order comes back where the gate is shut.
 pub(crate) fn offer<J: Task>(
@@ -35,18 +34,12 @@ pub(crate) fn offer<J: Task>(
     ensures err { IfErr result (λ back. (back ≡ order) × (seat.new.me.0 ≡ with_closed seat.old.me.0)) }
 {
     let shared = &board.shared;
-    let empty = shared.exchange(seat, slot, Slot::Sent(order));
-    prove!(matches!(&empty, Slot::Empty));
-    // Forgotten and not matched: so the slot is written without being read, and its cache line crosses once.
-    forget(empty);
+    put_order(board, seat, slot, order);
     // step: accept. One try decides, since only the gate can make it fail.
     if shared.compare_exchange::<Accept>(seat, ACCEPT, last, last + 1) == last {
         return Ok(());
     }
-    let Slot::Sent(back) = move_out(board, seat, slot) else {
-        unreachable!()
-    };
-    Err(back)
+    Err(take_order(board, seat, slot))
 }
 
 /// Whether the gate is open. `last` is the number of the last accepted order.
@@ -91,9 +84,7 @@ pub(crate) fn gather<J: Task>(
         return None;
     }
     seat.turn();
-    let Slot::Back(number, outcome) = move_out(board, seat, slot) else {
-        unreachable!()
-    };
+    let found = take_outcome(board, seat, slot);
     seat.turn();
-    Some((number, outcome))
+    Some(found)
 }

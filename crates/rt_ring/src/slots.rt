@@ -1,25 +1,195 @@
-//! Slots that are out with a seat.
+//! Orders and outcomes in slots: moved in and moved out, and nothing else.
 
-ghost use Rattle.std.specs.Prelude.{◌≡◌, ◌∷◌};
+ghost use Rattle.std.specs.Prelude.{◌≡◌, ℕ, ◌∷◌, None};
 ghost use Rattle.atomic_table.specs.Table.{rest};
-ghost use Rattle.rt_ring.specs.declared.board.Slot.{Slot};
-ghost use Rattle.rt_ring.specs.declared.board.Slot.TheVariants.{Empty};
+ghost use Rattle.rt_ring.specs.Slots.{bare, job_of, Empty, Sent, Back};
 
-use crate::board::{Board, Place, Slot};
+use crate::board::{Board, Label, Place, Slot};
+use rt_ids::{Order, Outcome};
 use rt_jobs::Task;
+use std::mem::{forget, replace};
 
-/// Moves out what the slot holds that the seat took last, and leaves it empty.
+/// Writes a place in which nothing is.
 ///
-/// It stands by itself so that an end that finds nothing pays nothing for it: a function clears its locals as it begins, and a
-/// slot may be large.
+/// What is there is forgotten and not dropped: so the place is written without being read, and its cache line crosses once.
 #[inline]
-pub(crate) fn move_out<J: Task>(
+fn overwrite<X: Drop>(place: &mut X, value: X)
+    ensures { place.new ≡ value }
+{
+    forget(replace(place, value));
+}
+
+impl<J: Drop, T: Drop> Slot<J, T> {
+    #[inline]
+    fn put_order(&mut self, order: Order<J>)
+        requires { self.old ≡ Empty }
+        ensures { self.new ≡ Sent order }
+    {
+        match order {
+            Order::Job(queue, job) => {
+                overwrite(&mut self.label, Label::Sent(0, Order::Job(queue, ())));
+                overwrite(&mut self.job, Some(job));
+            }
+            Order::Create(shares) => {
+                overwrite(&mut self.label, Label::Sent(0, Order::Create(shares)));
+            }
+            Order::SetShares(queue, shares) => {
+                overwrite(
+                    &mut self.label,
+                    Label::Sent(0, Order::SetShares(queue, shares)),
+                );
+            }
+        }
+    }
+
+    #[inline]
+    fn take_order(&mut self) -> Order<J>
+        requires { (order : Order J) × (self.old ≡ Sent order) }
+        ensures value { self.old ≡ Sent result }
+        ensures empty { self.new ≡ Empty }
+    {
+        let Label::Sent(_, order) = replace(&mut self.label, Label::Empty) else {
+            unreachable!()
+        };
+        self.with_job(order)
+    }
+
+    /// An order with the job that lies here.
+    #[inline]
+    fn with_job(&mut self, order: Order<()>) -> Order<J>
+        requires { (whole : Order J) × (order ≡ bare whole) × (self.old.job ≡ job_of whole) }
+        ensures label { order ≡ bare result }
+        ensures job { self.old.job ≡ job_of result }
+        ensures rest { self.new ≡ record self.old { job = None } }
+    {
+        match order {
+            Order::Job(queue, ()) => {
+                let Some(job) = replace(&mut self.job, None) else {
+                    unreachable!()
+                };
+                Order::Job(queue, job)
+            }
+            Order::Create(shares) => Order::Create(shares),
+            Order::SetShares(queue, shares) => Order::SetShares(queue, shares),
+        }
+    }
+
+    #[inline]
+    fn put_outcome(&mut self, number: u64, outcome: Outcome<J, T>)
+        requires { self.old ≡ Empty }
+        ensures { self.new ≡ Back number outcome }
+    {
+        match outcome {
+            Outcome::Finished(out) => {
+                overwrite(&mut self.label, Label::Finished(number, out));
+            }
+            Outcome::Returned(reason, order) => {
+                let (order, job) = parted(order);
+                overwrite(&mut self.label, Label::Returned(number, reason, order));
+                overwrite(&mut self.job, job);
+            }
+            Outcome::Answered(answer) => {
+                overwrite(&mut self.label, Label::Answered(number, answer));
+            }
+        }
+    }
+
+    #[inline]
+    fn take_outcome(&mut self) -> (u64, Outcome<J, T>)
+        requires { (number : ℕ) × (outcome : Outcome J T) × (self.old ≡ Back number outcome) }
+        ensures value { self.old ≡ Back result.0 result.1 }
+        ensures empty { self.new ≡ Empty }
+    {
+        match replace(&mut self.label, Label::Empty) {
+            Label::Finished(number, out) => (number, Outcome::Finished(out)),
+            Label::Returned(number, reason, order) => {
+                (number, Outcome::Returned(reason, self.with_job(order)))
+            }
+            Label::Answered(number, answer) => (number, Outcome::Answered(answer)),
+            _ => unreachable!(),
+        }
+    }
+}
+
+/// An order without its job, and its job.
+#[inline]
+fn parted<J>(order: Order<J>) -> (Order<()>, Option<J>)
+    ensures label { result.0 ≡ bare order }
+    ensures job { result.1 ≡ job_of order }
+{
+    match order {
+        Order::Job(queue, job) => (Order::Job(queue, ()), Some(job)),
+        Order::Create(shares) => (Order::Create(shares), None),
+        Order::SetShares(queue, shares) => (Order::SetShares(queue, shares), None),
+    }
+}
+
+/// Moves an order into the slot that the seat took last, in which there is nothing.
+#[inline]
+pub(crate) fn put_order<J: Task>(
     board: &Board<J>,
     seat: &mut Place<J>,
     slot: usize,
-) -> Slot<J, J::Out>
-    requires { (seat.old.table_id ≡ board.now.shared.table_id) × ((old : Slot J J.Out) × (seat.old.me.1 ≡ (slot, old) ∷ rest seat.old.me.1)) }
-    ensures { (seat.new.table_id ≡ seat.old.table_id) × (seat.new.id ≡ seat.old.id) × (seat.old.me.1 ≡ (slot, result) ∷ rest seat.old.me.1) × (seat.new.me ≡ (seat.old.me.0, (slot, Empty) ∷ rest seat.old.me.1)) }
+    order: Order<J>,
+)
+    requires table { seat.old.table_id ≡ board.now.shared.table_id }
+    requires free { seat.old.me.1 ≡ (slot, Empty) ∷ rest seat.old.me.1 }
+    ensures table { (seat.new.table_id ≡ seat.old.table_id) × (seat.new.id ≡ seat.old.id) }
+    ensures put { seat.new.me ≡ (seat.old.me.0, (slot, Sent order) ∷ rest seat.old.me.1) }
 {
-    board.shared.exchange(seat, slot, Slot::Empty)
+    let place = seat.slot_mut(&board.shared, slot);
+    place.put_order(order);
+}
+
+/// Moves out the order in the slot that the seat took last, and leaves nothing there.
+///
+/// It stands by itself so that an end that finds nothing pays nothing for it: a function clears its locals as it begins, and a
+/// job may be large.
+#[inline]
+pub(crate) fn take_order<J: Task>(board: &Board<J>, seat: &mut Place<J>, slot: usize) -> Order<J>
+    requires table { seat.old.table_id ≡ board.now.shared.table_id }
+    requires full { (order : Order J) × (seat.old.me.1 ≡ (slot, Sent order) ∷ rest seat.old.me.1) }
+    ensures table { (seat.new.table_id ≡ seat.old.table_id) × (seat.new.id ≡ seat.old.id) }
+    ensures value { seat.old.me.1 ≡ (slot, Sent result) ∷ rest seat.old.me.1 }
+    ensures left { seat.new.me ≡ (seat.old.me.0, (slot, Empty) ∷ rest seat.old.me.1) }
+{
+    let place = seat.slot_mut(&board.shared, slot);
+    place.take_order()
+}
+
+/// Moves an outcome into the slot that the seat took last, in which there is nothing.
+#[inline]
+pub(crate) fn put_outcome<J: Task>(
+    board: &Board<J>,
+    seat: &mut Place<J>,
+    slot: usize,
+    number: u64,
+    outcome: Outcome<J, J::Out>,
+)
+    requires table { seat.old.table_id ≡ board.now.shared.table_id }
+    requires free { seat.old.me.1 ≡ (slot, Empty) ∷ rest seat.old.me.1 }
+    ensures table { (seat.new.table_id ≡ seat.old.table_id) × (seat.new.id ≡ seat.old.id) }
+    ensures put { seat.new.me ≡ (seat.old.me.0, (slot, Back number outcome) ∷ rest seat.old.me.1) }
+{
+    let place = seat.slot_mut(&board.shared, slot);
+    place.put_outcome(number, outcome);
+}
+
+/// Moves out the outcome in the slot that the seat took last, with its order's number, and leaves nothing there.
+///
+/// It stands by itself as `take_order` does.
+#[inline]
+pub(crate) fn take_outcome<J: Task>(
+    board: &Board<J>,
+    seat: &mut Place<J>,
+    slot: usize,
+) -> (u64, Outcome<J, J::Out>)
+    requires table { seat.old.table_id ≡ board.now.shared.table_id }
+    requires full { (found : ℕ × Outcome J J.Out) × (seat.old.me.1 ≡ (slot, Back found.0 found.1) ∷ rest seat.old.me.1) }
+    ensures table { (seat.new.table_id ≡ seat.old.table_id) × (seat.new.id ≡ seat.old.id) }
+    ensures value { seat.old.me.1 ≡ (slot, Back result.0 result.1) ∷ rest seat.old.me.1 }
+    ensures left { seat.new.me ≡ (seat.old.me.0, (slot, Empty) ∷ rest seat.old.me.1) }
+{
+    let place = seat.slot_mut(&board.shared, slot);
+    place.take_outcome()
 }

@@ -3,6 +3,7 @@ ghost use Rattle.rt_link.specs.Fits.{Fits};
 
 mod boxed;
 mod lives;
+mod sizes;
 mod threads;
 
 use crate::{RingIn, RingOut};

@@ -1,6 +1,6 @@
 use Rattle.std.proofs.Common.{◌≡◌, ◌∙◌, ap, arith, replicate, [], ◌∷◌, ◌++◌}
 use Rattle.std.proofs.lemmas.List.{replicate-append-replicate}
-use Rattle.rt_ring.specs.declared.board.Slot.TheVariants.{Empty}
+use Rattle.rt_ring.specs.Slots.{Empty}
 use Rattle.rt_ring.proofs.link.empty_slots.Goals as goal
 
 pub loop-preserved : goal.loop-preserved

@@ -8,16 +8,16 @@ pub swap-requires : goal.swap-requires
 swap-requires g c = (
   search rules,
   search rules,
-  give-allowed c.args.seat.now.me c.exchange-empty.new.seat.me c.args.slot c.args.number c.args.outcome c.requires.receiver c.exchange-empty.ensures.3 c.requires.slot c.requires.owed
+  give-allowed c.args.seat.now.me c.put_outcome.new.seat.me c.args.slot c.args.number c.args.outcome c.requires.receiver c.put_outcome.ensures.put c.requires.slot c.requires.owed
       (Fits g.J.Task.SameTask g.J.Task.Answers) (HasReadyJob g.J.Task.done g.J.Task.CanPoll) _ _ _ c.args.given c.requires.given c.requires.may,
 )
 
 pub returns-clause-receiver : goal.returns-clause-receiver
 returns-clause-receiver g c =
-    (give-done c.args.seat.now.me c.exchange-empty.new.seat.me c.args.slot c.args.number c.args.outcome c.requires.receiver c.exchange-empty.ensures.3 c.requires.slot c.requires.owed
+    (give-done c.args.seat.now.me c.put_outcome.new.seat.me c.args.slot c.args.number c.args.outcome c.requires.receiver c.put_outcome.ensures.put c.requires.slot c.requires.owed
     c.swap.result c.swap.new.seat.me c.swap.ensures.2).1
 
 pub returns-clause-gave : goal.returns-clause-gave
 returns-clause-gave g c =
-    (give-done c.args.seat.now.me c.exchange-empty.new.seat.me c.args.slot c.args.number c.args.outcome c.requires.receiver c.exchange-empty.ensures.3 c.requires.slot c.requires.owed
+    (give-done c.args.seat.now.me c.put_outcome.new.seat.me c.args.slot c.args.number c.args.outcome c.requires.receiver c.put_outcome.ensures.put c.requires.slot c.requires.owed
     c.swap.result c.swap.new.seat.me c.swap.ensures.2).0
