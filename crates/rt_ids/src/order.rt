@@ -95,6 +95,12 @@ pub enum SendError<J> {
 
 // By hand: a derived `clone` of a generic enum takes the check many times as long.
 impl<J: Copy> Clone for Order<J> {
+    ghost use Rattle.std.specs.Prelude.{◌≡◌, ⊤};
+
+    ghost is_clone = { λ it copy. copy ≡ it };
+
+    ghost is_infallible = { λ _. ⊤ };
+
     fn clone(&self) -> Result<Self, AllocError> {
         Ok(*self)
     }
