@@ -89,6 +89,7 @@ impl<A: Allocator> Tree<A> {
     pub(crate) fn know_filled(&self)
         ensures { IsFilled self.now }
     {
+        // To look inside is to know the tree's invariant.
         let _root = &self.root;
     }
 
