@@ -1,5 +1,5 @@
 -- What a seat carries, before and after its steps.
-use Rattle.std.proofs.Common.{◌≡◌, ℕ, zero, suc, ◌+◌, ◌-◌, ◌%◌, ◌<◌, ◌≤◌, Bool, true, false, List, [], ◌∷◌, ◌++◌, sym, ap, ap₂, ◌∙◌, arith, append_assoc, nat_lt, if◌then◌else◌}
+use Rattle.std.proofs.Common.{◌≡◌, ℕ, zero, suc, ◌+◌, ◌-◌, ◌*◌, ◌%◌, ◌<◌, ◌≤◌, Bool, true, false, List, [], ◌∷◌, ◌++◌, sym, ap, ap₂, ◌∙◌, arith, append_assoc, nat_lt, if◌then◌else◌}
 use native.Mathlib.Nat.{add-mod_right}
 use Rattle.rt_ring.specs.Carried.{spare, out_slots, inward_slots}
 use Rattle.rt_ring.specs.Slots.{order_slot, outcome_slot}
@@ -39,7 +39,7 @@ module _ {J T : Type 0} where
   out_slots-more n i got within =
       let at : i + (got + n - i) ≡ got + n = omega arith in
       let lap : (got + n) % n ≡ got % n = add-mod_right got n in
-      ap (λ (k : ℕ). (out_slots n i (got + n - i) ++ (k, Empty) ∷ []) ++ (n + k, Empty) ∷ []) (sym lap ∙ ap (λ (k : ℕ). k % n) (sym at))
+      ap (λ (k : ℕ). (out_slots n i (got + n - i) ++ (2 * k, Empty) ∷ []) ++ (2 * k + 1, Empty) ∷ []) (sym lap ∙ ap (λ (k : ℕ). k % n) (sym at))
       ∙ (sym (out_slots-last n i (got + n - i) (omega arith)) ∙ (let k : suc (got + n - i) ≡ got + 1 + n - i = omega arith in ap (out_slots n i) k))
 
   -- of the slots that the receiver carries, those of the next outcome

@@ -12,13 +12,14 @@ use Rattle.rt_link.proofs.Numbers.{AreNamed-append, AreNamed-wider, AreNamed-roo
 use Rattle.rt_ring.specs.Carried.{Place, IsSender, IsReceiver}
 use Rattle.rt_ring.specs.Ends.{IsOut, IsInward}
 use Rattle.rt_ring.specs.Rule.{gate_bit}
+use Rattle.rt_ring.specs.Slots.{place_of}
 use Rattle.rt_ring.specs.After.{with_got, with_taken, with_given}
 use Rattle.rt_ring.specs.Told.{SeesOrders, SeesOutcomes}
 use Rattle.rt_ring.specs.declared.board.Known.{Known}
 
 -- a place that is the next one in turn
-abbrev pub Follows : ℕ → ℕ → ℕ → ℕ → Type 0
-Follows first count place next = (index : ℕ) → 0 < count → place ≡ first + index % count → next ≡ first + (index + 1) % count
+abbrev pub Follows : ℕ → ℕ → ℕ → Type 0
+Follows count place next = (index : ℕ) → 0 < count → place ≡ place_of count index → next ≡ place_of count (index + 1)
 
 -- what the sender sees is of what it sent
 pub AreOf-seen : {J T : Type 0} (fits : Order J → Outcome J T → Type 0) (old new : Known J T) (got : ℕ) → SeesOutcomes fits old.out new.out.seen → new ≡ with_got old new.out.seen got
@@ -30,7 +31,7 @@ module _ {J T : Type 0} (table board : TableId) (me : Place J T) (base capacity 
   -- after an outcome was got
   pub IsOut-got : (fits : Order J → Outcome J T → Type 0) (table' : TableId) (new : Place J T) (outcome : ℕ × Outcome J T) (next : ℕ) → table' ≡ table → IsSender new
       → SeesOutcomes fits me.0.out new.0.out.seen → new.0 ≡ with_got me.0 new.0.out.seen (me.0.out.got + 1) → slice_get new.0.out.seen me.0.out.got ≡ Some outcome
-      → Follows capacity capacity next_outcome next → IsOut table' board new base capacity count (collected + 1) redeemed next_order next
+      → Follows capacity next_outcome next → IsOut table' board new base capacity count (collected + 1) redeemed next_order next
   IsOut-got fits table' new outcome next same seat sees now there follows =
       let within : me.0.out.got < length new.0.out.seen = slice_get_within new.0.out.seen me.0.out.got outcome there in
       let few : length new.0.out.seen ≤ length me.0.out.sent = sees.few in
@@ -66,7 +67,7 @@ module _ {J T : Type 0} (table board : TableId) (me : Place J T) (from to base c
   -- after an outcome was given
   pub IsInward-given : (fits : Order J → Outcome J T → Type 0) (table' : TableId) (new : Place J T) (number : ℕ) (outcome : Outcome J T) (next : ℕ) → table' ≡ table → IsReceiver new
       → MayGive fits me.0.inward number outcome → new.0 ≡ with_given me.0 number outcome
-      → Follows capacity capacity next_outcome next → IsInward table' board new from to base capacity taken (given + 1) gate last next_order next
+      → Follows capacity next_outcome next → IsInward table' board new from to base capacity taken (given + 1) gate last next_order next
   IsInward-given fits table' new number outcome next same seat may now follows =
       let awaits : length me.0.inward.given < me.0.inward.taken = IsInward-awaits fits number outcome may in
       let longer : length (me.0.inward.given ++ (number, outcome) ∷ []) ≡ length me.0.inward.given + 1 = length-append me.0.inward.given ((number, outcome) ∷ []) in
@@ -100,14 +101,12 @@ module _ {J T : Type 0} (table board : TableId) (me : Place J T) (from to base c
   -- after an order was taken
   pub IsInward-taken : (ready : Order J → Type 0) (table' : TableId) (new : Place J T) (order : Order J) (next : ℕ) → table' ≡ table → IsReceiver new
       → SeesOrders ready me.0.inward new.0.inward.seen → new.0 ≡ with_taken me.0 new.0.inward.seen (me.0.inward.taken + 1) → slice_get new.0.inward.seen me.0.inward.taken ≡ Some order
-      → Follows 0 capacity next_order next → IsInward table' board new from to base capacity (taken + 1) given gate last next next_outcome
+      → Follows capacity next_order next → IsInward table' board new from to base capacity (taken + 1) given gate last next next_outcome
   IsInward-taken ready table' new order next same seat sees now there follows =
       let within : me.0.inward.taken < length new.0.inward.seen = slice_get_within new.0.inward.seen me.0.inward.taken order there in
       let room : length new.0.inward.seen ≤ length me.0.inward.given + me.0.inward.capacity = sees.room in
       let owed : length me.0.inward.given ≤ me.0.inward.taken = is.sound.within in
       let capacity_is : me.0.inward.capacity ≡ capacity = is.capacity_is in
-      let place : next_order ≡ 0 + taken % capacity = omega (arith, is.next_order_is) in
-      let turned : next ≡ 0 + (taken + 1) % capacity = follows taken (omega arith) place in
       let sound : SoundIn (record me.0.inward { seen = new.0.inward.seen; taken = me.0.inward.taken + 1 }) = record {
         numbered = sees.numbered;
         behind = omega arith;
@@ -127,7 +126,7 @@ module _ {J T : Type 0} (table board : TableId) (me : Place J T) (from to base c
         given_is = ap (λ (v : Known J T). length v.inward.given) now ∙ is.given_is;
         gate_is = is.gate_is ∙ ap (λ (v : Known J T). gate_bit v.inward.shut) (sym now);
         last_is = λ shut. let was : me.0.inward.shut ≡ true = ap (λ (v : Known J T). v.inward.shut) (sym now) ∙ shut in is.last_is was ∙ ap (λ (z : List (Order J)). base + length z) (sym (sees.final was));
-        next_order_is = omega arith;
+        next_order_is = follows taken (omega arith) is.next_order_is;
         next_outcome_is = is.next_outcome_is;
         sound = subst (λ (v : Known J T). SoundIn v.inward) (sym now) sound;
       }

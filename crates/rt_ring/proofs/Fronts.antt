@@ -8,6 +8,7 @@ use Rattle.rt_ids.specs.declared.order.Outcome.{Outcome}
 use Rattle.rt_ids.specs.declared.order.Outcome.TheVariants.{Finished, Returned, Answered}
 use Rattle.rt_ring.specs.declared.board.Label.{Label}
 use Rattle.rt_ring.specs.declared.board.Label.TheVariants as label
+use Rattle.rt_ring.specs.declared.board.Notice.TheVariants as notice
 use Rattle.rt_ring.specs.declared.board.Slot.{Slot}
 use Rattle.rt_ring.specs.Slots.{bare, job_of, Sent, Back}
 
@@ -79,10 +80,10 @@ module _ {J T : Type 0} where
 
   abbrev outcome_in : ℕ × Outcome J T → Label T → Option J → ℕ × Outcome J T
   outcome_in other (label.Finished number out) job = (number, Finished out)
-  outcome_in other (label.Returned number reason (Job queue task)) (Some job) = (number, Returned reason (Job queue job))
-  outcome_in other (label.Returned number reason (Create shares)) job = (number, Returned reason (Create shares))
-  outcome_in other (label.Returned number reason (SetShares queue shares)) job = (number, Returned reason (SetShares queue shares))
-  outcome_in other (label.Answered number answer) job = (number, Answered answer)
+  outcome_in other (label.Notice number (notice.Returned reason (Job queue task))) (Some job) = (number, Returned reason (Job queue job))
+  outcome_in other (label.Notice number (notice.Returned reason (Create shares))) job = (number, Returned reason (Create shares))
+  outcome_in other (label.Notice number (notice.Returned reason (SetShares queue shares))) job = (number, Returned reason (SetShares queue shares))
+  outcome_in other (label.Notice number (notice.Answered answer)) job = (number, Answered answer)
   outcome_in other _ _ = other
 
   outcome_in-Back : (other : ℕ × Outcome J T) (number : ℕ) (outcome : Outcome J T) → outcome_in other (Back number outcome).label (Back number outcome).job ≡ (number, outcome)

@@ -1,5 +1,5 @@
 -- The table at the start, the first gather, and the seat that is parted.
-use Rattle.std.proofs.Common.{◌≡◌, ℕ, zero, suc, ◌+◌, ◌%◌, ◌^◌, ◌<◌, inr, ⊎_elim, true, false, List, [], ◌∷◌, map, replicate, length, set, get_or, refl, sym, ap, ap₂, ◌∙◌, arith, subst, mod-lt}
+use Rattle.std.proofs.Common.{◌≡◌, ℕ, zero, suc, ◌+◌, ◌*◌, ◌%◌, ◌^◌, ◌<◌, ⊎_elim, true, false, List, [], ◌∷◌, map, replicate, length, set, get_or, refl, sym, ap, ap₂, ◌∙◌, arith, subst, mod-lt}
 use native.Mathlib.Nat.{mod-eq_of_lt}
 use mathlib.Core.Option.{some}
 use lib.ListN.{get_elem?}
@@ -68,7 +68,7 @@ module _ {J T : Type 0} (fits : Order J → Outcome J T → Type 0) (ready : Ord
       subst (λ (c : List (ℕ × Slot J T)). Owes fits ready terms s 1 seat (view, c) (Stocks (view, c)) (get_or s.words 1 0)) (sym none_yet) (
         record view { fresh = false },
         act,
-        Valid-take_all s.homes 0 n (λ j a b. subst (λ (z : ℕ). get_elem? s.homes z ≡ some (some Empty)) (mod-eq_of_lt (let h : j < n = omega arith in h)) (first.3 j (omega arith) (omega arith))),
+        Valid-take_all s.homes 0 n (λ j a b. subst (λ (z : ℕ). get_elem? s.homes (2 * z) ≡ some (some Empty)) (mod-eq_of_lt (let h : j < n = omega arith in h)) (first.3 j (omega arith) (omega arith))),
         record {
           link = r.link;
           sender = r.sender;
@@ -81,7 +81,7 @@ module _ {J T : Type 0} (fits : Order J → Outcome J T → Type 0) (ready : Ord
             count = length-take_all s.homes 0 n ∙ r.slots.count;
             orders = λ i a b. absurd (omega arith);
             emptied = λ i a b. absurd (omega arith);
-            vacant = λ i a b. homes-take_all s.homes 0 n (outcome_slot n i) (inr (omega arith)) ∙ r.slots.vacant i a b;
+            vacant = λ i a b. homes-take_all s.homes 0 n (outcome_slot n i) (λ k _ _. omega arith) ∙ r.slots.vacant i a b;
             outcomes = λ i a b. absurd (omega arith);
           };
           views = λ id now here. ⊎_elim

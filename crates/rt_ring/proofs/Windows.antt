@@ -20,20 +20,20 @@ abbrev pub HasLaps : (ℕ → ℕ) → ℕ → Type 0
 HasLaps slot n = (i j : ℕ) → i ≤ j → j < i + n → slot i ≡ slot j → i ≡ j
 
 pub order-laps : (n : ℕ) → HasLaps (order_slot n) n
-order-laps n i j low high same = one_turn i j n low high same
+order-laps n i j low high same = one_turn i j n low high (omega arith)
 
 pub outcome-laps : (n : ℕ) → HasLaps (outcome_slot n) n
 outcome-laps n i j low high same = one_turn i j n low high (omega arith)
 
-pub order-below : (n i : ℕ) → 0 < n → order_slot n i < n
-order-below n i some_slot = mod-lt i some_slot
+pub order-below : (n i : ℕ) → 0 < n → order_slot n i < n + n
+order-below n i some_slot = let h : i % n < n = mod-lt i some_slot in omega arith
 
 pub outcome-below : (n i : ℕ) → 0 < n → outcome_slot n i < n + n
 outcome-below n i some_slot = let h : i % n < n = mod-lt i some_slot in omega arith
 
 -- no order has the slot of an outcome
 pub order-not_outcome : (n i j : ℕ) → 0 < n → order_slot n i ≢ outcome_slot n j
-order-not_outcome n i j some_slot same = let h : i % n < n = mod-lt i some_slot in omega arith
+order-not_outcome n i j some_slot same = omega arith
 
 apart : (slot : ℕ → ℕ) (n lap i j : ℕ) → HasLaps slot n → lap ≤ i → i < lap + n → lap ≤ j → j < lap + n → i ≢ j → slot i ≢ slot j
 apart slot n lap i j laps a b c d differ same = differ (order (le_or i j))

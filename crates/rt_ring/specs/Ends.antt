@@ -4,7 +4,7 @@ use Rattle.atomic_table.specs.Seated.{TableId}
 use Rattle.rt_link.specs.Ends.{SoundOut, SoundIn}
 use Rattle.rt_ring.specs.Carried.{Place, IsSender, IsReceiver}
 use Rattle.rt_ring.specs.Rule.{gate_bit}
-use Rattle.rt_ring.specs.Slots.{order_slot, outcome_slot}
+use Rattle.rt_ring.specs.Slots.{place_of}
 
 -- a table by numbers; no two tables have the same
 abbrev pub name_of : TableId → List ℕ
@@ -21,8 +21,8 @@ module _ {J T : Type 0} where
     pub capacity_is : me.0.out.capacity ≡ capacity
     pub count_is : length me.0.out.sent ≡ count
     pub collected_is : me.0.out.got ≡ collected
-    pub next_order_is : next_order ≡ order_slot capacity count
-    pub next_outcome_is : next_outcome ≡ outcome_slot capacity collected
+    pub next_order_is : next_order ≡ place_of capacity count
+    pub next_outcome_is : next_outcome ≡ place_of capacity collected
     pub sound : SoundOut me.0.out redeemed
 
   -- a receiver's end has the receiver's seat at its table, and its numbers are those that the seat knows
@@ -39,6 +39,6 @@ module _ {J T : Type 0} where
     pub given_is : length me.0.inward.given ≡ given
     pub gate_is : gate ≡ gate_bit me.0.inward.shut
     pub last_is : me.0.inward.shut ≡ true → last ≡ base + length me.0.inward.seen
-    pub next_order_is : next_order ≡ order_slot capacity taken
-    pub next_outcome_is : next_outcome ≡ outcome_slot capacity given
+    pub next_order_is : next_order ≡ place_of capacity taken
+    pub next_outcome_is : next_outcome ≡ place_of capacity given
     pub sound : SoundIn me.0.inward

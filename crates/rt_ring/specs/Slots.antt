@@ -1,6 +1,5 @@
 -- Which slots are at home, and what they hold.
-use Rattle.std.specs.Prelude.{◌≡◌, ℕ, ◌+◌, ◌%◌, ◌<◌, ◌≤◌, List, length, max, Option, Some, None, slice_get}
-use mathlib.Core.Option.{some}
+use Rattle.std.specs.Prelude.{◌≡◌, ℕ, ◌+◌, ◌*◌, ◌%◌, ◌<◌, ◌≤◌, List, length, max, Option, Some, None, slice_get}
 use mathlib.Core.Option as maybe
 use lib.ListN.{get_elem?}
 use Rattle.rt_ids.specs.declared.order.Order.{Order}
@@ -11,14 +10,19 @@ use Rattle.rt_link.specs.declared.plain.Whole.{Whole}
 use Rattle.rt_ring.specs.declared.board.Slot.{Slot}
 use Rattle.rt_ring.specs.declared.board.Label.{Label}
 use Rattle.rt_ring.specs.declared.board.Label.TheVariants as label
+use Rattle.rt_ring.specs.declared.board.Notice.TheVariants as notice
+
+-- the place of an index; after the last place comes the first again
+abbrev pub place_of : ℕ → ℕ → ℕ
+place_of capacity index = index % capacity
 
 -- the slot of the order at an index of those sent
 abbrev pub order_slot : ℕ → ℕ → ℕ
-order_slot capacity index = index % capacity
+order_slot capacity index = 2 * place_of capacity index
 
--- the slot of the outcome at an index of those given
+-- the slot of the outcome at an index of those given, behind the order slot of its place
 abbrev pub outcome_slot : ℕ → ℕ → ℕ
-outcome_slot capacity index = capacity + index % capacity
+outcome_slot capacity index = 2 * place_of capacity index + 1
 
 -- the slots of a table: each is at home with what it holds, or out with a seat
 abbrev pub Homes : Type 0 → Type 0 → Type 0
@@ -41,8 +45,8 @@ module _ {J T : Type 0} where
   -- an outcome without a job, with its order's number
   abbrev pub label_of : ℕ → Outcome J T → Label T
   label_of number (Finished out) = label.Finished number out
-  label_of number (Returned reason order) = label.Returned number reason (bare order)
-  label_of number (Answered answer) = label.Answered number answer
+  label_of number (Returned reason order) = label.Notice number (notice.Returned reason (bare order))
+  label_of number (Answered answer) = label.Notice number (notice.Answered answer)
 
   -- the job that an outcome hands back, if it does
   abbrev pub job_back : Outcome J T → Option J
@@ -82,7 +86,7 @@ module _ {J T : Type 0} where
 
   -- the slots of the indexes from `low` to below `high` are at home with their contents
   abbrev pub AreHome : Homes J T → (ℕ → ℕ) → ℕ → ℕ → (ℕ → Slot J T) → Type 0
-  AreHome homes slot low high content = (index : ℕ) → low ≤ index → index < high → get_elem? homes (slot index) ≡ some (some (content index))
+  AreHome homes slot low high content = (index : ℕ) → low ≤ index → index < high → get_elem? homes (slot index) ≡ maybe.some (maybe.some (content index))
 
   -- At home are the slots of the orders that are not taken yet and of the outcomes that are not got yet, and, with nothing in them,
   -- the order slots of those outcomes, the outcome slots of those orders, and the outcome slots that were never used. All other slots

@@ -37,14 +37,23 @@ pub enum Label<T> {
     Empty,
     Sent(u64, Order<()>),
     Finished(u64, T),
-    Returned(u64, Reason, Order<()>),
-    Answered(u64, Answer),
+    Notice(u64, Notice),
+}
+
+/// What a slot holds, without a job, of an outcome that is no finished job's.
+///
+/// These are one variant of a label, so that a label is told by two comparisons: of five variants it was told by a table of jumps.
+#[derive(Drop)]
+pub enum Notice {
+    Returned(Reason, Order<()>),
+    Answered(Answer),
 }
 
 /// What a slot holds.
 ///
-/// Of the orders sent, the one at index `i` goes through slot `i % capacity`; of the outcomes given, the one at index
-/// `i` goes through slot `capacity + i % capacity`.
+/// The place of index `i` is `i % capacity`, and a place has two slots side by side: of the orders sent, the one at index `i`
+/// goes through the first slot of its place; of the outcomes given, the one at index `i` goes through the second. So who
+/// answers an order writes where it just read.
 ///
 /// A job lies apart from the rest, since it may be large: an outcome that hands none back is given and got without a byte of
 /// its place.

@@ -93,7 +93,7 @@ impl RingLink {
             collected: 0,
             redeemed: 0,
             next_order: 0,
-            next_outcome: capacity,
+            next_outcome: 0,
         };
         let inward = RingIn {
             board: again,
@@ -107,7 +107,7 @@ impl RingLink {
             gate: 0,
             last: 0,
             next_order: 0,
-            next_outcome: capacity,
+            next_outcome: 0,
         };
         Ok((out, inward))
     }

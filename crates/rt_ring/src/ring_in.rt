@@ -41,9 +41,9 @@ pub struct RingIn<J: Task> {
     pub(crate) gate: u64,
     /// The number of the last accepted order, once the gate is shut.
     pub(crate) last: u64,
-    /// The slot of the next order.
+    /// The place of the next order.
     pub(crate) next_order: u64,
-    /// The slot of the next outcome.
+    /// The place of the next outcome.
     pub(crate) next_outcome: u64,
 }
 
@@ -66,11 +66,11 @@ impl<J: Task> InEnd<J> for RingIn<J> {
     ghost inward = { λ s. s.inward };
 
     fn take(&mut self) -> Option<Envelope<J>> {
-        let slot = self.next_order as usize;
+        let slot = 2 * self.next_order as usize;
         let taken = self.base + self.taken + self.gate;
         let order = look(&self.board, &mut self.seat, slot, taken)?;
         self.taken += 1;
-        self.next_order = following(self.next_order, 0, self.capacity);
+        self.next_order = following(self.next_order, self.capacity);
         Some(Envelope {
             name: JobId {
                 from: self.from,
@@ -86,11 +86,11 @@ impl<J: Task> InEnd<J> for RingIn<J> {
         ensures link { self.new.link ≡ self.old.link }
         ensures gives { self.new.inward ≡ record self.old.inward { given = self.old.inward.given ++ (number, outcome) ∷ [] } }
     {
-        let slot = self.next_outcome as usize;
+        let slot = 2 * self.next_outcome as usize + 1;
         let given = self.base + self.given + 1;
         give(&self.board, &mut self.seat, slot, given, number, outcome);
         self.given += 1;
-        self.next_outcome = following(self.next_outcome, self.capacity, self.capacity);
+        self.next_outcome = following(self.next_outcome, self.capacity);
     }
 
     fn shut(&mut self) -> u64 {

@@ -38,9 +38,9 @@ pub struct RingOut<J: Task> {
     /// How many outcomes were collected.
     pub(crate) collected: u64,
     pub(crate) redeemed: u64,
-    /// The slot of the next order.
+    /// The place of the next order.
     pub(crate) next_order: u64,
-    /// The slot of the next outcome.
+    /// The place of the next outcome.
     pub(crate) next_outcome: u64,
 }
 
@@ -81,11 +81,11 @@ impl<J: Task> OutEnd<J> for RingOut<J> {
             }
             return Err(SendError::Spent(order));
         }
-        let slot = self.next_order as usize;
+        let slot = 2 * self.next_order as usize;
         match offer(&self.board, &mut self.seat, slot, last, order) {
             Ok(()) => {
                 self.count += 1;
-                self.next_order = following(self.next_order, 0, self.capacity);
+                self.next_order = following(self.next_order, self.capacity);
                 Ok(last + 1)
             }
             Err(back) => Err(SendError::Closed(back, last)),
@@ -93,11 +93,11 @@ impl<J: Task> OutEnd<J> for RingOut<J> {
     }
 
     fn collect(&mut self) -> Option<(u64, Outcome<J, J::Out>)> {
-        let slot = self.next_outcome as usize;
+        let slot = 2 * self.next_outcome as usize + 1;
         let got = self.base + self.collected;
         let found = gather(&self.board, &mut self.seat, slot, got)?;
         self.collected += 1;
-        self.next_outcome = following(self.next_outcome, self.capacity, self.capacity);
+        self.next_outcome = following(self.next_outcome, self.capacity);
         Some(found)
     }
 

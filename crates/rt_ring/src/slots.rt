@@ -4,7 +4,7 @@ ghost use Rattle.std.specs.Prelude.{◌≡◌, ℕ, ◌∷◌, None};
 ghost use Rattle.atomic_table.specs.Table.{rest};
 ghost use Rattle.rt_ring.specs.Slots.{bare, job_of, Empty, Sent, Back};
 
-use crate::board::{Board, Label, Place, Slot};
+use crate::board::{Board, Label, Notice, Place, Slot};
 use rt_ids::{Order, Outcome};
 use rt_jobs::Task;
 use std::mem::{forget, replace};
@@ -85,11 +85,17 @@ impl<J: Drop, T: Drop> Slot<J, T> {
             }
             Outcome::Returned(reason, order) => {
                 let (order, job) = parted(order);
-                overwrite(&mut self.label, Label::Returned(number, reason, order));
+                overwrite(
+                    &mut self.label,
+                    Label::Notice(number, Notice::Returned(reason, order)),
+                );
                 overwrite(&mut self.job, job);
             }
             Outcome::Answered(answer) => {
-                overwrite(&mut self.label, Label::Answered(number, answer));
+                overwrite(
+                    &mut self.label,
+                    Label::Notice(number, Notice::Answered(answer)),
+                );
             }
         }
     }
@@ -102,10 +108,10 @@ impl<J: Drop, T: Drop> Slot<J, T> {
     {
         match replace(&mut self.label, Label::Empty) {
             Label::Finished(number, out) => (number, Outcome::Finished(out)),
-            Label::Returned(number, reason, order) => {
+            Label::Notice(number, Notice::Returned(reason, order)) => {
                 (number, Outcome::Returned(reason, self.with_job(order)))
             }
-            Label::Answered(number, answer) => (number, Outcome::Answered(answer)),
+            Label::Notice(number, Notice::Answered(answer)) => (number, Outcome::Answered(answer)),
             _ => unreachable!(),
         }
     }

@@ -2,14 +2,10 @@
 
 ghost use Rattle.std.specs.Prelude.{◌≡◌, ℕ, ◌+◌, ◌%◌, ◌^◌, ◌<◌};
 
-/// The place after this one, of so many from the first on; after the last comes the first again.
-pub(crate) fn following(place: u64, first: u64, count: u64) -> u64
-    requires small { (place + 1 < 2 ^ 64) × (first + count < 2 ^ 64) }
-    ensures { (index : ℕ) → 0 < count → place ≡ first + index % count → result ≡ first + (index + 1) % count }
+/// The place after this one, of so many; after the last comes the first again.
+pub(crate) fn following(place: u64, count: u64) -> u64
+    requires small { place + 1 < 2 ^ 64 }
+    ensures { (index : ℕ) → 0 < count → place ≡ index % count → result ≡ (index + 1) % count }
 {
-    if place + 1 == first + count {
-        first
-    } else {
-        place + 1
-    }
+    if place + 1 == count { 0 } else { place + 1 }
 }
