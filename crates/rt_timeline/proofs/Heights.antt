@@ -43,8 +43,8 @@ IsFilled-joined left key right many more near =
 
 pub IsFilled-seen : {A : Type 0} (root : Link A) → IsBalanced root → IsFilled (seen root)
 IsFilled-seen Empty balanced = omega arith
-IsFilled-seen (Top node) balanced =
-    IsFilled-joined node.value.left (key_of node.value) node.value.right balanced.left_filled balanced.right_filled (Leans-near node.value.lean node.value.left.height node.value.right.height balanced.leans)
+IsFilled-seen (Top node vr) balanced =
+    IsFilled-joined node.value.left (key_of vr node.value) node.value.right balanced.left_filled balanced.right_filled (Leans-near node.value.lean node.value.left.height node.value.right.height balanced.leans)
 
 fewest-pos : (height : ℕ) → 1 ≤ fewest height
 fewest-pos zero = omega arith
@@ -62,3 +62,14 @@ fewest-low (suc (suc height)) count (suc digits) many below =
 
 pub IsLow-from_filled : (tree : KeyTree) → IsFilled tree → IsLow tree
 IsLow-from_filled tree filled = λ digits below. fewest-low tree.height (length tree.keys + 1) digits filled below
+
+-- where a side grew by a level and the sides are even once the node is settled, the node is as high as before
+pub settled-right : (lean : Lean) (left right height : ℕ) → Leans lean left right → height + height ≡ left + (right + 1) + 2 → height ≡ max left right + 1
+settled-right Left left right height leans twice = omega arith
+settled-right Even left right height leans twice = absurd (omega arith)
+settled-right Right left right height leans twice = omega arith
+
+pub settled-left : (lean : Lean) (left right height : ℕ) → Leans lean left right → height + height ≡ right + (left + 1) + 2 → height ≡ max left right + 1
+settled-left Left left right height leans twice = omega arith
+settled-left Even left right height leans twice = absurd (omega arith)
+settled-left Right left right height leans twice = omega arith

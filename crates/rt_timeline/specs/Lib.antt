@@ -1,3 +1,4 @@
 pub mod Rising
 pub mod Tree
 pub mod Nodes
+pub mod Sides

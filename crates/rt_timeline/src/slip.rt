@@ -1,6 +1,6 @@
 //! A node out of the tree.
 ghost use Rattle.std.specs.Prelude.{◌≡◌, ◌<◌, IfOk};
-ghost use Rattle.rt_timeline.specs.Nodes.{key_of, IsLoose};
+ghost use Rattle.rt_timeline.specs.Nodes.{IsLoose};
 
 use crate::tree::Node;
 use rt_ids::QueueNo;
@@ -52,14 +52,13 @@ impl<A: Allocator> Slip<A> {
         Slip { node }
     }
 
-    pub(crate) fn into_node(self, vr: u128) -> Box<Node<A>, A>
-        ensures key { key_of result.value ≡ record { vr = vr; queue = self } }
+    pub(crate) fn into_node(self) -> Box<Node<A>, A>
+        ensures queue { result.value.queue ≡ self }
         ensures loose { IsLoose result.value }
         ensures numbered { self < 256 }
     {
-        let Slip { mut node } = self;
+        let Slip { node } = self;
         let _number = node.queue.0;
-        node.vr = vr;
         node
     }
 }

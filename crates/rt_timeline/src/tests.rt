@@ -114,8 +114,8 @@ fn use_two_slips(rt: &impl Abort, heap: &LocalHeap) -> Result<(), Fail> {
 
 #[test]
 fn a_slip_needs_memory_and_gives_it_back(rt: HostRuntime) -> Result<(), Fail> {
-    // Room for two slips of 80 bytes.
-    let heap = LocalHeap::new(rt.alloc(), 160)?;
+    // Room for two slips, which at this allocator have 112 bytes.
+    let heap = LocalHeap::new(rt.alloc(), 224)?;
     use_two_slips(&rt, &heap)?;
     assert_eq!(rt; heap.used(), 0);
     Ok(())

@@ -45,7 +45,7 @@ impl<A: Allocator> Timeline<A> {
         requires absent { LacksQueue slip self.old.keys }
         ensures keys { self.new.keys ≡ inserted (record { vr = vr; queue = slip }) self.old.keys }
     {
-        self.tree.insert(slip.into_node(vr));
+        self.tree.insert(slip.into_node(), vr);
         self.len += 1;
     }
 
@@ -68,9 +68,10 @@ impl<A: Allocator> Timeline<A> {
         if self.len == 0 {
             return None;
         }
-        let (node, _lower) = self.tree.take_first();
+        let mut vr = 0;
+        let (node, _lower) = self.tree.take_first(&mut vr);
         self.len -= 1;
-        Some((node.key(), Slip::from_node(node)))
+        Some((node.key(vr), Slip::from_node(node)))
     }
 
     /// Takes the queue of this key out, if the key is there, and gives its slip. Takes no memory.

@@ -10,8 +10,9 @@ use std::marker::Model;
 use std::mem;
 
 mod balance;
+mod levels;
 
-use balance::{parted, put, tilt_left, tilt_right, without_left};
+use balance::{parted, tilt};
 
 /// A side of a node, or the whole: balanced at every level.
 #[cycle(tree)]
@@ -20,11 +21,15 @@ pub(crate) struct Tree<A: Allocator> {
     root: Link<A>,
 }
 
+/// What leads to a node, with that node's virtual runtime.
+///
+/// The number stands here and not in the node, so that a search compares while the node is still on its way to the processor, and it
+/// stands behind the pointer, since before it the number's alignment would make the link half as large again.
 #[cycle(tree)]
 #[derive(Drop)]
 pub(crate) enum Link<A: Allocator> {
     Empty,
-    Top(Box<Node<A>, A>),
+    Top(Box<Node<A>, A>, u128),
 }
 
 /// Which side of a node is one level higher.
@@ -38,10 +43,9 @@ pub(crate) enum Lean {
 #[cycle(tree)]
 #[derive(Drop)]
 pub(crate) struct Node<A: Allocator> {
-    pub(crate) vr: u128,
+    left: Tree<A>,
     pub(crate) queue: QueueNo,
     lean: Lean,
-    left: Tree<A>,
     right: Tree<A>,
 }
 
@@ -78,7 +82,7 @@ impl<A: Allocator> Tree<A> {
     {
         match &self.root {
             Link::Empty => 0,
-            Link::Top(node) => match node.lean {
+            Link::Top(node, _) => match node.lean {
                 Lean::Right => node.right.height() + 1,
                 Lean::Left | Lean::Even => node.left.height() + 1,
             },
@@ -99,7 +103,7 @@ impl<A: Allocator> Tree<A> {
     {
         match &self.root {
             Link::Empty => true,
-            Link::Top(_) => false,
+            Link::Top(_, _) => false,
         }
     }
 
@@ -109,43 +113,43 @@ impl<A: Allocator> Tree<A> {
     {
         match &self.root {
             Link::Empty => None,
-            Link::Top(node) => Some(node.first()),
+            Link::Top(node, vr) => Some(node.first(*vr)),
         }
     }
 }
 
 impl<A: Allocator> Node<A> {
-    /// A node with nothing on its sides, at virtual runtime 0.
+    /// A node with nothing on its sides.
     pub(crate) fn loose(queue: QueueNo) -> Self
         ensures queue { result.queue ≡ queue }
         ensures loose { IsLoose result }
     {
         Node {
-            vr: 0,
+            left: Tree::new(),
             queue,
             lean: Lean::Even,
-            left: Tree::new(),
             right: Tree::new(),
         }
     }
 
-    pub(crate) fn key(&self) -> Key
-        ensures { result ≡ key_of self.now }
+    /// The key of the node, which stands at this virtual runtime.
+    pub(crate) fn key(&self, vr: u128) -> Key
+        ensures { result ≡ key_of vr self.now }
     {
         Key {
-            vr: self.vr,
+            vr,
             queue: self.queue,
         }
     }
 
-    /// The first key of the node and its sides.
-    fn first(&self) -> Key
-        ensures { first_key (keys_of self.now) ≡ Some result }
+    /// The first key of the node, which stands at this virtual runtime, and its sides.
+    fn first(&self, vr: u128) -> Key
+        ensures { first_key (keys_of vr self.now) ≡ Some result }
     {
         let left = &self.left;
         match &left.root {
-            Link::Empty => self.key(),
-            Link::Top(next) => next.first(),
+            Link::Empty => self.key(vr),
+            Link::Top(next, vr) => next.first(*vr),
         }
     }
 }
@@ -180,69 +184,8 @@ impl<A: Allocator> Tree<A> {
     {
         match &self.root {
             Link::Empty => false,
-            Link::Top(node) => {
+            Link::Top(node, _) => {
                 node.queue == queue || node.left.has_queue(queue) || node.right.has_queue(queue)
-            }
-        }
-    }
-
-    /// Puts a node in the place of its key, and tells whether the tree is as high as before.
-    #[tactic(auto, using(crate::proofs::Rising::around))]
-    pub(crate) fn insert(&mut self, mut node: Box<Node<A>, A>) -> bool
-        requires loose { IsLoose node.value }
-        requires rising { IsRising self.old.keys }
-        ensures keys { self.new.keys ≡ inserted (key_of node.value) self.old.keys }
-        ensures as_high { result ≡ true → self.new.height ≡ self.old.height }
-        ensures higher { result ≡ false → self.new.height ≡ self.old.height + 1 }
-    {
-        match &mut self.root {
-            Link::Empty => {
-                node.lean = Lean::Even;
-                put(&mut self.root, node);
-                false
-            }
-            Link::Top(top) => {
-                let top: &mut Node<A> = top;
-                if is_before(&node.key(), &top.key()) {
-                    let as_high = top.left.insert(node);
-                    top.left.know_filled();
-                    if as_high {
-                        return true;
-                    }
-                    tilt_left(&mut self.root)
-                } else {
-                    let as_high = top.right.insert(node);
-                    top.right.know_filled();
-                    if as_high {
-                        return true;
-                    }
-                    tilt_right(&mut self.root)
-                }
-            }
-        }
-    }
-
-    /// Takes the node of the first key out, and tells whether the tree is one level lower.
-    pub(crate) fn take_first(&mut self) -> (Box<Node<A>, A>, bool)
-        requires { 0 < length self.old.keys }
-        ensures first { self.old.keys ≡ key_of result.0.value ∷ self.new.keys }
-        ensures loose { IsLoose result.0.value }
-        ensures lower { result.1 ≡ true → self.old.height ≡ self.new.height + 1 }
-        ensures as_high { result.1 ≡ false → self.old.height ≡ self.new.height }
-    {
-        match &mut self.root {
-            Link::Empty => unreachable!(),
-            Link::Top(top) => {
-                let top: &mut Node<A> = top;
-                if top.left.is_empty() {
-                    return (without_left(&mut self.root), true);
-                }
-                let (first, lower) = top.left.take_first();
-                top.left.know_filled();
-                if !lower {
-                    return (first, false);
-                }
-                (first, tilt_right(&mut self.root))
             }
         }
     }
@@ -254,32 +197,33 @@ impl<A: Allocator> Tree<A> {
         ensures found { is_some result ≡ has_key key.now self.old.keys }
         ensures unchanged { IfNone result (self.new ≡ self.old) }
         ensures keys { self.new.keys ≡ removed key.now self.old.keys }
-        ensures same_key { IfSome result (λ taken. key_of taken.0.value ≡ key.now) }
+        ensures same_queue { IfSome result (λ taken. taken.0.value.queue ≡ key.now.queue) }
         ensures loose { IfSome result (λ taken. IsLoose taken.0.value) }
         ensures lower { IfSome result (λ taken. taken.1 ≡ true → self.old.height ≡ self.new.height + 1) }
         ensures as_high { IfSome result (λ taken. taken.1 ≡ false → self.old.height ≡ self.new.height) }
     {
-        if let Link::Top(top) = &mut self.root {
+        if let Link::Top(top, vr) = &mut self.root {
+            let here = top.key(*vr);
             let top: &mut Node<A> = top;
-            if is_before(key, &top.key()) {
+            if is_before(key, &here) {
                 let (node, lower) = top.left.remove(key)?;
                 top.left.know_filled();
                 if !lower {
                     return Some((node, false));
                 }
-                return Some((node, tilt_right(&mut self.root)));
+                return Some((node, tilt(&mut self.root, true)));
             }
-            if is_before(&top.key(), key) {
+            if is_before(&here, key) {
                 let (node, lower) = top.right.remove(key)?;
                 top.right.know_filled();
                 if !lower {
                     return Some((node, false));
                 }
-                return Some((node, tilt_left(&mut self.root)));
+                return Some((node, tilt(&mut self.root, false)));
             }
         }
         match mem::replace(&mut self.root, Link::Empty) {
-            Link::Top(top) => {
+            Link::Top(top, _) => {
                 let (node, rest, lower) = parted(top);
                 self.root = rest.open();
                 Some((node, lower))

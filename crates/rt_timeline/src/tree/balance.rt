@@ -1,8 +1,9 @@
 //! Nodes whose sides change: what lifts a side, and what parts a node from both.
-ghost use Rattle.std.specs.Prelude.{◌≡◌, ◌+◌, ◌∷◌, ◌++◌, true, false};
+ghost use Rattle.std.specs.Prelude.{◌≡◌, ◌+◌, ◌∷◌, ◌++◌, true, false, max};
 ghost use Rattle.rt_timeline.specs.Tree.{empty_tree};
-ghost use Rattle.rt_timeline.specs.Nodes.{seen, key_of, keys_of, IsBalanced, IsLoose, HasOnlyRight, TiltsLeft, TiltsRight, IsTwoHigherOnLeft, IsTwoHigherOnRight, IsUprightLeft, IsUprightRight, IsTiltHeight};
+ghost use Rattle.rt_timeline.specs.Nodes.{seen, key_of, keys_of, IsInBalance, IsBalanced, IsLoose, HasOnlyRight, Tilts, IsTwoHigherOnLeft, IsTwoHigherOnRight, IsUprightLeft, IsUprightRight, IsUpright};
 ghost use Rattle.rt_timeline.specs.declared.tree.Link.TheVariants.{Empty, Top};
+ghost use Rattle.rt_timeline.specs.declared.tree.Lean.TheVariants.{Left, Right};
 
 use super::{Lean, Link, Node, Tree};
 use std::alloc::Allocator;
@@ -25,37 +26,31 @@ fn fill<A: Allocator>(place: &mut Tree<A>, tree: Tree<A>)
 }
 
 /// Puts the node where there is none, so that nothing has to be dropped.
-pub(super) fn put<A: Allocator>(root: &mut Link<A>, node: Box<Node<A>, A>)
+pub(super) fn put<A: Allocator>(root: &mut Link<A>, node: Box<Node<A>, A>, vr: u128)
     requires { root.old ≡ Empty }
-    ensures { root.new ≡ Top node }
+    ensures { root.new ≡ Top node vr }
 {
-    mem::forget(mem::replace(root, Link::Top(node)));
+    mem::forget(mem::replace(root, Link::Top(node, vr)));
 }
 
-/// Lifts the left side, which is two levels higher. The second tells whether the sides are even then.
-fn left_lifted<A: Allocator>(mut top: Box<Node<A>, A>) -> (Box<Node<A>, A>, bool)
-    requires two_higher { top.value.left.height ≡ top.value.right.height + 2 }
-    ensures balanced { IsBalanced (Top result.0) }
-    ensures keys { keys_of result.0.value ≡ keys_of top.value }
-    ensures height { IsTiltHeight result.1 top.value.right.height top.value.left.height (seen (Top result.0)).height }
+/// Joins a node and its left side, which leans right: what hangs on that side's right, in the middle, is lifted above both.
+#[inline(always)]
+fn left_middle_lifted<A: Allocator>(
+    mut top: Box<Node<A>, A>,
+    top_vr: u128,
+    mut left: Box<Node<A>, A>,
+    left_vr: u128,
+) -> Link<A>
+    requires parted { top.value.left ≡ empty_tree }
+    requires balanced { IsInBalance left.value.left left.value.right left.value.lean }
+    requires leans { left.value.lean ≡ Right }
+    requires two_higher { left.value.right.height ≡ top.value.right.height + 1 }
+    ensures balanced { IsBalanced result }
+    ensures keys { (seen result).keys ≡ keys_of left_vr left.value ++ key_of top_vr top.value ∷ top.value.right.keys }
+    ensures height { (seen result).height ≡ top.value.right.height + 2 }
 {
     top.right.know_filled();
-    let Link::Top(mut left) = take(&mut top.left).open() else {
-        unreachable!()
-    };
-    let Lean::Right = left.lean else {
-        let even = matches!(left.lean, Lean::Left);
-        (left.lean, top.lean) = if even {
-            (Lean::Even, Lean::Even)
-        } else {
-            (Lean::Right, Lean::Left)
-        };
-        fill(&mut top.left, take(&mut left.right));
-        fill(&mut left.right, Tree::close(Link::Top(top)));
-        left.right.know_filled();
-        return (left, even);
-    };
-    let Link::Top(mut middle) = take(&mut left.right).open() else {
+    let Link::Top(mut middle, middle_vr) = take(&mut left.right).open() else {
         unreachable!()
     };
     (left.lean, top.lean) = match middle.lean {
@@ -65,38 +60,65 @@ fn left_lifted<A: Allocator>(mut top: Box<Node<A>, A>) -> (Box<Node<A>, A>, bool
     };
     fill(&mut left.right, take(&mut middle.left));
     fill(&mut top.left, take(&mut middle.right));
-    fill(&mut middle.left, Tree::close(Link::Top(left)));
-    fill(&mut middle.right, Tree::close(Link::Top(top)));
+    fill(&mut middle.left, Tree::close(Link::Top(left, left_vr)));
+    fill(&mut middle.right, Tree::close(Link::Top(top, top_vr)));
     middle.left.know_filled();
     middle.right.know_filled();
     middle.lean = Lean::Even;
-    (middle, true)
+    Link::Top(middle, middle_vr)
 }
 
-/// Lifts the right side, which is two levels higher. The second tells whether the sides are even then.
-fn right_lifted<A: Allocator>(mut top: Box<Node<A>, A>) -> (Box<Node<A>, A>, bool)
-    requires two_higher { top.value.right.height ≡ top.value.left.height + 2 }
-    ensures balanced { IsBalanced (Top result.0) }
-    ensures keys { keys_of result.0.value ≡ keys_of top.value }
-    ensures height { IsTiltHeight result.1 top.value.left.height top.value.right.height (seen (Top result.0)).height }
+/// Lifts the left side, which is two levels higher. Tells whether the sides are even then.
+///
+/// It stays a function of its own: so the way past a node that needs no lift is short.
+#[inline(never)]
+fn lift_left<A: Allocator>(root: &mut Link<A>) -> bool
+    requires { IsTwoHigherOnLeft root.old }
+    ensures { IsUprightLeft root.old root.new result }
 {
-    top.left.know_filled();
-    let Link::Top(mut right) = take(&mut top.right).open() else {
+    let Link::Top(mut top, top_vr) = mem::replace(root, Link::Empty) else {
         unreachable!()
     };
-    let Lean::Left = right.lean else {
-        let even = matches!(right.lean, Lean::Right);
-        (right.lean, top.lean) = if even {
-            (Lean::Even, Lean::Even)
-        } else {
-            (Lean::Left, Lean::Right)
-        };
-        fill(&mut top.right, take(&mut right.left));
-        fill(&mut right.left, Tree::close(Link::Top(top)));
-        right.left.know_filled();
-        return (right, even);
+    top.right.know_filled();
+    let Link::Top(mut left, left_vr) = take(&mut top.left).open() else {
+        unreachable!()
     };
-    let Link::Top(mut middle) = take(&mut right.left).open() else {
+    if matches!(left.lean, Lean::Right) {
+        let lifted = left_middle_lifted(top, top_vr, left, left_vr);
+        mem::forget(mem::replace(root, lifted));
+        return true;
+    }
+    let even = matches!(left.lean, Lean::Left);
+    (left.lean, top.lean) = if even {
+        (Lean::Even, Lean::Even)
+    } else {
+        (Lean::Right, Lean::Left)
+    };
+    fill(&mut top.left, take(&mut left.right));
+    fill(&mut left.right, Tree::close(Link::Top(top, top_vr)));
+    left.right.know_filled();
+    put(root, left, left_vr);
+    even
+}
+
+/// Joins a node and its right side, which leans left: what hangs on that side's left, in the middle, is lifted above both.
+#[inline(always)]
+fn right_middle_lifted<A: Allocator>(
+    mut top: Box<Node<A>, A>,
+    top_vr: u128,
+    mut right: Box<Node<A>, A>,
+    right_vr: u128,
+) -> Link<A>
+    requires parted { top.value.right ≡ empty_tree }
+    requires balanced { IsInBalance right.value.left right.value.right right.value.lean }
+    requires leans { right.value.lean ≡ Left }
+    requires two_higher { right.value.left.height ≡ top.value.left.height + 1 }
+    ensures balanced { IsBalanced result }
+    ensures keys { (seen result).keys ≡ top.value.left.keys ++ key_of top_vr top.value ∷ keys_of right_vr right.value }
+    ensures height { (seen result).height ≡ top.value.left.height + 2 }
+{
+    top.left.know_filled();
+    let Link::Top(mut middle, middle_vr) = take(&mut right.left).open() else {
         unreachable!()
     };
     (top.lean, right.lean) = match middle.lean {
@@ -106,97 +128,89 @@ fn right_lifted<A: Allocator>(mut top: Box<Node<A>, A>) -> (Box<Node<A>, A>, boo
     };
     fill(&mut right.left, take(&mut middle.right));
     fill(&mut top.right, take(&mut middle.left));
-    fill(&mut middle.right, Tree::close(Link::Top(right)));
-    fill(&mut middle.left, Tree::close(Link::Top(top)));
+    fill(&mut middle.right, Tree::close(Link::Top(right, right_vr)));
+    fill(&mut middle.left, Tree::close(Link::Top(top, top_vr)));
     middle.left.know_filled();
     middle.right.know_filled();
     middle.lean = Lean::Even;
-    (middle, true)
+    Link::Top(middle, middle_vr)
 }
 
-/// Lifts the left side of the top node, which is two levels higher. Tells whether the sides are even then.
-#[inline(never)]
-fn lift_left<A: Allocator>(root: &mut Link<A>) -> bool
-    requires { IsTwoHigherOnLeft root.old }
-    ensures { IsUprightLeft root.old root.new result }
-{
-    let Link::Top(top) = mem::replace(root, Link::Empty) else {
-        unreachable!()
-    };
-    let (top, even) = left_lifted(top);
-    put(root, top);
-    even
-}
-
-/// Settles a node whose left side has become one level higher, or its right side one lower. Tells whether the sides are even then.
-pub(super) fn tilt_left<A: Allocator>(root: &mut Link<A>) -> bool
-    requires { TiltsLeft root.old }
-    ensures { IsUprightLeft root.old root.new result }
-{
-    let Link::Top(top) = root else { unreachable!() };
-    top.left.know_filled();
-    top.right.know_filled();
-    match top.lean {
-        Lean::Right => {
-            top.lean = Lean::Even;
-            true
-        }
-        Lean::Even => {
-            top.lean = Lean::Left;
-            false
-        }
-        Lean::Left => lift_left(root),
-    }
-}
-
-/// Lifts the right side of the top node, which is two levels higher. Tells whether the sides are even then.
+/// Lifts the right side, which is two levels higher. Tells whether the sides are even then. By itself as `lift_left` is.
 #[inline(never)]
 fn lift_right<A: Allocator>(root: &mut Link<A>) -> bool
     requires { IsTwoHigherOnRight root.old }
     ensures { IsUprightRight root.old root.new result }
 {
-    let Link::Top(top) = mem::replace(root, Link::Empty) else {
+    let Link::Top(mut top, top_vr) = mem::replace(root, Link::Empty) else {
         unreachable!()
     };
-    let (top, even) = right_lifted(top);
-    put(root, top);
+    top.left.know_filled();
+    let Link::Top(mut right, right_vr) = take(&mut top.right).open() else {
+        unreachable!()
+    };
+    if matches!(right.lean, Lean::Left) {
+        let lifted = right_middle_lifted(top, top_vr, right, right_vr);
+        mem::forget(mem::replace(root, lifted));
+        return true;
+    }
+    let even = matches!(right.lean, Lean::Right);
+    (right.lean, top.lean) = if even {
+        (Lean::Even, Lean::Even)
+    } else {
+        (Lean::Left, Lean::Right)
+    };
+    fill(&mut top.right, take(&mut right.left));
+    fill(&mut right.left, Tree::close(Link::Top(top, top_vr)));
+    right.left.know_filled();
+    put(root, right, right_vr);
     even
 }
 
-/// Settles a node whose right side has become one level higher, or its left side one lower. Tells whether the sides are even then.
-pub(super) fn tilt_right<A: Allocator>(root: &mut Link<A>) -> bool
-    requires { TiltsRight root.old }
-    ensures { IsUprightRight root.old root.new result }
+/// Settles a node whose one side, the right or the left one, has become a level higher against the other. Tells whether the sides
+/// are even then.
+///
+/// It looks at the lean and never branches on the side: which side it is can't be foretold.
+#[inline]
+pub(super) fn tilt<A: Allocator>(root: &mut Link<A>, right: bool) -> bool
+    requires { Tilts right root.old }
+    ensures { IsUpright right root.old root.new result }
 {
-    let Link::Top(top) = root else { unreachable!() };
+    let Link::Top(top, _) = root else {
+        unreachable!()
+    };
     top.left.know_filled();
     top.right.know_filled();
-    match top.lean {
-        Lean::Left => {
-            top.lean = Lean::Even;
-            true
-        }
-        Lean::Even => {
-            top.lean = Lean::Right;
-            false
-        }
-        Lean::Right => lift_right(root),
+    let lean = top.lean;
+    if matches!(lean, Lean::Even) {
+        top.lean = if right { Lean::Right } else { Lean::Left };
+        return false;
+    }
+    let leans_right = matches!(lean, Lean::Right);
+    if leans_right != right {
+        top.lean = Lean::Even;
+        return true;
+    }
+    match lean {
+        Lean::Left => lift_left(root),
+        _ => lift_right(root),
     }
 }
 
-/// Takes the top node out, which has nothing on its left, and leaves what is on its right.
-pub(super) fn without_left<A: Allocator>(root: &mut Link<A>) -> Box<Node<A>, A>
+/// Takes the top node out, which has nothing on its left, and leaves what is on its right. Its virtual runtime is written to `vr`.
+pub(super) fn without_left<A: Allocator>(root: &mut Link<A>, vr: &mut u128) -> Box<Node<A>, A>
     requires balanced { IsBalanced root.old }
     requires none_left { HasOnlyRight root.old }
     ensures balanced { IsBalanced root.new }
-    ensures first { (seen root.old).keys ≡ key_of result.value ∷ (seen root.new).keys }
+    ensures first { (seen root.old).keys ≡ key_of vr.new result.value ∷ (seen root.new).keys }
     ensures loose { IsLoose result.value }
     ensures one_lower { (seen root.old).height ≡ (seen root.new).height + 1 }
 {
     match mem::replace(root, Link::Empty) {
         Link::Empty => unreachable!(),
-        Link::Top(mut top) => {
+        Link::Top(mut top, top_vr) => {
             mem::forget(mem::replace(root, take(&mut top.right).open()));
+            *vr = top_vr;
             top
         }
     }
@@ -204,27 +218,28 @@ pub(super) fn without_left<A: Allocator>(root: &mut Link<A>) -> Box<Node<A>, A>
 
 /// Parts a node from its sides, and joins these to one tree. The last tells whether it is one level lower.
 pub(super) fn parted<A: Allocator>(mut top: Box<Node<A>, A>) -> (Box<Node<A>, A>, Tree<A>, bool)
-    requires { IsBalanced (Top top) }
-    ensures key { key_of result.0.value ≡ key_of top.value }
+    requires { IsInBalance top.value.left top.value.right top.value.lean }
+    ensures queue { result.0.value.queue ≡ top.value.queue }
     ensures loose { IsLoose result.0.value }
     ensures keys { result.1.keys ≡ top.value.left.keys ++ top.value.right.keys }
-    ensures lower { result.2 ≡ true → (seen (Top top)).height ≡ result.1.height + 1 }
-    ensures as_high { result.2 ≡ false → (seen (Top top)).height ≡ result.1.height }
+    ensures lower { result.2 ≡ true → max top.value.left.height top.value.right.height + 1 ≡ result.1.height + 1 }
+    ensures as_high { result.2 ≡ false → max top.value.left.height top.value.right.height + 1 ≡ result.1.height }
 {
     let left = take(&mut top.left);
     let mut right = take(&mut top.right);
     if right.is_empty() {
         return (top, left, true);
     }
-    let (mut next, lower) = right.take_first();
+    let mut vr = 0;
+    let (mut next, lower) = right.take_first(&mut vr);
     right.know_filled();
     next.lean = top.lean;
     fill(&mut next.left, left);
     fill(&mut next.right, right);
-    let mut rest = Link::Top(next);
+    let mut rest = Link::Top(next, vr);
     if !lower {
         return (top, Tree::close(rest), false);
     }
-    let lower = tilt_left(&mut rest);
+    let lower = tilt(&mut rest, false);
     (top, Tree::close(rest), lower)
 }

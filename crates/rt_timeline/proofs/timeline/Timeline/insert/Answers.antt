@@ -12,7 +12,7 @@ invariant_of-self g c =
     let keys = c.self.inside.tree.keys in
     let key : Key = record { vr = c.args.vr; queue = c.args.slip } in
     let absent : LacksQueue c.args.slip keys = rw c.self.view_is c.requires.absent in
-    rw (c.insert.ensures.keys, c.into_node.ensures.key) (
+    rw (c.insert.ensures.keys, c.into_node.ensures.queue) (
       IsOfQueues-inserted key keys absent c.into_node.ensures.numbered c.self.invariant.0,
       omega (arith, length-inserted key keys),
     )
