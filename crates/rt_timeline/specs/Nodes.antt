@@ -77,11 +77,12 @@ abbrev pub IsUprightRight : {A : Type 0} → Link A → Link A → Bool → Type
 IsUprightRight Empty new even = ⊥
 IsUprightRight (Top node vr) new even = IsBalanced new × ((seen new).keys ≡ keys_of vr node.value) × IsTiltHeight even node.value.left.height node.value.right.height (seen new).height
 
--- the same by the side that tilts: the right one, or else the left one
+-- the right side, or else the left one, is one level higher against the other than the lean says
 abbrev pub Tilts : {A : Type 0} → Bool → Link A → Type 0
 Tilts true link = TiltsRight link
 Tilts false link = TiltsLeft link
 
+-- the new node is what the old one settles to, of which the right side, or else the left one, tilts
 abbrev pub IsUpright : {A : Type 0} → Bool → Link A → Link A → Bool → Type 0
 IsUpright true old new even = IsUprightRight old new even
 IsUpright false old new even = IsUprightLeft old new even
