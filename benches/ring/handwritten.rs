@@ -14,6 +14,9 @@ const JOBS: u64 = 64000;
 const SINGLE: u64 = 10000;
 const ONE_WAY: u64 = 60000;
 
+// How often each measure is made, if the command line doesn't say.
+const ROUNDS: usize = 31;
+
 // A job: a number, or as large as a script job.
 pub trait Load: Send + 'static {
     fn make(number: u64) -> Self;
@@ -356,21 +359,32 @@ fn turn_all<W: Form, J: Load>(mut front: Out<W, J>, mut behind: In<W, J>, turns:
     sum
 }
 
-// The nanoseconds of one measure, and a sum that must agree with that of the others.
+// The nanoseconds of one measure, and a sum that must agree with that of the others. The thread that is started sends, as in the
+// ring's program: one way, who starts first decides whether the receiver follows from slot to slot or runs behind.
 type Measured = (u128, u64);
 
 fn trips<W: Form, J: Load>(capacity: u64, jobs: u64, credits: u64) -> Measured {
     let (front, behind) = open::<W, J>(capacity);
     let start = Instant::now();
-    let other = std::thread::spawn(move || serve_all(behind, jobs));
-    let sum = send_all(front, jobs, credits);
-    let mut behind = other.join().unwrap();
+    let other = std::thread::spawn(move || send_all(front, jobs, credits));
+    let mut behind = serve_all(behind, jobs);
+    let sum = other.join().unwrap();
     let taken = start.elapsed().as_nanos();
     assert_eq!(behind.shut(), jobs);
     (taken, sum)
 }
 
 fn one_way<W: Form, J: Load>(jobs: u64) -> Measured {
+    let (front, behind) = open::<W, J>(jobs);
+    let start = Instant::now();
+    let other = std::thread::spawn(move || send_one_way(front, jobs));
+    let sum = take_all(behind, jobs);
+    let _front = other.join().unwrap();
+    (start.elapsed().as_nanos(), sum)
+}
+
+// The thread that is started takes, so the sender is ahead of it from the beginning.
+fn behind<W: Form, J: Load>(jobs: u64) -> Measured {
     let (front, behind) = open::<W, J>(jobs);
     let start = Instant::now();
     let other = std::thread::spawn(move || take_all(behind, jobs));
@@ -386,7 +400,12 @@ fn alone<W: Form, J: Load>(jobs: u64) -> Measured {
     (start.elapsed().as_nanos(), sum)
 }
 
-fn line(name: &str, jobs: u64, rounds: usize, measure: impl Fn() -> Measured) {
+fn line(name: &str, jobs: u64, measure: impl Fn() -> Measured) {
+    let mut words = std::env::args().skip(1);
+    if !name.starts_with(&words.next().unwrap_or_default()) {
+        return;
+    }
+    let rounds = words.next().map_or(ROUNDS, |word| word.parse().unwrap());
     let mut times = Vec::new();
     let mut sum = 0;
     for _ in 0..rounds {
@@ -399,20 +418,20 @@ fn line(name: &str, jobs: u64, rounds: usize, measure: impl Fn() -> Measured) {
     println!("{name} {:.1} {:.1} {sum}", each(times[0]), each(times[rounds / 2]));
 }
 
-fn all<W: Form>(name: &str, rounds: usize) {
-    line(&format!("{name} one_way"), ONE_WAY, rounds, || one_way::<W, u64>(ONE_WAY));
-    line(&format!("{name} trip_64"), JOBS, rounds, || trips::<W, u64>(64, JOBS, 64));
-    line(&format!("{name} trip_1024"), JOBS, rounds, || trips::<W, u64>(1024, JOBS, 1024));
-    line(&format!("{name} single"), SINGLE, rounds, || trips::<W, u64>(64, SINGLE, 1));
-    line(&format!("{name} alone"), JOBS, rounds, || alone::<W, u64>(JOBS));
-    line(&format!("{name} heavy_64"), JOBS, rounds, || trips::<W, Heavy>(64, JOBS, 64));
-    line(&format!("{name} heavy_alone"), JOBS, rounds, || alone::<W, Heavy>(JOBS));
+fn all<W: Form>(name: &str) {
+    line(&format!("{name} one_way"), ONE_WAY, || one_way::<W, u64>(ONE_WAY));
+    line(&format!("{name} behind"), ONE_WAY, || behind::<W, u64>(ONE_WAY));
+    line(&format!("{name} trip_64"), JOBS, || trips::<W, u64>(64, JOBS, 64));
+    line(&format!("{name} trip_1024"), JOBS, || trips::<W, u64>(1024, JOBS, 1024));
+    line(&format!("{name} single"), SINGLE, || trips::<W, u64>(64, SINGLE, 1));
+    line(&format!("{name} alone"), JOBS, || alone::<W, u64>(JOBS));
+    line(&format!("{name} heavy_64"), JOBS, || trips::<W, Heavy>(64, JOBS, 64));
+    line(&format!("{name} heavy_alone"), JOBS, || alone::<W, Heavy>(JOBS));
 }
 
 fn main() {
-    let rounds = std::env::args().nth(1).map_or(31, |it| it.parse().unwrap());
-    all::<close::Close>("hand", rounds);
-    all::<close_strict::CloseStrict>("hand_strict", rounds);
-    all::<apart::Apart>("hand_apart", rounds);
-    all::<apart_strict::ApartStrict>("hand_apart_strict", rounds);
+    all::<close::Close>("hand");
+    all::<close_strict::CloseStrict>("hand_strict");
+    all::<apart::Apart>("hand_apart");
+    all::<apart_strict::ApartStrict>("hand_apart_strict");
 }
