@@ -56,13 +56,13 @@ module _ {J T : Type 0} where
 
   -- a slot with nothing in it, with an order, and with an outcome and its order's number
   abbrev pub Empty : Slot J T
-  Empty = record { label = label.Empty; job = None }
+  Empty = record { claim = tt; label = label.Empty; job = None }
 
   abbrev pub Sent : Order J → Slot J T
-  Sent order = record { label = label.Sent 0 (bare order); job = job_of order }
+  Sent order = record { claim = tt; label = label.Sent 0 (bare order); job = job_of order }
 
   abbrev pub Back : ℕ → Outcome J T → Slot J T
-  Back number outcome = record { label = label_of number outcome; job = job_back outcome }
+  Back number outcome = record { claim = tt; label = label_of number outcome; job = job_back outcome }
 
   -- a slot with this order, if there is one
   abbrev pub slot_of_order : Option (Order J) → Slot J T

@@ -18,6 +18,7 @@ use rt_jobs::Task;
 use rt_link::{Inward, Outward};
 use std::alloc::Global;
 use std::marker::PhantomData;
+use std::sync::atomic::AtomicU64;
 
 /// The accept word.
 pub(crate) const ACCEPT: usize = 0;
@@ -59,6 +60,8 @@ pub enum Notice {
 /// its place.
 #[derive(Drop)]
 pub struct Slot<J, T> {
+    /// A word that nobody reads, beside the label. An exchange of it fetches their cache line for writing.
+    pub claim: AtomicU64,
     pub label: Label<T>,
     /// The job of an order, or of one that is handed back.
     pub job: Option<J>,

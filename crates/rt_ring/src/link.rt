@@ -16,6 +16,7 @@ use rt_jobs::Task;
 use rt_link::{InEnd, OutEnd};
 use std::alloc::{AllocError, Global};
 use std::sync::Arc;
+use std::sync::atomic::AtomicU64;
 use thiserror::Error;
 
 /// Why a link was not opened.
@@ -137,6 +138,7 @@ fn empty_slots<J: Task>(alloc: Global, count: usize) -> Result<Vec<Slot<J, J::Ou
     let mut slots = Vec::with_capacity(alloc, count)?;
     for _ in 0..count {
         slots.push(Slot {
+            claim: AtomicU64::new(0),
             label: Label::Empty,
             job: None,
         })?;

@@ -37,11 +37,12 @@ pub(crate) fn look<J: Task>(
 {
     let shared = &board.shared;
     // step: look. All orders accepted so far are seen, and the slots of the next one alone are taken.
-    if shared.load::<Look>(seat, ACCEPT) == taken {
+    let accepted = shared.load::<Look>(seat, ACCEPT);
+    if accepted == taken {
         return None;
     }
     seat.turn();
-    let order = take_order(board, seat, slot);
+    let order = take_order(board, seat, slot, accepted.wrapping_sub(taken) == 1);
     seat.turn();
     Some(order)
 }

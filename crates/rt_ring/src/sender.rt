@@ -39,7 +39,7 @@ pub(crate) fn offer<J: Task>(
     if shared.compare_exchange::<Accept>(seat, ACCEPT, last, last + 1) == last {
         return Ok(());
     }
-    Err(take_order(board, seat, slot))
+    Err(take_order(board, seat, slot, false))
 }
 
 /// Whether the gate is open. `last` is the number of the last accepted order.
@@ -80,11 +80,12 @@ pub(crate) fn gather<J: Task>(
 {
     let shared = &board.shared;
     // step: gather. All outcomes given so far are seen, and the slots of the next one alone are taken.
-    if shared.load::<Gather>(seat, RETURN) == got {
+    let given = shared.load::<Gather>(seat, RETURN);
+    if given == got {
         return None;
     }
     seat.turn();
-    let found = take_outcome(board, seat, slot);
+    let found = take_outcome(board, seat, slot, given.wrapping_sub(got) == 1);
     seat.turn();
     Some(found)
 }

@@ -8,6 +8,7 @@ use crate::board::{Board, Label, Notice, Place, Slot};
 use rt_ids::{Order, Outcome};
 use rt_jobs::Task;
 use std::mem::{forget, replace};
+use std::sync::atomic::Ordering::SeqCst;
 
 /// Writes a place in which nothing is.
 ///
@@ -40,6 +41,18 @@ impl<J: Drop, T: Drop> Slot<J, T> {
                 );
             }
         }
+    }
+
+    /// Fetches the slot's cache line for writing, by an exchange of a word that says nothing.
+    ///
+    /// Who takes a value out reads its slot and then empties it. Where the end waited for that value, the line would come to be
+    /// read, and its other owner be asked once more before it may be written: both would be on the way of the trip. Where
+    /// more values wait, an end reads ahead from slot to slot, which an exchange would stop: so it is for a lone value.
+    #[inline]
+    fn claim_line(&mut self)
+        ensures { self.new ≡ self.old }
+    {
+        self.claim.swap(0, SeqCst);
     }
 
     #[inline]
@@ -147,12 +160,17 @@ pub(crate) fn put_order<J: Task>(
     place.put_order(order);
 }
 
-/// Moves out the order in the slot that the seat took last, and leaves nothing there.
+/// Moves out the order in the slot that the seat took last, and leaves nothing there. `lone` where no other order waits.
 ///
 /// It stands by itself so that an end that finds nothing pays nothing for it: a function clears its locals as it begins, and a
 /// job may be large.
 #[inline]
-pub(crate) fn take_order<J: Task>(board: &Board<J>, seat: &mut Place<J>, slot: usize) -> Order<J>
+pub(crate) fn take_order<J: Task>(
+    board: &Board<J>,
+    seat: &mut Place<J>,
+    slot: usize,
+    lone: bool,
+) -> Order<J>
     requires table { seat.old.table_id ≡ board.now.shared.table_id }
     requires full { (order : Order J) × (seat.old.me.1 ≡ (slot, Sent order) ∷ rest seat.old.me.1) }
     ensures table { (seat.new.table_id ≡ seat.old.table_id) × (seat.new.id ≡ seat.old.id) }
@@ -160,6 +178,9 @@ pub(crate) fn take_order<J: Task>(board: &Board<J>, seat: &mut Place<J>, slot: u
     ensures left { seat.new.me ≡ (seat.old.me.0, (slot, Empty) ∷ rest seat.old.me.1) }
 {
     let place = seat.slot_mut(&board.shared, slot);
+    if lone {
+        place.claim_line();
+    }
     place.take_order()
 }
 
@@ -183,12 +204,13 @@ pub(crate) fn put_outcome<J: Task>(
 
 /// Moves out the outcome in the slot that the seat took last, with its order's number, and leaves nothing there.
 ///
-/// It stands by itself as `take_order` does.
+/// `lone` where no other outcome waits. It stands by itself as `take_order` does.
 #[inline]
 pub(crate) fn take_outcome<J: Task>(
     board: &Board<J>,
     seat: &mut Place<J>,
     slot: usize,
+    lone: bool,
 ) -> (u64, Outcome<J, J::Out>)
     requires table { seat.old.table_id ≡ board.now.shared.table_id }
     requires full { (found : ℕ × Outcome J J.Out) × (seat.old.me.1 ≡ (slot, Back found.0 found.1) ∷ rest seat.old.me.1) }
@@ -197,5 +219,8 @@ pub(crate) fn take_outcome<J: Task>(
     ensures left { seat.new.me ≡ (seat.old.me.0, (slot, Empty) ∷ rest seat.old.me.1) }
 {
     let place = seat.slot_mut(&board.shared, slot);
+    if lone {
+        place.claim_line();
+    }
     place.take_outcome()
 }
