@@ -2,10 +2,9 @@
 
 ghost use Rattle.std.specs.Prelude.{◌≡◌};
 
-use super::{FROM, Number, TO, is_sent, redeemed, serve};
-use crate::{RingIn, RingLink, RingOut, reunite};
-use rt_ids::Outcome;
+use crate::numbers::{FROM, Number, TO, Told, redeem, send, serve};
 use rt_link::InEnd;
+use rt_ring::{Accounts, RingIn, RingLink, RingOut, reunite};
 use std::test::Fail;
 use std::thread;
 
@@ -20,8 +19,10 @@ fn wait_for_own(end: &mut RingOut<Number>) -> bool
     ensures { end.new.link ≡ end.old.link }
 {
     for _ in 0..TRIES {
-        if let Some((number, outcome)) = redeemed(end) {
-            return matches!(outcome, Outcome::Finished(value) if value == number);
+        match redeem(end) {
+            Told::Nothing => {}
+            Told::Finished(number, value) => return value == number,
+            _ => return false,
         }
     }
     false
@@ -36,7 +37,7 @@ fn send_all(mut end: RingOut<Number>) -> (RingOut<Number>, bool)
         if number > 4 {
             well &= wait_for_own(&mut end);
         }
-        well &= is_sent(&mut end, number, number);
+        well &= send(&mut end, number) == Told::Sent(number);
     }
     for _ in 0..4 {
         well &= wait_for_own(&mut end);
@@ -49,7 +50,7 @@ fn wait_to_serve(end: &mut RingIn<Number>) -> u64
     ensures { end.new.link ≡ end.old.link }
 {
     for _ in 0..TRIES {
-        if let Some(number) = serve(end) {
+        if let Told::Taken(number) = serve(end) {
             return number;
         }
     }
@@ -77,11 +78,13 @@ fn jobs_cross_between_two_threads(rt: HostRuntime) -> Result<(), Fail> {
     );
     assert!(rt; sent && served);
     assert_eq!(rt; inward.shut(), JOBS);
-    let accounts = reunite(out, inward);
-    assert_eq!(rt; accounts.accepted, JOBS);
-    assert_eq!(rt; accounts.taken, JOBS);
-    assert_eq!(rt; accounts.given, JOBS);
-    assert_eq!(rt; accounts.collected, JOBS);
-    assert_eq!(rt; accounts.shut, Some(JOBS));
+    let counts = Accounts {
+        accepted: JOBS,
+        taken: JOBS,
+        given: JOBS,
+        collected: JOBS,
+        shut: Some(JOBS),
+    };
+    assert_eq!(rt; reunite(out, inward), counts);
     Ok(())
 }

@@ -6,7 +6,7 @@ use Rattle.rt_link.specs.declared.plain.Whole.{Whole}
 use Rattle.rt_link.specs.Calls.{Sends}
 use Rattle.rt_link.specs.Whole.{out_of, kept_by_sender}
 use Rattle.rt_link.proofs.Framed.{Sends-refused}
-use Rattle.rt_link.proofs.plain.tests.send_plain.Goals as goal
+use Rattle.links_tests.proofs.plain.send_plain.Goals as goal
 
 refused : {J T : Type 0} (old new : Whole J T) (order : Order J) (result : Result ℕ (SendError J)) → new.redeemed ≡ old.redeemed → kept_by_sender new ≡ kept_by_sender old
     → Sends (out_of old) old.redeemed order (out_of new) result → OnErr result (new ≡ old)

@@ -1,14 +1,16 @@
+//! Jobs of each kind, polled.
+
 ghost use Rattle.std.specs.Prelude.{◌≡◌, false, Some, IfOk};
 ghost use Rattle.rt_jobs.specs.Steps.{IfDone};
 ghost use Rattle.rt_jobs.specs.Example.{MayAnswer};
 ghost use Rattle.rt_jobs.specs.Ranges.{IsWithin};
 
-use crate::example::{Work, drive};
-use crate::{
+use rt_ids::{Order, Outcome, QueueNo, Reason};
+use rt_jobs::example::{Work, drive};
+use rt_jobs::{
     AnyJob, BoxedJob, Called, Job, MOST_POLLS, Once, OnceBox, OnceOf, Poll, Polled, Ran, Range,
     ScriptJob, Step, Task, once_job, polled_job,
 };
-use rt_ids::{Order, Outcome, QueueNo, Reason};
 use std::alloc::{AllocError, Global};
 use std::process::Abort;
 use std::sync::Arc;
