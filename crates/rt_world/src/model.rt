@@ -15,6 +15,7 @@ use std::marker::Model;
 
 mod events;
 mod opening;
+mod sound;
 mod steps;
 #[cfg(test)]
 mod tests;
