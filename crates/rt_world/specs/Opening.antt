@@ -1,9 +1,8 @@
 -- A world as it opens, and the numbers that it opens with.
 use Rattle.std.specs.Prelude.{◌≡◌, ℕ, ◌+◌, ◌^◌, ◌<◌, ◌≤◌, [], ◌∷◌, Result, Ok, Err}
-use Rattle.rt_ids.specs.declared.order.Order.TheVariants.{Create, SetShares}
 use Rattle.rt_ids.specs.declared.order.Order.{Order}
-use Rattle.rt_shares.specs.Charge.{InRange}
 use Rattle.rt_ids.specs.Lawful.{IsOpening}
+pub use Rattle.rt_journal.specs.Orders.{HasShares}
 use Rattle.rt_world.specs.declared.event.Event.{Event}
 use Rattle.rt_world.specs.declared.event.Event.TheVariants.{Send}
 use Rattle.rt_ids.specs.declared.note.Note.TheVariants.{Created}
@@ -34,12 +33,6 @@ pub record IsFresh {J T : Type 0} (cores cap room : ℕ) (world : WorldView J T)
   pub room_is : world.room ≡ room
   pub no_note : (actor : ℕ) → journal_at actor world ≡ []
   pub no_order : (sender core : ℕ) → sent_at sender core world ≡ []
-
--- the shares that an order hands in are within their range
-abbrev pub HasShares : {J : Type 0} → Order J → Type 0
-HasShares (Create weight) = InRange weight
-HasShares (SetShares queue weight) = InRange weight
-HasShares _ = Unit {0}
 
 -- the job that an event hands in is ready
 abbrev pub HasReadyEvent : {J : Type 0} → (Order J → Type 0) → Event J → Type 0
