@@ -4,6 +4,7 @@
 pub mod assembly;
 pub mod event;
 pub mod journal;
+pub mod laws;
 pub mod links;
 pub mod model;
 pub mod orders;
