@@ -32,3 +32,10 @@ pub mod WorldPolled
 pub mod WorldCreated
 pub mod WorldCreates
 pub mod KeptLists
+pub mod DeterminedRefusals
+pub mod DeterminedSends
+pub mod DeterminedDeliveries
+pub mod DeterminedTurns
+pub mod DeterminedRuns
+pub mod DeterminedOpenings
+pub mod DeterminedScripts

@@ -8,3 +8,5 @@ pub mod Links
 pub mod Inside
 pub mod Tasks
 pub mod Opening
+pub mod Determined
+pub mod ScriptRuns

@@ -2,6 +2,7 @@
 #![tactic(auto)]
 
 pub mod event;
+pub mod laws;
 pub mod links;
 pub mod model;
 

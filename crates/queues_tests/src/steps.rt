@@ -3,10 +3,10 @@
 use rt_jobs::{Job, Step, Task};
 
 /// A job that yields so many times, then answers 0, and tells no time.
-#[derive(PartialEq, Eq, Debug, Drop)]
-pub(super) struct Steps {
-    pub(super) left: u8,
-    pub(super) done: bool,
+#[derive(Drop)]
+pub(crate) struct Steps {
+    pub(crate) left: u8,
+    pub(crate) done: bool,
 }
 
 impl Task for Steps {

@@ -1,0 +1,23 @@
+//! Laws over the definitions alone.
+
+ghost use Rattle.std.specs.Prelude.{ℕ};
+ghost use Rattle.rt_world.specs.Determined.{AssemblyIsDetermined, OpeningIsDetermined, OwesOne, RunIsDetermined};
+ghost use Rattle.rt_world.specs.ScriptRuns.{ScriptRunIsDetermined};
+
+use rt_jobs::Task;
+
+/// Two runs of the same events from one world have one result, unless a core had no memory for a queue.
+pub fn run_is_determined<J: Task<Out = u64>>()
+    ensures run { OwesOne J.Polls → RunIsDetermined J.made J.Polls J.Answers }
+    ensures assembly { OwesOne J.Polls → AssemblyIsDetermined J.made J.Polls J.Answers }
+{}
+
+/// The same, of script jobs.
+pub fn script_run_is_determined()
+    ensures { ScriptRunIsDetermined }
+{}
+
+/// Two fresh worlds of the same numbers are one.
+pub fn opening_is_determined<J: Task<Out = u64>>()
+    ensures { OpeningIsDetermined J ℕ }
+{}
