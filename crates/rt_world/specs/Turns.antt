@@ -1,5 +1,5 @@
 -- Turns: the right pick, and one poll of the first job of its line.
-use Rattle.std.specs.Prelude.{◌≡◌, ℕ, ◌+◌, ◌-◌, ◌^◌, Option, Some, None, true, false, unwrap_or, Bool, List, [], ◌∷◌}
+use Rattle.std.specs.Prelude.{◌≡◌, ℕ, ◌+◌, ◌-◌, ◌^◌, ◌<◌, Option, Some, None, true, false, unwrap_or, Bool, List, [], ◌∷◌}
 use Rattle.rt_ids.specs.declared.names.JobId.{JobId}
 use Rattle.rt_ids.specs.declared.note.Note.TheVariants as writes
 use Rattle.rt_ids.specs.declared.order.Order.TheVariants.{Job}
@@ -16,25 +16,14 @@ use Rattle.rt_jobs.specs.declared.job.Step.TheVariants as step
 use Rattle.rt_jobs.specs.Steps.{IfDone}
 use Rattle.rt_world.specs.declared.event.Reply.{Reply}
 use Rattle.rt_world.specs.declared.event.Reply.TheVariants as reply
+pub use Rattle.rt_journal.specs.Polls.{polls_made, poll_note, settle_note}
 use Rattle.rt_world.specs.State.{WorldView, journal_at, order_under, noted}
-
--- how often the job was polled
-abbrev pub polls_made : {T : Type 0} → JobId → Journal T → ℕ
-polls_made name [] = 0
-polls_made name (note ∷ before) = polls_made name before + number_if (is_name name (name_settled note))
-
-abbrev pub poll_note : {T : Type 0} → JobId → Bool → Note T
-poll_note name false = writes.Start name
-poll_note name true = writes.Resume name
-
-abbrev pub settle_note : {T : Type 0} → JobId → ℕ → Step T → Note T
-settle_note name time (step.Done out) = writes.Done name time out
-settle_note name time step.Yield = writes.Yield name time
 
 -- the words of a task: the polls that it made before, what a poll owes, and what may answer it
 module _ {J T : Type 0} (made : J → ℕ) (polls : J → ℕ → Step T → Option ℕ → Type 0) (answers : J → T → Type 0) where
-  -- the right pick, and the first job of that line is polled once: the poll owes what the task says of it, counted from the job as it was sent
+  -- a turn is left, and the right pick is made: the first job of that line is polled once, and the poll owes what the task says of it, counted from the job as it was sent
   pub record IsPoll (core spent : ℕ) (old new : WorldView J T) : Type 0 where
+    pub turn_left : turns (journal_at core old) < 2 ^ 64 - 1
     pub queue : ℕ
     pub runtime : ℕ
     pub right : IsRightPick queue runtime (journal_at core old)

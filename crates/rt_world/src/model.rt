@@ -1,23 +1,21 @@
 //! The cores of one executor as one value, moved by events.
 
-ghost use Rattle.std.specs.Prelude.{◌≡◌, ◌≤◌};
+ghost use Rattle.std.specs.Prelude.{◌≡◌, ◌+◌, ◌≤◌, length};
 ghost use Rattle.rt_ids.specs.Sound.{IsSound};
 ghost use Rattle.rt_world.specs.State.{journal_at, assembly_of};
 
-use crate::assembly::Assembly;
-use crate::journal::Journal;
 use crate::links::Links;
 use rt_core::Core;
 use rt_ids::ActorNo;
 use rt_jobs::Task;
+use rt_journal::{Assembly, Journal};
 use std::alloc::{AllocError, Allocator, Global};
 use std::marker::Model;
 
 mod events;
 mod opening;
+mod sound;
 mod steps;
-#[cfg(test)]
-mod tests;
 
 /// The cores of one executor, the links between all actors, and a journal for each actor.
 ///
@@ -79,6 +77,7 @@ impl<J: Task<Out = u64>, A: Allocator + Clone> World<J, A> {
     fn into_assembly(self) -> Assembly
         ensures value { result ≡ assembly_of self }
         ensures sound { IsSound result }
+        ensures journals { length result.journals ≡ result.cores + 1 }
     {
         Assembly::of(self.cores, self.cap, self.journals)
     }

@@ -1,0 +1,17 @@
+//! Tests of a core's timeline, of its task queues and of the core itself, over their public calls.
+#![tactic(auto)]
+
+#[cfg(test)]
+mod commands;
+#[cfg(test)]
+mod keys;
+#[cfg(test)]
+mod memory;
+#[cfg(test)]
+mod one_core;
+#[cfg(test)]
+mod sorted_list;
+#[cfg(test)]
+mod steps;
+#[cfg(test)]
+mod turns;
