@@ -4,8 +4,6 @@ pub mod Deliveries
 pub mod Turns
 pub mod PickedJobs
 pub mod Runs
-pub mod Agreement
-pub mod Journals
 pub mod Links
 pub mod Inside
 pub mod Tasks

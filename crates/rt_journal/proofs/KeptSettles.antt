@@ -19,8 +19,8 @@ use Rattle.rt_ids.proofs.RuntimeSteps.{virtual_runtime-yield, virtual_runtime-yi
 use Rattle.rt_taskqueue.specs.Queues.{QueuesView, queue_count, waiting_of, shares_of, ChangesLine}
 use Rattle.rt_core.specs.State.{CoreView, JobOut, no_tally, runtime_of}
 use Rattle.rt_core.specs.Turns.{settled_view}
-use Rattle.rt_world.specs.Agreement.{IsJobOut, AreMarked, names_of}
-use Rattle.rt_world.proofs.Kept.{IsKept, plainly_stands, turns-stays}
+use Rattle.rt_journal.specs.Agreement.{IsJobOut, AreMarked, names_of}
+use Rattle.rt_journal.proofs.Kept.{IsKept, plainly_stands, turns-stays}
 
 none≢some : {A : Type 0} (item : A) → None ≡ Some item → ⊥
 none≢some item same = cc

@@ -1,14 +1,11 @@
 //! The notes of one actor.
 
 ghost use Rattle.std.specs.Prelude.{◌≡◌, ◌↔◌, ◌+◌, ◌<◌, ◌≤◌, [], ◌∷◌, ◌++◌, length, reverse, slice_get, IfOk, IsTrue};
-ghost use Rattle.rt_world.specs.Journals.{free_notes, IsWithinRoom};
+ghost use Rattle.rt_journal.specs.Journals.{free_notes, IsWithinRoom};
 
 use rt_ids::Note;
 use std::alloc::{AllocError, Global};
 use std::marker::Model;
-
-#[cfg(test)]
-mod tests;
 
 /// The notes of one actor. Only the opening takes memory.
 ///
@@ -20,12 +17,12 @@ pub struct Journal<T: Copy> {
 }
 
 impl<T: Copy> Model for Journal<T> {
-    ghost use Rattle.rt_world.specs.Journals.{JournalView};
+    ghost use Rattle.rt_journal.specs.Journals.{JournalView};
 
     ghost Value = { JournalView T };
 
     ghost use Rattle.std.specs.Prelude.{vec_capacity};
-    ghost use Rattle.rt_world.specs.Journals.{journal_of_notes, IsReserved};
+    ghost use Rattle.rt_journal.specs.Journals.{journal_of_notes, IsReserved};
 
     ghost view = { λ journal. journal_of_notes journal.room journal.notes.items };
 

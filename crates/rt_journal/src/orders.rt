@@ -1,8 +1,7 @@
 //! Orders without their tasks.
 
 ghost use Rattle.std.specs.Prelude.{◌≡◌};
-ghost use Rattle.rt_world.specs.State.{order_note};
-ghost use Rattle.rt_world.specs.Opening.{HasShares};
+ghost use Rattle.rt_journal.specs.Orders.{order_note, HasShares};
 
 use rt_ids::Order;
 

@@ -1,10 +1,11 @@
 //! Boxed jobs in a world, as they come.
 
-use super::{name, tells};
-use crate::event::{Event, Reply};
-use crate::model::World;
+ghost use Rattle.rt_world.specs.Opening.{HasReadyEvent};
+
+use crate::model::{name, tells};
 use rt_ids::{ActorNo, CoreNo, Note, Order, QueueNo};
 use rt_jobs::{AnyJob, OnceBox, Polled, Range, Step, Task, once_job, polled_job};
+use rt_world::{Event, Reply, World};
 use std::test::Fail;
 
 const CORE: CoreNo = CoreNo(0);
@@ -45,6 +46,13 @@ impl Polled for Countdown {
     }
 }
 
+/// Whether an event that hands in no job was noted.
+fn is_noted(world: &mut World<AnyJob>, event: Event<AnyJob>) -> bool
+    requires { HasReadyEvent (λ _. ⊥) event }
+{
+    matches!(world.step(event), Reply::Noted)
+}
+
 #[test]
 fn boxed_jobs_run_as_any_other(rt: HostRuntime) -> Result<(), Fail> {
     let mut world: World<AnyJob> = World::try_new(rt.alloc(), rt.alloc(), 1, 4, 100)?;
@@ -58,12 +66,14 @@ fn boxed_jobs_run_as_any_other(rt: HostRuntime) -> Result<(), Fail> {
     let second = polled_job(inside);
     for job in [first, second] {
         assert!(rt; !job.is_done());
-        let sent = world.step(Event::Send(SELF, CORE, Order::Job(QueueNo(0), job)));
-        assert!(rt; matches!(sent, Reply::Sent(_)));
-        assert!(rt; matches!(world.step(Event::Deliver(CORE, SELF)), Reply::Noted));
+        let sent = matches!(
+            world.step(Event::Send(SELF, CORE, Order::Job(QueueNo(0), job))),
+            Reply::Sent(_)
+        );
+        assert!(rt; sent && is_noted(&mut world, Event::Deliver(CORE, SELF)));
     }
     for _turn in 0..4 {
-        assert!(rt; matches!(world.step(Event::Turn(CORE, 10)), Reply::Noted));
+        assert!(rt; is_noted(&mut world, Event::Turn(CORE, 10)));
     }
     let notes = [
         Note::Sent(name(0, 0, 1), Order::Job(QueueNo(0), ())),

@@ -11,9 +11,9 @@ use Rattle.rt_ids.specs.Lawful.{MayStand, IsNextDelivered}
 use Rattle.rt_taskqueue.specs.Queues.{queue_count, waiting_of, shares_of}
 use Rattle.rt_core.specs.State.{CoreView, runtime_of}
 use Rattle.rt_core.specs.Deliveries.{CountsAlone}
-use Rattle.rt_world.specs.Agreement.{Agrees}
-use Rattle.rt_world.proofs.Kept.{IsKept, plainly_stands, stays_calm, SameJobs, calm_back, calm_answered}
-use Rattle.rt_world.proofs.KeptDeliveries.{IsCounted, senders_counted, delivered_counted, refusal-missing}
+use Rattle.rt_journal.specs.Agreement.{Agrees}
+use Rattle.rt_journal.proofs.Kept.{IsKept, plainly_stands, stays_calm, SameJobs, calm_back, calm_answered}
+use Rattle.rt_journal.proofs.KeptDeliveries.{IsCounted, senders_counted, delivered_counted, refusal-missing}
 
 -- a delivery that changes nothing but its count
 module _ {J T : Type 0} (actor cap : ℕ) (old new : CoreView J) (name : JobId) (journal : Journal T) (kept : IsKept actor cap old journal)

@@ -14,7 +14,7 @@ use Rattle.rt_ids.proofs.Told.{grows}
 use Rattle.rt_ids.proofs.JobsOut.{alone_out}
 use Rattle.rt_ids.proofs.Known.{IsOld, known_of}
 use Rattle.rt_ids.proofs.NameLemmas.{one_name}
-use Rattle.rt_world.specs.Turns.{polls_made}
+use Rattle.rt_journal.specs.Polls.{polls_made}
 
 module _ {T : Type 0} (actor cap : ℕ) where
   -- whose poll is settled was delivered before

@@ -27,9 +27,9 @@ use Rattle.rt_ids.proofs.WorkOfLines.{right_pick_of_lines}
 use Rattle.rt_taskqueue.specs.Queues.{queue_count, waiting_of, shares_of, no_queue}
 use Rattle.rt_core.specs.State.{CoreView, JobOut, no_tally, tally_of, runtime_of, delivered_of}
 use Rattle.rt_core.specs.Turns.{TakesOut}
-use Rattle.rt_world.specs.Agreement.{IsJobOut, AreMarked, names_of}
-use Rattle.rt_world.proofs.Kept.{IsKept, plainly_stands, turns-stays, open_queues, open_core}
-use Rattle.rt_world.proofs.PollNotes.{poll_note, is_marked, marks-start}
+use Rattle.rt_journal.specs.Agreement.{IsJobOut, AreMarked, names_of}
+use Rattle.rt_journal.proofs.Kept.{IsKept, plainly_stands, turns-stays, open_queues, open_core}
+use Rattle.rt_journal.proofs.PollNotes.{poll_note, is_marked, marks-start}
 
 -- a line is empty where there is no such queue
 no_line : {J : Type 0} (queue : ℕ) (core : CoreView J) → queue_count core.queues ≤ queue → waiting_of queue core.queues ≡ []

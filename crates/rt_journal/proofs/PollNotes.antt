@@ -10,7 +10,7 @@ use Rattle.rt_ids.specs.Journal.{Journal, is_told}
 use Rattle.rt_ids.specs.Filters.{name_started}
 use Rattle.rt_ids.proofs.NameLemmas.{among, one_name, same_as_itself}
 use Rattle.rt_ids.proofs.Starts.{is_told-start_elsewhere}
-use Rattle.rt_world.specs.Agreement.{AreMarked, names_of}
+use Rattle.rt_journal.specs.Agreement.{AreMarked, names_of}
 
 -- the note of a poll
 abbrev pub poll_note : {T : Type 0} → JobId → Bool → Note T

@@ -31,7 +31,8 @@ impl Model for Assembly {
 }
 
 impl Assembly {
-    pub(crate) fn of(cores: u8, cap: u16, journals: Vec<Journal<u64>>) -> Self
+    /// The journals, one for each core and one for the outside actor.
+    pub fn of(cores: u8, cap: u16, journals: Vec<Journal<u64>>) -> Self
         requires { length journals.items ≡ cores + 1 }
         ensures { result ≡ record { cores = cores; cap = cap; journals = map (λ journal. journal.notes) journals.items } }
     {

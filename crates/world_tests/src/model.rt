@@ -1,15 +1,14 @@
+//! The model by its events: what is answered, and what the journals tell.
+
 ghost use Rattle.rt_jobs.specs.Ready.{HasReadyJob};
 ghost use Rattle.rt_world.specs.Opening.{HasReadyEvent};
 
-use crate::event::{Event, Reply};
-use crate::model::{World, WorldError};
 use rt_ids::{ActorNo, Answer, CoreNo, JobId, Note, Order, QueueNo, Reason, SendError};
 use rt_jobs::{ScriptJob, Task};
 use rt_shares::Shares;
+use rt_world::{Event, Reply, World, WorldError};
 use std::process::Abort;
 use std::test::Fail;
-
-mod kinds;
 
 const CORE: CoreNo = CoreNo(0);
 
@@ -50,15 +49,52 @@ fn submit(rt: &impl Abort, from: u8, to: u8, queue: u8, answer: u64) -> Event<Sc
     Event::Send(ActorNo(from), CoreNo(to), Order::Job(QueueNo(queue), job))
 }
 
+/// What became of an event.
+#[derive(Clone, Copy, PartialEq, Eq)]
+enum Became {
+    Sent,
+    Full,
+    Noted,
+    Empty,
+    Idle,
+    NoActor,
+    NoRoom,
+    Other,
+}
+
+fn step(world: &mut World<ScriptJob>, event: Event<ScriptJob>) -> Became
+    requires { HasReadyEvent (HasReadyJob ⟦<ScriptJob as Task>⟧.done ⟦<ScriptJob as Task>⟧.CanPoll) event }
+{
+    match world.step(event) {
+        Reply::Sent(_) => Became::Sent,
+        Reply::NotSent(SendError::Full(Order::Job(_, _))) => Became::Full,
+        Reply::Noted => Became::Noted,
+        Reply::Empty => Became::Empty,
+        Reply::Idle => Became::Idle,
+        Reply::NoActor(Event::Send(_, _, _)) => Became::NoActor,
+        Reply::NoRoom(Event::Deliver(_, _)) => Became::NoRoom,
+        _ => Became::Other,
+    }
+}
+
+fn deliver(world: &mut World<ScriptJob>, from: u8) -> Became {
+    step(world, Event::Deliver(CORE, ActorNo(from)))
+}
+
+fn turn(world: &mut World<ScriptJob>) -> Became {
+    step(world, Event::Turn(CORE, 0))
+}
+
 #[test]
 fn a_job_is_sent_delivered_and_polled(rt: HostRuntime) -> Result<(), Fail> {
     let mut world: World<ScriptJob> = World::try_new(rt.alloc(), rt.alloc(), 1, 4, 100)?;
-    let sent = world.step(submit(&rt, 0, 0, 0, 7));
-    assert!(rt; matches!(sent, Reply::Sent(_)));
-    assert!(rt; matches!(world.step(Event::Deliver(CORE, SELF)), Reply::Noted));
-    assert!(rt; matches!(world.step(Event::Deliver(CORE, SELF)), Reply::Empty));
-    assert!(rt; matches!(world.step(Event::Turn(CORE, 0)), Reply::Noted));
-    assert!(rt; matches!(world.step(Event::Turn(CORE, 0)), Reply::Idle));
+    let sent = step(&mut world, submit(&rt, 0, 0, 0, 7));
+    let came = deliver(&mut world, 0);
+    let rest = deliver(&mut world, 0);
+    let turned = turn(&mut world);
+    let idle = turn(&mut world);
+    assert!(rt; sent == Became::Sent && came == Became::Noted && rest == Became::Empty);
+    assert!(rt; turned == Became::Noted && idle == Became::Idle);
     let notes = [
         Note::Sent(name(0, 0, 1), Order::Job(QueueNo(0), ())),
         Note::Took(name(0, 0, 1), QueueNo(0)),
@@ -94,46 +130,40 @@ fn numbers_out_of_range_are_refused(rt: HostRuntime) {
 #[test]
 fn an_event_that_cannot_be_comes_back(rt: HostRuntime) -> Result<(), Fail> {
     let mut world: World<ScriptJob> = World::try_new(rt.alloc(), rt.alloc(), 1, 1, 7)?;
-    assert!(rt; matches!(world.step(submit(&rt, 0, 0, 0, 7)), Reply::Sent(_)));
-    let back = world.step(Event::Deliver(CORE, SELF));
-    assert!(rt; matches!(back, Reply::NoRoom(Event::Deliver(CoreNo(0), ActorNo(0)))));
-    let back = world.step(submit(&rt, 9, 0, 0, 8));
-    assert!(rt; matches!(back, Reply::NoActor(Event::Send(ActorNo(9), CoreNo(0), _))));
-    assert!(rt;
-        tells(
-            &world,
-            SELF,
-            &[Note::Sent(name(0, 0, 1), Order::Job(QueueNo(0), ()))]
-        )
-    );
+    let sent = step(&mut world, submit(&rt, 0, 0, 0, 7));
+    let full = deliver(&mut world, 0);
+    let unknown = step(&mut world, submit(&rt, 9, 0, 0, 8));
+    assert!(rt; sent == Became::Sent && full == Became::NoRoom && unknown == Became::NoActor);
+    let notes = [Note::Sent(name(0, 0, 1), Order::Job(QueueNo(0), ()))];
+    assert!(rt; tells(&world, SELF, &notes));
     Ok(())
 }
 
 #[test]
 fn a_link_holds_as_many_as_it_may(rt: HostRuntime) -> Result<(), Fail> {
     let mut world: World<ScriptJob> = World::try_new(rt.alloc(), rt.alloc(), 2, 2, 100)?;
-    assert!(rt; matches!(world.step(submit(&rt, 2, 1, 0, 1)), Reply::Sent(_)));
-    assert!(rt; matches!(world.step(submit(&rt, 2, 1, 0, 2)), Reply::Sent(_)));
-    let third = world.step(submit(&rt, 2, 1, 0, 3));
-    assert!(rt;
-        matches!(
-            third,
-            Reply::NotSent(SendError::Full(Order::Job(QueueNo(0), _)))
-        )
-    );
-    // Another link is another matter.
-    assert!(rt; matches!(world.step(submit(&rt, 2, 0, 0, 4)), Reply::Sent(_)));
-    assert!(rt; matches!(world.step(submit(&rt, 1, 1, 0, 5)), Reply::Sent(_)));
+    let rows = [
+        (2, 1, Became::Sent),
+        (2, 1, Became::Sent),
+        (2, 1, Became::Full),
+        // Another link is another matter.
+        (2, 0, Became::Sent),
+        (1, 1, Became::Sent),
+    ];
+    for (from, to, want) in rows {
+        assert!(rt; step(&mut world, submit(&rt, from, to, 0, 1)) == want);
+    }
     Ok(())
 }
 
 #[test]
 fn a_job_for_no_queue_goes_back(rt: HostRuntime) -> Result<(), Fail> {
     let mut world: World<ScriptJob> = World::try_new(rt.alloc(), rt.alloc(), 1, 4, 100)?;
-    assert!(rt; matches!(world.step(submit(&rt, 1, 0, 3, 7)), Reply::Sent(_)));
-    assert!(rt; matches!(world.step(Event::Deliver(CORE, ActorNo(1))), Reply::Noted));
+    let sent = step(&mut world, submit(&rt, 1, 0, 3, 7));
+    let came = deliver(&mut world, 1);
+    let idle = turn(&mut world);
+    assert!(rt; sent == Became::Sent && came == Became::Noted && idle == Became::Idle);
     assert!(rt; tells(&world, SELF, &[Note::Back(name(1, 0, 1), Reason::NoQueue)]));
-    assert!(rt; matches!(world.step(Event::Turn(CORE, 0)), Reply::Idle));
     Ok(())
 }
 
@@ -149,8 +179,8 @@ fn commands_are_answered_and_their_effect_follows(rt: HostRuntime) -> Result<(),
         Order::SetShares(QueueNo(3), half),
     ];
     for order in orders {
-        assert!(rt; matches!(world.step(Event::Send(SELF, CORE, order)), Reply::Sent(_)));
-        assert!(rt; matches!(world.step(Event::Deliver(CORE, SELF)), Reply::Noted));
+        let sent = step(&mut world, Event::Send(SELF, CORE, order));
+        assert!(rt; sent == Became::Sent && deliver(&mut world, 0) == Became::Noted);
     }
     let notes = [
         Note::Created(QueueNo(1), half),
@@ -176,8 +206,8 @@ fn a_run_answers_the_journals(rt: HostRuntime) -> Result<(), Fail> {
         Event::Turn(CORE, 0),
     ]?;
     let assembly = world.run(events);
-    assert_eq!(rt; assembly.cores(), 1);
-    assert_eq!(rt; assembly.cap(), 4);
-    assert!(rt; assembly.journal(SELF).get(3) == Some(Note::Done(name(1, 0, 1), 10, 7)));
+    let numbers = assembly.cores() == 1 && assembly.cap() == 4;
+    let last = assembly.journal(SELF).get(3);
+    assert!(rt; numbers && last == Some(Note::Done(name(1, 0, 1), 10, 7)));
     Ok(())
 }

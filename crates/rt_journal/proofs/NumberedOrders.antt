@@ -2,8 +2,7 @@
 use Rattle.std.proofs.Common.{◌≡◌, ℕ, zero, suc, ◌+◌, ◌≤◌, List, [], ◌∷◌, ◌++◌, length, refl, ◌∙◌, ap, arith, get_or, take}
 use Rattle.std.specs.Prelude.{Some, slice_get, map}
 use Rattle.rt_ids.specs.declared.order.Order.{Order}
-use Rattle.rt_world.specs.State.{order_note}
-use Rattle.rt_world.specs.Inside.{numbered_orders}
+use Rattle.rt_journal.specs.Orders.{order_note, numbered_orders}
 
 -- reading a mapped list
 pub get_or-map : {A B : Type 0} (f : A → B) (items : List A) (place : ℕ) (default : A) → get_or (map f items) place (f default) ≡ f (get_or items place default)

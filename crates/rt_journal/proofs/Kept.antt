@@ -26,7 +26,7 @@ use Rattle.rt_ids.proofs.Counts.{queue_out-alone, queue_out-nobody}
 use Rattle.rt_taskqueue.specs.Queues.{waiting_of}
 use Rattle.rt_core.specs.State.{CoreView, JobOut, is_working, is_any, runtime_of}
 use Rattle.rt_core.specs.State as state
-use Rattle.rt_world.specs.Agreement.{Agrees, IsJobOut, AreMarked, names_of}
+use Rattle.rt_journal.specs.Agreement.{Agrees, IsJobOut, AreMarked, names_of}
 
 -- the journal is one of notes that may stand where they stand, with no step half done but for a poll, and the core agrees with it
 pub record IsKept {J T : Type 0} (actor cap : ℕ) (core : CoreView J) (journal : Journal T) : Type 0 where

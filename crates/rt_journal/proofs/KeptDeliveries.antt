@@ -25,8 +25,8 @@ use Rattle.rt_ids.proofs.RuntimeSteps.{virtual_runtime-took_idle, virtual_runtim
 use Rattle.rt_taskqueue.specs.Queues.{waiting_of}
 use Rattle.rt_core.specs.State.{CoreView, JobOut, no_tally, tally_of, runtime_of, delivered_of, is_working, entry_runtime}
 use Rattle.rt_core.specs.Deliveries.{Enters, counted}
-use Rattle.rt_world.specs.Agreement.{Agrees, IsJobOut, AreMarked, names_of}
-use Rattle.rt_world.proofs.Kept.{IsKept, plainly_stands, turns-stays, open_queues, open_core, working}
+use Rattle.rt_journal.specs.Agreement.{Agrees, IsJobOut, AreMarked, names_of}
+use Rattle.rt_journal.proofs.Kept.{IsKept, plainly_stands, turns-stays, open_queues, open_core, working}
 
 -- the next name from its sender is counted
 pub record IsCounted {J T : Type 0} (actor : ℕ) (old new : CoreView J) (name : JobId) (journal : Journal T) : Type 0 where

@@ -17,9 +17,9 @@ use Rattle.rt_ids.proofs.RuntimeSteps.{shares-created, shares-created_elsewhere,
 use Rattle.rt_taskqueue.specs.Queues.{queue_count, shares_of}
 use Rattle.rt_core.specs.State.{CoreView, no_tally, runtime_of}
 use Rattle.rt_core.specs.Deliveries.{Creates, Weighs, counted}
-use Rattle.rt_world.specs.Agreement.{Agrees}
-use Rattle.rt_world.proofs.Kept.{IsKept, open_core, stays_calm, SameJobs, calm_created, calm_weighed}
-use Rattle.rt_world.proofs.KeptAnswers.{agrees-answered, answered_stands}
+use Rattle.rt_journal.specs.Agreement.{Agrees}
+use Rattle.rt_journal.proofs.Kept.{IsKept, open_core, stays_calm, SameJobs, calm_created, calm_weighed}
+use Rattle.rt_journal.proofs.KeptAnswers.{agrees-answered, answered_stands}
 
 -- one more at the end, that is what is read past the end, is not seen
 get_or-append_default : {A : Type 0} (items : List A) (default : A) (place : ℕ) → get_or (items ++ default ∷ []) place default ≡ get_or items place default

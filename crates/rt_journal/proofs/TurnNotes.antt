@@ -12,8 +12,8 @@ use Rattle.rt_ids.specs.Work.{number_if}
 use Rattle.rt_ids.specs.Joining.{DeliversAsSent}
 use Rattle.rt_jobs.specs.declared.job.Step.{Step}
 use Rattle.rt_jobs.specs.declared.job.Step.TheVariants as steps
-use Rattle.rt_world.specs.Turns.{polls_made, settle_note}
-use Rattle.rt_world.proofs.PollNotes.{poll_note}
+use Rattle.rt_journal.specs.Polls.{polls_made, settle_note}
+use Rattle.rt_journal.proofs.PollNotes.{poll_note}
 
 module _ {T : Type 0} (name : JobId) (queue runtime time : ℕ) where
   -- the journal with the three notes of a turn
