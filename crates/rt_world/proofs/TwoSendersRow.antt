@@ -1,7 +1,9 @@
 -- Two senders of one core: each has its own link, and their jobs are polled in the order in which they came.
-use Rattle.std.proofs.Common.{◌≡◌, ℕ, ◌≤◌, false, [], ◌∷◌, refl, inr, arith}
+use Rattle.std.proofs.Common.{◌≡◌, ℕ, ◌<◌, ◌≤◌, Bool, true, false, [], ◌∷◌, refl, sym, inl, inr, arith}
 use Rattle.std.specs.Prelude.{Some, ◌==◌}
-use Rattle.rt_ids.specs.declared.note.Note.TheVariants.{Sent, Took, Pick, Start, Done}
+use Rattle.std.proofs.lemmas.Bool.{true≢false}
+use Rattle.rt_ids.specs.declared.names.JobId.{JobId}
+use Rattle.rt_ids.specs.declared.note.Note.TheVariants.{Sent, Took, Created, Pick, Start, Resume, Yield, Done}
 use Rattle.rt_ids.specs.declared.order.Order.TheVariants.{Job}
 use Rattle.rt_ids.specs.declared.order.SendError.TheVariants.{Full}
 use Rattle.rt_ids.specs.Journal.{Journal}
@@ -15,6 +17,7 @@ use Rattle.rt_world.specs.declared.event.Reply.{Reply}
 use Rattle.rt_world.specs.declared.event.Reply.TheVariants as reply
 use Rattle.rt_world.specs.State.{WorldView, noted, with_sent}
 use Rattle.rt_world.specs.Runs.{Happens}
+use Rattle.rt_world.specs.Creations.{with_creations}
 use Rattle.rt_world.specs.ScriptRuns.{script_made, ScriptPolls, ScriptAnswers}
 use Rattle.rt_world.specs.Rows.{name}
 use Rattle.rt_world.specs.WorkedRows.{short_job, TwoSenders}
@@ -128,4 +131,92 @@ module _ (room : ℕ) (enough : 100 ≤ room) where
 pub two_senders : TwoSenders
 two_senders =
     runs_just 2 2 [] _ _ _ (tt, (tt, (tt, (tt, (tt, (tt, (tt, (tt, (tt, (tt, (tt, (tt, tt))))))))))))
-    (λ room enough. record { end = turned_10 room enough; run = (sent_1 room enough, (reply.Sent (name 2 0 1)), _, sends_1 room enough, (sent_2 room enough, (reply.Sent (name 1 0 1)), _, sends_2 room enough, (sent_3 room enough, (reply.Sent (name 2 0 2)), _, sends_3 room enough, (sent_3 room enough, (reply.NotSent (Full (Job 0 (short_job 4)))), _, full_4 room enough, (taken_5 room enough, reply.Noted, _, delivers_5 room enough, (taken_6 room enough, reply.Noted, _, delivers_6 room enough, (taken_7 room enough, reply.Noted, _, delivers_7 room enough, (turned_8 room enough, reply.Noted, _, turns_8 room enough, (turned_9 room enough, reply.Noted, _, turns_9 room enough, (turned_10 room enough, reply.Noted, _, turns_10 room enough, (turned_10 room enough, reply.Empty, _, empty_11 room enough, (turned_10 room enough, reply.Idle, _, idle_12 room enough, (refl, refl), refl), refl), refl), refl), refl), refl), refl), refl), refl), refl), refl), refl); ends = refl })
+    (λ room enough. record {
+      end = turned_10 room enough;
+      run = (
+        sent_1 room enough,
+        (reply.Sent (name 2 0 1)),
+        _,
+        sends_1 room enough,
+        (
+          sent_2 room enough,
+          (reply.Sent (name 1 0 1)),
+          _,
+          sends_2 room enough,
+          (
+            sent_3 room enough,
+            (reply.Sent (name 2 0 2)),
+            _,
+            sends_3 room enough,
+            (
+              sent_3 room enough,
+              (reply.NotSent (Full (Job 0 (short_job 4)))),
+              _,
+              full_4 room enough,
+              (
+                taken_5 room enough,
+                reply.Noted,
+                _,
+                delivers_5 room enough,
+                (
+                  taken_6 room enough,
+                  reply.Noted,
+                  _,
+                  delivers_6 room enough,
+                  (
+                    taken_7 room enough,
+                    reply.Noted,
+                    _,
+                    delivers_7 room enough,
+                    (
+                      turned_8 room enough,
+                      reply.Noted,
+                      _,
+                      turns_8 room enough,
+                      (
+                        turned_9 room enough,
+                        reply.Noted,
+                        _,
+                        turns_9 room enough,
+                        (
+                          turned_10 room enough,
+                          reply.Noted,
+                          _,
+                          turns_10 room enough,
+                          (
+                            turned_10 room enough,
+                            reply.Empty,
+                            _,
+                            empty_11 room enough,
+                            (
+                              turned_10 room enough,
+                              reply.Idle,
+                              _,
+                              idle_12 room enough,
+                              (refl, refl),
+                              refl,
+                            ),
+                            refl,
+                          ),
+                          refl,
+                        ),
+                        refl,
+                      ),
+                      refl,
+                    ),
+                    refl,
+                  ),
+                  refl,
+                ),
+                refl,
+              ),
+              refl,
+            ),
+            refl,
+          ),
+          refl,
+        ),
+        refl,
+      );
+      ends = refl;
+    })
