@@ -1,13 +1,11 @@
 //! The timeline of a core: the keys of its active queues in rising order, in an AVL tree whose nodes are slips.
 //!
-//! A [`Slip`] is the one node that a queue has for its whole life. It is in the tree while the queue is active and out of it
-//! else, and only making it takes memory.
+//! A [`Slip`] is the one node that a queue has for its whole life. It is in the tree while the queue is active, and only making it
+//! takes memory.
 #![tactic(auto)]
 
 mod slip;
 mod slips;
-#[cfg(test)]
-mod tests;
 mod timeline;
 mod tree;
 
