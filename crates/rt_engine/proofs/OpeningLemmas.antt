@@ -4,15 +4,14 @@ use Rattle.std.specs.Io.KnownBytes.{Keeps, Appends}
 use Rattle.std.proofs.KnownBytes.{Appends-trans}
 use Rattle.rt_ids.specs.Commands.{last_queue}
 use Rattle.rt_ids.specs.Lawful.{IsOpening}
-use Rattle.rt_jobs.specs.Scripts.{Script}
-use Rattle.rt_world.specs.declared.event.Event.{Event}
+use Rattle.rt_script.specs.declared.event.ScriptEvent.{ScriptEvent}
 use Rattle.rt_world.specs.Opening.{IsFresh}
 use Rattle.rt_world.specs.State.{journal_at}
 use Rattle.rt_script.specs.Limits.{HasFewQueues, IsEventOf}
-use Rattle.rt_script.specs.Outputs.{WritesAll}
-use Rattle.rt_script.specs.Rooms.{MayMake, IsRoomy}
-use Rattle.rt_script.specs.Transcripts.{ScriptWorld, script_room, with_queue, with_queues}
-use Rattle.rt_script.proofs.KnownLemmas.{Appends-more_kept}
+use Rattle.rt_engine.specs.Outputs.{WritesAll}
+use Rattle.rt_engine.specs.Rooms.{MayMake, IsRoomy}
+use Rattle.rt_engine.specs.Transcripts.{ScriptWorld, script_room, with_queue, with_queues}
+use Rattle.rt_text.proofs.KnownLemmas.{Appends-more_kept}
 
 -- in a fresh world all queues of a script may be made
 pub fresh_may_make : (cores cap room : ℕ) (queues : List (ℕ × ℕ)) (world : ScriptWorld) → IsFresh cores cap room world → HasFewQueues queues → MayMake queues world
@@ -53,11 +52,11 @@ module _ (cores cap : ℕ) (queues : List (ℕ × ℕ)) (empty world : ScriptWor
     short = λ actor. let few = may.notes actor in omega arith;
   }
 
-  pub made_events : (events : List (Event Script)) → All (IsEventOf cores) events → All (IsEventOf world.cores) events
+  pub made_events : (events : List ScriptEvent) → All (IsEventOf cores) events → All (IsEventOf world.cores) events
   made_events events all = subst (λ size. All (IsEventOf size) events) (sym made_cores) all
 
 -- all that was put on an empty page was written, once the page is printed
-pub all_written : (events : List (Event Script)) (old new : ScriptWorld) (first last : List ℕ) (sink_old sink_new sink_next sink_end : Option (List ℕ)) →
+pub all_written : (events : List ScriptEvent) (old new : ScriptWorld) (first last : List ℕ) (sink_old sink_new sink_next sink_end : Option (List ℕ)) →
     (writes : WritesAll events old new first last sink_old sink_new) → first ≡ [] → Appends sink_new sink_next last → Keeps sink_next sink_end → Appends sink_old sink_end writes.text
 all_written events old new first last sink_old sink_new sink_next sink_end writes none printed kept =
     let same : writes.text ≡ writes.written ++ last = sym (ap (λ page. page ++ writes.text) none) ∙ writes.whole in

@@ -2,8 +2,8 @@
 use Rattle.std.proofs.Common.{◌≡◌, ℕ, zero, suc, ◌+◌, List, [], ◌∷◌, ◌++◌, Some, None, refl, sym, ap, ◌∙◌, arith, append_assoc, codes, drop}
 use Rattle.std.specs.Prelude.{slice_get}
 use Rattle.rt_ids.specs.declared.note.Note.{Note}
-use Rattle.rt_script.specs.Notes.{note_line}
-use Rattle.rt_script.specs.Transcripts.{note_lines}
+use Rattle.rt_text.specs.Notes.{note_line}
+use Rattle.rt_engine.specs.Transcripts.{note_lines}
 
 -- what is left of a list begins with what stands at that place
 drop_suc_at : {A : Type 0} (items : List A) (place : ℕ) (item : A) → slice_get items place ≡ Some item → drop place items ≡ item ∷ drop (suc place) items

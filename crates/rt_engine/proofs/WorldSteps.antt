@@ -20,8 +20,8 @@ use Rattle.rt_world.specs.Deliveries.{IsDelivery, with_effect, Delivers}
 use Rattle.rt_world.specs.Turns.{Turns, settle_note, poll_note}
 use Rattle.rt_ids.specs.Filters.{name_started}
 use Rattle.rt_world.specs.Runs.{Steps}
-use Rattle.rt_script.specs.Rooms.{IsRoomy}
-use Rattle.rt_script.specs.Transcripts.{ScriptWorld, Occurs, IsHeard}
+use Rattle.rt_engine.specs.Rooms.{IsRoomy}
+use Rattle.rt_engine.specs.Transcripts.{ScriptWorld, Occurs, IsHeard}
 
 pub lt_or_le : (a b : ℕ) → (a < b) ⊎ (b ≤ a)
 lt_or_le a zero = inr (omega arith)

@@ -2,16 +2,15 @@
 use Rattle.std.specs.Prelude.{◌≡◌, ℕ, List, ◌++◌, Option, Ok}
 use Rattle.std.specs.Option.{IfSome}
 use Rattle.std.specs.Io.KnownBytes.{Appends}
-use Rattle.rt_world.specs.declared.event.Event.{Event}
-use Rattle.rt_jobs.specs.Scripts.{Script}
-use Rattle.rt_script.specs.declared.fault.EngineFault.{EngineFault}
-use Rattle.rt_script.specs.declared.fault.EngineFault.TheVariants.{Text, Read, Write, Memory}
+use Rattle.rt_script.specs.declared.event.ScriptEvent.{ScriptEvent}
+use Rattle.rt_text.specs.declared.fault.EngineFault.{EngineFault}
+use Rattle.rt_text.specs.declared.fault.EngineFault.TheVariants.{Text, Read, Write, Memory}
 use Rattle.rt_script.specs.Drafts.{Drafted}
 use Rattle.rt_script.specs.Scripts.{script_of}
-use Rattle.rt_script.specs.Transcripts.{ScriptWorld, PrintsAll, IsOutput}
+use Rattle.rt_engine.specs.Transcripts.{ScriptWorld, PrintsAll, IsOutput}
 
 -- the events happen, and their text is on the page behind what was there, but for what was written from the page's front
-pub record WritesAll (events : List (Event Script)) (old new : ScriptWorld) (page_old page_new : List ℕ) (sink_old sink_new : Option (List ℕ)) : Type 0 where
+pub record WritesAll (events : List ScriptEvent) (old new : ScriptWorld) (page_old page_new : List ℕ) (sink_old sink_new : Option (List ℕ)) : Type 0 where
   pub text : List ℕ
   pub written : List ℕ
   pub prints : PrintsAll events old new text

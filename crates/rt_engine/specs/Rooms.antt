@@ -4,7 +4,7 @@ use Rattle.rt_ids.specs.Commands.{last_queue}
 use Rattle.rt_world.specs.Opening.{IsUnbegun}
 use Rattle.rt_world.specs.State.{journal_at}
 use Rattle.rt_script.specs.Drafts.{queue_lines}
-use Rattle.rt_script.specs.Transcripts.{ScriptWorld, script_room}
+use Rattle.rt_engine.specs.Transcripts.{ScriptWorld, script_room}
 
 -- a world of this size, whose journals have at most so many notes
 pub record IsRoomy (cores cap notes : ℕ) (world : ScriptWorld) : Type 0 where

@@ -5,17 +5,19 @@ use Rattle.rt_ids.specs.declared.note.Note.TheVariants.{Created}
 use Rattle.rt_ids.specs.Commands.{last_queue}
 use Rattle.rt_jobs.specs.Scripts.{Script, Does, IsAnswer}
 use Rattle.rt_world.specs.declared.event.Event.{Event}
+use Rattle.rt_script.specs.declared.event.ScriptEvent.{ScriptEvent}
 use Rattle.rt_world.specs.declared.event.Reply.{Reply}
 use Rattle.rt_world.specs.declared.event.Reply.TheVariants as reply
 use Rattle.rt_world.specs.State.{WorldView, journal_at, noted}
 use Rattle.rt_world.specs.Sends.{actor_of}
 use Rattle.rt_world.specs.Opening.{IsFresh}
 use Rattle.rt_world.specs.Runs.{Happens}
-use Rattle.rt_script.specs.declared.reply.Ends.{Ends}
-use Rattle.rt_script.specs.declared.reply.Quiet.{Quiet}
+use Rattle.rt_text.specs.declared.reply.Ends.{Ends}
+use Rattle.rt_text.specs.declared.reply.Quiet.{Quiet}
 use Rattle.rt_script.specs.Drafts.{Drafted}
-use Rattle.rt_script.specs.Notes.{note_line}
-use Rattle.rt_script.specs.Replies.{ends_of, quiet_of, reply_line}
+use Rattle.rt_text.specs.Notes.{note_line}
+use Rattle.rt_engine.specs.Replies.{event_of, ends_of, quiet_of}
+use Rattle.rt_text.specs.Replies.{reply_line}
 
 -- a world of script jobs
 abbrev pub ScriptWorld : Type 0
@@ -47,16 +49,16 @@ event_text ends [] quiet = quiet_text ends quiet
 event_text ends (note ∷ rest) quiet = note_lines ends.actor (note ∷ rest)
 
 -- the event happens, and this is its text
-pub record Prints (event : Event Script) (old new : ScriptWorld) (text : List ℕ) : Type 0 where
+pub record Prints (event : ScriptEvent) (old new : ScriptWorld) (text : List ℕ) : Type 0 where
   pub answer : Reply Script
-  pub occurs : Occurs event old new answer
+  pub occurs : Occurs (event_of event) old new answer
   pub heard : IsHeard answer
   pub notes : List (Note ℕ)
-  pub noted : journal_at (actor_of event) new ≡ notes ++ journal_at (actor_of event) old
+  pub noted : journal_at (actor_of (event_of event)) new ≡ notes ++ journal_at (actor_of (event_of event)) old
   pub printed : text ≡ event_text (ends_of event) (reverse notes) (quiet_of answer)
 
 -- the events happen one after another, and their texts follow one another
-abbrev pub PrintsAll : List (Event Script) → ScriptWorld → ScriptWorld → List ℕ → Type 0
+abbrev pub PrintsAll : List ScriptEvent → ScriptWorld → ScriptWorld → List ℕ → Type 0
 PrintsAll [] old new text = (new ≡ old) × (text ≡ [])
 PrintsAll (event ∷ events) old new text =
     (between : ScriptWorld) × (first rest : List ℕ)

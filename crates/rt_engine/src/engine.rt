@@ -1,41 +1,28 @@
-//! Runs a script on the model, and prints what happens.
+//! Runs a script on the model.
 
-ghost use Rattle.std.specs.Prelude.{◌≡◌, ◌≢◌, ◌≤◌, ◌<◌, ◌+◌, ◌++◌, [], ℕ, List, length, drop, reverse, IfOk, IfErr, OnOk, OnErr, IfSome, Err, Some, true, string_bytes};
+ghost use Rattle.std.specs.Prelude.{◌≡◌, ◌<◌, ◌+◌, [], ℕ, List, length, IfOk, IfErr, OnOk, IfSome, Err, Some, true};
 ghost use Rattle.std.specs.Io.KnownBytes.{Keeps, Appends};
-ghost use Rattle.rt_world.specs.Opening.{IsFresh, IsUnbegun};
-ghost use Rattle.rt_world.specs.Sends.{actor_of};
-ghost use Rattle.rt_world.specs.State.{journal_at};
-ghost use Rattle.rt_script.specs.EngineFaults.{IfText};
-ghost use Rattle.rt_script.specs.Limits.{IsSize, ArePlaced, AreEventsOf, IsEventOf};
 ghost use Rattle.rt_ids.specs.Commands.{last_queue};
-ghost use Rattle.rt_script.specs.Outputs.{WritesAll, IsDone, IfUnread, TellsScript, IfUnwritten};
-ghost use Rattle.rt_script.specs.Rooms.{IsRoomy, MayMake};
+ghost use Rattle.rt_world.specs.Opening.{IsFresh, IsUnbegun};
+ghost use Rattle.rt_world.specs.State.{journal_at};
+ghost use Rattle.rt_script.specs.Limits.{IsSize, ArePlaced};
+ghost use Rattle.rt_script.specs.ScriptFaults.{IfText};
 ghost use Rattle.rt_script.specs.Scripts.{script_of};
-ghost use Rattle.rt_script.specs.Transcripts.{IsOutput, Prints, note_lines, script_room, with_queue, with_queues};
 ghost use Rattle.rt_script.specs.Whole.{drafted};
+ghost use Rattle.rt_engine.specs.Outputs.{IsDone, IfUnread, TellsScript, IfUnwritten};
+ghost use Rattle.rt_engine.specs.Rooms.{MayMake};
+ghost use Rattle.rt_engine.specs.Transcripts.{IsOutput, script_room, with_queue, with_queues};
 
-use crate::fault::EngineFault;
-use crate::reply::{Ends, Quiet, ReplyLine};
-use crate::script::Script;
-use crate::source::read_script;
-use crate::steady::{flush, write_all};
-use crate::text::NoteLine;
-use rt_ids::{ActorNo, CoreNo};
-use rt_jobs::ScriptJob;
+use crate::print::{FULL_PAGE, LONGEST_PRINT, Model, print_events, print_page};
+use rt_ids::CoreNo;
+use rt_script::{Script, read_script};
 use rt_shares::Shares;
 use rt_taskqueue::CreateError;
-use rt_world::{Event, Journal, World, WorldError};
+use rt_text::EngineFault;
+use rt_text::steady::flush;
+use rt_world::{World, WorldError};
 use std::alloc::Global;
 use std::io::{Read, Write};
-
-/// A world of script jobs.
-type Model = World<ScriptJob, Global>;
-
-/// So much is printed at once.
-const PAGE: usize = 16384;
-
-/// More than the lines of one event, which fill the page a little above that: four notes of at most 128 bytes.
-const LONGEST_PRINT: usize = 1024;
 
 /// Runs the script that the source tells, and prints each event's notes, or one line where it made none.
 ///
@@ -74,7 +61,7 @@ fn play<W: Write>(alloc: Global, script: Script, sink: &mut W) -> Result<(), Eng
     } = script;
     let mut model = open_model(alloc, cores, cap)?;
     create_queues(&mut model, queues.as_slice())?;
-    let mut page = String::with_capacity(alloc, PAGE + LONGEST_PRINT)?;
+    let mut page = String::with_capacity(alloc, FULL_PAGE + LONGEST_PRINT)?;
     print_events(&mut model, events, &mut page, sink)?;
     print_page(&mut page, sink)?;
     match flush(sink) {
@@ -125,90 +112,5 @@ fn create_queue(model: &mut Model, core: CoreNo, shares: Shares) -> Result<(), E
         Ok(_) => Ok(()),
         Err(CreateError::Memory) => Err(EngineFault::Memory),
         Err(CreateError::TooMany) => unreachable!(),
-    }
-}
-
-/// Lets the events happen, one after another. Where the page is full it is printed, and so the sink has its front.
-fn print_events<W: Write>(
-    model: &mut Model,
-    events: Vec<Event<ScriptJob>>,
-    page: &mut String,
-    sink: &mut W,
-) -> Result<(), EngineFault>
-    requires roomy { IsRoomy model.old.cores model.old.cap 255 model.old }
-    requires there { AreEventsOf (Some (model.old.cores, model.old.cap)) events.items }
-    requires short { length events.items ≤ 4096 }
-    ensures ok { OnOk result (WritesAll events.items model.old model.new (string_bytes page.old) (string_bytes page.new)
-        (W.contents sink.old) (W.contents sink.new)) }
-    ensures device { IfErr result (IfUnread ⊥) }
-{
-    for event in events {
-        print_event(model, event, page)?;
-        if page.len() >= PAGE {
-            print_page(page, sink)?;
-        }
-    }
-    Ok(())
-}
-
-/// Lets the event happen, and puts its lines on the page.
-fn print_event(
-    model: &mut Model,
-    event: Event<ScriptJob>,
-    page: &mut String,
-) -> Result<(), EngineFault>
-    requires roomy { IsRoomy model.old.cores model.old.cap 32768 model.old }
-    requires there { IsEventOf model.old.cores event }
-    ensures ok { OnOk result ((text : List ℕ) × Prints event model.old model.new text
-        × (string_bytes page.new ≡ string_bytes page.old ++ text)) }
-    ensures device { IfErr result (IfUnread ⊥) }
-{
-    let ends = Ends::of(&event);
-    let before = model.journal(ends.actor).len();
-    let reply = model.step(event);
-    let journal = model.journal(ends.actor);
-    if journal.len() > before {
-        return print_notes(ends.actor, journal, before, page);
-    }
-    if let Some(quiet) = Quiet::of(&reply) {
-        let line = ReplyLine(ends, quiet);
-        writeln!(page, "{line}")?;
-    }
-    Ok(())
-}
-
-/// Puts the notes from that place on upon the page, the oldest first.
-fn print_notes(
-    actor: ActorNo,
-    journal: &Journal<u64>,
-    first: usize,
-    page: &mut String,
-) -> Result<(), EngineFault>
-    requires { first ≤ length journal.now.notes }
-    ensures ok { OnOk result (string_bytes page.new
-        ≡ string_bytes page.old ++ note_lines actor (drop first (reverse journal.now.notes))) }
-    ensures device { IfErr result (IfUnread ⊥) }
-{
-    for place in first..journal.len() {
-        if let Some(note) = journal.get(place) {
-            let line = NoteLine(actor, note);
-            writeln!(page, "{line}")?;
-        }
-    }
-    Ok(())
-}
-
-/// Prints the page, and empties it.
-fn print_page<W: Write>(page: &mut String, sink: &mut W) -> Result<(), EngineFault>
-    ensures ok { OnOk result (Appends (W.contents sink.old) (W.contents sink.new) (string_bytes page.old)) }
-    ensures empty { OnOk result (string_bytes page.new ≡ []) }
-    ensures device { IfErr result (IfUnread ⊥) }
-{
-    match write_all(sink, page.as_bytes()) {
-        Ok(()) => {
-            page.clear();
-            Ok(())
-        }
-        Err(_) => Err(EngineFault::Write),
     }
 }

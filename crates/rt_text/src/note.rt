@@ -5,7 +5,7 @@ ghost use Rattle.rt_text.specs.Notes as spec;
 
 use crate::parts::{
     AnsweredText, ClosedText, DoneText, HandedText, JobText, PickText, QueueText, SentText,
-    ShutText, TookText, ToldText, YieldText,
+    ShutText, ToldText, TookText, YieldText,
 };
 use crate::word::mode_word;
 use rt_ids::{ActorNo, Note};

@@ -41,7 +41,11 @@ impl fmt::Display for HandedText {
 
 /// A word, a name and an outcome.
 #[derive(Clone, Copy)]
-pub(crate) struct ToldText(pub(crate) &'static str, pub(crate) JobId, pub(crate) OutcomeNote<u64>);
+pub(crate) struct ToldText(
+    pub(crate) &'static str,
+    pub(crate) JobId,
+    pub(crate) OutcomeNote<u64>,
+);
 
 impl fmt::Display for ToldText {
     ghost output = { λ text. Some (text.0.now ++ spec.name_text text.1 ++ codes " " ++ spec.outcome_text text.2) };
@@ -56,7 +60,11 @@ impl fmt::Display for ToldText {
 
 /// A word, a queue and its shares.
 #[derive(Clone, Copy)]
-pub(crate) struct QueueText(pub(crate) &'static str, pub(crate) QueueNo, pub(crate) Shares);
+pub(crate) struct QueueText(
+    pub(crate) &'static str,
+    pub(crate) QueueNo,
+    pub(crate) Shares,
+);
 
 impl fmt::Display for QueueText {
     ghost output = { λ text. Some (text.0.now ++ decimal text.1 ++ codes " " ++ decimal text.2) };

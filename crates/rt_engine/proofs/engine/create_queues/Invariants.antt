@@ -1,8 +1,8 @@
 -- The queues that are left make of the model what all of them make of the first one.
 use Rattle.std.proofs.Common.{◌≡◌, drop}
-use Rattle.rt_script.specs.Rooms.{MayMake}
-use Rattle.rt_script.specs.Transcripts.{with_queues}
-use Rattle.rt_script.proofs.engine.create_queues.Given as goal
+use Rattle.rt_engine.specs.Rooms.{MayMake}
+use Rattle.rt_engine.specs.Transcripts.{with_queues}
+use Rattle.rt_engine.proofs.engine.create_queues.Given as goal
 
 abbrev pub invariant-loop-queue : goal.invariant-loop-queue
 invariant-loop-queue l = record {

@@ -1,8 +1,8 @@
 use Rattle.std.proofs.Common.{subst, sym, ap, ◌∙◌, refl}
-use Rattle.rt_script.specs.Rooms.{MayMake}
-use Rattle.rt_script.specs.Transcripts.{PrintsAll, with_queues}
-use Rattle.rt_script.proofs.OpeningLemmas.{fresh_may_make, made_roomy, made_events, all_written}
-use Rattle.rt_script.proofs.engine.play.Goals as goal
+use Rattle.rt_engine.specs.Rooms.{MayMake}
+use Rattle.rt_engine.specs.Transcripts.{PrintsAll, with_queues}
+use Rattle.rt_engine.proofs.OpeningLemmas.{fresh_may_make, made_roomy, made_events, all_written}
+use Rattle.rt_engine.proofs.engine.play.Goals as goal
 
 pub create_queues-requires-clause-may : goal.create_queues-requires-clause-may
 create_queues-requires-clause-may g c =

@@ -1,9 +1,9 @@
 use Rattle.std.specs.Prelude.{Result, Ok, Err, IfErr}
-use Rattle.rt_script.specs.declared.fault.EngineFault.{EngineFault}
-use Rattle.rt_script.specs.declared.fault.EngineFault.TheVariants.{Text, Read, Write, Memory}
-use Rattle.rt_script.specs.Outputs.{TellsScript, IfUnwritten}
+use Rattle.rt_text.specs.declared.fault.EngineFault.{EngineFault}
+use Rattle.rt_text.specs.declared.fault.EngineFault.TheVariants.{Text, Read, Write, Memory}
+use Rattle.rt_engine.specs.Outputs.{TellsScript, IfUnwritten}
 use Rattle.rt_script.specs.Whole.{drafted}
-use Rattle.rt_script.proofs.engine.run_script.Goals as goal
+use Rattle.rt_engine.proofs.engine.run_script.Goals as goal
 
 -- what holds anyway holds where a write failed
 unwritten : (fact : Type 0) → fact → {T : Type 0} → (result : Result T EngineFault) → IfErr result (IfUnwritten fact)

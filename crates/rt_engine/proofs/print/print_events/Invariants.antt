@@ -1,8 +1,8 @@
 -- The events so far have printed their text, and left room for the others.
 use Rattle.std.proofs.Common.{◌+◌, ◌*◌, length, string_bytes}
-use Rattle.rt_script.specs.Outputs.{WritesAll}
-use Rattle.rt_script.specs.Rooms.{IsRoomy}
-use Rattle.rt_script.proofs.engine.print_events.Given as goal
+use Rattle.rt_engine.specs.Outputs.{WritesAll}
+use Rattle.rt_engine.specs.Rooms.{IsRoomy}
+use Rattle.rt_engine.proofs.print.print_events.Given as goal
 
 abbrev pub invariant-loop-event : goal.invariant-loop-event
 invariant-loop-event g l = record {

@@ -1,7 +1,7 @@
 -- With the lines of the notes that are left, the page is what it is to be.
 use Rattle.std.proofs.Common.{◌≡◌, ◌++◌, drop, reverse, string_bytes}
-use Rattle.rt_script.specs.Transcripts.{note_lines}
-use Rattle.rt_script.proofs.engine.print_notes.Given as goal
+use Rattle.rt_engine.specs.Transcripts.{note_lines}
+use Rattle.rt_engine.proofs.print.print_notes.Given as goal
 
 abbrev pub invariant-loop-place : goal.invariant-loop-place
 invariant-loop-place l =

@@ -3,9 +3,9 @@ use Rattle.std.proofs.lemmas.Iterator.Adapters.{YieldsList-from_vec}
 use Rattle.std.proofs.lemmas.Iterator.Consumers.{YieldsList-turn, YieldsList-end}
 use Rattle.std.proofs.lemmas.List.{map-id}
 use Rattle.rt_script.specs.Limits.{IsEventOf}
-use Rattle.rt_script.specs.Outputs.{WritesAll}
-use Rattle.rt_script.proofs.EventTexts.{writes_more, writes_out, roomy_more, roomy_here}
-use Rattle.rt_script.proofs.engine.print_events.Goals as goal
+use Rattle.rt_engine.specs.Outputs.{WritesAll}
+use Rattle.rt_engine.proofs.EventTexts.{writes_more, writes_out, roomy_more, roomy_here}
+use Rattle.rt_engine.proofs.print.print_events.Goals as goal
 
 pub print_event-requires : goal.print_event-requires
 print_event-requires g c =

@@ -1,8 +1,8 @@
 use Rattle.std.proofs.Common.{ap, sym, ◌++◌, drop, ◌∙◌, reverse, string_bytes}
-use Rattle.rt_script.specs.Transcripts.{note_lines}
-use Rattle.rt_script.proofs.PrintLemmas.{next_line, no_line}
-use Rattle.rt_script.proofs.engine.print_notes.Goals as goal
-use Rattle.rt_script.proofs.engine.print_notes.Goals.{in-Some+in_ok-writeln, in_default}
+use Rattle.rt_engine.specs.Transcripts.{note_lines}
+use Rattle.rt_engine.proofs.PrintLemmas.{next_line, no_line}
+use Rattle.rt_engine.proofs.print.print_notes.Goals as goal
+use Rattle.rt_engine.proofs.print.print_notes.Goals.{in-Some+in_ok-writeln, in_default}
 
 pub loop-place-preserved : goal.loop-place-preserved
 loop-place-preserved c = elim c.match-get.branch [
