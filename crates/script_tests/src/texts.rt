@@ -94,22 +94,15 @@ fn is_reply(alloc: Global, quiet: Quiet, text: &str) -> Result<bool, AllocError>
 
 /// Whether all notes that tell these shares are written so.
 fn are_shares_told(alloc: Global, shares: Shares) -> Result<bool, AllocError> {
-    let mut all = true;
-    for (note, text) in [
-        (Note::Created(QueueNo(2), shares), "1 queue q2 500"),
-        (Note::SharesSet(QueueNo(2), shares), "1 shares q2 500"),
-        (
-            Note::Sent(NAME, Order::Create(shares)),
-            "1 sent 2>1#3 create 500",
-        ),
-        (
-            Note::Sent(NAME, Order::SetShares(QueueNo(2), shares)),
-            "1 sent 2>1#3 shares q2 500",
-        ),
-    ] {
-        all = all && is_line(alloc, note, text)?;
-    }
-    Ok(all)
+    let queue = QueueNo(2);
+    let create = Note::Sent(NAME, Order::Create(shares));
+    let set = Note::Sent(NAME, Order::SetShares(queue, shares));
+    Ok(
+        is_line(alloc, create, "1 sent 2>1#3 create 500")?
+            && is_line(alloc, set, "1 sent 2>1#3 shares q2 500")?
+            && is_line(alloc, Note::Created(queue, shares), "1 queue q2 500")?
+            && is_line(alloc, Note::SharesSet(queue, shares), "1 shares q2 500")?,
+    )
 }
 
 #[test]
