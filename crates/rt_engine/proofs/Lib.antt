@@ -1,0 +1,5 @@
+pub mod EventLimits
+pub mod EventTexts
+pub mod OpeningLemmas
+pub mod PrintLemmas
+pub mod WorldSteps

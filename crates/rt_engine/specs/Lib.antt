@@ -1,0 +1,4 @@
+pub mod Replies
+pub mod Transcripts
+pub mod Rooms
+pub mod Outputs

@@ -1,0 +1,8 @@
+//! Runs scripts on the model, and prints what happens.
+#![tactic(auto)]
+
+pub mod engine;
+mod print;
+pub mod reply;
+
+pub use engine::run_script;
