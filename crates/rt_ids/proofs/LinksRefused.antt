@@ -38,7 +38,7 @@ not_600 : (order : Order (Unit {0})) → Some (Create 500) ≡ Some order → ef
 not_600 order sent carried =
     let given : shares_given (effect_note {T = ℕ} (Create 500) (answers.Created 1)) ≡ 600 =
     subst (λ one. shares_given (effect_note {T = ℕ} one (answers.Created 1)) ≡ 600) (sym (same_Some (Create 500) order sent)) (ap shares_given carried) in
-    let weight : 500 ≡ 600 = given in
+    let weight : ◌≡◌ {A = ℕ} 500 600 = given in
     omega arith
 
 pub links_refused : LinksAreRefused

@@ -29,3 +29,4 @@ pub mod PicksRefused
 pub mod BadSteps
 pub mod StepsRefused
 pub mod BadLinks
+pub mod GoodJournals
