@@ -100,6 +100,8 @@ fn command_refused<R: Print + Eprint>(rt: &R, error: &clap::Error) -> Status
     ensures memory { kind_of error.now ≡ command_kinds.OutOfMemory → result ≡ status.Memory }
     ensures mistake { kind_of error.now ≢ command_kinds.OutOfMemory → kind_of error.now ≢ command_kinds.DisplayHelp
         → kind_of error.now ≢ command_kinds.DisplayVersion → result ≡ status.Refused }
+    ensures help { kind_of error.now ≡ command_kinds.DisplayHelp → result ≢ status.Refused }
+    ensures version { kind_of error.now ≡ command_kinds.DisplayVersion → result ≢ status.Refused }
     ensures judged { result ≢ status.FaultFound }
 {
     if error.kind() == CommandErrorKind::OutOfMemory {

@@ -2,6 +2,16 @@
 #![tactic(auto)]
 
 #[cfg(test)]
+mod commands;
+#[cfg(test)]
 mod keys;
 #[cfg(test)]
+mod memory;
+#[cfg(test)]
+mod one_core;
+#[cfg(test)]
 mod sorted_list;
+#[cfg(test)]
+mod steps;
+#[cfg(test)]
+mod turns;

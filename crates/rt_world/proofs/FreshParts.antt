@@ -17,13 +17,13 @@ use Rattle.rt_link.proofs.WholeLaws.{IsLink-fresh}
 use Rattle.rt_taskqueue.specs.Queues.{waiting_of, shares_of}
 use Rattle.rt_core.specs.State.{CoreView, runtime_of, opened}
 use Rattle.rt_world.specs.State.{journal_at, sent_at, assembly_of}
-use Rattle.rt_world.specs.Journals.{JournalView}
+use Rattle.rt_journal.specs.Journals.{JournalView}
 use Rattle.rt_world.specs.Links.{row_of, link_at, no_link, AreFresh}
 use Rattle.rt_world.specs.Inside.{Parts, notes_at, world_of, IsCoreAtRest, IsLinkBetween, AreOpened, AreEmpty}
 use Rattle.rt_world.specs.Tasks.{HasTask, IsWorld}
-use Rattle.rt_world.specs.Agreement.{AreMarked, names_of}
+use Rattle.rt_journal.specs.Agreement.{AreMarked, names_of}
 use Rattle.rt_world.specs.Opening.{HasAllLists, IsFresh}
-use Rattle.rt_world.proofs.WorldLists.{get_or-map}
+use Rattle.rt_journal.proofs.NumberedOrders.{get_or-map}
 use Rattle.rt_world.proofs.WorldViews.{journal_at-world, sent_at-world}
 
 none≢some : {A : Type 0} (item : A) → None ≡ Some item → ⊥

@@ -1,0 +1,35 @@
+//! Laws over the definitions alone.
+
+ghost use Rattle.std.specs.Prelude.{ℕ};
+ghost use Rattle.rt_world.specs.Creations.{RunOfJobsIsDetermined};
+ghost use Rattle.rt_world.specs.Determined.{AssemblyIsDetermined, OpeningIsDetermined, OwesOne, RunIsDetermined};
+ghost use Rattle.rt_world.specs.ScriptRuns.{ScriptRunIsDetermined};
+ghost use Rattle.rt_world.specs.WorkedRows.{OneJob};
+
+use rt_jobs::Task;
+
+/// Two runs of the same events from one world have one result, unless a core had no memory for a queue.
+pub fn run_is_determined<J: Task<Out = u64>>()
+    ensures run { OwesOne J.Polls → RunIsDetermined J.made J.Polls J.Answers }
+    ensures assembly { OwesOne J.Polls → AssemblyIsDetermined J.made J.Polls J.Answers }
+{}
+
+/// The same, of script jobs.
+pub fn script_run_is_determined()
+    ensures { ScriptRunIsDetermined }
+{}
+
+/// Two fresh worlds of the same numbers are one.
+pub fn opening_is_determined<J: Task<Out = u64>>()
+    ensures { OpeningIsDetermined J ℕ }
+{}
+
+/// Before its first event, a world and events that order no queue have one result.
+pub fn run_of_jobs_is_determined<J: Task<Out = u64>>()
+    ensures { RunOfJobsIsDetermined J.made J.Polls J.Answers }
+{}
+
+/// One job makes just its five notes.
+pub fn one_job_makes_its_notes()
+    ensures { OneJob }
+{}
