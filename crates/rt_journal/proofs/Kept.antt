@@ -26,14 +26,8 @@ use Rattle.rt_ids.proofs.Counts.{queue_out-alone, queue_out-nobody}
 use Rattle.rt_taskqueue.specs.Queues.{waiting_of}
 use Rattle.rt_core.specs.State.{CoreView, JobOut, is_working, is_any, runtime_of}
 use Rattle.rt_core.specs.State as state
+pub use Rattle.rt_journal.specs.Agreement.{IsKept}
 use Rattle.rt_journal.specs.Agreement.{Agrees, IsJobOut, AreMarked, names_of}
-
--- the journal is one of notes that may stand where they stand, with no step half done but for a poll, and the core agrees with it
-pub record IsKept {J T : Type 0} (actor cap : ℕ) (core : CoreView J) (journal : Journal T) : Type 0 where
-  pub agrees : Agrees core journal
-  pub notes : EachNote (MayStand actor cap) journal
-  pub no_pick : queue_just_picked journal ≡ None
-  pub no_answer : answer_due journal ≡ None
 
 -- a note that takes no turn and is no effect may stand where nothing is awaited
 pub plainly_stands : {T : Type 0} (actor cap : ℕ) (note : Note T) (before : Journal T) → MayFollow actor cap note before →

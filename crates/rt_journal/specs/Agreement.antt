@@ -1,12 +1,14 @@
 -- When what a core tells of itself is what its journal says.
 use Rattle.std.specs.Prelude.{◌≡◌, ℕ, ◌+◌, ◌<◌, ◌≤◌, Bool, Option, Some, None, List, [], ◌∷◌, length, map, All}
 use Rattle.rt_ids.specs.declared.names.JobId.{JobId}
-use Rattle.rt_ids.specs.Journal.{Journal, is_told}
+use Rattle.rt_ids.specs.Journal.{Journal, EachNote, is_told}
 use Rattle.rt_ids.specs.Filters.{delivered_names, name_started}
 use Rattle.rt_ids.specs.Work.{queue_of}
 use Rattle.rt_ids.specs.Runtimes.{virtual_runtime, shares, floor}
 use Rattle.rt_ids.specs.Lines.{line, jobs_out}
-use Rattle.rt_ids.specs.Commands.{last_queue}
+use Rattle.rt_ids.specs.Clauses.{queue_just_picked}
+use Rattle.rt_ids.specs.Commands.{last_queue, answer_due}
+use Rattle.rt_ids.specs.Lawful.{MayStand}
 use Rattle.rt_ids.specs.Picks.{turns}
 use Rattle.rt_taskqueue.specs.Queues.{queue_count, shares_of, waiting_of}
 use Rattle.rt_core.specs.State.{CoreView, JobOut, runtime_of, delivered_of}
@@ -38,3 +40,10 @@ module _ {J T : Type 0} where
     pub out : IsJobOut core.out journal
     pub out_exists : (job : JobOut J) → core.out ≡ Some job → job.queue < queue_count core.queues
     pub delivered : (sender : ℕ) → sender ≤ core.cores → delivered_of sender core ≡ length (delivered_names sender journal)
+
+-- the journal is one of notes that may stand where they stand, with no step half done but for a poll, and the core agrees with it
+pub record IsKept {J T : Type 0} (actor cap : ℕ) (core : CoreView J) (journal : Journal T) : Type 0 where
+  pub agrees : Agrees core journal
+  pub notes : EachNote (MayStand actor cap) journal
+  pub no_pick : queue_just_picked journal ≡ None
+  pub no_answer : answer_due journal ≡ None

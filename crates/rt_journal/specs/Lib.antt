@@ -3,3 +3,7 @@ pub mod Orders
 pub mod Polls
 pub mod Deliveries
 pub mod Agreement
+pub mod AsSent
+pub mod Recorded
+pub mod Ends
+pub mod Steps
