@@ -1,7 +1,7 @@
 //! Runs each script of a folder, and compares what is printed with the text that lies beside it.
 //!
-//! The file `rows` has a name on each line. `NAME.script` is run as `fairexec run` does; `NAME.out` is what it prints. Where it is refused,
-//! `NAME.refused` is the line that tells why.
+//! The file `rows` has a name on each line. `NAME.script` is run as `fairexec run` does; `NAME.out` is what it prints. If it is refused,
+//! `NAME.refused` has the exit status and the line that tells why.
 #![tactic(auto)]
 
 ghost use Rattle.std.specs.Prelude.{◌≡◌, ◌++◌, Err, IfOk, IfErr, codes, decimal, string_bytes};

@@ -58,7 +58,7 @@ module _ {J T : Type 0} where
     pub kept : KeepsRows old.sent sent
     pub is : new ≡ record (noted actor notes old) { sent = sent }
 
-  keeps_lists : (old new : WorldView J T) → IsLonger old new → HasAllLists old → HasAllLists new
+  pub keeps_lists : (old new : WorldView J T) → IsLonger old new → HasAllLists old → HasAllLists new
   keeps_lists old new longer lists = subst (λ world. HasAllLists world) (sym longer.is) (record {
     journals_are = length-set old.journals longer.actor (longer.notes ++ journal_at longer.actor old) ∙ lists.journals_are;
     senders_are = longer.kept.same_count ∙ lists.senders_are;

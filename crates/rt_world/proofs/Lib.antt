@@ -39,3 +39,8 @@ pub mod DeterminedTurns
 pub mod DeterminedRuns
 pub mod DeterminedOpenings
 pub mod DeterminedScripts
+pub mod NoRefusals
+pub mod UnbegunCreations
+pub mod RowRuns
+pub mod RowPicks
+pub mod OneJobRow

@@ -10,3 +10,6 @@ pub mod Tasks
 pub mod Opening
 pub mod Determined
 pub mod ScriptRuns
+pub mod Creations
+pub mod Rows
+pub mod WorkedRows

@@ -1,8 +1,10 @@
 //! Laws over the definitions alone.
 
 ghost use Rattle.std.specs.Prelude.{ℕ};
+ghost use Rattle.rt_world.specs.Creations.{RunOfJobsIsDetermined};
 ghost use Rattle.rt_world.specs.Determined.{AssemblyIsDetermined, OpeningIsDetermined, OwesOne, RunIsDetermined};
 ghost use Rattle.rt_world.specs.ScriptRuns.{ScriptRunIsDetermined};
+ghost use Rattle.rt_world.specs.WorkedRows.{OneJob};
 
 use rt_jobs::Task;
 
@@ -20,4 +22,14 @@ pub fn script_run_is_determined()
 /// Two fresh worlds of the same numbers are one.
 pub fn opening_is_determined<J: Task<Out = u64>>()
     ensures { OpeningIsDetermined J ℕ }
+{}
+
+/// Before its first event, a world and events that order no queue have one result.
+pub fn run_of_jobs_is_determined<J: Task<Out = u64>>()
+    ensures { RunOfJobsIsDetermined J.made J.Polls J.Answers }
+{}
+
+/// One job makes just its five notes.
+pub fn one_job_makes_its_notes()
+    ensures { OneJob }
 {}

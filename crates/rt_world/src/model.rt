@@ -14,6 +14,7 @@ use std::marker::Model;
 
 mod events;
 mod opening;
+mod sound;
 mod steps;
 
 /// The cores of one executor, the links between all actors, and a journal for each actor.

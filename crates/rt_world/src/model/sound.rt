@@ -1,0 +1,17 @@
+//! What holds of each world, between any two of its events.
+
+ghost use Rattle.rt_ids.specs.Sound.{IsSound};
+ghost use Rattle.rt_world.specs.State.{assembly_of};
+
+use super::World;
+use rt_jobs::Task;
+use std::alloc::Allocator;
+
+impl<J: Task<Out = u64>, A: Allocator + Clone> World<J, A> {
+    /// The journals are sound together. A caller that makes its events by `step` learns it here.
+    pub fn sound(&self)
+        ensures { IsSound (assembly_of self.now) }
+    {
+        let _cores = self.cores;
+    }
+}
