@@ -18,7 +18,7 @@ use Rattle.rt_ids.specs.Assembly.{IsPrefix}
 use Rattle.rt_ids.specs.Filters.{accepted_orders, collected_outcomes, delivered_names, given_outcomes}
 use Rattle.rt_ids.specs.Outstanding.{outstanding_count}
 use Rattle.rt_ids.specs.Work.{number_if}
-use Rattle.rt_ids.specs.Commands.{last_queue, refusal, IsAnswer, has_effect, effect_note}
+use Rattle.rt_ids.specs.Commands.{created_count, refusal, IsAnswer, has_effect, effect_note}
 use Rattle.rt_ids.specs.Lawful.{IsNextDelivered}
 use Rattle.rt_ids.proofs.Told.{length-with_last_if}
 use Rattle.rt_taskqueue.specs.Queues.{queue_count, waiting_of, held_count}
@@ -27,12 +27,12 @@ use Rattle.rt_core.specs.Deliveries.{Enters, Creates, Weighs, CountsAlone, count
 use Rattle.rt_core.specs.Deliveries.{Delivers as CarriesOut}
 use Rattle.rt_core.specs.declared.delivery.Delivered.{Delivered}
 use Rattle.rt_core.specs.declared.delivery.Delivered.TheVariants.{Took, Back, Answered}
-use Rattle.rt_journal.specs.Orders.{order_note, HasShares}
+use Rattle.rt_ids.specs.Orders.{without_job}
 use Rattle.rt_journal.specs.Polls.{polls_made}
 use Rattle.rt_journal.specs.Deliveries.{IsDelivery, entry_note}
 use Rattle.rt_journal.specs.Agreement.{IsKept}
-use Rattle.rt_journal.specs.AsSent.{DeliversAs}
-use Rattle.rt_journal.specs.Recorded.{RecordedView, sum_upto, delivered_count, given_count}
+use Rattle.rt_ids.specs.Joining.{DeliversAs}
+use Rattle.rt_journal.specs.Recorded.{RecordedView, terms_at, sum_upto, delivered_count, given_count}
 use Rattle.rt_journal.proofs.Kept.{open_core}
 use Rattle.rt_journal.proofs.KeptDeliveries.{kept-took, refusal-exists, refusal-missing}
 use Rattle.rt_journal.proofs.KeptAnswers.{kept-back, kept-answered}
@@ -52,7 +52,7 @@ IsOf name order queue entry = (entry.0 ≡ name) × (order ≡ Job queue entry.2
 
 -- what a core did with an order: these notes, and at the end of a line the job, if it is one that enters
 pub record IsCarriedOut {J T : Type 0} (old : RecordedView J T) (name : JobId) (order : Order J) (core : CoreView J) (written : List (Note T)) : Type 0 where
-  pub kept : IsKept old.core.core old.cap core (written ++ old.journal.notes)
+  pub kept : IsKept (terms_at old) core (written ++ old.journal.notes)
   pub number : core.core ≡ old.core.core
   pub cores : core.cores ≡ old.core.cores
   pub room : core.queues.room ≡ old.core.queues.room
@@ -63,7 +63,7 @@ pub record IsCarriedOut {J T : Type 0} (old : RecordedView J T) (name : JobId) (
       ≤ inside_count old.core + sum_upto (given_count old.journal.notes) old.core.cores + 1
   pub polls : (which : JobId) → polls_made which (written ++ old.journal.notes) ≡ polls_made which old.journal.notes
   pub delivery : IsDelivery name order old.journal.notes written
-  pub as_sent : (under : JobId → Option (Order (Unit {0}))) → under name ≡ Some (order_note order) →
+  pub as_sent : (under : JobId → Option (Order (Unit {0}))) → under name ≡ Some (without_job order) →
       EachNote (DeliversAs under) old.journal.notes → EachNote (DeliversAs under) (written ++ old.journal.notes)
   pub more : ℕ → List (JobId × Bool × J)
   pub lines : (queue : ℕ) → waiting_of queue core.queues ≡ waiting_of queue old.core.queues ++ more queue
@@ -81,7 +81,7 @@ no_polls_twice : {T : Type 0} (which : JobId) (journal : Journal T) → polls_ma
 no_polls_twice which journal = add-zero (polls_made which journal + 0) ∙ add-zero (polls_made which journal)
 
 module _ {J T : Type 0} (old : RecordedView J T) (name : JobId)
-    (kept : IsKept old.core.core old.cap old.core old.journal.notes) (next : IsNextDelivered old.core.core name old.journal.notes) (sender : name.from ≤ old.core.cores)
+    (kept : IsKept (terms_at old) old.core old.journal.notes) (next : IsNextDelivered (terms_at old) name old.journal.notes) (sender : name.from ≤ old.core.cores)
     (core : CoreView J) where
   abbrev journal : Journal T
   journal = old.journal.notes
@@ -100,7 +100,7 @@ module _ {J T : Type 0} (old : RecordedView J T) (name : JobId)
   -- a job enters its queue
   pub enters_queue : (queue : ℕ) (job : J) → Enters old.core name queue job core → IsCarriedOut old name (Job queue job) core (writes.Took name queue ∷ [])
   enters_queue queue job enters = record {
-    kept = kept-took old.core.core old.cap old.core core name queue job journal kept next sender enters;
+    kept = kept-took (terms_at old) old.core core name queue job journal kept next sender enters;
     number = ap (λ core. core.core) enters.rest;
     cores = ap (λ core. core.cores) enters.rest;
     room = enters.line.same_room;
@@ -121,7 +121,7 @@ module _ {J T : Type 0} (old : RecordedView J T) (name : JobId)
       inside = ap (λ out. held_count core.queues + number_if (is_some out)) (ap (λ core. core.out) enters.rest)
 
       accepted : refusal queue journal ≡ None
-      accepted = refusal-exists old.core.core old.cap journal kept.notes queue (omega (arith, enters.exists, kept.agrees.last))
+      accepted = refusal-exists (terms_at old) journal kept.notes queue (omega (arith, enters.exists, kept.agrees.last))
 
       line_now : (other : ℕ) (test : Bool) → (other == queue) ≡ test → waiting_of other core.queues ≡ waiting_of other old.core.queues ++ cond test ((name, false, job) ∷ []) []
       line_now other true one =
@@ -148,7 +148,7 @@ module _ {J T : Type 0} (old : RecordedView J T) (name : JobId)
     -- a job for a queue that isn't there goes back
     pub goes_back : (queue : ℕ) (job : J) → queue_count old.core.queues ≤ queue → IsCarriedOut old name (Job queue job) core (writes.Back name why.NoQueue ∷ [])
     goes_back queue job missing = record {
-      kept = kept-back old.core.core old.cap old.core core name journal kept next sender counts queue missing;
+      kept = kept-back (terms_at old) old.core core name journal kept next sender counts queue missing;
       number = ap (λ core. core.core) counts;
       cores = ap (λ core. core.cores) counts;
       room = ap (λ core. core.queues.room) counts;
@@ -166,17 +166,17 @@ module _ {J T : Type 0} (old : RecordedView J T) (name : JobId)
     }
       where
         refused : refusal queue journal ≡ Some why.NoQueue
-        refused = refusal-missing old.core.core old.cap journal kept.notes queue (omega (arith, missing, kept.agrees.last))
+        refused = refusal-missing (terms_at old) journal kept.notes queue (omega (arith, missing, kept.agrees.last))
 
         given_more : sum_upto (given_count (writes.Back name why.NoQueue ∷ journal)) old.core.cores ≤ sum_upto (given_count journal) old.core.cores + 1
         given_more = sum_upto-at_most_one (given_count journal) (given_count (writes.Back name why.NoQueue ∷ journal)) name.from
             (λ from. length-with_last_if (given_outcomes from journal) _ (name.from == from)) old.core.cores
 
     -- a command is answered, and nothing else is done
-    pub answers_alone : (order : Order J) (answer : Answer) → ((queue : ℕ) (job : J) → order ≡ Job queue job → ⊥) → IsAnswer (order_note order) answer journal → has_effect answer ≡ false →
+    pub answers_alone : (order : Order J) (answer : Answer) → ((queue : ℕ) (job : J) → order ≡ Job queue job → ⊥) → IsAnswer (without_job order) answer journal → has_effect answer ≡ false →
         IsDelivery name order journal (writes.Answered name answer ∷ []) → IsCarriedOut old name order core (writes.Answered name answer ∷ [])
     answers_alone order answer command right plain delivery = record {
-      kept = kept-answered old.core.core old.cap old.core core name journal kept next sender counts (order_note order) answer right plain;
+      kept = kept-answered (terms_at old) old.core core name journal kept next sender counts (without_job order) answer right plain;
       number = ap (λ core. core.core) counts;
       cores = ap (λ core. core.cores) counts;
       room = ap (λ core. core.queues.room) counts;
@@ -186,7 +186,7 @@ module _ {J T : Type 0} (old : RecordedView J T) (name : JobId)
       held = omega (arith, ap inside_count counts, answered_more answer);
       polls = λ which. no_polls which journal;
       delivery = delivery;
-      as_sent = λ under at before. ((order_note order, at, right), before);
+      as_sent = λ under at before. ((without_job order, at, right), before);
       more = λ other. [];
       lines = alone_line;
       came = λ other. All-nil (IsOf name order other);
@@ -214,8 +214,8 @@ module _ {J T : Type 0} (old : RecordedView J T) (name : JobId)
     few = omega arith;
   }
     where
-      answered : IsAnswer (Create weight) (answers.Created queue) journal × IsKept old.core.core old.cap core (writes.Created queue weight ∷ writes.Answered name (answers.Created queue) ∷ journal)
-      answered = kept-created old.core.core old.cap old.core core name queue weight journal kept next sender in_range now number_is creates
+      answered : IsAnswer (Create weight) (answers.Created queue) journal × IsKept (terms_at old) core (writes.Created queue weight ∷ writes.Answered name (answers.Created queue) ∷ journal)
+      answered = kept-created (terms_at old) old.core core name queue weight journal kept next sender in_range now number_is creates
 
       inside : inside_count core ≡ inside_count old.core
       inside =
@@ -243,8 +243,8 @@ module _ {J T : Type 0} (old : RecordedView J T) (name : JobId)
     few = omega arith;
   }
     where
-      answered : IsAnswer (SetShares queue weight) answers.SharesSet journal × IsKept old.core.core old.cap core (writes.SharesSet queue weight ∷ writes.Answered name answers.SharesSet ∷ journal)
-      answered = kept-weighed old.core.core old.cap old.core core name queue weight journal kept next sender in_range now weighs
+      answered : IsAnswer (SetShares queue weight) answers.SharesSet journal × IsKept (terms_at old) core (writes.SharesSet queue weight ∷ writes.Answered name answers.SharesSet ∷ journal)
+      answered = kept-weighed (terms_at old) old.core core name queue weight journal kept next sender in_range now weighs
 
       inside : inside_count core ≡ inside_count old.core
       inside =

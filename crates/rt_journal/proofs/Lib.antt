@@ -14,3 +14,4 @@ pub mod TakenOrders
 pub mod CarriedOut
 pub mod EndsKept
 pub mod Received
+pub mod Quiet

@@ -9,7 +9,7 @@ use Rattle.rt_ids.specs.Journal.{Journal, EachNote}
 use Rattle.rt_ids.specs.Filters.{delivered_names, given_outcomes}
 use Rattle.rt_jobs.specs.declared.job.Step.{Step}
 use Rattle.rt_jobs.specs.declared.job.Step.TheVariants as steps
-use Rattle.rt_journal.specs.AsSent.{DeliversAs}
+use Rattle.rt_ids.specs.Joining.{DeliversAs}
 use Rattle.rt_journal.specs.Polls.{poll_note, settle_note}
 use Rattle.rt_journal.specs.Recorded.{RecordedView, IsHeld, IsTaken, sum_upto, delivered_count, given_count}
 use Rattle.rt_journal.specs.Ends.{KeepsIn, IsSameSeat}

@@ -1,5 +1,5 @@
 -- A core beside its journal stays recorded as an order is delivered to it, and the ends of its links stay beside it.
-use Rattle.std.proofs.Common.{◌≡◌, ℕ, ◌+◌, ◌*◌, ◌<◌, ◌≤◌, Bool, true, false, List, [], ◌∷◌, ◌++◌, length, refl, sym, ◌∙◌, ap, subst, ◌⊎◌, ⊎_elim, arith, get_or, zero-add}
+use Rattle.std.proofs.Common.{◌≡◌, ℕ, suc, ◌+◌, ◌*◌, ◌<◌, ◌≤◌, Bool, true, false, List, [], ◌∷◌, ◌++◌, length, refl, sym, ◌∙◌, ap, subst, ◌⊎◌, ⊎_elim, arith, get_or, zero-add}
 use Rattle.std.specs.Prelude.{◌==◌, Option, Some, None, All, slice_get}
 use Rattle.std.specs.Option.{option_map}
 use Rattle.std.proofs.lemmas.Bool.{eq-eqb, ne_eqb, cases_eq}
@@ -10,6 +10,7 @@ use Rattle.rt_ids.specs.declared.note.Note.{Note}
 use Rattle.rt_ids.specs.declared.order.Envelope.{Envelope}
 use Rattle.rt_ids.specs.declared.order.Order.{Order}
 use Rattle.rt_ids.specs.declared.order.Order.TheVariants.{Job}
+use Rattle.rt_ids.specs.declared.order.Outcome.{Outcome}
 use Rattle.rt_ids.specs.Journal.{Journal, EachNote}
 use Rattle.rt_ids.specs.Assembly.{IsPrefix}
 use Rattle.rt_ids.specs.Filters.{given_outcomes}
@@ -21,10 +22,10 @@ use Rattle.rt_core.specs.State.{CoreView, JobOut, inside_count}
 use Rattle.rt_link.specs.declared.ends.Inward.{Inward}
 use Rattle.rt_link.specs.Ends.{StartsWith, SoundIn}
 use Rattle.rt_link.specs.Calls.{Takes}
-use Rattle.rt_journal.specs.Orders.{order_note}
+use Rattle.rt_ids.specs.Orders.{without_job}
 use Rattle.rt_journal.specs.Polls.{polls_made}
 use Rattle.rt_journal.specs.Agreement.{IsKept}
-use Rattle.rt_journal.specs.Recorded.{RecordedView, IsRecorded, IsHeld, IsTaken, HasTask, OwesAfter, order_taken, note_taken, sum_upto, delivered_count, given_count}
+use Rattle.rt_journal.specs.Recorded.{RecordedView, terms_at, IsRecorded, IsHeld, IsTaken, HasTask, OwesAfter, order_taken, note_taken, sum_upto, delivered_count, given_count}
 use Rattle.rt_journal.specs.Ends.{IsInOf, KeepsIn, IsSameSeat, named_outcomes}
 use Rattle.rt_journal.specs.Steps.{IsNextIn}
 use Rattle.rt_journal.proofs.PollsMade.{polls_made-fresh}
@@ -116,7 +117,7 @@ module _ {J T : Type 0} {same : J → J → Type 0} {made : J → ℕ} {polls : 
   came_tasks queue place default within = let is = done.came queue place default within in by_entry (get_or (done.more queue) place default) is
     where
       never : polls_made name longer ≡ 0
-      never = done.polls name ∙ polls_made-fresh old.core.core old.cap name old.journal.notes recorded.kept.notes (λ late. omega (arith, late, next.next))
+      never = done.polls name ∙ polls_made-fresh (terms_at old) name old.journal.notes recorded.kept.notes (λ late. omega (arith, late, next.next))
 
       by_entry : (entry : JobId × Bool × J) → IsOf name envelope.order queue entry → Task queue entry
       by_entry entry is = record {
@@ -133,13 +134,16 @@ module _ {J T : Type 0} {same : J → J → Type 0} {made : J → ℕ} {polls : 
       (All-append (Task queue) (waiting_of queue old.core.queues) (done.more queue)
       (λ place default within. task_stays (stays _) (done.polls _) (recorded.waiting queue place default within)) (came_tasks queue))
 
+  terms_now : terms_at old ≡ terms_at received
+  terms_now = λ i. record { actor = sym done.number i; cores = sym done.cores i; cap = old.cap }
+
   pub recorded_now : IsRecorded same made polls received
   recorded_now = record {
-    kept = subst (λ number. IsKept number old.cap core longer) (sym done.number) done.kept;
+    kept = subst (λ terms. IsKept terms core longer) terms_now done.kept;
     room = done.room ∙ (recorded.room ∙ ap (λ cores. (cores + 1) * old.cap) (sym done.cores));
     held = held_now;
     taken = taken_now;
-    as_sent = done.as_sent (note_taken received.took) (ap (option_map order_note) here)
+    as_sent = done.as_sent (note_taken received.took) (ap (option_map without_job) here)
         (as_sent-stays (note_taken old.took) (note_taken received.took) (λ which. note_taken-stays old.took received.took which (stays which)) old.journal.notes recorded.as_sent);
     waiting = waiting_now;
     out = λ job at. task_stays (stays job.name) (done.polls job.name) (recorded.out job (sym done.out ∙ at));
@@ -182,6 +186,10 @@ module _ {J T : Type 0} {same : J → J → Type 0} {made : J → ℕ} {polls : 
         takes.3 ∙ ap Some at.1,
       )
 
+length-named : {J T : Type 0} (sender core : ℕ) (outcomes : List (ℕ × Outcome J T)) → length (named_outcomes sender core outcomes) ≡ length outcomes
+length-named sender core [] = refl
+length-named sender core (outcome ∷ rest) = ap suc (length-named sender core rest)
+
 -- an end that shows one more has its name next, and a place for it
 pub next_in : {J T : Type 0} (view : RecordedView J T) (before after : Inward J T) (envelope : Envelope J) → IsInOf before.from view before →
     Takes before after (Some envelope) → SoundIn after → IsNextIn view envelope.name
@@ -189,6 +197,7 @@ next_in view before after envelope is takes sound = record {
   sender = rw takes.2 is.known;
   receiver = ap (λ name. name.to) takes.2 ∙ is.to;
   next = ap (λ name. name.number) takes.2 ∙ number;
+  in_range = let one_more : after.taken ≡ before.taken + 1 = ap (λ end. end.taken) takes.0 in let same_base : after.base ≡ before.base = ap (λ end. end.base) takes.0 in omega (arith, ap (λ name. name.number) takes.2, sound.numbered, sound.behind, one_more, same_base);
   place = subst (λ from. delivered_count view.journal.notes from < given_count view.journal.notes from + view.cap) (sym (ap (λ name. name.from) takes.2)) left;
 }
   where
@@ -200,10 +209,11 @@ next_in view before after envelope is takes sound = record {
         let told = is.given in
         let told_more : length (named_outcomes before.from view.core.core before.given) ≤ given_count view.journal.notes before.from =
         omega (arith, ap length told.1, length-append (named_outcomes before.from view.core.core before.given) told.0) in
+        let counted : length (named_outcomes before.from view.core.core before.given) ≡ length before.given = length-named before.from view.core.core before.given in
         let same_given : length after.given ≡ length before.given = ap (λ end. length end.given) takes.0 in
         let same_capacity : after.capacity ≡ before.capacity = ap (λ end. end.capacity) takes.0 in
         let one_more : after.taken ≡ before.taken + 1 = ap (λ end. end.taken) takes.0 in
-        omega (arith, is.taken, is.capacity, sound.room, sound.behind, told_more, same_given, same_capacity, one_more, length-map before.given (λ outcome. (record { from = before.from; to = view.core.core; number = outcome.0 }, _)))
+        omega (arith, is.taken, is.capacity, sound.room, sound.behind, told_more, same_given, same_capacity, one_more, counted)
 
 -- a core has room for what is delivered next
 pub room_in : {J T : Type 0} {same : J → J → Type 0} {made : J → ℕ} {polls : J → ℕ → Step T → Option ℕ → Type 0} (view : RecordedView J T) (name : JobId) →

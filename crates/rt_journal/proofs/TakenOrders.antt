@@ -11,9 +11,10 @@ use Rattle.rt_ids.specs.declared.order.Order.TheVariants.{Job}
 use Rattle.rt_ids.specs.Names.{same_name}
 use Rattle.rt_ids.specs.Journal.{Journal, EachNote}
 use Rattle.rt_ids.specs.Commands.{effect_note, has_effect}
+use Rattle.rt_ids.specs.Commands.{IsOpening}
 use Rattle.rt_ids.proofs.NameLemmas.{one_name, same_as_itself}
-use Rattle.rt_journal.specs.Orders.{order_note}
-use Rattle.rt_journal.specs.AsSent.{CarriesOut, DeliversAs}
+use Rattle.rt_ids.specs.Orders.{without_job}
+use Rattle.rt_ids.specs.Joining.{CarriesOut, DeliversAs}
 use Rattle.rt_journal.specs.Recorded.{order_taken, note_taken}
 
 module _ {J : Type 0} (last : Envelope J) where
@@ -62,9 +63,9 @@ pub note_taken-stays : {J : Type 0} (old new : List (Envelope J)) (name : JobId)
     (what : Order (Unit {0})) → note_taken old name ≡ Some what → note_taken new name ≡ Some what
 note_taken-stays {J} old new name stays what at = by_order (order_taken old name) refl at
   where
-    by_order : (found : Option (Order J)) → order_taken old name ≡ found → option_map order_note found ≡ Some what → note_taken new name ≡ Some what
+    by_order : (found : Option (Order J)) → order_taken old name ≡ found → option_map without_job found ≡ Some what → note_taken new name ≡ Some what
     by_order None is at = cc
-    by_order (Some order) is at = ap (option_map order_note) (stays order is) ∙ at
+    by_order (Some order) is at = ap (option_map without_job) (stays order is) ∙ at
 
 -- where orders stay under their names, each delivery stays as its order calls for
 pub as_sent-stays : {T : Type 0} (old new : JobId → Option (Order (Unit {0}))) →
@@ -87,3 +88,9 @@ as_sent-stays {T} old new stays (note ∷ before) each = (by_note note each.0, a
     by_note (writes.QueueClosed queue mode) sent = carried (writes.QueueClosed queue mode) before sent
     by_note (writes.CoreClosed mode) sent = carried (writes.CoreClosed mode) before sent
     by_note _ sent = tt
+
+-- a creation at the opening carries out no order
+pub carries_out-opening : {T : Type 0} (under : JobId → Option (Order (Unit {0}))) (note : Note T) (before : Journal T) → IsOpening before → CarriesOut under note before
+carries_out-opening under note [] opening = tt
+carries_out-opening under note (writes.Created queue weight ∷ before) opening = tt
+carries_out-opening under note (_ ∷ before) opening = absurd opening

@@ -5,6 +5,7 @@ use Rattle.rt_ids.specs.declared.names.JobId.{JobId}
 use Rattle.rt_ids.specs.declared.order.Envelope.{Envelope}
 use Rattle.rt_ids.specs.declared.order.Order.{Order}
 use Rattle.rt_ids.specs.declared.order.Order.TheVariants.{Job}
+use Rattle.rt_ids.specs.Terms.{Terms}
 use Rattle.rt_ids.specs.Names.{same_name}
 use Rattle.rt_ids.specs.Journal.{Journal, EachNote}
 use Rattle.rt_ids.specs.Filters.{delivered_names, given_outcomes}
@@ -12,10 +13,10 @@ use Rattle.rt_jobs.specs.declared.job.Step.{Step}
 use Rattle.rt_taskqueue.specs.Queues.{waiting_of}
 use Rattle.rt_core.specs.State.{CoreView, JobOut, inside_count}
 use Rattle.rt_journal.specs.Journals.{JournalView}
-use Rattle.rt_journal.specs.Orders.{order_note}
+use Rattle.rt_ids.specs.Orders.{without_job}
 use Rattle.rt_journal.specs.Polls.{polls_made}
 use Rattle.rt_journal.specs.Agreement.{IsKept}
-use Rattle.rt_journal.specs.AsSent.{DeliversAs}
+use Rattle.rt_ids.specs.Joining.{DeliversAs}
 
 -- the capacity of each link, the core, its journal, and the orders that were delivered to it, the oldest first
 pub record RecordedView (J T : Type 0) : Type 0 where
@@ -23,6 +24,10 @@ pub record RecordedView (J T : Type 0) : Type 0 where
   pub core : CoreView J
   pub journal : JournalView T
   pub took : List (Envelope J)
+
+-- whose journal it is, and what holds of the whole house
+abbrev pub terms_at : {J T : Type 0} → RecordedView J T → Terms
+terms_at view = record { actor = view.core.core; cores = view.core.cores; cap = view.cap }
 
 -- a count of the first actors together, the last one included
 abbrev pub sum_upto : (ℕ → ℕ) → ℕ → ℕ
@@ -49,7 +54,7 @@ module _ {J : Type 0} where
 
   -- the same, as a note tells it
   abbrev pub note_taken : List (Envelope J) → JobId → Option (Order (Unit {0}))
-  note_taken took name = option_map order_note (order_taken took name)
+  note_taken took name = option_map without_job (order_taken took name)
 
 -- the name was delivered, by a sender that there is
 pub record IsTaken {T : Type 0} (cores : ℕ) (notes : Journal T) (name : JobId) : Type 0 where
@@ -71,7 +76,7 @@ module _ {J T : Type 0} (same : J → J → Type 0) (made : J → ℕ) (polls : 
 
   -- the core agrees with its journal; each delivery is as its order calls for; each job inside has the task that was sent, and its place
   pub record IsRecorded (view : RecordedView J T) : Type 0 where
-    pub kept : IsKept view.core.core view.cap view.core view.journal.notes
+    pub kept : IsKept (terms_at view) view.core view.journal.notes
     pub room : view.core.queues.room ≡ (view.core.cores + 1) * view.cap
     pub held : IsHeld view.core.cores view.cap (inside_count view.core) view.journal.notes
     pub taken : (name : JobId) (order : Order J) → order_taken view.took name ≡ Some order → IsTaken view.core.cores view.journal.notes name

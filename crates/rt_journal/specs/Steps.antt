@@ -10,7 +10,7 @@ use Rattle.rt_ids.specs.Filters.{name_started}
 use Rattle.rt_ids.specs.Work.{has_work}
 use Rattle.rt_ids.specs.Lines.{line}
 use Rattle.rt_ids.specs.Picks.{IsRightPick, turns}
-use Rattle.rt_ids.specs.Commands.{last_queue, return_reason}
+use Rattle.rt_ids.specs.Commands.{created_count, return_reason}
 use Rattle.rt_jobs.specs.declared.job.Step.{Step}
 use Rattle.rt_jobs.specs.Steps.{AfterPoll, IfDone}
 use Rattle.rt_taskqueue.specs.declared.queues.CreateError.{CreateError}
@@ -36,6 +36,7 @@ module _ {J T : Type 0} where
     pub sender : name.from ≤ view.core.cores
     pub receiver : name.to ≡ view.core.core
     pub next : name.number ≡ delivered_count view.journal.notes name.from + 1
+    pub in_range : name.number < 2 ^ 63
     pub place : delivered_count view.journal.notes name.from < given_count view.journal.notes name.from + view.cap
 
   -- a delivery: the notes that the rules give, and the order stands under its name
@@ -49,9 +50,9 @@ module _ {J T : Type 0} where
   -- a queue is made under the next number; a core that has 256 queues says so, else there was no memory
   abbrev pub CreatesQueue : ℕ → RecordedView J T → Result ℕ CreateError → RecordedView J T → Type 0
   CreatesQueue weight old (Ok queue) new =
-      (queue ≡ last_queue old.journal.notes + 1) × (queue < 256) × (new.journal ≡ with_notes (writes.Created queue weight ∷ []) old.journal)
-  CreatesQueue weight old (Err TooMany) new = (last_queue old.journal.notes + 1 ≡ 256) × (new ≡ old)
-  CreatesQueue weight old (Err Memory) new = (last_queue old.journal.notes + 1 < 256) × (new ≡ old)
+      (queue ≡ created_count old.journal.notes + 1) × (queue < 256) × (new.journal ≡ with_notes (writes.Created queue weight ∷ []) old.journal)
+  CreatesQueue weight old (Err TooMany) new = (created_count old.journal.notes + 1 ≡ 256) × (new ≡ old)
+  CreatesQueue weight old (Err Memory) new = (created_count old.journal.notes + 1 < 256) × (new ≡ old)
 
   -- the right pick takes out the first job of its line
   pub record IsPick (old : RecordedView J T) (name : JobId) (queue : ℕ) (was_started : Bool) (job : J) (new : RecordedView J T) : Type 0 where
