@@ -44,3 +44,5 @@ pub mod UnbegunCreations
 pub mod RowRuns
 pub mod RowPicks
 pub mod OneJobRow
+pub mod TwoQueuesRow
+pub mod TwoSendersRow

@@ -4,7 +4,7 @@ ghost use Rattle.std.specs.Prelude.{ℕ};
 ghost use Rattle.rt_world.specs.Creations.{RunOfJobsIsDetermined};
 ghost use Rattle.rt_world.specs.Determined.{AssemblyIsDetermined, OpeningIsDetermined, OwesOne, RunIsDetermined};
 ghost use Rattle.rt_world.specs.ScriptRuns.{ScriptRunIsDetermined};
-ghost use Rattle.rt_world.specs.WorkedRows.{OneJob};
+ghost use Rattle.rt_world.specs.WorkedRows.{OneJob, TwoQueues, TwoSenders};
 
 use rt_jobs::Task;
 
@@ -32,4 +32,14 @@ pub fn run_of_jobs_is_determined<J: Task<Out = u64>>()
 /// One job makes just its five notes.
 pub fn one_job_makes_its_notes()
     ensures { OneJob }
+{}
+
+/// Two queues of 1000 and 500 shares share their core by these picks.
+pub fn two_queues_share()
+    ensures { TwoQueues }
+{}
+
+/// Two senders of one core are served in the order in which their jobs came.
+pub fn two_senders_in_their_order()
+    ensures { TwoSenders }
 {}
