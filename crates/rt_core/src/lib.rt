@@ -10,8 +10,6 @@ pub mod out;
 mod ready;
 #[doc(hidden)]
 pub mod tally;
-#[cfg(test)]
-mod tests;
 pub mod turn;
 
 pub use delivery::Delivered;

@@ -12,6 +12,7 @@ use Rattle.rt_ids.proofs.ClosesRight.{closes_right, nothing_closed}
 use Rattle.rt_ids.proofs.EndsOnce.{ends_once}
 use Rattle.rt_ids.proofs.OrderRight.{in_order}
 use Rattle.rt_ids.proofs.PicksRight.{picks_right}
+use Rattle.rt_ids.proofs.Prefixes.{names_of-prefix}
 use Rattle.rt_ids.proofs.StartsOnce.{starts_right}
 
 -- all five clauses, of each actor by its own journal
@@ -19,7 +20,11 @@ pub joining_is_sound : {T : Type 0} (assembly : Assembly T) →
     ((actor : ℕ) → actor ≤ assembly.cores → IsLawful actor assembly.cap (journal_of actor assembly)) → LinksAgree assembly → IsSound assembly
 joining_is_sound assembly lawful agree = record {
   starts = record { notes = λ actor within. starts_right actor assembly.cap assembly _ (lawful actor within).notes (order actor within) };
-  order = record { notes = order; deliveries = agree.deliveries; collections = agree.collections };
+  order = record {
+    notes = order;
+    deliveries = agree.deliveries;
+    collections = λ sender core known there. names_of-prefix _ _ (agree.collections sender core known there);
+  };
   closes = record { notes = λ core within. closes_right core assembly.cap assembly core _ (lawful core (omega arith)).notes };
   outcomes = record {
     notes = λ actor within. ends_once actor assembly.cap assembly _ (lawful actor within).notes (agree.as_sent actor within) (order actor within);

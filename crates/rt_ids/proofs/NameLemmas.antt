@@ -1,5 +1,5 @@
 -- Names that are one, and names among others.
-use Rattle.std.proofs.Common.{◌≡◌, ◌⊎◌, inl, inr, Bool, true, false, List, [], ◌∷◌, ◌++◌, refl, sym, ap, cond}
+use Rattle.std.proofs.Common.{◌≡◌, ℕ, ◌⊎◌, inl, inr, Bool, true, false, List, [], ◌∷◌, ◌++◌, refl, sym, ap, cond}
 use Rattle.std.specs.Prelude.{◌==◌, ◌&&◌, ◌||◌, not, Option, Some, None}
 use Rattle.std.specs.List.{list_any}
 use Rattle.std.proofs.lemmas.Bool.{and_parts, eqb-true, eq-eqb}
@@ -70,3 +70,8 @@ among-names_but_for name (Some other) (first ∷ names) there =
         apart false same = refl
         apart true same = rw (← one_name name other same, at_name) at at_other
     by_tests false at_other false at_name there rest = rest (rw at_name at there)
+
+-- the number of the first name, which tells lists of names apart
+abbrev pub first_number : List JobId → ℕ
+first_number [] = 0
+first_number (name ∷ names) = name.number

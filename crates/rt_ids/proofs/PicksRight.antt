@@ -4,9 +4,9 @@ use Rattle.std.specs.Prelude.{Option, Some, None, is_some}
 use Rattle.rt_ids.specs.declared.names.JobId.{JobId}
 use Rattle.rt_ids.specs.declared.note.Note.{Note}
 use Rattle.rt_ids.specs.declared.note.Note.TheVariants.{Pick, Start, Resume, Yield, Done, Returned}
-use Rattle.rt_ids.specs.Clauses.{PicksRight, IsRightIfPick, IsOfTheJobOut, queue_just_picked, queue_served}
+use Rattle.rt_ids.specs.Clauses.{PicksRight, IsRightIfPick, IsOfTheJobOut, queue_just_picked, queue_served, takes_turn}
 use Rattle.rt_ids.specs.Journal.{Journal, EachNote}
-use Rattle.rt_ids.specs.Lawful.{MayFollow, MayStand, IsTurnOf, takes_turn}
+use Rattle.rt_ids.specs.Lawful.{MayFollow, MayStand, IsTurnOf}
 use Rattle.rt_ids.specs.Work.{queue_of}
 use Rattle.rt_ids.proofs.Known.{known_of, first_in_line}
 
@@ -47,6 +47,7 @@ module _ {T : Type 0} (actor cap : ℕ) where
   picks_right (note ∷ before) notes = (
     record {
       right = right_if_pick note before notes.0.may_follow;
+      turn = notes.0.turn;
       followed = pick_followed note before notes.1 notes.0.may_follow notes.0.turn;
       settles = of_the_job_out note before notes.0.may_follow;
     },

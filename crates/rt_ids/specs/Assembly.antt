@@ -1,5 +1,5 @@
 -- The journals of all actors together, and what was accepted and given under a name.
-use Rattle.std.specs.Prelude.{◌≡◌, ℕ, Bool, true, false, Option, Some, None, unwrap_or, slice_get, List, [], ◌∷◌, ◌++◌, IsTrue, if◌then◌else◌}
+use Rattle.std.specs.Prelude.{◌≡◌, ℕ, Bool, true, false, Option, Some, None, unwrap_or, slice_get, List, [], ◌∷◌, ◌++◌, IsTrue, map, if◌then◌else◌}
 use Rattle.rt_ids.specs.declared.names.JobId.{JobId}
 use Rattle.rt_ids.specs.declared.note.OutcomeNote.{OutcomeNote}
 use Rattle.rt_ids.specs.declared.order.Order.{Order}
@@ -20,6 +20,10 @@ journal_of actor assembly = unwrap_or (slice_get assembly.journals actor) []
 -- the first list is the beginning of the second
 abbrev pub IsPrefix : {A : Type 0} → List A → List A → Type 0
 IsPrefix {A} front whole = (rest : List A) × (front ++ rest ≡ whole)
+
+-- the names of what stands under names
+abbrev pub names_of : {A : Type 0} → List (JobId × A) → List JobId
+names_of entries = map (λ entry. entry.0) entries
 
 -- what stands first under a name
 abbrev pub first_under : {A : Type 0} → JobId → List (JobId × A) → Option A

@@ -1,5 +1,5 @@
 -- What soundness asks of one note and of the notes before it, for each of its five clauses.
-use Rattle.std.specs.Prelude.{◌≡◌, ℕ, ◌+◌, ◌<◌, true, false, Option, Some, None, [], ◌∷◌, length}
+use Rattle.std.specs.Prelude.{◌≡◌, ℕ, ◌+◌, ◌<◌, Bool, true, false, Option, Some, None, is_some, [], ◌∷◌, length}
 use Rattle.std.specs.Option.{IsSome}
 use Rattle.rt_ids.specs.declared.names.JobId.{JobId}
 use Rattle.rt_ids.specs.declared.note.Note.{Note}
@@ -78,6 +78,13 @@ queue_served (Resume name) before = queue_of name before
 queue_served (Returned name reason) before = queue_of name before
 queue_served _ before = None
 
+-- a note that takes the turn of a pick
+abbrev pub takes_turn : {T : Type 0} → Note T → Bool
+takes_turn (Start name) = true
+takes_turn (Resume name) = true
+takes_turn (Returned name reason) = true
+takes_turn _ = false
+
 abbrev pub IsRightIfPick : {T : Type 0} → Note T → Journal T → Type 0
 IsRightIfPick (Pick queue runtime) before = IsRightPick queue runtime before
 IsRightIfPick _ before = Unit {0}
@@ -87,8 +94,9 @@ IsOfTheJobOut (Yield name time) before = jobs_out before ≡ name ∷ []
 IsOfTheJobOut (Done name time value) before = jobs_out before ≡ name ∷ []
 IsOfTheJobOut _ before = Unit {0}
 
--- picks: each is right and is followed at once by a note that takes its turn, which stands nowhere else; a poll is settled for the job that is out
+-- picks: each is right; behind a pick, and nowhere else, stands a note that takes a turn, of a job of that queue; a poll is settled for the job that is out
 pub record PicksRight {T : Type 0} (note : Note T) (before : Journal T) : Type 0 where
   pub right : IsRightIfPick note before
+  pub turn : is_some (queue_just_picked before) ≡ takes_turn note
   pub followed : queue_just_picked before ≡ queue_served note before
   pub settles : IsOfTheJobOut note before

@@ -12,6 +12,7 @@ use Rattle.rt_ids.specs.Filters.{accepted_orders, delivered_names, name_started}
 use Rattle.rt_ids.specs.Lines.{line, jobs_out}
 use Rattle.rt_ids.specs.Picks.{IsRightPick}
 use Rattle.rt_ids.specs.Clauses.{queue_just_picked}
+pub use Rattle.rt_ids.specs.Clauses.{takes_turn}
 use Rattle.rt_ids.specs.Outstanding.{outstanding_count}
 use Rattle.rt_ids.specs.Commands.{last_queue, refusal, return_reason, IsAnswer, answer_due}
 
@@ -59,13 +60,6 @@ MayFollow actor cap (Yield name time) before = jobs_out before ≡ name ∷ []
 MayFollow actor cap (Done name time value) before = jobs_out before ≡ name ∷ []
 -- closing, collecting and redeeming come with their calls
 MayFollow actor cap _ before = ⊥
-
--- a note that takes the turn of a pick
-abbrev pub takes_turn : {T : Type 0} → Note T → Bool
-takes_turn (Start name) = true
-takes_turn (Resume name) = true
-takes_turn (Returned name reason) = true
-takes_turn _ = false
 
 -- no note but those of the creations at the opening
 abbrev pub IsOpening : {T : Type 0} → Journal T → Type 0

@@ -15,3 +15,12 @@ pub mod Commands
 pub mod Lawful
 pub mod Joining
 pub mod Laws
+pub mod BadJournals
+pub mod BadStarts
+pub mod BadOrder
+pub mod BadCloses
+pub mod BadOutcomes
+pub mod BadPicks
+pub mod PicksRefused
+pub mod BadSteps
+pub mod StepsRefused

@@ -1,10 +1,10 @@
 -- Soundness of the journals of all actors: five clauses, in the order in which an audit tries them.
-use Rattle.std.specs.Prelude.{◌≡◌, ℕ, ◌<◌, ◌≤◌, true, None, map}
+use Rattle.std.specs.Prelude.{◌≡◌, ℕ, ◌<◌, ◌≤◌, true, None}
 use Rattle.rt_ids.specs.declared.names.JobId.{JobId}
 use Rattle.rt_ids.specs.Journal.{EachNote, is_told}
 use Rattle.rt_ids.specs.Filters.{accepted_orders, delivered_names, given_outcomes, collected_outcomes, name_ended}
 use Rattle.rt_ids.specs.Closing.{IsDrained}
-use Rattle.rt_ids.specs.Assembly.{Assembly, journal_of, IsPrefix, IsAcceptedJob, IsAcceptedCommand}
+use Rattle.rt_ids.specs.Assembly.{Assembly, journal_of, IsPrefix, names_of, IsAcceptedJob, IsAcceptedCommand}
 use Rattle.rt_ids.specs.Clauses.{StartsRight, StandsInOrder, RespectsCloses, EndsOnce, PicksRight, name_answered, queue_just_picked}
 
 -- only accepted jobs that are inside start or resume, and each starts at most once
@@ -15,9 +15,9 @@ pub record StartsAreSound {T : Type 0} (assembly : Assembly T) : Type 0 where
 pub record OrderIsSound {T : Type 0} (assembly : Assembly T) : Type 0 where
   pub notes : (actor : ℕ) → actor ≤ assembly.cores → EachNote (StandsInOrder assembly) (journal_of actor assembly)
   pub deliveries : (sender core : ℕ) → sender ≤ assembly.cores → core < assembly.cores →
-      IsPrefix (delivered_names sender (journal_of core assembly)) (map (λ sent. sent.0) (accepted_orders core (journal_of sender assembly)))
+      IsPrefix (delivered_names sender (journal_of core assembly)) (names_of (accepted_orders core (journal_of sender assembly)))
   pub collections : (sender core : ℕ) → sender ≤ assembly.cores → core < assembly.cores →
-      IsPrefix (collected_outcomes core (journal_of sender assembly)) (given_outcomes sender (journal_of core assembly))
+      IsPrefix (names_of (collected_outcomes core (journal_of sender assembly))) (names_of (given_outcomes sender (journal_of core assembly)))
 
 -- nothing enters after a close
 pub record ClosesAreSound {T : Type 0} (assembly : Assembly T) : Type 0 where

@@ -5,6 +5,7 @@ pub mod laws;
 pub mod names;
 pub mod note;
 pub mod order;
+pub mod refused;
 pub mod stats;
 
 pub use names::{ActorNo, CoreNo, JobId, Key, QueueNo, Ticket, TicketError};

@@ -6,7 +6,7 @@ ghost use Rattle.rt_ids.specs.Keys.{KeyBefore};
 use std::marker::Model;
 
 /// A core, by its number.
-#[derive(Clone, Copy, PartialEq, Eq, PartialOrd, Ord, Debug)]
+#[derive(Clone, Copy, PartialEq, Eq, Debug)]
 pub struct CoreNo(pub u8);
 
 impl Model for CoreNo {
@@ -20,7 +20,7 @@ impl Model for CoreNo {
 }
 
 /// A core, or the outside actor, whose number is the count of the cores.
-#[derive(Clone, Copy, PartialEq, Eq, PartialOrd, Ord, Debug)]
+#[derive(Clone, Copy, PartialEq, Eq, Debug)]
 pub struct ActorNo(pub u8);
 
 impl Model for ActorNo {
@@ -34,7 +34,7 @@ impl Model for ActorNo {
 }
 
 /// A queue of a core, by its number.
-#[derive(Clone, Copy, PartialEq, Eq, PartialOrd, Ord, Debug)]
+#[derive(Clone, Copy, PartialEq, Eq, PartialOrd, Debug)]
 pub struct QueueNo(pub u8);
 
 impl Model for QueueNo {
@@ -48,7 +48,7 @@ impl Model for QueueNo {
 }
 
 /// The name of a submission: its sender, its receiver and its number on that link.
-#[derive(Clone, Copy, PartialEq, Eq, PartialOrd, Ord, Debug)]
+#[derive(Clone, Copy, PartialEq, Eq, Debug)]
 pub struct JobId {
     pub from: ActorNo,
     pub to: CoreNo,
@@ -56,7 +56,7 @@ pub struct JobId {
 }
 
 /// The place of a queue in the timeline: by virtual runtime, then by number.
-#[derive(Clone, Copy, PartialEq, Eq, PartialOrd, Ord, Debug)]
+#[derive(Clone, Copy, PartialEq, Eq, PartialOrd, Debug)]
 pub struct Key {
     pub vr: u128,
     pub queue: QueueNo,
@@ -115,39 +115,4 @@ pub enum TicketError {
     /// Its outcome isn't collected yet.
     #[error("not collected yet")]
     Pending,
-}
-
-#[cfg(test)]
-mod tests {
-    use super::*;
-
-    #[test]
-    fn keys_go_by_virtual_runtime_and_then_by_queue(rt: HostRuntime) {
-        let first = Key {
-            vr: 5,
-            queue: QueueNo(7),
-        };
-        let second = Key {
-            vr: 6,
-            queue: QueueNo(0),
-        };
-        let tied = Key {
-            vr: 5,
-            queue: QueueNo(8),
-        };
-        assert!(rt; first.is_before(&second));
-        assert!(rt; first.is_before(&tied));
-        assert!(rt; !tied.is_before(&first));
-        assert!(rt; !first.is_before(&first));
-    }
-
-    #[test]
-    fn a_ticket_tells_its_name(rt: HostRuntime) {
-        let name = JobId {
-            from: ActorNo(2),
-            to: CoreNo(1),
-            number: 3,
-        };
-        assert_eq!(rt; Ticket::named(name).name(), name);
-    }
 }

@@ -9,8 +9,6 @@ pub mod job;
 pub mod once;
 pub mod poll;
 pub mod script;
-#[cfg(test)]
-mod tests;
 
 pub use any::{AnyJob, OnceBox, Polled, Range, Within, once_job, polled_job};
 pub use boxed::{BoxedJob, CalledAs, Meaning, PolledAs};

@@ -258,6 +258,3 @@ impl<J: Task> InEnd<J> for PlainLink<J> {
         }
     }
 }
-
-#[cfg(test)]
-mod tests;

@@ -10,8 +10,6 @@ pub mod ring_in;
 pub mod ring_out;
 mod sender;
 mod slots;
-#[cfg(test)]
-mod tests;
 mod turns;
 
 pub use accounts::{Accounts, reunite};

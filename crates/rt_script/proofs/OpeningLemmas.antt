@@ -17,7 +17,7 @@ use Rattle.rt_script.proofs.KnownLemmas.{Appends-more_kept}
 -- in a fresh world all queues of a script may be made
 pub fresh_may_make : (cores cap room : ℕ) (queues : List (ℕ × ℕ)) (world : ScriptWorld) → IsFresh cores cap room world → HasFewQueues queues → MayMake queues world
 fresh_may_make cores cap room queues world fresh few = record {
-  unbegun = record { no_order = fresh.no_order; opening = λ actor. subst IsOpening (sym (fresh.no_note actor)) tt };
+  unbegun = record { lists = fresh.lists; no_order = fresh.no_order; opening = λ actor. subst IsOpening (sym (fresh.no_note actor)) tt };
   notes = λ core. let none : length (journal_at core world) ≡ 0 = ap length (fresh.no_note core) in let most = few core in omega arith;
   last = λ core. let none : last_queue (journal_at core world) ≡ 0 = ap last_queue (fresh.no_note core) in let most = few core in omega arith;
 }

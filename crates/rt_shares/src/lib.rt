@@ -11,7 +11,7 @@ use std::marker::Model;
 const LONGEST: u64 = (1 << 40) - 1;
 
 /// How much of the processor a queue receives relative to the others: 1 to 10000.
-#[derive(Clone, Copy, PartialEq, Eq, PartialOrd, Ord, Debug)]
+#[derive(Clone, Copy, PartialEq, Eq, Debug)]
 pub struct Shares {
     weight: u16,
 }
@@ -96,43 +96,4 @@ pub fn clamped(time: u64) -> u64
     ensures bounded { result < 2 ^ 40 }
 {
     time.min(LONGEST).max(1)
-}
-
-#[cfg(test)]
-mod tests {
-    use super::*;
-    use std::test::Fail;
-
-    fn cost(time: u64, weight: u32) -> Result<u64, Fail> {
-        Ok(charge(time, &Shares::try_new(weight)?))
-    }
-
-    #[test]
-    fn a_poll_costs_its_time_by_its_shares(rt: HostRuntime) -> Result<(), Fail> {
-        assert_eq!(rt; cost(1, 3)?, 334);
-        assert_eq!(rt; cost(0, 1000)?, 1);
-        assert_eq!(rt; cost(1, 10000)?, 1);
-        assert_eq!(rt; cost(1 << 40, 1000)?, 1099511627775);
-        assert_eq!(rt; cost((1 << 40) - 1, 1)?, 1099511627775000);
-        assert_eq!(rt; cost((1 << 40) - 1, 10000)?, 109951162778);
-        Ok(())
-    }
-
-    #[test]
-    fn shares_have_a_range(rt: HostRuntime) -> Result<(), Fail> {
-        assert_eq!(rt; Shares::try_new(0), Err(BadShares));
-        assert_eq!(rt; Shares::try_new(1)?.get(), 1);
-        assert_eq!(rt; Shares::try_new(10000)?.get(), 10000);
-        assert_eq!(rt; Shares::try_new(10001), Err(BadShares));
-        assert_eq!(rt; Shares::default().get(), 1000);
-        Ok(())
-    }
-
-    #[test]
-    fn a_queue_starts_no_earlier_than_the_floor(rt: HostRuntime) {
-        assert_eq!(rt; placed(5, 9), 9);
-        assert_eq!(rt; placed(9, 5), 9);
-        assert_eq!(rt; clamped(0), 1);
-        assert_eq!(rt; clamped(u64::MAX), 1099511627775);
-    }
 }

@@ -35,9 +35,11 @@ pub mod DeliverResults
 pub mod DeliverSteps
 pub mod WorldSound
 pub mod RunSteps
+pub mod TurnsLeft
 pub mod TurnIsPoll
 pub mod JournalsNoted
 pub mod WorldPicks
 pub mod WorldPolled
 pub mod WorldCreated
 pub mod WorldCreates
+pub mod KeptLists

@@ -1,5 +1,5 @@
 -- The notes of a turn over a world at rest are those of a poll: the right pick, the first of its line, and what its task owes.
-use Rattle.std.proofs.Common.{◌≡◌, ℕ, ◌+◌, ◌<◌, Bool, true, false, [], ◌∷◌, ◌++◌, refl, sym, ◌∙◌, ap, subst, arith, set, add-zero}
+use Rattle.std.proofs.Common.{◌≡◌, ℕ, ◌+◌, ◌-◌, ◌^◌, ◌<◌, Bool, true, false, [], ◌∷◌, ◌++◌, refl, sym, ◌∙◌, ap, subst, arith, set, add-zero}
 use Rattle.std.specs.Prelude.{Option, unwrap_or, map, All}
 use Rattle.std.proofs.lemmas.List.Elements.{All-head}
 use Rattle.std.proofs.lemmas.List.{map-set}
@@ -9,6 +9,7 @@ use Rattle.rt_ids.specs.declared.order.Order.{Order}
 use Rattle.rt_ids.specs.declared.order.Outcome.{Outcome}
 use Rattle.rt_ids.specs.Lines.{line}
 use Rattle.rt_ids.specs.Picks.{IsRightPick}
+use Rattle.rt_ids.specs.Picks as counted_picks
 use Rattle.rt_ids.specs.Commands.{return_reason}
 use Rattle.rt_ids.specs.Journal.{Journal, is_told}
 use Rattle.rt_ids.specs.Filters.{name_started}
@@ -88,8 +89,10 @@ module _ {J T : Type 0} (same : J → J → Type 0) (made : J → ℕ) (polls : 
 
   -- the turn is a poll of the event
   pub polls_now_is : (answers : J → T → Type 0) → ((a b : J) (out : T) → same a b → answers a out → answers b out) → IfDone ran.step (answers job) →
+      counted_picks.turns (journal_at core (world_of old)) < 2 ^ 64 - 1 →
       IsPoll made polls answers core spent (world_of old) (world_of new)
-  polls_now_is answers answers_same answered = record {
+  polls_now_is answers answers_same answered left = record {
+    turn_left = left;
     queue = queue;
     runtime = runtime;
     right = subst (λ journal. IsRightPick queue runtime journal) (sym here) (right_pick core old.cap view middle name queue was_started job journal kept takes);

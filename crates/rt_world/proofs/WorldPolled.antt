@@ -1,5 +1,5 @@
 -- A core of a world at rest picks, polls and settles: the world is at rest again, and the turn is the one of its event.
-use Rattle.std.proofs.Common.{◌≡◌, ℕ, ◌+◌, ◌<◌, ◌≤◌, List, [], ◌∷◌, ◌++◌, length, reverse, refl, sym, ◌∙◌, ap, subst, arith, get_or, set, get_or-set_same}
+use Rattle.std.proofs.Common.{◌≡◌, ℕ, ◌+◌, ◌-◌, ◌^◌, ◌<◌, ◌≤◌, List, [], ◌∷◌, ◌++◌, length, reverse, refl, sym, ◌∙◌, ap, subst, arith, get_or, set, get_or-set_same}
 use Rattle.std.specs.Prelude.{Option, Some, Result, unwrap_or}
 use Rattle.std.proofs.lemmas.List.{get_or_default, set-set}
 use Rattle.std.proofs.lemmas.Option.{same_Some}
@@ -8,6 +8,7 @@ use Rattle.rt_ids.specs.declared.note.Note.TheVariants as writes
 use Rattle.rt_ids.specs.declared.order.Order.{Order}
 use Rattle.rt_ids.specs.declared.order.Outcome.{Outcome}
 use Rattle.rt_ids.specs.Journal.{Journal}
+use Rattle.rt_ids.specs.Picks.{turns}
 use Rattle.rt_jobs.specs.declared.job.Step.{Step}
 use Rattle.rt_jobs.specs.declared.job.Step.TheVariants as steps
 use Rattle.rt_jobs.specs.Steps.{AfterPoll, IsSameTask, IfDone, OnYield, OwesOn}
@@ -167,10 +168,11 @@ module _ {J T : Type 0} (same : J → J → Type 0) (made : J → ℕ) (polls : 
           pub world_now : IsWorld same made polls fits ready now
           world_now = subst (IsWorld same made polls fits ready) now_is world_turned
 
-          pub poll_now : ((a b : J) (out : T) → same a b → answers a out → answers b out) → IsPoll made polls answers core spent (world_of old) (world_of now)
-          poll_now answers_same =
+          pub poll_now : ((a b : J) (out : T) → same a b → answers a out → answers b out) → turns (journal_at core (world_of old)) < 2 ^ 64 - 1 →
+              IsPoll made polls answers core spent (world_of old) (world_of now)
+          poll_now answers_same left =
               subst (λ parts. IsPoll made polls answers core spent (world_of old) (world_of parts)) now_is
               (
               polls_now_is same made polls fits ready is_same old world core core_there middle out.name out.queue out.was_started job takes
-              ran is_ran.owed spent last answers answers_same is_ran.answered
+              ran is_ran.owed spent last answers answers_same is_ran.answered left
               )

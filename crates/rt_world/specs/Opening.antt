@@ -1,5 +1,5 @@
 -- A world as it opens, and the numbers that it opens with.
-use Rattle.std.specs.Prelude.{◌≡◌, ℕ, ◌+◌, ◌^◌, ◌<◌, ◌≤◌, [], ◌∷◌, Result, Ok, Err}
+use Rattle.std.specs.Prelude.{◌≡◌, ℕ, ◌+◌, ◌^◌, ◌<◌, ◌≤◌, [], ◌∷◌, length, slice_index_or, Result, Ok, Err}
 use Rattle.rt_ids.specs.declared.order.Order.TheVariants.{Create, SetShares}
 use Rattle.rt_ids.specs.declared.order.Order.{Order}
 use Rattle.rt_shares.specs.Charge.{InRange}
@@ -22,8 +22,15 @@ pub record IsConfig (cores cap room : ℕ) : Type 0 where
   pub low_cap : cap ≤ 1024
   pub low_room : room ≤ 2 ^ 24
 
+-- a journal for each core and for the outside actor, and for each of them a list of orders to each core
+pub record HasAllLists {J T : Type 0} (world : WorldView J T) : Type 0 where
+  pub journals_are : length world.journals ≡ world.cores + 1
+  pub senders_are : length world.sent ≡ world.cores + 1
+  pub links_are : (sender : ℕ) → sender ≤ world.cores → length (slice_index_or world.sent sender []) ≡ world.cores
+
 -- no event has happened: nothing was sent, and the journals have the notes of creations alone
 pub record IsUnbegun {J T : Type 0} (world : WorldView J T) : Type 0 where
+  pub lists : HasAllLists world
   pub no_order : (sender core : ℕ) → sent_at sender core world ≡ []
   pub opening : (actor : ℕ) → IsOpening (journal_at actor world)
 
@@ -32,6 +39,7 @@ pub record IsFresh {J T : Type 0} (cores cap room : ℕ) (world : WorldView J T)
   pub cores_are : world.cores ≡ cores
   pub cap_is : world.cap ≡ cap
   pub room_is : world.room ≡ room
+  pub lists : HasAllLists world
   pub no_note : (actor : ℕ) → journal_at actor world ≡ []
   pub no_order : (sender core : ℕ) → sent_at sender core world ≡ []
 

@@ -1,5 +1,5 @@
 -- Turns: the right pick, and one poll of the first job of its line.
-use Rattle.std.specs.Prelude.{◌≡◌, ℕ, ◌+◌, ◌-◌, ◌^◌, Option, Some, None, true, false, unwrap_or, Bool, List, [], ◌∷◌}
+use Rattle.std.specs.Prelude.{◌≡◌, ℕ, ◌+◌, ◌-◌, ◌^◌, ◌<◌, Option, Some, None, true, false, unwrap_or, Bool, List, [], ◌∷◌}
 use Rattle.rt_ids.specs.declared.names.JobId.{JobId}
 use Rattle.rt_ids.specs.declared.note.Note.TheVariants as writes
 use Rattle.rt_ids.specs.declared.order.Order.TheVariants.{Job}
@@ -33,8 +33,9 @@ settle_note name time step.Yield = writes.Yield name time
 
 -- the words of a task: the polls that it made before, what a poll owes, and what may answer it
 module _ {J T : Type 0} (made : J → ℕ) (polls : J → ℕ → Step T → Option ℕ → Type 0) (answers : J → T → Type 0) where
-  -- the right pick, and the first job of that line is polled once: the poll owes what the task says of it, counted from the job as it was sent
+  -- a turn is left, and the right pick is made: the first job of that line is polled once, and the poll owes what the task says of it, counted from the job as it was sent
   pub record IsPoll (core spent : ℕ) (old new : WorldView J T) : Type 0 where
+    pub turn_left : turns (journal_at core old) < 2 ^ 64 - 1
     pub queue : ℕ
     pub runtime : ℕ
     pub right : IsRightPick queue runtime (journal_at core old)

@@ -31,3 +31,6 @@ returns-clause-run g c =
 
 pub returns-clause-sound : goal.returns-clause-sound
 returns-clause-sound g c = c.into_assembly.ensures.sound
+
+pub returns-clause-journals : goal.returns-clause-journals
+returns-clause-journals g c = c.into_assembly.ensures.journals

@@ -2,6 +2,7 @@ use Rattle.std.proofs.Common.{◌<◌, ◌+◌, ◌≤◌, length, sym, ap, subs
 use Rattle.std.proofs.lemmas.Result.{IfOk-at_ok, IfErr-at_err}
 use Rattle.rt_world.specs.State.{journal_at}
 use Rattle.rt_world.specs.PickedJobs.{TookOut, TookNone}
+use Rattle.rt_world.proofs.TurnsLeft.{turn_left}
 use Rattle.rt_world.proofs.WorldPicks.{not_busy, no_turn, world_stays}
 use Rattle.rt_world.proofs.WorldPolled.{first_room, task_out, second_room, world_now, poll_now}
 use Rattle.rt_world.proofs.model.World.turn.Goals as goal
@@ -78,6 +79,8 @@ invariant_of-self-2 g c =
 pub returns : goal.returns
 returns g c =
     let there : c.core.inside.0 < c.self.inside.cores = omega (arith, c.core.view_is, c.requires.core, ap (λ world. world.cores) c.self.view_is) in
+    let room = subst (λ world. length (journal_at c.core.inside.0 world) + 4 ≤ world.room) (sym c.self.view_is)
+    (subst (λ core. length (journal_at core c.args.self.now) + 4 ≤ c.args.self.now.room) (sym c.core.view_is) c.requires.room) in
     rw (← c.self.view_is, ← c.core.view_is) (poll_now _ _ _ _ _ g.met.J.Task.same_task _ c.self.invariant.1 c.core.inside.0 there c.index_mut.result.now c.index_mut.ensures.value c.pick-picked.result.0 c.pick-picked.new.self c.pick-picked.result.1.items c.pick-picked.ensures.picks
     c.in-Ok.job (IfOk-at_ok (TookOut c.pick-picked.result.0) c.in-Ok.is c.job_or_reply.ensures.job)
     c.index_mut-2.result.now c.index_mut-2.ensures.value g.J.Task.Answers c.poll-ran.result
@@ -87,4 +90,5 @@ returns g c =
     (record { borrowed = c.index_mut-3.ensures.value; slice = c.as_slice.result.now; slice_is = c.as_slice.ensures.value; pushed = c.push_all.ensures.notes })
     c.index_mut-4.result.now c.index_mut-4.ensures.value
     c.push_all-2.new.self
-    (record { borrowed = c.index_mut-4.ensures.value; slice = c.as_slice-2.result.now; slice_is = c.as_slice-2.ensures.value; pushed = c.push_all-2.ensures.notes }) g.met.J.Task.answers_same)
+    (record { borrowed = c.index_mut-4.ensures.value; slice = c.as_slice-2.result.now; slice_is = c.as_slice-2.ensures.value; pushed = c.push_all-2.ensures.notes }) g.met.J.Task.answers_same
+    (turn_left _ _ room c.self.invariant.0.low_room))

@@ -1,0 +1,77 @@
+//! Keys, tickets, and copies of orders and notes.
+
+use rt_ids::{
+    ActorNo, CoreNo, JobId, Key, Mode, Note, Order, OutcomeNote, QueueNo, QueueStats, Ticket,
+};
+
+/// Keys as pairs of a virtual runtime and a queue, and whether the first stands before the second.
+const PAIRS: [((u128, u8), (u128, u8), bool); 5] = [
+    ((5, 7), (6, 0), true),
+    ((5, 7), (5, 8), true),
+    ((5, 8), (5, 7), false),
+    ((5, 7), (5, 7), false),
+    ((6, 0), (5, 7), false),
+];
+
+fn key(parts: (u128, u8)) -> Key {
+    Key {
+        vr: parts.0,
+        queue: QueueNo(parts.1),
+    }
+}
+
+fn name() -> JobId {
+    JobId {
+        from: ActorNo(2),
+        to: CoreNo(1),
+        number: 3,
+    }
+}
+
+fn is_copied(order: Order<u64>) -> bool {
+    match order.clone() {
+        Ok(copy) => copy == order,
+        Err(_) => false,
+    }
+}
+
+fn is_copied_note(note: Note<u64>) -> bool {
+    match note.clone() {
+        Ok(copy) => copy == note,
+        Err(_) => false,
+    }
+}
+
+fn is_copied_outcome(outcome: OutcomeNote<u64>) -> bool {
+    match outcome.clone() {
+        Ok(copy) => copy == outcome,
+        Err(_) => false,
+    }
+}
+
+#[test]
+fn keys_go_by_virtual_runtime_and_then_by_queue(rt: HostRuntime) {
+    for (first, second, before) in PAIRS {
+        let found = key(first).is_before(&key(second));
+        assert!(rt; found == before);
+    }
+}
+
+#[test]
+fn a_ticket_tells_its_name(rt: HostRuntime) {
+    assert!(rt; Ticket::named(name()).name() == name());
+}
+
+#[test]
+fn copies_are_what_they_copy(rt: HostRuntime) {
+    let order = is_copied(Order::Job(QueueNo(4), 7));
+    let note = is_copied_note(Note::Done(name(), 10, 7))
+        && is_copied_note(Note::Sent(name(), Order::Job(QueueNo(4), ())));
+    assert!(rt; order && note && is_copied_outcome(OutcomeNote::Finished(7)));
+}
+
+#[test]
+fn a_filler_is_a_note_and_counts_begin_at_0(rt: HostRuntime) {
+    let filler: Note<u64> = Default::default();
+    assert!(rt; filler == Note::CoreClosed(Mode::Finish) && QueueStats::default().selected == 0);
+}

@@ -1,0 +1,17 @@
+//! Tests of jobs, links and rings over their public calls.
+#![tactic(auto)]
+
+#[cfg(test)]
+mod boxed;
+#[cfg(test)]
+mod jobs;
+#[cfg(test)]
+mod life;
+#[cfg(test)]
+mod numbers;
+#[cfg(test)]
+mod plain;
+#[cfg(test)]
+mod ring;
+#[cfg(test)]
+mod threads;

@@ -1,0 +1,51 @@
+//! A job that tells no time.
+
+use rt_jobs::{Job, Step, Task};
+
+/// A job that yields so many times, then answers 0, and tells no time.
+#[derive(Drop)]
+pub(crate) struct Steps {
+    pub(crate) left: u8,
+    pub(crate) done: bool,
+}
+
+impl Task for Steps {
+    ghost use Rattle.std.specs.Prelude.{None};
+
+    type Out = u64;
+
+    ghost SameTask = { λ _ _. Unit {0} };
+
+    ghost done = { λ steps. steps.done };
+
+    ghost made = { λ _. 0 };
+
+    ghost says = { λ _. None };
+
+    ghost Polls = { λ _ _ _ _. Unit {0} };
+
+    ghost Answers = { λ _ _. Unit {0} };
+
+    ghost same_task = { record { itself = λ _. tt; back = λ _ _ _. tt; along = λ _ _ _ _ _. tt } };
+
+    ghost answers_same = { λ _ _ _ _ _. tt };
+
+    fn is_done(&self) -> bool {
+        self.done
+    }
+
+    fn told(&self) -> Option<u64> {
+        None
+    }
+}
+
+impl Job for Steps {
+    fn poll(&mut self) -> Step<u64> {
+        if self.left > 0 {
+            self.left -= 1;
+            return Step::Yield;
+        }
+        self.done = true;
+        Step::Done(0)
+    }
+}

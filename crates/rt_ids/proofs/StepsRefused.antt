@@ -1,0 +1,44 @@
+-- Each bad step breaks the law of its note.
+use Rattle.std.proofs.Common.{◌≡◌, ℕ, ◌<◌, Bool, true, false, refl, sym, ◌∙◌, ap, subst, arith, cond}
+use Rattle.std.specs.Prelude.{Option, Some, None, nat_le}
+use Rattle.std.proofs.lemmas.Option.{same_Some}
+use Rattle.rt_ids.specs.declared.names.JobId.{JobId}
+use Rattle.rt_ids.specs.declared.order.Reason.{Reason}
+use Rattle.rt_ids.specs.declared.order.Reason.TheVariants as why
+use Rattle.rt_ids.specs.Clauses.{queue_just_picked}
+use Rattle.rt_ids.specs.Commands.{return_reason}
+use Rattle.rt_ids.specs.Journal.{Journal}
+use Rattle.rt_ids.specs.Lawful.{IsTurnOf}
+use Rattle.rt_ids.specs.Lines.{line}
+use Rattle.rt_ids.specs.StepsRefused.{StepsAreRefused}
+use Rattle.rt_ids.proofs.NameLemmas.{first_number}
+
+-- the queue of a turn is the one that was picked
+its_queue : (name : JobId) (queue : ℕ) (before : Journal ℕ) → IsTurnOf name queue before → queue_just_picked before ≡ Some 0 → queue ≡ 0
+its_queue name queue before turn picked = sym (same_Some 0 queue (sym picked ∙ turn.picked))
+
+-- an open core refuses a job for no closed queue
+not_closed : (there : Bool) → cond there None (Some why.NoQueue) ≡ Some why.QueueClosed → ⊥
+not_closed true refused = cc
+not_closed false refused = cc
+
+pub steps_refused : StepsAreRefused
+steps_refused = record {
+  head = λ law.
+      let same = its_queue _ law.0.may_follow.0 _ law.0.may_follow.1 refl in
+      let first : 2 ≡ 1 = ap first_number (rw same at law.0.may_follow.1.first) in
+      cc;
+  to_return = λ law. let same = its_queue _ law.0.may_follow.0 _ law.0.may_follow.1 refl in let open_queue = rw same at law.0.may_follow.2 in cc;
+  returned = λ law. let reason = law.0.may_follow.2 in cc;
+  done = λ law. let first : 1 ≡ 2 = ap first_number law.0.may_follow in cc;
+  no_queue = λ law. let enters = law.0.may_follow.1 in cc;
+  second = λ law. let next = law.0.may_follow.0.next in cc;
+  back = λ law. not_closed (nat_le law.0.may_follow.1.0 0) law.0.may_follow.1.1;
+  skipped = λ law. let next = law.0.may_follow.next in cc;
+  missing = λ law. law.0.effect;
+  unasked = λ law. law.0.effect;
+  created = λ law. law.0.effect;
+  capacity = λ law. let credit : 4 < 4 = law.0.may_follow.credit in omega arith;
+  sender = λ law. let sender = law.0.may_follow.sender in cc;
+  open_end = λ lawful. let nobody = lawful.nobody_out in cc;
+}

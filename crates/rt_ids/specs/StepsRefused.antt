@@ -1,0 +1,28 @@
+-- That no lawful journal holds a bad step.
+use Rattle.std.specs.Prelude.{ℕ}
+use Rattle.rt_ids.specs.BadJournals.{polled}
+use Rattle.rt_ids.specs.BadSteps as bad
+use Rattle.rt_ids.specs.Journal.{Journal, EachNote}
+use Rattle.rt_ids.specs.Lawful.{MayStand, IsLawful}
+
+-- the notes of the core may stand, where each link holds four
+abbrev pub CoreMayWrite : Journal ℕ → Type 0
+CoreMayWrite journal = EachNote (MayStand 0 4) journal
+
+-- none of them may stand
+pub record StepsAreRefused : Type 0 where
+  pub head : CoreMayWrite bad.head_again → ⊥
+  pub to_return : CoreMayWrite bad.polled_for_return → ⊥
+  pub returned : CoreMayWrite bad.returned_from_open → ⊥
+  pub done : CoreMayWrite bad.done_of_another → ⊥
+  pub no_queue : CoreMayWrite bad.taken_into_nothing → ⊥
+  pub second : CoreMayWrite bad.second_delivered → ⊥
+  pub back : CoreMayWrite bad.back_from_open → ⊥
+  pub skipped : CoreMayWrite bad.queue_skipped → ⊥
+  pub missing : CoreMayWrite bad.effect_missing → ⊥
+  pub unasked : CoreMayWrite bad.effect_unasked → ⊥
+  pub created : CoreMayWrite bad.created_unasked → ⊥
+  pub capacity : EachNote (MayStand 1 4) bad.sent_beyond_capacity → ⊥
+  pub sender : CoreMayWrite bad.sent_for_another → ⊥
+  -- a journal doesn't end while a job is out
+  pub open_end : IsLawful 0 4 polled → ⊥

@@ -1,0 +1,105 @@
+-- Each event keeps how many journals there are, and how many lists of orders.
+use Rattle.std.proofs.Common.{◌≡◌, ℕ, List, [], ◌∷◌, ◌++◌, length, refl, sym, ◌∙◌, ap, subst, ⊎_elim, get_or, set}
+use Rattle.std.specs.Prelude.{Option, unwrap_or}
+use Rattle.std.proofs.lemmas.Bool.{cases_eq, cases_lt}
+use Rattle.std.proofs.lemmas.List.{length-set, get_or-set_same, get_or-set_other, set_past}
+use Rattle.rt_ids.specs.declared.names.JobId.{JobId}
+use Rattle.rt_ids.specs.declared.note.Note.{Note}
+use Rattle.rt_ids.specs.declared.note.Note.TheVariants as writes
+use Rattle.rt_ids.specs.declared.order.Order.{Order}
+use Rattle.rt_ids.specs.declared.order.SendError.TheVariants.{Full, Spent}
+use Rattle.rt_ids.specs.Filters.{name_started}
+use Rattle.rt_ids.specs.Journal.{Journal, is_told}
+use Rattle.rt_jobs.specs.declared.job.Step.{Step}
+use Rattle.rt_world.specs.declared.event.Event.{Event}
+use Rattle.rt_world.specs.declared.event.Event.TheVariants.{Send, Deliver, Turn}
+use Rattle.rt_world.specs.declared.event.Reply.{Reply}
+use Rattle.rt_world.specs.declared.event.Reply.TheVariants as reply
+use Rattle.rt_world.specs.State.{WorldView, order_note, journal_at, sent_at, noted, with_sent}
+use Rattle.rt_world.specs.Sends.{Sends}
+use Rattle.rt_world.specs.Deliveries.{Delivers}
+use Rattle.rt_world.specs.Turns.{poll_note, settle_note, Turns}
+use Rattle.rt_world.specs.Runs.{Steps, Happens}
+use Rattle.rt_world.specs.Opening.{HasAllLists}
+
+-- as many rows as before, each as long as before
+pub record KeepsRows {A : Type 0} (old new : List (List A)) : Type 0 where
+  pub same_count : length new ≡ length old
+  pub same_rows : (place : ℕ) → length (get_or new place []) ≡ length (get_or old place [])
+
+pub same_rows : {A : Type 0} (rows : List (List A)) → KeepsRows rows rows
+same_rows rows = record { same_count = refl; same_rows = λ place. refl }
+
+-- a row is replaced by one that is as long
+pub KeepsRows-set : {A : Type 0} (rows : List (List A)) (row : ℕ) (items : List A) → length items ≡ length (get_or rows row []) → KeepsRows rows (set rows row items)
+KeepsRows-set rows row items same = record {
+  same_count = length-set rows row items;
+  same_rows = λ place. ⊎_elim (here place) (λ other. ap length (get_or-set_other rows row place items [] other)) (cases_eq place row);
+}
+  where
+    here : (place : ℕ) → place ≡ row → length (get_or (set rows row items) place []) ≡ length (get_or rows place [])
+    here place is =
+        subst (λ at. length (get_or (set rows row items) at []) ≡ length (get_or rows at [])) (sym is)
+        (
+        ⊎_elim (λ within. ap length (get_or-set_same rows row items [] within) ∙ same) (λ past. ap (λ all. length (get_or all row [])) (set_past rows row items past))
+        (cases_lt row (length rows))
+        )
+
+-- the notes of a turn, the newest first
+abbrev pub turn_notes : {T : Type 0} → JobId → ℕ → ℕ → ℕ → Step T → Journal T → List (Note T)
+turn_notes name queue runtime time step before = settle_note name time step ∷ poll_note name (is_told name_started name before) ∷ writes.Pick queue runtime ∷ []
+
+module _ {J T : Type 0} where
+  -- one journal is longer by some notes, and there are as many lists of orders as before
+  pub record IsLonger (old new : WorldView J T) : Type 0 where
+    pub actor : ℕ
+    pub notes : List (Note T)
+    pub sent : List (List (List (Order J)))
+    pub kept : KeepsRows old.sent sent
+    pub is : new ≡ record (noted actor notes old) { sent = sent }
+
+  keeps_lists : (old new : WorldView J T) → IsLonger old new → HasAllLists old → HasAllLists new
+  keeps_lists old new longer lists = subst (λ world. HasAllLists world) (sym longer.is) (record {
+    journals_are = length-set old.journals longer.actor (longer.notes ++ journal_at longer.actor old) ∙ lists.journals_are;
+    senders_are = longer.kept.same_count ∙ lists.senders_are;
+    links_are = λ sender there. longer.kept.same_rows sender ∙ lists.links_are sender there;
+  })
+
+  -- one more order of a link keeps the rows of links
+  sent_rows : (sender core : ℕ) (order : Order J) (world : WorldView J T) → KeepsRows world.sent (with_sent sender core order world)
+  sent_rows sender core order world =
+      KeepsRows-set world.sent sender (set (get_or world.sent sender []) core (sent_at sender core world ++ order ∷ []))
+      (length-set (get_or world.sent sender []) core (sent_at sender core world ++ order ∷ []))
+
+  sends_keep : (sender core : ℕ) (order : Order J) (old new : WorldView J T) (answer : Reply J) → Sends sender core order old new answer → HasAllLists old → HasAllLists new
+  sends_keep sender core order old new (reply.Sent name) sends lists =
+      keeps_lists old new
+      (record { actor = sender; notes = writes.Sent name (order_note order) ∷ []; sent = with_sent sender core order old; kept = sent_rows sender core order old; is = sends.2 }) lists
+  sends_keep sender core order old new (reply.NotSent (Full back)) sends lists = subst (λ world. HasAllLists world) (sym sends.2) lists
+  sends_keep sender core order old new (reply.NotSent (Spent back)) sends lists = subst (λ world. HasAllLists world) (sym sends.3) lists
+  sends_keep sender core order old new _ sends lists = absurd sends
+
+  delivers_keep : (core sender : ℕ) (old new : WorldView J T) (answer : Reply J) → Delivers core sender old new answer → HasAllLists old → HasAllLists new
+  delivers_keep core sender old new reply.Noted delivers lists =
+      keeps_lists old new (record { actor = core; notes = delivers.2; sent = old.sent; kept = same_rows old.sent; is = delivers.4 }) lists
+  delivers_keep core sender old new reply.Empty delivers lists = subst (λ world. HasAllLists world) (sym delivers.1) lists
+  delivers_keep core sender old new _ delivers lists = absurd delivers
+
+module _ {J T : Type 0} (made : J → ℕ) (polls : J → ℕ → Step T → Option ℕ → Type 0) (answers : J → T → Type 0) where
+  turns_keep : (core spent : ℕ) (old new : WorldView J T) (answer : Reply J) → Turns made polls answers core spent old new answer → HasAllLists old → HasAllLists new
+  turns_keep core spent old new reply.Noted turns lists =
+      keeps_lists old new
+      (record { actor = core; notes = turn_notes turns.name turns.queue turns.runtime (unwrap_or turns.told spent) turns.step (journal_at core old); sent = old.sent; kept = same_rows old.sent; is = turns.notes }) lists
+  turns_keep core spent old new reply.Idle turns lists = subst (λ world. HasAllLists world) (sym turns.1) lists
+  turns_keep core spent old new reply.Spent turns lists = subst (λ world. HasAllLists world) (sym turns.2) lists
+  turns_keep core spent old new _ turns lists = absurd turns
+
+  steps_keep : (event : Event J) (old new : WorldView J T) (answer : Reply J) → Steps made polls answers event old new answer → HasAllLists old → HasAllLists new
+  steps_keep (Send sender core order) = sends_keep sender core order
+  steps_keep (Deliver core sender) = delivers_keep core sender
+  steps_keep (Turn core spent) = turns_keep core spent
+
+  pub happens_keep : (event : Event J) (old new : WorldView J T) (answer : Reply J) → Happens made polls answers event old new answer → HasAllLists old → HasAllLists new
+  happens_keep event old new (reply.NoActor back) happens lists = subst (λ world. HasAllLists world) (sym happens.2) lists
+  happens_keep event old new (reply.NoRoom back) happens lists = subst (λ world. HasAllLists world) (sym happens.3) lists
+  happens_keep event old new answer happens lists = steps_keep event old new answer happens.2 lists
