@@ -49,7 +49,7 @@ impl Round {
 }
 
 /// What the calls of a round answered.
-#[derive(PartialEq)]
+#[derive(Clone, Copy, PartialEq)]
 struct Answered {
     came: bool,
     turned: Option<(JobId, bool, u64)>,
