@@ -83,9 +83,9 @@ module _ {J : Type 0} {room line_places : ℕ} {old new : Slab (Waiting J)} {lin
       let kept_lines = keeps queue front rest kept leaves within in
       ChangesLine-set queue rest (drop 1 (waiting_of queue (alone room old lines))) kept (IsKept-left queue front rest kept leaves within) within leaves.shares (sym drops)
       (λ other differs.
-          ap (λ (l : Line). chain (get new) l.head l.count) (sym (others other differs))
-          ∙ chain-kept (get old) (get new) (line_at (set lines queue rest)) other kept_lines
-          ∙ ap (λ (l : Line). chain (get old) l.head l.count) (others other differs))
+      ap (λ (l : Line). chain (get new) l.head l.count) (sym (others other differs))
+      ∙ chain-kept (get old) (get new) (line_at (set lines queue rest)) other kept_lines
+      ∙ ap (λ (l : Line). chain (get old) l.head l.count) (others other differs))
       (omega (arith, leaves.len, ap length was, ap length drops, ap length (waiting_of-view room old lines queue)))
 
   pub held_count-left : (queue : ℕ) (front : Waiting J) (rest : Line) → IsKept room line_places old lines → Leaves old (line_at lines queue) front new rest → queue < length lines

@@ -171,7 +171,8 @@ impl<J: Drop, A: Allocator + Clone> Queues<J, A> {
         requires exists { queue < queue_count self.now }
         ensures { result ≡ length (waiting_of queue self.now) }
     {
-        self.lines[queue.0 as usize].count
+        let place = queue.0 as usize;
+        self.lines[place].count
     }
 
     /// The shares of this queue.
@@ -179,7 +180,8 @@ impl<J: Drop, A: Allocator + Clone> Queues<J, A> {
         requires exists { queue < queue_count self.now }
         ensures { result ≡ shares_of queue self.now }
     {
-        self.lines[queue.0 as usize].shares
+        let place = queue.0 as usize;
+        self.lines[place].shares
     }
 
     /// Gives this queue other shares.

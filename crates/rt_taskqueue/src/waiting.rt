@@ -37,19 +37,13 @@ pub fn append<J, A: Allocator>(jobs: &mut Slab<Waiting<J>, A>, line: Line, last:
     ensures { Appends jobs.old line last jobs.new result }
 {
     let key = jobs.insert_reserved(last);
+    let mut longer = line;
+    longer.tail = key;
+    longer.count = line.count + 1;
     if line.count == 0 {
-        return Line {
-            head: key,
-            tail: key,
-            count: 1,
-            shares: line.shares,
-        };
+        longer.head = key;
+        return longer;
     }
     link(jobs, line.tail, key);
-    Line {
-        head: line.head,
-        tail: key,
-        count: line.count + 1,
-        shares: line.shares,
-    }
+    longer
 }

@@ -31,8 +31,15 @@ invariant_of-self g c =
     let exists = exists-view inside.room inside.jobs lines (ap queues_alone c.self.view_is) c.requires.exists in
     let here = line_read lines c.queue.inside.0 c.args.queue line (omega (arith, exists, c.queue.view_is)) c.index-line.ensures c.queue.view_is in
     let leaves_line : Leaves inside.jobs line front c.remove-front.new.self rest = record {
-      some = some-count line.count c.if-line-eq0.false; first = c.remove-front.ensures.value; updates = c.remove-front.ensures.updates; len = c.remove-front.ensures.len; capacity = c.remove-front.ensures.capacity;
-      head = refl; tail = refl; count = refl; shares = refl;
+      some = some-count line.count c.if-line-eq0.false;
+      first = c.remove-front.ensures.value;
+      updates = c.remove-front.ensures.updates;
+      len = c.remove-front.ensures.len;
+      capacity = c.remove-front.ensures.capacity;
+      head = refl;
+      tail = refl;
+      count = refl;
+      shares = refl;
     } in
     let leaves = subst (λ (l : Line). Leaves inside.jobs l front c.remove-front.new.self rest) (sym here) leaves_line in
     rw c.queue.view_is (
@@ -50,8 +57,15 @@ returns-clause-head g c =
     let exists = exists-view inside.room inside.jobs lines (ap queues_alone c.self.view_is) c.requires.exists in
     let here = line_read lines c.queue.inside.0 c.args.queue line (omega (arith, exists, c.queue.view_is)) c.index-line.ensures c.queue.view_is in
     let leaves_line : Leaves inside.jobs line front c.remove-front.new.self rest = record {
-      some = some-count line.count c.if-line-eq0.false; first = c.remove-front.ensures.value; updates = c.remove-front.ensures.updates; len = c.remove-front.ensures.len; capacity = c.remove-front.ensures.capacity;
-      head = refl; tail = refl; count = refl; shares = refl;
+      some = some-count line.count c.if-line-eq0.false;
+      first = c.remove-front.ensures.value;
+      updates = c.remove-front.ensures.updates;
+      len = c.remove-front.ensures.len;
+      capacity = c.remove-front.ensures.capacity;
+      head = refl;
+      tail = refl;
+      count = refl;
+      shares = refl;
     } in
     let leaves = subst (λ (l : Line). Leaves inside.jobs l front c.remove-front.new.self rest) (sym here) leaves_line in
     rw (← c.self.view_is, c.queue.view_is) (waiting_of-left c.args.queue front rest c.self.invariant.0 leaves exists)
@@ -66,8 +80,15 @@ returns-clause-rest g c =
     let exists = exists-view inside.room inside.jobs lines (ap queues_alone c.self.view_is) c.requires.exists in
     let here = line_read lines c.queue.inside.0 c.args.queue line (omega (arith, exists, c.queue.view_is)) c.index-line.ensures c.queue.view_is in
     let leaves_line : Leaves inside.jobs line front c.remove-front.new.self rest = record {
-      some = some-count line.count c.if-line-eq0.false; first = c.remove-front.ensures.value; updates = c.remove-front.ensures.updates; len = c.remove-front.ensures.len; capacity = c.remove-front.ensures.capacity;
-      head = refl; tail = refl; count = refl; shares = refl;
+      some = some-count line.count c.if-line-eq0.false;
+      first = c.remove-front.ensures.value;
+      updates = c.remove-front.ensures.updates;
+      len = c.remove-front.ensures.len;
+      capacity = c.remove-front.ensures.capacity;
+      head = refl;
+      tail = refl;
+      count = refl;
+      shares = refl;
     } in
     let leaves = subst (λ (l : Line). Leaves inside.jobs l front c.remove-front.new.self rest) (sym here) leaves_line in
     rw (← c.self.view_is, c.queue.view_is) (record { queues = ChangesLine-left c.args.queue front rest c.self.invariant.0 leaves exists; slips = refl })
@@ -82,8 +103,15 @@ returns-clause-one_less g c =
     let exists = exists-view inside.room inside.jobs lines (ap queues_alone c.self.view_is) c.requires.exists in
     let here = line_read lines c.queue.inside.0 c.args.queue line (omega (arith, exists, c.queue.view_is)) c.index-line.ensures c.queue.view_is in
     let leaves_line : Leaves inside.jobs line front c.remove-front.new.self rest = record {
-      some = some-count line.count c.if-line-eq0.false; first = c.remove-front.ensures.value; updates = c.remove-front.ensures.updates; len = c.remove-front.ensures.len; capacity = c.remove-front.ensures.capacity;
-      head = refl; tail = refl; count = refl; shares = refl;
+      some = some-count line.count c.if-line-eq0.false;
+      first = c.remove-front.ensures.value;
+      updates = c.remove-front.ensures.updates;
+      len = c.remove-front.ensures.len;
+      capacity = c.remove-front.ensures.capacity;
+      head = refl;
+      tail = refl;
+      count = refl;
+      shares = refl;
     } in
     let leaves = subst (λ (l : Line). Leaves inside.jobs l front c.remove-front.new.self rest) (sym here) leaves_line in
     rw (← c.self.view_is, c.queue.view_is) (held_count-left c.args.queue front rest c.self.invariant.0 leaves exists)
@@ -98,8 +126,15 @@ returns-clause-room g c =
     let exists = exists-view inside.room inside.jobs lines (ap queues_alone c.self.view_is) c.requires.exists in
     let here = line_read lines c.queue.inside.0 c.args.queue line (omega (arith, exists, c.queue.view_is)) c.index-line.ensures c.queue.view_is in
     let leaves_line : Leaves inside.jobs line front c.remove-front.new.self rest = record {
-      some = some-count line.count c.if-line-eq0.false; first = c.remove-front.ensures.value; updates = c.remove-front.ensures.updates; len = c.remove-front.ensures.len; capacity = c.remove-front.ensures.capacity;
-      head = refl; tail = refl; count = refl; shares = refl;
+      some = some-count line.count c.if-line-eq0.false;
+      first = c.remove-front.ensures.value;
+      updates = c.remove-front.ensures.updates;
+      len = c.remove-front.ensures.len;
+      capacity = c.remove-front.ensures.capacity;
+      head = refl;
+      tail = refl;
+      count = refl;
+      shares = refl;
     } in
     let leaves = subst (λ (l : Line). Leaves inside.jobs l front c.remove-front.new.self rest) (sym here) leaves_line in
     let fewer = held_count-left c.args.queue front rest c.self.invariant.0 leaves exists in
@@ -115,8 +150,15 @@ returns-clause-limits g c =
     let exists = exists-view inside.room inside.jobs lines (ap queues_alone c.self.view_is) c.requires.exists in
     let here = line_read lines c.queue.inside.0 c.args.queue line (omega (arith, exists, c.queue.view_is)) c.index-line.ensures c.queue.view_is in
     let leaves_line : Leaves inside.jobs line front c.remove-front.new.self rest = record {
-      some = some-count line.count c.if-line-eq0.false; first = c.remove-front.ensures.value; updates = c.remove-front.ensures.updates; len = c.remove-front.ensures.len; capacity = c.remove-front.ensures.capacity;
-      head = refl; tail = refl; count = refl; shares = refl;
+      some = some-count line.count c.if-line-eq0.false;
+      first = c.remove-front.ensures.value;
+      updates = c.remove-front.ensures.updates;
+      len = c.remove-front.ensures.len;
+      capacity = c.remove-front.ensures.capacity;
+      head = refl;
+      tail = refl;
+      count = refl;
+      shares = refl;
     } in
     let leaves = subst (λ (l : Line). Leaves inside.jobs l front c.remove-front.new.self rest) (sym here) leaves_line in
     rw c.queue.view_is (IsWithinLimits-view (IsKept-left c.args.queue front rest c.self.invariant.0 leaves exists))
