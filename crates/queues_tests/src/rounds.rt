@@ -23,7 +23,7 @@ fn all_queues<A: Allocator + Clone>(alloc: A) -> Option<Queues<u64, A>> {
 }
 
 /// The queues of a round: where a job joins, where the head leaves and joins again, and where the head leaves.
-#[derive(Clone, Copy)]
+#[derive(Drop)]
 struct Round {
     number: u64,
     comes: QueueNo,
@@ -49,7 +49,7 @@ impl Round {
 }
 
 /// What the calls of a round answered.
-#[derive(Clone, Copy, PartialEq)]
+#[derive(PartialEq, Drop)]
 struct Answered {
     came: bool,
     turned: Option<(JobId, bool, u64)>,
@@ -58,46 +58,60 @@ struct Answered {
     has_room: bool,
 }
 
-fn make<A: Allocator + Clone>(queues: &mut Queues<u64, A>, round: Round) -> Answered {
+/// The head of a queue leaves and joins again.
+fn turn<A: Allocator + Clone>(
+    queues: &mut Queues<u64, A>,
+    queue: QueueNo,
+) -> Option<(JobId, bool, u64)> {
+    let (name, started, job) = leaves(queues, queue)?;
+    joins_again(queues, queue, name, job);
+    Some((name, started, job))
+}
+
+fn make<A: Allocator + Clone>(queues: &mut Queues<u64, A>, round: &Round) -> Answered {
     let came = joins(queues, round.comes, round.number);
-    let turned = leaves(queues, round.turns);
-    if let Some((name, _, job)) = turned {
-        joins_again(queues, round.turns, name, job);
-    }
+    let turned = turn(queues, round.turns);
     let went = leaves(queues, round.goes);
+    let left = waiting(queues, round.goes);
+    let has_room = queues.has_room();
     Answered {
         came,
         turned,
         went,
-        left: waiting(queues, round.goes),
-        has_room: queues.has_room(),
+        left,
+        has_room,
     }
 }
 
-/// How often the rounds found what they are to find.
-#[derive(Clone, Copy)]
-struct Found {
-    full: bool,
-    empty: bool,
+/// One round in both: whether a job came and whether one went, if the answers are the same.
+fn go_alike(
+    tight: &mut Queues<u64, &LocalHeap>,
+    ample: &mut Queues<u64, Global>,
+    round: &Round,
+) -> Option<(bool, bool)> {
+    let one = make(tight, round);
+    let other = make(ample, round);
+    if one == other {
+        Some((one.came, one.went.is_some()))
+    } else {
+        None
+    }
 }
 
 /// So many rounds in both, with the same answers. Some find no room, and some an empty queue.
-fn go_alike(tight: &mut Queues<u64, &LocalHeap>, ample: &mut Queues<u64, Global>) -> bool {
+fn all_go_alike(tight: &mut Queues<u64, &LocalHeap>, ample: &mut Queues<u64, Global>) -> bool {
     let mut dice = Dice(7);
-    let mut found = Found {
-        full: false,
-        empty: false,
-    };
+    let mut full = false;
+    let mut empty = false;
     for number in 0..10000 {
         let round = Round::roll(number, &mut dice);
-        let one = make(tight, round);
-        if one != make(ample, round) {
+        let Some((came, went)) = go_alike(tight, ample, &round) else {
             return false;
-        }
-        found.full = found.full || !one.came;
-        found.empty = found.empty || one.went.is_none();
+        };
+        full = full || !came;
+        empty = empty || !went;
     }
-    found.full && found.empty
+    full && empty
 }
 
 /// Jobs fill the queues up to a few places.
@@ -116,7 +130,7 @@ fn serves_in(heap: &LocalHeap, alloc: Global) -> Option<bool> {
     let mut tight = all_queues(heap)?;
     let mut ample = all_queues(alloc)?;
     let used = heap.used();
-    let same = fill(&mut tight) && fill(&mut ample) && go_alike(&mut tight, &mut ample);
+    let same = fill(&mut tight) && fill(&mut ample) && all_go_alike(&mut tight, &mut ample);
     Some(same && heap.used() == used)
 }
 

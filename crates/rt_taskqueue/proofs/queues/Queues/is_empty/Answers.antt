@@ -6,6 +6,11 @@ use Rattle.rt_taskqueue.specs.Slips.{queues_alone}
 use Rattle.rt_taskqueue.proofs.Views.{alone, line_read, exists-view, length-waiting_of}
 use Rattle.rt_taskqueue.proofs.queues.Queues.is_empty.Goals as goal
 
+pub index-requires : goal.index-requires
+index-requires g c =
+    let exists = exists-view c.self.inside.room c.self.inside.jobs c.self.inside.lines.items (ap queues_alone c.self.view_is) c.requires.exists in
+    omega (arith, exists, c.queue.view_is, c.self.inside.lines.ok.0)
+
 pub returns : goal.returns
 returns g c =
     let inside = c.self.inside in

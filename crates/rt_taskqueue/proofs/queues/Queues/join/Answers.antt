@@ -52,3 +52,13 @@ returns g c =
       one_more = held_count-joined c.args.queue last c.append.result c.self.invariant.0 appends exists fits;
       limits = IsWithinLimits-view (IsKept-joined c.args.queue last c.append.result c.self.invariant.0 appends exists fits);
     })
+
+pub index-line-requires : goal.index-line-requires
+index-line-requires g c =
+    let exists = exists-view c.self.inside.room c.self.inside.jobs c.self.inside.lines.items (ap queues_alone c.self.view_is) c.requires.exists in
+    omega (arith, exists, c.queue.view_is, c.self.inside.lines.ok.0)
+
+pub index_mut-requires : goal.index_mut-requires
+index_mut-requires g c =
+    let exists = exists-view c.self.inside.room c.self.inside.jobs c.self.inside.lines.items (ap queues_alone c.self.view_is) c.requires.exists in
+    omega (arith, exists, c.queue.view_is, c.self.inside.lines.ok.0)

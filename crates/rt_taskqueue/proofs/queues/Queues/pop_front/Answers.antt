@@ -162,3 +162,13 @@ returns-clause-limits g c =
     } in
     let leaves = subst (λ (l : Line). Leaves inside.jobs l front c.remove-front.new.self rest) (sym here) leaves_line in
     rw c.queue.view_is (IsWithinLimits-view (IsKept-left c.args.queue front rest c.self.invariant.0 leaves exists))
+
+pub index-line-requires : goal.index-line-requires
+index-line-requires g c =
+    let exists = exists-view c.self.inside.room c.self.inside.jobs c.self.inside.lines.items (ap queues_alone c.self.view_is) c.requires.exists in
+    omega (arith, exists, c.queue.view_is, c.self.inside.lines.ok.0)
+
+pub index_mut-requires : goal.index_mut-requires
+index_mut-requires g c =
+    let exists = exists-view c.self.inside.room c.self.inside.jobs c.self.inside.lines.items (ap queues_alone c.self.view_is) c.requires.exists in
+    omega (arith, exists, c.queue.view_is, c.self.inside.lines.ok.0)
