@@ -63,9 +63,9 @@ fn turn<A: Allocator + Clone>(
     queues: &mut Queues<u64, A>,
     queue: QueueNo,
 ) -> Option<(JobId, bool, u64)> {
-    let (name, started, job) = leaves(queues, queue)?;
-    joins_again(queues, queue, name, job);
-    Some((name, started, job))
+    let front = leaves(queues, queue)?;
+    joins_again(queues, queue, front.0, front.2);
+    Some(front)
 }
 
 fn make<A: Allocator + Clone>(queues: &mut Queues<u64, A>, round: &Round) -> Answered {
