@@ -9,10 +9,18 @@ use std::alloc::{AllocError, Global};
 /// The argument that names the file to read.
 pub const FILE: &str = "FILE";
 
+/// The version of the program, and behind it the toolchain that proved it.
+const VERSION: &str = "\
+0.2.0
+proved with rattle-kit-13b logic dac8208d650f15bf";
+
 /// What follows the options in each help.
-const EXAMPLE_AND_STATUSES: &str = "\
+const AFTER_HELP: &str = "\
 Example:
   fairexec run examples/fair_shares.script
+
+Each line of a script, each line that is printed, and each cause of a refusal:
+  docs/SCRIPTS.md
 
 Exit status:
   0  all is done
@@ -29,11 +37,12 @@ pub fn command<'a>(alloc: Global) -> Result<Command<'a>, AllocError>
     let run = Command::new(alloc, "run")
         .about("Runs a script, and prints what happens as notes, one a line")
         .arg(file)?
-        .after_help(EXAMPLE_AND_STATUSES);
+        .after_help(AFTER_HELP);
     Command::new(alloc, "fairexec")
         .bin_name("fairexec")?
         .about("Runs scripts on the model of a thread-per-core executor with fair task queues")
+        .version(VERSION)
         .subcommand_required(true)
-        .after_help(EXAMPLE_AND_STATUSES)
+        .after_help(AFTER_HELP)
         .subcommand(run)
 }

@@ -1,16 +1,17 @@
 //! Runs each script of a folder, and compares what is printed with the text that lies beside it.
 //!
-//! The file `rows` has a name on each line. `NAME.script` is run as `fairexec run` does; `NAME.out` is what it prints. Where it is refused,
-//! `NAME.refused` is the line that tells why.
+//! The file `rows` has a name on each line. `NAME.script` is run as `fairexec run` does; `NAME.out` is what it prints. If it is refused,
+//! `NAME.refused` has the exit status and the line that tells why.
 #![tactic(auto)]
 
 ghost use Rattle.std.specs.Prelude.{◌≡◌, ◌++◌, Err, IfOk, IfErr, codes, decimal, string_bytes};
 ghost use Rattle.std.specs.IoError.{error_kind};
 ghost use Rattle.std.specs.declared.io.ErrorKind.TheVariants.{OutOfMemory};
-ghost use Rattle.rt_script.specs.EngineFaults.{fault_text};
-ghost use Rattle.rt_script.specs.Statuses.{code_of, status_of};
+ghost use Rattle.rt_text.specs.Faults.{fault_text};
+ghost use Rattle.rt_text.specs.Statuses.{code_of, status_of};
 
-use rt_script::{EngineFault, Status, run_script};
+use rt_engine::run_script;
+use rt_text::{EngineFault, Status};
 use std::alloc::Global;
 use std::process::ExitCode;
 use std::rt::Files;

@@ -27,8 +27,8 @@ use Rattle.rt_world.specs.Turns.{polls_made}
 use Rattle.rt_world.specs.Links.{link_at, ChangesLink}
 use Rattle.rt_world.specs.Inside.{Parts, core_at, notes_at, world_of}
 use Rattle.rt_world.specs.Tasks.{IsWorld}
-use Rattle.rt_world.proofs.Kept.{IsKept}
-use Rattle.rt_world.proofs.KeptCommands.{kept-created, kept-weighed}
+use Rattle.rt_journal.proofs.Kept.{IsKept}
+use Rattle.rt_journal.proofs.KeptCommands.{kept-created, kept-weighed}
 use Rattle.rt_world.proofs.NextDelivery as next_delivery
 use Rattle.rt_world.proofs.WorldDelivered as delivered
 

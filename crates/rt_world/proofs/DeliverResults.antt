@@ -28,7 +28,7 @@ use Rattle.rt_world.specs.Opening.{HasShares}
 use Rattle.rt_world.specs.Links.{link_at, ChangesLink}
 use Rattle.rt_world.specs.Inside.{Parts, core_at, notes_at, IsCoreAtRest}
 use Rattle.rt_world.specs.Tasks.{IsWorld}
-use Rattle.rt_world.proofs.Kept.{open_core}
+use Rattle.rt_journal.proofs.Kept.{open_core}
 use Rattle.rt_world.proofs.WorldDelivered.{Results}
 use Rattle.rt_world.proofs.RefusedDeliveries.{goes_back, answers_alone}
 use Rattle.rt_world.proofs.CommandDeliveries.{creates_queue, sets_shares}

@@ -29,9 +29,9 @@ use Rattle.rt_world.specs.Turns.{polls_made}
 use Rattle.rt_world.specs.Links.{link_at, ChangesLink}
 use Rattle.rt_world.specs.Inside.{Parts, core_at, notes_at, world_of, IsCoreAtRest}
 use Rattle.rt_world.specs.Tasks.{OwesAfter, HasTask, IsWorld}
-use Rattle.rt_world.proofs.Kept.{IsKept}
-use Rattle.rt_world.proofs.KeptDeliveries.{kept-took, refusal-exists}
-use Rattle.rt_world.proofs.PollsMade.{polls_made-fresh}
+use Rattle.rt_journal.proofs.Kept.{IsKept}
+use Rattle.rt_journal.proofs.KeptDeliveries.{kept-took, refusal-exists}
+use Rattle.rt_journal.proofs.PollsMade.{polls_made-fresh}
 use Rattle.rt_world.proofs.WorldViews.{journal_at-world}
 use Rattle.rt_world.proofs.WorldAfter.{after, notes_now}
 use Rattle.rt_world.proofs.NextDelivery as next_delivery

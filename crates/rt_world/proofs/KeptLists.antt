@@ -1,5 +1,5 @@
 -- Each event keeps how many journals there are, and how many lists of orders.
-use Rattle.std.proofs.Common.{◌≡◌, ℕ, List, [], ◌∷◌, ◌++◌, length, refl, sym, ◌∙◌, ap, subst, ⊎_elim, get_or, set}
+use Rattle.std.proofs.Common.{◌≡◌, ℕ, List, [], ◌∷◌, ◌++◌, length, refl, sym, ◌∙◌, ap, subst, ◌⊎◌, inl, inr, ⊎_elim, get_or, set}
 use Rattle.std.specs.Prelude.{Option, unwrap_or}
 use Rattle.std.proofs.lemmas.Bool.{cases_eq, cases_lt}
 use Rattle.std.proofs.lemmas.List.{length-set, get_or-set_same, get_or-set_other, set_past}
@@ -58,7 +58,7 @@ module _ {J T : Type 0} where
     pub kept : KeepsRows old.sent sent
     pub is : new ≡ record (noted actor notes old) { sent = sent }
 
-  keeps_lists : (old new : WorldView J T) → IsLonger old new → HasAllLists old → HasAllLists new
+  pub keeps_lists : (old new : WorldView J T) → IsLonger old new → HasAllLists old → HasAllLists new
   keeps_lists old new longer lists = subst (λ world. HasAllLists world) (sym longer.is) (record {
     journals_are = length-set old.journals longer.actor (longer.notes ++ journal_at longer.actor old) ∙ lists.journals_are;
     senders_are = longer.kept.same_count ∙ lists.senders_are;
@@ -71,35 +71,39 @@ module _ {J T : Type 0} where
       KeepsRows-set world.sent sender (set (get_or world.sent sender []) core (sent_at sender core world ++ order ∷ []))
       (length-set (get_or world.sent sender []) core (sent_at sender core world ++ order ∷ []))
 
-  sends_keep : (sender core : ℕ) (order : Order J) (old new : WorldView J T) (answer : Reply J) → Sends sender core order old new answer → HasAllLists old → HasAllLists new
-  sends_keep sender core order old new (reply.Sent name) sends lists =
-      keeps_lists old new
-      (record { actor = sender; notes = writes.Sent name (order_note order) ∷ []; sent = with_sent sender core order old; kept = sent_rows sender core order old; is = sends.2 }) lists
-  sends_keep sender core order old new (reply.NotSent (Full back)) sends lists = subst (λ world. HasAllLists world) (sym sends.2) lists
-  sends_keep sender core order old new (reply.NotSent (Spent back)) sends lists = subst (λ world. HasAllLists world) (sym sends.3) lists
-  sends_keep sender core order old new _ sends lists = absurd sends
+  sends : (sender core : ℕ) (order : Order J) (old new : WorldView J T) (answer : Reply J) → Sends sender core order old new answer → (new ≡ old) ⊎ IsLonger old new
+  sends sender core order old new (reply.Sent name) happens =
+      inr (record { actor = sender; notes = writes.Sent name (order_note order) ∷ []; sent = with_sent sender core order old; kept = sent_rows sender core order old; is = happens.2 })
+  sends sender core order old new (reply.NotSent (Full back)) happens = inl happens.2
+  sends sender core order old new (reply.NotSent (Spent back)) happens = inl happens.3
+  sends sender core order old new _ happens = absurd happens
 
-  delivers_keep : (core sender : ℕ) (old new : WorldView J T) (answer : Reply J) → Delivers core sender old new answer → HasAllLists old → HasAllLists new
-  delivers_keep core sender old new reply.Noted delivers lists =
-      keeps_lists old new (record { actor = core; notes = delivers.2; sent = old.sent; kept = same_rows old.sent; is = delivers.4 }) lists
-  delivers_keep core sender old new reply.Empty delivers lists = subst (λ world. HasAllLists world) (sym delivers.1) lists
-  delivers_keep core sender old new _ delivers lists = absurd delivers
+  delivers : (core sender : ℕ) (old new : WorldView J T) (answer : Reply J) → Delivers core sender old new answer → (new ≡ old) ⊎ IsLonger old new
+  delivers core sender old new reply.Noted happens =
+      inr (record { actor = core; notes = happens.2; sent = old.sent; kept = same_rows old.sent; is = happens.4 })
+  delivers core sender old new reply.Empty happens = inl happens.1
+  delivers core sender old new _ happens = absurd happens
 
 module _ {J T : Type 0} (made : J → ℕ) (polls : J → ℕ → Step T → Option ℕ → Type 0) (answers : J → T → Type 0) where
-  turns_keep : (core spent : ℕ) (old new : WorldView J T) (answer : Reply J) → Turns made polls answers core spent old new answer → HasAllLists old → HasAllLists new
-  turns_keep core spent old new reply.Noted turns lists =
-      keeps_lists old new
-      (record { actor = core; notes = turn_notes turns.name turns.queue turns.runtime (unwrap_or turns.told spent) turns.step (journal_at core old); sent = old.sent; kept = same_rows old.sent; is = turns.notes }) lists
-  turns_keep core spent old new reply.Idle turns lists = subst (λ world. HasAllLists world) (sym turns.1) lists
-  turns_keep core spent old new reply.Spent turns lists = subst (λ world. HasAllLists world) (sym turns.2) lists
-  turns_keep core spent old new _ turns lists = absurd turns
+  turns : (core spent : ℕ) (old new : WorldView J T) (answer : Reply J) → Turns made polls answers core spent old new answer → (new ≡ old) ⊎ IsLonger old new
+  turns core spent old new reply.Noted happens =
+      inr (record { actor = core; notes = turn_notes happens.name happens.queue happens.runtime (unwrap_or happens.told spent) happens.step (journal_at core old); sent = old.sent; kept = same_rows old.sent; is = happens.notes })
+  turns core spent old new reply.Idle happens = inl happens.1
+  turns core spent old new reply.Spent happens = inl happens.2
+  turns core spent old new _ happens = absurd happens
 
-  steps_keep : (event : Event J) (old new : WorldView J T) (answer : Reply J) → Steps made polls answers event old new answer → HasAllLists old → HasAllLists new
-  steps_keep (Send sender core order) = sends_keep sender core order
-  steps_keep (Deliver core sender) = delivers_keep core sender
-  steps_keep (Turn core spent) = turns_keep core spent
+  steps : (event : Event J) (old new : WorldView J T) (answer : Reply J) → Steps made polls answers event old new answer → (new ≡ old) ⊎ IsLonger old new
+  steps (Send sender core order) = sends sender core order
+  steps (Deliver core sender) = delivers core sender
+  steps (Turn core spent) = turns core spent
+
+  -- an event changes nothing, or one journal is longer after it
+  pub is_longer : (event : Event J) (old new : WorldView J T) (answer : Reply J) → Happens made polls answers event old new answer → (new ≡ old) ⊎ IsLonger old new
+  is_longer event old new (reply.NoActor back) happens = inl happens.2
+  is_longer event old new (reply.NoRoom back) happens = inl happens.3
+  is_longer event old new answer happens = steps event old new answer happens.2
 
   pub happens_keep : (event : Event J) (old new : WorldView J T) (answer : Reply J) → Happens made polls answers event old new answer → HasAllLists old → HasAllLists new
-  happens_keep event old new (reply.NoActor back) happens lists = subst (λ world. HasAllLists world) (sym happens.2) lists
-  happens_keep event old new (reply.NoRoom back) happens lists = subst (λ world. HasAllLists world) (sym happens.3) lists
-  happens_keep event old new answer happens lists = steps_keep event old new answer happens.2 lists
+  happens_keep event old new answer happens lists =
+      ⊎_elim (λ same. subst (λ world. HasAllLists world) (sym same) lists) (λ longer. keeps_lists old new longer lists)
+      (is_longer event old new answer happens)

@@ -17,7 +17,7 @@ use Rattle.rt_world.specs.State.{order_note, order_under, assembly_of}
 use Rattle.rt_world.specs.Links.{link_at}
 use Rattle.rt_world.specs.Inside.{Parts, numbered_orders, core_at, notes_at, world_of, IsCoreAtRest}
 use Rattle.rt_world.specs.Tasks.{IsWorld}
-use Rattle.rt_world.proofs.Kept.{IsKept}
+use Rattle.rt_journal.proofs.Kept.{IsKept}
 use Rattle.rt_world.proofs.WorldViews.{journal_of-world, sent_at-world, first_under-numbered}
 use Rattle.rt_world.proofs.WorldDeliveries.{next_delivered, next_for_core, sender_known}
 

@@ -26,9 +26,9 @@ use Rattle.rt_world.specs.Turns.{polls_made}
 use Rattle.rt_world.specs.Links.{link_at, ChangesLink}
 use Rattle.rt_world.specs.Inside.{Parts, core_at, notes_at, world_of, IsCoreAtRest}
 use Rattle.rt_world.specs.Tasks.{IsWorld}
-use Rattle.rt_world.proofs.Kept.{IsKept}
-use Rattle.rt_world.proofs.KeptDeliveries.{refusal-missing}
-use Rattle.rt_world.proofs.KeptAnswers.{kept-back, kept-answered}
+use Rattle.rt_journal.proofs.Kept.{IsKept}
+use Rattle.rt_journal.proofs.KeptDeliveries.{refusal-missing}
+use Rattle.rt_journal.proofs.KeptAnswers.{kept-back, kept-answered}
 use Rattle.rt_world.proofs.NextDelivery as next_delivery
 use Rattle.rt_world.proofs.WorldDelivered as delivered
 

@@ -5,7 +5,7 @@ use Rattle.std.specs.Prelude.{map}
 use Rattle.std.proofs.lemmas.List.{ext_get_or, get_or_default, length-map}
 use Rattle.rt_link.specs.declared.plain.Whole.{Whole}
 use Rattle.rt_world.specs.Links.{no_link, row_of, link_at, ChangesLink}
-use Rattle.rt_world.proofs.WorldLists.{get_or-map}
+use Rattle.rt_journal.proofs.NumberedOrders.{get_or-map}
 
 module _ {J T : Type 0} (old new : List (List (Whole J T))) (sender core : ℕ) where
   -- a change that leaves the one link as it was leaves them all

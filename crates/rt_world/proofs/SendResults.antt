@@ -17,15 +17,15 @@ use Rattle.rt_link.specs.Calls.{Sends}
 use Rattle.rt_world.specs.State.{WorldView, order_note, journal_at}
 use Rattle.rt_world.specs.Sends.{Sends as SendsOrder}
 use Rattle.rt_world.specs.declared.event.Reply.TheVariants as reply
-use Rattle.rt_world.specs.Journals.{JournalView}
+use Rattle.rt_journal.specs.Journals.{JournalView}
 use Rattle.rt_world.specs.Links.{link_at, ChangesLink}
 use Rattle.rt_world.specs.Inside.{Parts, notes_at, world_of, IsLinkBetween}
 use Rattle.rt_world.specs.Tasks.{IsWorld}
 use Rattle.rt_world.proofs.JournalReads.{journal_written}
 use Rattle.rt_world.proofs.SameLinks.{same_links}
 use Rattle.rt_world.proofs.WorldAfter.{after}
-use Rattle.rt_world.proofs.WorldLists.{length-numbered}
-use Rattle.rt_world.proofs.AllOutstanding.{outstanding-accepted}
+use Rattle.rt_journal.proofs.NumberedOrders.{length-numbered}
+use Rattle.rt_journal.proofs.AllOutstanding.{outstanding-accepted}
 use Rattle.rt_world.proofs.SentLists.{sends-now}
 use Rattle.rt_world.proofs.WorldSends.{world-sent}
 use Rattle.rt_world.proofs.WorldViews.{journal_at-world}

@@ -17,7 +17,7 @@ use Rattle.rt_world.specs.State.{order_note}
 use Rattle.rt_world.specs.Links.{link_at, ChangesLink}
 use Rattle.rt_world.specs.Inside.{Parts, notes_at, numbered_orders, IsLinkBetween}
 use Rattle.rt_world.specs.Tasks.{IsWorld}
-use Rattle.rt_world.proofs.WorldLists.{length-numbered, numbered-append, take-longer}
+use Rattle.rt_journal.proofs.NumberedOrders.{length-numbered, numbered-append, take-longer}
 use Rattle.rt_world.proofs.WorldAfter.{after, notes_now, notes_elsewhere}
 
 module _ {J T : Type 0} (same : J → J → Type 0) (made : J → ℕ) (polls : J → ℕ → Step T → Option ℕ → Type 0)

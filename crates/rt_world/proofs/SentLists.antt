@@ -18,7 +18,7 @@ use Rattle.rt_world.specs.declared.event.Reply.TheVariants as reply
 use Rattle.rt_world.specs.Links.{link_at, row_of, no_link, ChangesLink}
 use Rattle.rt_world.specs.Inside.{Parts, notes_at, world_of}
 use Rattle.rt_world.specs.Tasks.{IsWorld}
-use Rattle.rt_world.proofs.WorldLists.{get_or-map}
+use Rattle.rt_journal.proofs.NumberedOrders.{get_or-map}
 use Rattle.rt_world.proofs.WorldAfter.{after}
 use Rattle.rt_world.proofs.WorldViews.{journal_at-world, sent_at-world}
 use Rattle.rt_world.proofs.SentNotes.{next_sent}

@@ -15,9 +15,9 @@ use Rattle.rt_world.specs.State.{order_note}
 use Rattle.rt_world.specs.Links.{link_at, ChangesLink}
 use Rattle.rt_world.specs.Inside.{Parts, core_at, notes_at, IsCoreAtRest, IsLinkBetween}
 use Rattle.rt_world.specs.Tasks.{IsWorld}
-use Rattle.rt_world.proofs.Kept.{plainly_stands, stays_calm, calm_sent, SameJobs}
-use Rattle.rt_world.proofs.WorldLists.{length-numbered}
-use Rattle.rt_world.proofs.AllOutstanding.{outstanding-accepted}
+use Rattle.rt_journal.proofs.Kept.{plainly_stands, stays_calm, calm_sent, SameJobs}
+use Rattle.rt_journal.proofs.NumberedOrders.{length-numbered}
+use Rattle.rt_journal.proofs.AllOutstanding.{outstanding-accepted}
 
 module _ {J T : Type 0} (same : J → J → Type 0) (made : J → ℕ) (polls : J → ℕ → Step T → Option ℕ → Type 0)
     (fits : Order J → Outcome J T → Type 0) (ready : Order J → Type 0)

@@ -24,11 +24,11 @@ use Rattle.rt_world.specs.Turns.{polls_made, settle_note, IsPoll}
 use Rattle.rt_world.specs.Turns as turns
 use Rattle.rt_world.specs.Inside.{Parts, core_at, notes_at, world_of}
 use Rattle.rt_world.specs.Tasks.{HasTask, IsWorld}
-use Rattle.rt_world.specs.Agreement.{names_of}
-use Rattle.rt_world.proofs.Kept.{IsKept}
-use Rattle.rt_world.proofs.KeptPicks.{right_pick, first_in_line, not_returning, start_told}
-use Rattle.rt_world.proofs.PollNotes.{poll_note}
-use Rattle.rt_world.proofs.TurnNotes.{after_turn}
+use Rattle.rt_journal.specs.Agreement.{names_of}
+use Rattle.rt_journal.proofs.Kept.{IsKept}
+use Rattle.rt_journal.proofs.KeptPicks.{right_pick, first_in_line, not_returning, start_told}
+use Rattle.rt_journal.proofs.PollNotes.{poll_note}
+use Rattle.rt_journal.proofs.TurnNotes.{after_turn}
 use Rattle.rt_world.proofs.WorldViews.{journal_at-world}
 use Rattle.rt_world.proofs.WorldQuiet.{quiet}
 

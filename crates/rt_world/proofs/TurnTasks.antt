@@ -13,8 +13,8 @@ use Rattle.rt_jobs.specs.Steps.{IsSameTask, OwesOn}
 use Rattle.rt_world.specs.State.{WorldView, journal_at, order_under}
 use Rattle.rt_world.specs.Turns.{polls_made}
 use Rattle.rt_world.specs.Tasks.{OwesAfter, HasTask}
-use Rattle.rt_world.specs.Agreement.{names_of}
-use Rattle.rt_world.proofs.PollNotes.{other_way}
+use Rattle.rt_journal.specs.Agreement.{names_of}
+use Rattle.rt_journal.proofs.PollNotes.{other_way}
 
 -- whoever waits is another than one who isn't among them
 among-place : {J : Type 0} (name : JobId) (waiting : List (JobId × Bool × J)) → among name (names_of waiting) ≡ false →

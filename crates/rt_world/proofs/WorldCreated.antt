@@ -19,8 +19,8 @@ use Rattle.rt_world.specs.State.{journal_at}
 use Rattle.rt_world.specs.Turns.{polls_made}
 use Rattle.rt_world.specs.Inside.{Parts, core_at, notes_at, world_of, IsCoreAtRest}
 use Rattle.rt_world.specs.Tasks.{OwesAfter, HasTask, IsWorld}
-use Rattle.rt_world.proofs.Kept.{plainly_stands}
-use Rattle.rt_world.proofs.KeptCommands.{agrees-created}
+use Rattle.rt_journal.proofs.Kept.{plainly_stands}
+use Rattle.rt_journal.proofs.KeptCommands.{agrees-created}
 use Rattle.rt_world.proofs.WorldViews.{journal_at-world}
 use Rattle.rt_world.proofs.WorldQuiet.{IsQuiet, quiet, polls_quiet, under_quiet, behind_quiet, world_quiet}
 

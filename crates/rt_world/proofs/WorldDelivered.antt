@@ -23,8 +23,8 @@ use Rattle.rt_world.specs.Turns.{polls_made}
 use Rattle.rt_world.specs.Links.{link_at, ChangesLink}
 use Rattle.rt_world.specs.Inside.{Parts, core_at, notes_at, world_of, IsCoreAtRest}
 use Rattle.rt_world.specs.Tasks.{OwesAfter, HasTask, IsWorld}
-use Rattle.rt_world.specs.Agreement.{IsJobOut}
-use Rattle.rt_world.proofs.Kept.{IsKept}
+use Rattle.rt_journal.specs.Agreement.{IsJobOut}
+use Rattle.rt_journal.proofs.Kept.{IsKept}
 use Rattle.rt_world.proofs.WorldViews.{journal_at-world, as_sent-stays}
 use Rattle.rt_world.proofs.WorldAfter.{after, Keeps, notes_now, under_stays, order_stays, world_after}
 use Rattle.rt_world.proofs.WorldDeliveries.{TellsDelivery, known_core, deliveries_keep}

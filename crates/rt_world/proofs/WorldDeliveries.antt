@@ -20,7 +20,7 @@ use Rattle.rt_core.specs.State.{CoreView, inside_count, delivered_of, opened}
 use Rattle.rt_world.specs.Links.{link_at, ChangesLink}
 use Rattle.rt_world.specs.Inside.{Parts, core_at, notes_at, numbered_orders, IsCoreAtRest, IsLinkBetween}
 use Rattle.rt_world.specs.Tasks.{IsWorld}
-use Rattle.rt_world.proofs.WorldLists.{slice_get-numbered, take-one_more}
+use Rattle.rt_journal.proofs.NumberedOrders.{slice_get-numbered, take-one_more}
 use Rattle.rt_world.proofs.WorldAfter.{after, Keeps, notes_now, notes_elsewhere}
 
 slice_get-mapped : {A B : Type 0} (f : A → B) (items : List A) (place : ℕ) (item : A) → slice_get items place ≡ Some item → slice_get (map f items) place ≡ Some (f item)

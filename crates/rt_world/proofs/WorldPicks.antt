@@ -26,8 +26,8 @@ use Rattle.rt_world.specs.Turns.{Turns}
 use Rattle.rt_world.specs.PickedJobs.{turn_of, TookOut, TookNone}
 use Rattle.rt_world.specs.Inside.{Parts, core_at, notes_at, world_of, IsCoreAtRest}
 use Rattle.rt_world.specs.Tasks.{IsWorld}
-use Rattle.rt_world.specs.Agreement.{names_of}
-use Rattle.rt_world.proofs.PollNotes.{poll_note}
+use Rattle.rt_journal.specs.Agreement.{names_of}
+use Rattle.rt_journal.proofs.PollNotes.{poll_note}
 use Rattle.rt_world.proofs.WorldViews.{journal_at-world}
 
 -- a job was taken out by a pick, which made these notes

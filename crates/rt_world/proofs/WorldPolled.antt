@@ -19,13 +19,13 @@ use Rattle.rt_core.specs.declared.turn.Settled.TheVariants.{Yielded, Finished}
 use Rattle.rt_core.specs.State.{CoreView, JobOut, runtime_of}
 use Rattle.rt_core.specs.Turns.{TakesOut, Picks, Settles, SettlesOut}
 use Rattle.rt_core.specs.Answers.{IsTaskOut}
-use Rattle.rt_world.specs.Journals.{JournalView}
+use Rattle.rt_journal.specs.Journals.{JournalView}
 use Rattle.rt_world.specs.State.{journal_at}
 use Rattle.rt_world.specs.Turns.{settle_note, IsPoll}
 use Rattle.rt_world.specs.PickedJobs.{TookOut}
 use Rattle.rt_world.specs.Inside.{Parts, core_at, notes_at, journal_view, world_of}
 use Rattle.rt_world.specs.Tasks.{IsWorld}
-use Rattle.rt_world.proofs.PollNotes.{poll_note}
+use Rattle.rt_journal.proofs.PollNotes.{poll_note}
 use Rattle.rt_world.proofs.WorldViews.{journal_at-world}
 use Rattle.rt_world.proofs.WorldAfter.{after}
 use Rattle.rt_world.proofs.WorldTurns.{yielded, ended}

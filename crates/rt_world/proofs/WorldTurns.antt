@@ -22,12 +22,12 @@ use Rattle.rt_world.specs.State.{journal_at, assembly_of}
 use Rattle.rt_world.specs.Turns.{polls_made, settle_note}
 use Rattle.rt_world.specs.Inside.{Parts, core_at, notes_at, world_of, IsCoreAtRest}
 use Rattle.rt_world.specs.Tasks.{HasTask, IsWorld}
-use Rattle.rt_world.specs.Agreement.{IsJobOut}
-use Rattle.rt_world.proofs.Kept.{IsKept}
-use Rattle.rt_world.proofs.KeptPicks.{kept-picked, apart_in}
-use Rattle.rt_world.proofs.PollNotes.{poll_note}
-use Rattle.rt_world.proofs.KeptSettles.{kept-yield, kept-done}
-use Rattle.rt_world.proofs.TurnNotes.{after_turn, accepted_after, delivered_after, as_sent_after, polls_after}
+use Rattle.rt_journal.specs.Agreement.{IsJobOut}
+use Rattle.rt_journal.proofs.Kept.{IsKept}
+use Rattle.rt_journal.proofs.KeptPicks.{kept-picked, apart_in}
+use Rattle.rt_journal.proofs.PollNotes.{poll_note}
+use Rattle.rt_journal.proofs.KeptSettles.{kept-yield, kept-done}
+use Rattle.rt_journal.proofs.TurnNotes.{after_turn, accepted_after, delivered_after, as_sent_after, polls_after}
 use Rattle.rt_world.proofs.TurnTasks.{tasks_kept, task_polled}
 use Rattle.rt_world.proofs.WorldViews.{journal_at-world}
 use Rattle.rt_world.proofs.WorldQuiet.{IsQuiet, quiet, polls_quiet, under_quiet, behind_quiet, world_quiet}

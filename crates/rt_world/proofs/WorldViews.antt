@@ -16,7 +16,7 @@ use Rattle.rt_ids.proofs.NameLemmas.{one_name, same_as_itself}
 use Rattle.rt_world.specs.State.{order_note, journal_at, sent_at, assembly_of}
 use Rattle.rt_world.specs.Links.{row_of, link_at, no_link}
 use Rattle.rt_world.specs.Inside.{Parts, notes_at, numbered_orders, world_of}
-use Rattle.rt_world.proofs.WorldLists.{get_or-map}
+use Rattle.rt_journal.proofs.NumberedOrders.{get_or-map}
 
 module _ {J T : Type 0} (parts : Parts J T) where
   pub journal_at-world : (actor : ℕ) → journal_at actor (world_of parts) ≡ notes_at actor parts.journals

@@ -1,14 +1,15 @@
 -- What the parts of a world are to each other: each core to its journal, each link to the journals of its two ends.
-use Rattle.std.specs.Prelude.{◌≡◌, ℕ, ◌+◌, ◌*◌, ◌<◌, ◌≤◌, None, false, List, [], ◌∷◌, length, map, sum, take, slice_index_or}
+use Rattle.std.specs.Prelude.{◌≡◌, ℕ, ◌+◌, ◌*◌, ◌<◌, ◌≤◌, None, false, List, [], length, map, sum, take, slice_index_or}
 use Rattle.rt_ids.specs.declared.names.JobId.{JobId}
 use Rattle.rt_ids.specs.declared.order.Order.{Order}
 use Rattle.rt_ids.specs.Journal.{Journal}
 use Rattle.rt_link.specs.declared.plain.Whole.{Whole}
 use Rattle.rt_core.specs.State.{CoreView, inside_count, opened}
-use Rattle.rt_world.specs.State.{WorldView, order_note}
-use Rattle.rt_world.specs.Journals.{JournalView}
+pub use Rattle.rt_journal.specs.Orders.{numbered_orders}
+use Rattle.rt_world.specs.State.{WorldView}
+use Rattle.rt_journal.specs.Journals.{JournalView}
 use Rattle.rt_world.specs.Links.{row_of}
-use Rattle.rt_world.specs.Agreement.{Agrees}
+use Rattle.rt_journal.specs.Agreement.{Agrees}
 
 -- the parts of a world: its cores, its links by sender and then by core, its journals by actor
 pub record Parts (J T : Type 0) : Type 0 where
@@ -22,12 +23,6 @@ pub record Parts (J T : Type 0) : Type 0 where
 module _ {J : Type 0} where
   abbrev pub core_at : ℕ → List (CoreView J) → CoreView J
   core_at core inside = slice_index_or inside core (opened 0 0 0 0)
-
-  -- the names of the orders of one link, which count from 1
-  abbrev pub numbered_orders : ℕ → ℕ → ℕ → List (Order J) → List (JobId × Order (Unit {0}))
-  numbered_orders sender core before [] = []
-  numbered_orders sender core before (order ∷ orders) =
-      (record { from = sender; to = core; number = before + 1 }, order_note order) ∷ numbered_orders sender core (before + 1) orders
 
 module _ {T : Type 0} where
   abbrev pub journal_view : ℕ → List (JournalView T) → JournalView T

@@ -4,9 +4,13 @@ pub mod Deliveries
 pub mod Turns
 pub mod PickedJobs
 pub mod Runs
-pub mod Agreement
-pub mod Journals
 pub mod Links
 pub mod Inside
 pub mod Tasks
 pub mod Opening
+pub mod Determined
+pub mod ScriptRuns
+pub mod Creations
+pub mod Rows
+pub mod WorkedRows
+pub mod Hollow

@@ -1,9 +1,8 @@
 -- A world as it opens, and the numbers that it opens with.
 use Rattle.std.specs.Prelude.{◌≡◌, ℕ, ◌+◌, ◌^◌, ◌<◌, ◌≤◌, [], ◌∷◌, length, slice_index_or, Result, Ok, Err}
-use Rattle.rt_ids.specs.declared.order.Order.TheVariants.{Create, SetShares}
 use Rattle.rt_ids.specs.declared.order.Order.{Order}
-use Rattle.rt_shares.specs.Charge.{InRange}
 use Rattle.rt_ids.specs.Lawful.{IsOpening}
+pub use Rattle.rt_journal.specs.Orders.{HasShares}
 use Rattle.rt_world.specs.declared.event.Event.{Event}
 use Rattle.rt_world.specs.declared.event.Event.TheVariants.{Send}
 use Rattle.rt_ids.specs.declared.note.Note.TheVariants.{Created}
@@ -42,12 +41,6 @@ pub record IsFresh {J T : Type 0} (cores cap room : ℕ) (world : WorldView J T)
   pub lists : HasAllLists world
   pub no_note : (actor : ℕ) → journal_at actor world ≡ []
   pub no_order : (sender core : ℕ) → sent_at sender core world ≡ []
-
--- the shares that an order hands in are within their range
-abbrev pub HasShares : {J : Type 0} → Order J → Type 0
-HasShares (Create weight) = InRange weight
-HasShares (SetShares queue weight) = InRange weight
-HasShares _ = Unit {0}
 
 -- the job that an event hands in is ready
 abbrev pub HasReadyEvent : {J : Type 0} → (Order J → Type 0) → Event J → Type 0

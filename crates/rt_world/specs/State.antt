@@ -3,9 +3,9 @@ use Rattle.std.specs.Prelude.{ℕ, ◌+◌, ◌*◌, ◌-◌, ◌<◌, List, [],
 use Rattle.rt_ids.specs.declared.names.JobId.{JobId}
 use Rattle.rt_ids.specs.declared.note.Note.{Note}
 use Rattle.rt_ids.specs.declared.order.Order.{Order}
-use Rattle.rt_ids.specs.declared.order.Order.TheVariants.{Job, Create, SetShares}
 use Rattle.rt_ids.specs.Journal.{Journal}
 use Rattle.rt_ids.specs.Assembly.{Assembly}
+pub use Rattle.rt_journal.specs.Orders.{order_note}
 
 -- the number of cores, the capacity of each link and the room of each journal; the journals by actor; and the orders accepted, by sender and then by core, the oldest first
 pub record WorldView (J T : Type 0) : Type 0 where
@@ -14,12 +14,6 @@ pub record WorldView (J T : Type 0) : Type 0 where
   pub room : ℕ
   pub journals : List (Journal T)
   pub sent : List (List (List (Order J)))
-
--- an order without its task
-abbrev pub order_note : {J : Type 0} → Order J → Order (Unit {0})
-order_note (Job queue job) = Job queue tt
-order_note (Create weight) = Create weight
-order_note (SetShares queue weight) = SetShares queue weight
 
 module _ {J T : Type 0} where
   abbrev pub journal_at : ℕ → WorldView J T → Journal T

@@ -1,35 +1,20 @@
 -- Turns: the right pick, and one poll of the first job of its line.
-use Rattle.std.specs.Prelude.{◌≡◌, ℕ, ◌+◌, ◌-◌, ◌^◌, ◌<◌, Option, Some, None, true, false, unwrap_or, Bool, List, [], ◌∷◌}
+use Rattle.std.specs.Prelude.{◌≡◌, ℕ, ◌+◌, ◌-◌, ◌^◌, ◌<◌, Option, Some, None, true, false, unwrap_or, List, [], ◌∷◌}
 use Rattle.rt_ids.specs.declared.names.JobId.{JobId}
 use Rattle.rt_ids.specs.declared.note.Note.TheVariants as writes
 use Rattle.rt_ids.specs.declared.order.Order.TheVariants.{Job}
-use Rattle.rt_ids.specs.declared.note.Note.{Note}
-use Rattle.rt_ids.specs.Names.{is_name}
-use Rattle.rt_ids.specs.Journal.{Journal, is_told}
+use Rattle.rt_ids.specs.Journal.{is_told}
 use Rattle.rt_ids.specs.Filters.{name_started}
-use Rattle.rt_ids.specs.Work.{has_work, number_if}
-use Rattle.rt_ids.specs.Lines.{line, name_settled}
+use Rattle.rt_ids.specs.Work.{has_work}
+use Rattle.rt_ids.specs.Lines.{line}
 use Rattle.rt_ids.specs.Picks.{IsRightPick, turns}
 use Rattle.rt_ids.specs.Commands.{return_reason}
 use Rattle.rt_jobs.specs.declared.job.Step.{Step}
-use Rattle.rt_jobs.specs.declared.job.Step.TheVariants as step
 use Rattle.rt_jobs.specs.Steps.{IfDone}
 use Rattle.rt_world.specs.declared.event.Reply.{Reply}
 use Rattle.rt_world.specs.declared.event.Reply.TheVariants as reply
+pub use Rattle.rt_journal.specs.Polls.{polls_made, poll_note, settle_note}
 use Rattle.rt_world.specs.State.{WorldView, journal_at, order_under, noted}
-
--- how often the job was polled
-abbrev pub polls_made : {T : Type 0} → JobId → Journal T → ℕ
-polls_made name [] = 0
-polls_made name (note ∷ before) = polls_made name before + number_if (is_name name (name_settled note))
-
-abbrev pub poll_note : {T : Type 0} → JobId → Bool → Note T
-poll_note name false = writes.Start name
-poll_note name true = writes.Resume name
-
-abbrev pub settle_note : {T : Type 0} → JobId → ℕ → Step T → Note T
-settle_note name time (step.Done out) = writes.Done name time out
-settle_note name time step.Yield = writes.Yield name time
 
 -- the words of a task: the polls that it made before, what a poll owes, and what may answer it
 module _ {J T : Type 0} (made : J → ℕ) (polls : J → ℕ → Step T → Option ℕ → Type 0) (answers : J → T → Type 0) where

@@ -13,9 +13,6 @@ use rt_link::{InEnd, OutEnd, PlainLink};
 use std::alloc::{AllocError, Global};
 use std::marker::Model;
 
-#[cfg(test)]
-mod tests;
-
 /// A link from each actor to each core. Only the opening takes memory.
 ///
 /// A contract sees a row of links for each sender, which has a link for each core.

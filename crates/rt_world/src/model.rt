@@ -4,20 +4,18 @@ ghost use Rattle.std.specs.Prelude.{◌≡◌, ◌+◌, ◌≤◌, length};
 ghost use Rattle.rt_ids.specs.Sound.{IsSound};
 ghost use Rattle.rt_world.specs.State.{journal_at, assembly_of};
 
-use crate::assembly::Assembly;
-use crate::journal::Journal;
 use crate::links::Links;
 use rt_core::Core;
 use rt_ids::ActorNo;
 use rt_jobs::Task;
+use rt_journal::{Assembly, Journal};
 use std::alloc::{AllocError, Allocator, Global};
 use std::marker::Model;
 
 mod events;
 mod opening;
+mod sound;
 mod steps;
-#[cfg(test)]
-mod tests;
 
 /// The cores of one executor, the links between all actors, and a journal for each actor.
 ///

@@ -9,10 +9,10 @@ ghost use Rattle.rt_world.specs.Opening.{IsUnbegun, HasReadyEvent};
 ghost use Rattle.rt_world.specs.Runs.{Happens, RunsTo};
 
 use super::World;
-use crate::assembly::Assembly;
 use crate::event::{Event, Reply};
 use rt_ids::ActorNo;
 use rt_jobs::{Job, Task};
+use rt_journal::Assembly;
 use std::alloc::Allocator;
 
 impl<J: Task<Out = u64>, A: Allocator + Clone> World<J, A> {

@@ -7,11 +7,11 @@ ghost use Rattle.rt_world.specs.Opening.{IsConfig, IsUnbegun, Opens, CreatesAtOp
 ghost use Rattle.rt_world.specs.Inside.{AreOpened, AreEmpty};
 
 use super::{World, WorldError};
-use crate::journal::Journal;
 use crate::links::Links;
 use rt_core::Core;
 use rt_ids::{CoreNo, QueueNo};
 use rt_jobs::Task;
+use rt_journal::Journal;
 use rt_shares::Shares;
 use rt_taskqueue::CreateError;
 use std::alloc::{AllocError, Allocator, Global};

@@ -11,10 +11,10 @@ ghost use Rattle.rt_world.specs.PickedJobs.{TookOut, TookNone};
 
 use super::World;
 use crate::event::Reply;
-use crate::orders::with_note;
 use rt_core::{PickError, Turn};
 use rt_ids::{ActorNo, CoreNo, Envelope, JobId, Note, Order, Ticket};
 use rt_jobs::{Job, Ran, Task};
+use rt_journal::with_note;
 use std::alloc::Allocator;
 
 impl<J: Task<Out = u64>, A: Allocator + Clone> World<J, A> {

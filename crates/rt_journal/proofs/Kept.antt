@@ -1,0 +1,208 @@
+-- A core that agrees with a journal in which each note may stand, and what follows for a note that changes nothing of the core.
+use Rattle.std.proofs.Common.{◌≡◌, ℕ, ◌+◌, Bool, true, false, List, [], ◌∷◌, length, refl, sym, ◌∙◌, ap, subst, arith, add-zero}
+use Rattle.std.specs.Prelude.{Option, Some, None, nat_lt, ◌||◌}
+use Rattle.std.proofs.lemmas.Bool.{lt-ltb}
+use Rattle.rt_ids.specs.declared.names.JobId.{JobId}
+use Rattle.rt_ids.specs.declared.note.Note.{Note}
+use Rattle.rt_ids.specs.declared.note.Note.TheVariants as writes
+use Rattle.rt_ids.specs.declared.order.Order.{Order}
+use Rattle.rt_ids.specs.declared.order.Reason.{Reason}
+use Rattle.rt_ids.specs.declared.order.Answer.{Answer}
+use Rattle.rt_ids.specs.Journal.{Journal, EachNote}
+use Rattle.rt_ids.specs.Filters.{name_started}
+use Rattle.rt_ids.specs.Runtimes.{virtual_runtime, floor, charge_noted, runtime_picked}
+use Rattle.rt_ids.specs.Names.{is_number}
+use Rattle.rt_ids.specs.Work.{has_work, number_if, queue_entered, queue_joined}
+use Rattle.rt_ids.specs.Lines.{line, queue_out, name_joining, name_leaving, name_polled, name_settled}
+use Rattle.rt_ids.specs.Closing.{queue_mode, core_mode}
+use Rattle.rt_ids.specs.Clauses.{queue_just_picked}
+use Rattle.rt_ids.specs.Commands.{answer_due}
+use Rattle.rt_ids.specs.Picks.{pick_count, turns}
+use Rattle.rt_ids.specs.Lawful.{MayFollow, MayStand, takes_turn, IsEffectDue}
+use Rattle.rt_ids.proofs.WorkOfLines.{has_work-line}
+use Rattle.rt_ids.proofs.RuntimeSteps.{virtual_runtime-stays, floor-stays}
+use Rattle.rt_ids.proofs.LineSteps.{line-stays}
+use Rattle.rt_ids.proofs.Counts.{queue_out-alone, queue_out-nobody}
+use Rattle.rt_taskqueue.specs.Queues.{waiting_of}
+use Rattle.rt_core.specs.State.{CoreView, JobOut, is_working, is_any, runtime_of}
+use Rattle.rt_core.specs.State as state
+use Rattle.rt_journal.specs.Agreement.{Agrees, IsJobOut, AreMarked, names_of}
+
+-- the journal is one of notes that may stand where they stand, with no step half done but for a poll, and the core agrees with it
+pub record IsKept {J T : Type 0} (actor cap : ℕ) (core : CoreView J) (journal : Journal T) : Type 0 where
+  pub agrees : Agrees core journal
+  pub notes : EachNote (MayStand actor cap) journal
+  pub no_pick : queue_just_picked journal ≡ None
+  pub no_answer : answer_due journal ≡ None
+
+-- a note that takes no turn and is no effect may stand where nothing is awaited
+pub plainly_stands : {T : Type 0} (actor cap : ℕ) (note : Note T) (before : Journal T) → MayFollow actor cap note before →
+    queue_just_picked before ≡ None → answer_due before ≡ None → takes_turn note ≡ false → IsEffectDue None note before →
+    MayStand actor cap note before
+plainly_stands actor cap note before law no_pick no_answer plain free =
+    record { may_follow = law; turn = rw (no_pick, plain); effect = rw no_answer free }
+
+module _ {T : Type 0} (actor cap : ℕ) where
+  -- no queue and no core is closed by any note that may stand
+  pub open_queues : (queue : ℕ) (journal : Journal T) → EachNote (MayStand actor cap) journal → queue_mode queue journal ≡ None
+  open_queues queue [] notes = refl
+  open_queues queue (note ∷ before) notes = by_note note notes.0.may_follow (open_queues queue before notes.1)
+    where
+      by_note : (note : Note T) → MayFollow actor cap note before → queue_mode queue before ≡ None → queue_mode queue (note ∷ before) ≡ None
+      by_note (writes.QueueClosed other mode) law stays = absurd law
+      by_note _ law stays = stays
+
+  pub open_core : (journal : Journal T) → EachNote (MayStand actor cap) journal → core_mode journal ≡ None
+  open_core [] notes = refl
+  open_core (note ∷ before) notes = by_note note notes.0.may_follow (open_core before notes.1)
+    where
+      by_note : (note : Note T) → MayFollow actor cap note before → core_mode before ≡ None → core_mode (note ∷ before) ≡ None
+      by_note (writes.CoreClosed mode) law stays = absurd law
+      by_note _ law stays = stays
+
+module _ {J : Type 0} where
+  -- something is there where a job waits or is out
+  nat_lt-line : (waiting : List (JobId × Bool × J)) (out : Bool) → nat_lt 0 (length (names_of waiting) + number_if out) ≡ (is_any waiting || out)
+  nat_lt-line [] true = refl
+  nat_lt-line [] false = refl
+  nat_lt-line (entry ∷ rest) out = lt-ltb 0 _ (omega arith)
+
+module _ {J T : Type 0} (core : CoreView J) (journal : Journal T) where
+  -- the queue of the job that is out
+  pub queue_out-agrees : IsJobOut core.out journal → state.queue_out core.out ≡ queue_out journal
+  queue_out-agrees out = by_out core.out out
+    where
+      by_out : (who : Option (JobOut J)) → IsJobOut who journal → state.queue_out who ≡ queue_out journal
+      by_out None nobody = sym (queue_out-nobody journal nobody)
+      by_out (Some job) alone = sym (queue_out-alone job.name journal alone.0 ∙ alone.1)
+
+  -- a queue works in the core where it has work in the journal
+  pub working : (actor cap queue : ℕ) → EachNote (MayStand actor cap) journal → Agrees core journal → is_working queue core ≡ has_work queue journal
+  working actor cap queue notes agrees =
+      rw (has_work-line actor cap queue journal notes, ← queue_out-agrees agrees.out, ← agrees.lines queue)
+      (sym (nat_lt-line (waiting_of queue core.queues) (is_number queue (state.queue_out core.out))))
+
+-- a note by which no job comes, goes, starts or costs anything
+pub record IsCalm {T : Type 0} (note : Note T) (before : Journal T) : Type 0 where
+  pub joins : (queue : ℕ) → name_joining queue note before ≡ None
+  pub leaves : name_leaving note ≡ None
+  pub polls : name_polled note ≡ None
+  pub settles : name_settled note ≡ None
+  pub enters : queue_joined note ≡ None
+  pub takes : (name : JobId) → queue_entered name note ≡ None
+  pub costs : (queue : ℕ) → charge_noted queue note before ≡ 0
+  pub picks : runtime_picked note ≡ 0
+  pub no_turn : pick_count note ≡ 0
+  pub starts : name_started note ≡ None
+
+-- what a calm note leaves as it was
+pub record StaysCalm {J T : Type 0} (core : CoreView J) (journal : Journal T) : Type 0 where
+  pub lines : (queue : ℕ) → names_of (waiting_of queue core.queues) ≡ line queue journal
+  pub marks : (queue : ℕ) → AreMarked journal (waiting_of queue core.queues)
+  pub runtimes : (queue : ℕ) → runtime_of queue core ≡ virtual_runtime queue journal
+  pub the_floor : core.floor ≡ floor journal
+  pub turns_made : core.turns ≡ turns journal
+  pub out : IsJobOut core.out journal
+
+-- the core tells the same of its jobs as before
+pub record SameJobs {J : Type 0} (old new : CoreView J) : Type 0 where
+  pub lines : (queue : ℕ) → waiting_of queue new.queues ≡ waiting_of queue old.queues
+  pub runtimes : (queue : ℕ) → runtime_of queue new ≡ runtime_of queue old
+  pub the_floor : new.floor ≡ old.floor
+  pub turns_made : new.turns ≡ old.turns
+  pub out : new.out ≡ old.out
+
+-- what is no pick makes no turn
+pub turns-stays : {T : Type 0} (note : Note T) (before : Journal T) → pick_count note ≡ 0 → turns (note ∷ before) ≡ turns before
+turns-stays note before none = ap (λ count. turns before + count) none ∙ add-zero (turns before)
+
+module _ {J T : Type 0} (note : Note T) (before : Journal T) (calm : IsCalm note before) where
+  marks-calm : (waiting : List (JobId × Bool × J)) → AreMarked before waiting → AreMarked (note ∷ before) waiting
+  marks-calm waiting marked = rw calm.starts marked
+
+  out-calm : (out : Option (JobOut J)) → IsJobOut out before → IsJobOut out (note ∷ before)
+  out-calm None nobody = rw (calm.settles, calm.polls) nobody
+  out-calm (Some job) alone = (rw (calm.settles, calm.polls) alone.0, rw (calm.takes job.name) alone.1)
+
+  pub stays_calm : (old new : CoreView J) → SameJobs old new → Agrees old before → StaysCalm new (note ∷ before)
+  stays_calm old new same agrees = record {
+    lines = λ queue.
+        ap names_of (same.lines queue) ∙ (agrees.lines queue ∙ sym (line-stays queue note before calm.leaves (calm.joins queue)));
+    marks = λ queue.
+        subst (AreMarked (note ∷ before)) (sym (same.lines queue)) (marks-calm (waiting_of queue old.queues) (agrees.marks queue));
+    runtimes = λ queue. same.runtimes queue ∙ agrees.runtimes queue ∙ sym (virtual_runtime-stays queue before note calm.enters (calm.costs queue));
+    the_floor = same.the_floor ∙ agrees.the_floor ∙ sym (floor-stays note before calm.picks);
+    turns_made = same.turns_made ∙ (agrees.turns ∙ sym (turns-stays note before calm.no_turn));
+    out = subst (λ out. IsJobOut out (note ∷ before)) (sym same.out) (out-calm old.out agrees.out);
+  }
+
+module _ {T : Type 0} (before : Journal T) where
+  pub calm_sent : (name : JobId) (order : Order (Unit {0})) → IsCalm (writes.Sent name order) before
+  calm_sent name order = record {
+    joins = λ queue. refl;
+    leaves = refl;
+    polls = refl;
+    settles = refl;
+    enters = refl;
+    takes = λ name. refl;
+    costs = λ queue. refl;
+    picks = refl;
+    no_turn = refl;
+    starts = refl;
+  }
+
+  pub calm_back : (name : JobId) (reason : Reason) → IsCalm (writes.Back name reason) before
+  calm_back name reason = record {
+    joins = λ queue. refl;
+    leaves = refl;
+    polls = refl;
+    settles = refl;
+    enters = refl;
+    takes = λ name. refl;
+    costs = λ queue. refl;
+    picks = refl;
+    no_turn = refl;
+    starts = refl;
+  }
+
+  pub calm_answered : (name : JobId) (answer : Answer) → IsCalm (writes.Answered name answer) before
+  calm_answered name answer = record {
+    joins = λ queue. refl;
+    leaves = refl;
+    polls = refl;
+    settles = refl;
+    enters = refl;
+    takes = λ name. refl;
+    costs = λ queue. refl;
+    picks = refl;
+    no_turn = refl;
+    starts = refl;
+  }
+
+  pub calm_created : (queue weight : ℕ) → IsCalm (writes.Created queue weight) before
+  calm_created queue weight = record {
+    joins = λ queue. refl;
+    leaves = refl;
+    polls = refl;
+    settles = refl;
+    enters = refl;
+    takes = λ name. refl;
+    costs = λ queue. refl;
+    picks = refl;
+    no_turn = refl;
+    starts = refl;
+  }
+
+  pub calm_weighed : (queue weight : ℕ) → IsCalm (writes.SharesSet queue weight) before
+  calm_weighed queue weight = record {
+    joins = λ queue. refl;
+    leaves = refl;
+    polls = refl;
+    settles = refl;
+    enters = refl;
+    takes = λ name. refl;
+    costs = λ queue. refl;
+    picks = refl;
+    no_turn = refl;
+    starts = refl;
+  }

@@ -1,0 +1,170 @@
+-- What a core tells of itself stays what its journal says, as a queue is created and as a queue gets shares.
+use Rattle.std.proofs.Common.{◌≡◌, inr, ℕ, zero, suc, ◌+◌, ◌<◌, ◌≤◌, Bool, true, false, List, [], ◌∷◌, ◌++◌, length, refl, sym, ◌∙◌, ap, subst, arith, get_or}
+use Rattle.std.specs.Prelude.{◌==◌, None, nat_le}
+use Rattle.std.proofs.lemmas.Bool.{eqb-true, eqb-false, le-leb, lt-leb}
+use Rattle.std.proofs.lemmas.List.{length-append}
+use Rattle.rt_shares.specs.Charge.{InRange}
+use Rattle.rt_ids.specs.declared.names.JobId.{JobId}
+use Rattle.rt_ids.specs.declared.note.Note.TheVariants as writes
+use Rattle.rt_ids.specs.declared.order.Order.TheVariants as orders
+use Rattle.rt_ids.specs.declared.order.Answer.{Answer}
+use Rattle.rt_ids.specs.declared.order.Answer.TheVariants as answers
+use Rattle.rt_ids.specs.Journal.{Journal, list_told}
+use Rattle.rt_ids.specs.Runtimes.{shares}
+use Rattle.rt_ids.specs.Commands.{last_queue, IsAnswer, IsCreationAnswer, queue_created}
+use Rattle.rt_ids.specs.Lawful.{IsNextDelivered}
+use Rattle.rt_ids.proofs.RuntimeSteps.{shares-created, shares-created_elsewhere, shares-set, shares-set_elsewhere}
+use Rattle.rt_taskqueue.specs.Queues.{queue_count, shares_of}
+use Rattle.rt_core.specs.State.{CoreView, no_tally, runtime_of}
+use Rattle.rt_core.specs.Deliveries.{Creates, Weighs, counted}
+use Rattle.rt_journal.specs.Agreement.{Agrees}
+use Rattle.rt_journal.proofs.Kept.{IsKept, open_core, stays_calm, SameJobs, calm_created, calm_weighed}
+use Rattle.rt_journal.proofs.KeptAnswers.{agrees-answered, answered_stands}
+
+-- one more at the end, that is what is read past the end, is not seen
+get_or-append_default : {A : Type 0} (items : List A) (default : A) (place : ℕ) → get_or (items ++ default ∷ []) place default ≡ get_or items place default
+get_or-append_default [] default zero = refl
+get_or-append_default [] default (suc place) = refl
+get_or-append_default (item ∷ items) default zero = refl
+get_or-append_default (item ∷ items) default (suc place) = get_or-append_default items default place
+
+module _ {J T : Type 0} (old new : CoreView J) (queue weight : ℕ) (journal : Journal T) (agrees : Agrees old journal) where
+  -- a queue is created
+  pub agrees-created : queue ≡ queue_count old.queues → Creates old weight new → new.delivered ≡ old.delivered → Agrees new (writes.Created queue weight ∷ journal)
+  agrees-created next creates same =
+      let calm = stays_calm (writes.Created queue weight) journal (calm_created journal queue weight) old new jobs agrees in
+      record {
+        tallied = ap (λ core. length core.tallies) creates.rest
+            ∙ (length-append old.tallies (no_tally ∷ []) ∙ (ap (λ count. count + 1) agrees.tallied ∙ sym creates.added.count));
+        senders = ap length same ∙ (agrees.senders ∙ ap (λ cores. cores + 1) (sym (ap (λ core. core.cores) creates.rest)));
+        last = creates.added.count ∙ ap (λ count. count + 1) (agrees.last ∙ sym (length-append (list_told queue_created journal) (queue ∷ [])));
+        lines = calm.lines;
+        marks = calm.marks;
+        runtimes = calm.runtimes;
+        the_floor = calm.the_floor;
+        turns = calm.turns_made;
+        out = calm.out;
+        weights = weights;
+        out_exists = λ out at. omega (arith, creates.added.count, agrees.out_exists out (sym (ap (λ core. core.out) creates.rest) ∙ at));
+        delivered = λ sender known. ap (λ list. get_or list sender 0) same ∙ agrees.delivered sender (rw (← ap (λ core. core.cores) creates.rest) known);
+      }
+    where
+      jobs : SameJobs old new
+      jobs = record {
+        lines = creates.added.same_lines;
+        runtimes = λ other. ap (λ core. runtime_of other core) creates.rest ∙ ap (λ tally. tally.runtime) (get_or-append_default old.tallies no_tally other);
+        the_floor = ap (λ core. core.floor) creates.rest;
+        turns_made = ap (λ core. core.turns) creates.rest;
+        out = ap (λ core. core.out) creates.rest;
+      }
+
+      weights : (other : ℕ) → other < queue_count new.queues → shares_of other new.queues ≡ shares other (writes.Created queue weight ∷ journal)
+      weights other there = by_test (other == queue) refl
+        where
+          by_test : (test : Bool) → (other == queue) ≡ test → shares_of other new.queues ≡ shares other (writes.Created queue weight ∷ journal)
+          by_test true one =
+              let here : other ≡ queue = eqb-true other queue one in
+              subst (λ at. shares_of at new.queues ≡ shares at (writes.Created queue weight ∷ journal)) (sym here)
+              (subst (λ at. shares_of at new.queues ≡ weight) (sym next) creates.added.given ∙ sym (shares-created queue journal weight))
+          by_test false apart =
+              let away : other ≡ queue → ⊥ = eqb-false other queue apart in
+              creates.added.others other (λ last. away (last ∙ sym next))
+              ∙ (agrees.weights other (omega (arith, there, creates.added.count, next)) ∙ sym (shares-created_elsewhere other journal queue weight away))
+
+  -- a queue gets shares
+  pub agrees-weighed : Weighs old queue weight new → new.delivered ≡ old.delivered → Agrees new (writes.SharesSet queue weight ∷ journal)
+  agrees-weighed weighs same =
+      let calm = stays_calm (writes.SharesSet queue weight) journal (calm_weighed journal queue weight) old new jobs agrees in
+      record {
+        tallied = ap (λ core. length core.tallies) weighs.rest ∙ (agrees.tallied ∙ sym weighs.shares.same_count);
+        senders = ap length same ∙ (agrees.senders ∙ ap (λ cores. cores + 1) (sym (ap (λ core. core.cores) weighs.rest)));
+        last = weighs.shares.same_count ∙ agrees.last;
+        lines = calm.lines;
+        marks = calm.marks;
+        runtimes = calm.runtimes;
+        the_floor = calm.the_floor;
+        turns = calm.turns_made;
+        out = calm.out;
+        weights = weights;
+        out_exists = λ out at. rw weighs.shares.same_count (agrees.out_exists out (sym (ap (λ core. core.out) weighs.rest) ∙ at));
+        delivered = λ sender known. ap (λ list. get_or list sender 0) same ∙ agrees.delivered sender (rw (← ap (λ core. core.cores) weighs.rest) known);
+      }
+    where
+      jobs : SameJobs old new
+      jobs = record {
+        lines = weighs.shares.same_lines;
+        runtimes = λ other. ap (λ core. runtime_of other core) weighs.rest;
+        the_floor = ap (λ core. core.floor) weighs.rest;
+        turns_made = ap (λ core. core.turns) weighs.rest;
+        out = ap (λ core. core.out) weighs.rest;
+      }
+
+      weights : (other : ℕ) → other < queue_count new.queues → shares_of other new.queues ≡ shares other (writes.SharesSet queue weight ∷ journal)
+      weights other there = by_test (other == queue) refl
+        where
+          by_test : (test : Bool) → (other == queue) ≡ test → shares_of other new.queues ≡ shares other (writes.SharesSet queue weight ∷ journal)
+          by_test true one =
+              let here : other ≡ queue = eqb-true other queue one in
+              subst (λ at. shares_of at new.queues ≡ shares at (writes.SharesSet queue weight ∷ journal)) (sym here)
+              (weighs.shares.changed ∙ sym (shares-set queue journal weight))
+          by_test false apart =
+              let away : other ≡ queue → ⊥ = eqb-false other queue apart in
+              weighs.shares.others other away
+              ∙ (agrees.weights other (rw (← weighs.shares.same_count) there) ∙ sym (shares-set_elsewhere other journal queue weight away))
+
+-- the commands that have an effect, with the note of the answer and that of the effect
+module _ {J T : Type 0} (actor cap : ℕ) (old new : CoreView J) (name : JobId) (queue weight : ℕ) (journal : Journal T) (kept : IsKept actor cap old journal)
+    (next : IsNextDelivered actor name journal) (sender : name.from ≤ old.cores) (in_range : InRange weight) (now : new.delivered ≡ counted name old) where
+  abbrev middle : CoreView J
+  middle = record old { delivered = counted name old }
+
+  -- a creation finds a core that isn't closed, and room for one more queue
+  pub creation_answer : (full : Bool) → nat_le 255 (last_queue journal) ≡ full → (answer : Answer) → IsCreationAnswer None full (last_queue journal + 1) answer →
+      IsAnswer (orders.Create weight) answer journal
+  creation_answer full at answer right = rw (open_core actor cap journal kept.notes, at) right
+
+  pub kept-created : queue ≡ queue_count old.queues → Creates old weight new →
+      IsAnswer (orders.Create weight) (answers.Created queue) journal
+      × IsKept actor cap new (writes.Created queue weight ∷ writes.Answered name (answers.Created queue) ∷ journal)
+  kept-created number creates = (
+    right,
+    record {
+      agrees = agrees-created middle new queue weight _ (agrees-answered actor cap old middle name journal kept next sender refl (answers.Created queue)) number
+          (record { few = creates.few; added = creates.added; rest = creates.rest }) now;
+      notes = (
+        record { may_follow = record { next = number ∙ kept.agrees.last; in_range = rw number creates.few; shares = in_range }; turn = refl; effect = refl },
+        (answered_stands actor cap old middle name journal kept next sender refl (orders.Create weight) (answers.Created queue) right, kept.notes),
+      );
+      no_pick = refl;
+      no_answer = refl;
+    },
+  )
+    where
+      few : nat_le 255 (last_queue journal) ≡ false
+      few = lt-leb 255 (last_queue journal) (omega (arith, creates.few, kept.agrees.last))
+
+      right : IsAnswer (orders.Create weight) (answers.Created queue) journal
+      right = creation_answer false few (answers.Created queue) (inr (ap answers.Created (number ∙ kept.agrees.last)))
+
+  pub kept-weighed : Weighs old queue weight new →
+      IsAnswer (orders.SetShares queue weight) answers.SharesSet journal
+      × IsKept actor cap new (writes.SharesSet queue weight ∷ writes.Answered name answers.SharesSet ∷ journal)
+  kept-weighed weighs = (
+    right,
+    record {
+      agrees = agrees-weighed middle new queue weight _ (agrees-answered actor cap old middle name journal kept next sender refl answers.SharesSet)
+          (record { exists = weighs.exists; shares = weighs.shares; rest = weighs.rest }) now;
+      notes = (
+        record { may_follow = (exists, in_range); turn = refl; effect = refl },
+        (answered_stands actor cap old middle name journal kept next sender refl (orders.SetShares queue weight) answers.SharesSet right, kept.notes),
+      );
+      no_pick = refl;
+      no_answer = refl;
+    },
+  )
+    where
+      exists : queue ≤ last_queue journal
+      exists = omega (arith, weighs.exists, kept.agrees.last)
+
+      right : IsAnswer (orders.SetShares queue weight) answers.SharesSet journal
+      right = rw (le-leb queue (last_queue journal) exists)

@@ -1,0 +1,155 @@
+-- What a core tells of itself stays what its journal says, as the poll of the job that is out is settled.
+use Rattle.std.proofs.Common.{◌≡◌, ℕ, ◌+◌, ◌<◌, Bool, true, false, [], ◌∷◌, ◌++◌, length, refl, sym, ◌∙◌, ap, subst, arith, get_or-set_same, get_or-set_other, length-set}
+use Rattle.std.specs.Prelude.{◌==◌, Some, None}
+use Rattle.std.proofs.lemmas.Bool.{eqb-true, eqb-false}
+use Rattle.std.proofs.lemmas.List.{map-append}
+use Rattle.std.proofs.lemmas.List.Elements.{All-append, All-cons, All-nil}
+use Rattle.rt_shares.specs.Charge.{charge}
+use Rattle.rt_ids.specs.declared.names.JobId.{JobId}
+use Rattle.rt_ids.specs.declared.note.Note.TheVariants as writes
+use Rattle.rt_ids.specs.Journal.{Journal, is_told}
+use Rattle.rt_ids.specs.Filters.{name_started}
+use Rattle.rt_ids.specs.Work.{queue_of}
+use Rattle.rt_ids.specs.Runtimes.{virtual_runtime, shares}
+use Rattle.rt_ids.specs.Lines.{line, jobs_out}
+use Rattle.rt_ids.proofs.JobsOut.{jobs_out-yield, jobs_out-done}
+use Rattle.rt_ids.proofs.LineSteps.{line-yield, line-yield_elsewhere, line-done}
+use Rattle.rt_ids.proofs.Starts.{is_told-alone}
+use Rattle.rt_ids.proofs.RuntimeSteps.{virtual_runtime-yield, virtual_runtime-yield_elsewhere, virtual_runtime-done, virtual_runtime-done_elsewhere, floor-stays}
+use Rattle.rt_taskqueue.specs.Queues.{QueuesView, queue_count, waiting_of, shares_of, ChangesLine}
+use Rattle.rt_core.specs.State.{CoreView, JobOut, no_tally, runtime_of}
+use Rattle.rt_core.specs.Turns.{settled_view}
+use Rattle.rt_journal.specs.Agreement.{IsJobOut, AreMarked, names_of}
+use Rattle.rt_journal.proofs.Kept.{IsKept, plainly_stands, turns-stays}
+
+none≢some : {A : Type 0} (item : A) → None ≡ Some item → ⊥
+none≢some item same = cc
+
+module _ {J T : Type 0} (actor cap : ℕ) (old : CoreView J) (job : JobOut J) (time done : ℕ) (queues : QueuesView J) (journal : Journal T)
+    (kept : IsKept actor cap old journal) (at : old.out ≡ Some job) where
+  abbrev new : CoreView J
+  new = settled_view old job time done queues
+
+  is_out : (jobs_out journal ≡ job.name ∷ []) × (queue_of job.name journal ≡ Some job.queue)
+  is_out = subst (λ out. IsJobOut out journal) at kept.agrees.out
+
+  exists : job.queue < queue_count old.queues
+  exists = kept.agrees.out_exists job at
+
+  -- the queue of the job is charged, and no other
+  runtime_charged : runtime_of job.queue new ≡ virtual_runtime job.queue journal + charge time (shares job.queue journal)
+  runtime_charged =
+      ap (λ tally. tally.runtime) (get_or-set_same old.tallies job.queue _ no_tally (omega (arith, exists, kept.agrees.tallied)))
+      ∙ (ap (λ runtime. runtime + charge time (shares_of job.queue old.queues)) (kept.agrees.runtimes job.queue)
+      ∙ ap (λ weight. virtual_runtime job.queue journal + charge time weight) (kept.agrees.weights job.queue exists))
+
+  runtime_same : (other : ℕ) → (other ≡ job.queue → ⊥) → runtime_of other new ≡ virtual_runtime other journal
+  runtime_same other away =
+      ap (λ tally. tally.runtime) (get_or-set_other old.tallies job.queue other _ no_tally away) ∙ kept.agrees.runtimes other
+
+  tallied_now : queue_count queues ≡ queue_count old.queues → length new.tallies ≡ queue_count queues
+  tallied_now same = length-set old.tallies job.queue _ ∙ (kept.agrees.tallied ∙ sym same)
+
+  abbrev yielded : Journal T
+  yielded = writes.Yield job.name time ∷ journal
+
+  abbrev is_marked : JobId × Bool × J → Type 0
+  is_marked entry = entry.1 ≡ is_told name_started entry.0 journal
+
+  pub kept-yield : (back : J) → ChangesLine old.queues queues job.queue (waiting_of job.queue old.queues ++ (job.name, true, back) ∷ []) → IsKept actor cap new yielded
+  kept-yield back changes = record {
+    agrees = record {
+      tallied = tallied_now changes.same_count;
+      senders = kept.agrees.senders;
+      last = changes.same_count ∙ kept.agrees.last;
+      lines = lines;
+      marks = marks;
+      runtimes = runtimes;
+      weights = λ other there. changes.same_shares other ∙ kept.agrees.weights other (rw (← changes.same_count) there);
+      the_floor = kept.agrees.the_floor ∙ sym (floor-stays (writes.Yield job.name time) journal refl);
+      turns = kept.agrees.turns ∙ sym (turns-stays (writes.Yield job.name time) journal refl);
+      out = jobs_out-yield job.name time journal is_out.0;
+      out_exists = λ out none. absurd (none≢some out none);
+      delivered = kept.agrees.delivered;
+    };
+    notes = (plainly_stands actor cap (writes.Yield job.name time) journal is_out.0 kept.no_pick kept.no_answer refl tt, kept.notes);
+    no_pick = refl;
+    no_answer = refl;
+  }
+    where
+      lines : (other : ℕ) → names_of (waiting_of other queues) ≡ line other yielded
+      lines other = by_test (other == job.queue) refl
+        where
+          by_test : (test : Bool) → (other == job.queue) ≡ test → names_of (waiting_of other queues) ≡ line other yielded
+          by_test true same =
+              let one : other ≡ job.queue = eqb-true other job.queue same in
+              subst (λ place. names_of (waiting_of place queues) ≡ line place yielded) (sym one)
+              (
+              ap names_of changes.changed
+              ∙ (map-append (λ entry. entry.0) (waiting_of job.queue old.queues) ((job.name, true, back) ∷ [])
+              ∙ (ap (λ names. names ++ job.name ∷ []) (kept.agrees.lines job.queue) ∙ sym (line-yield job.queue time job.name journal is_out.1)))
+              )
+          by_test false apart =
+              let away : other ≡ job.queue → ⊥ = eqb-false other job.queue apart in
+              ap names_of (changes.others other away) ∙ (kept.agrees.lines other ∙ sym (line-yield_elsewhere other job.queue time job.name journal is_out.1 away))
+
+      marks : (other : ℕ) → AreMarked yielded (waiting_of other queues)
+      marks other = by_test (other == job.queue) refl
+        where
+          by_test : (test : Bool) → (other == job.queue) ≡ test → AreMarked yielded (waiting_of other queues)
+          by_test true same =
+              let one : other ≡ job.queue = eqb-true other job.queue same in
+              subst (AreMarked yielded) (sym (ap (λ place. waiting_of place queues) one ∙ changes.changed))
+              (
+              All-append is_marked (waiting_of job.queue old.queues) ((job.name, true, back) ∷ []) (kept.agrees.marks job.queue)
+              (All-cons is_marked (job.name, true, back) [] (sym (is_told-alone actor cap job.name journal kept.notes is_out.0)) (All-nil is_marked))
+              )
+          by_test false apart = subst (AreMarked yielded) (sym (changes.others other (eqb-false other job.queue apart))) (kept.agrees.marks other)
+
+      runtimes : (other : ℕ) → runtime_of other new ≡ virtual_runtime other yielded
+      runtimes other = by_test (other == job.queue) refl
+        where
+          by_test : (test : Bool) → (other == job.queue) ≡ test → runtime_of other new ≡ virtual_runtime other yielded
+          by_test true same =
+              let one : other ≡ job.queue = eqb-true other job.queue same in
+              subst (λ place. runtime_of place new ≡ virtual_runtime place yielded) (sym one)
+              (runtime_charged ∙ sym (virtual_runtime-yield job.queue journal job.name time is_out.1))
+          by_test false apart =
+              let away : other ≡ job.queue → ⊥ = eqb-false other job.queue apart in
+              runtime_same other away ∙ sym (virtual_runtime-yield_elsewhere other journal job.name time job.queue is_out.1 away)
+
+  abbrev finished : T → Journal T
+  finished value = writes.Done job.name time value ∷ journal
+
+  pub kept-done : (value : T) → queues ≡ old.queues → IsKept actor cap new (finished value)
+  kept-done value same = record {
+    agrees = record {
+      tallied = tallied_now (ap queue_count same);
+      senders = kept.agrees.senders;
+      last = ap queue_count same ∙ kept.agrees.last;
+      lines = λ other. ap (λ view. names_of (waiting_of other view)) same ∙ (kept.agrees.lines other ∙ sym (line-done actor cap journal kept.notes other time value job.name is_out.0));
+      marks = λ other. subst (λ view. AreMarked (finished value) (waiting_of other view)) (sym same) (kept.agrees.marks other);
+      runtimes = runtimes;
+      weights = λ other there. ap (λ view. shares_of other view) same ∙ kept.agrees.weights other (rw (← ap queue_count same) there);
+      the_floor = kept.agrees.the_floor ∙ sym (floor-stays (writes.Done job.name time value) journal refl);
+      turns = kept.agrees.turns ∙ sym (turns-stays (writes.Done job.name time value) journal refl);
+      out = jobs_out-done job.name time value journal is_out.0;
+      out_exists = λ out none. absurd (none≢some out none);
+      delivered = kept.agrees.delivered;
+    };
+    notes = (plainly_stands actor cap (writes.Done job.name time value) journal is_out.0 kept.no_pick kept.no_answer refl tt, kept.notes);
+    no_pick = refl;
+    no_answer = refl;
+  }
+    where
+      runtimes : (other : ℕ) → runtime_of other new ≡ virtual_runtime other (finished value)
+      runtimes other = by_test (other == job.queue) refl
+        where
+          by_test : (test : Bool) → (other == job.queue) ≡ test → runtime_of other new ≡ virtual_runtime other (finished value)
+          by_test true one =
+              let here : other ≡ job.queue = eqb-true other job.queue one in
+              subst (λ place. runtime_of place new ≡ virtual_runtime place (finished value)) (sym here)
+              (runtime_charged ∙ sym (virtual_runtime-done job.queue journal job.name time value is_out.1))
+          by_test false apart =
+              let away : other ≡ job.queue → ⊥ = eqb-false other job.queue apart in
+              runtime_same other away ∙ sym (virtual_runtime-done_elsewhere other journal job.name time value job.queue is_out.1 away)

@@ -1,0 +1,11 @@
+pub mod NumberedOrders
+pub mod Kept
+pub mod KeptDeliveries
+pub mod KeptAnswers
+pub mod KeptCommands
+pub mod PollNotes
+pub mod KeptPicks
+pub mod KeptSettles
+pub mod PollsMade
+pub mod TurnNotes
+pub mod AllOutstanding

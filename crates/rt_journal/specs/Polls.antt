@@ -1,0 +1,26 @@
+-- How often a job was polled, and the notes of a poll.
+use Rattle.std.specs.Prelude.{ℕ, ◌+◌, Bool, true, false, [], ◌∷◌}
+use Rattle.rt_ids.specs.declared.names.JobId.{JobId}
+use Rattle.rt_ids.specs.declared.note.Note.{Note}
+use Rattle.rt_ids.specs.declared.note.Note.TheVariants as writes
+use Rattle.rt_ids.specs.Names.{is_name}
+use Rattle.rt_ids.specs.Journal.{Journal}
+use Rattle.rt_ids.specs.Work.{number_if}
+use Rattle.rt_ids.specs.Lines.{name_settled}
+use Rattle.rt_jobs.specs.declared.job.Step.{Step}
+use Rattle.rt_jobs.specs.declared.job.Step.TheVariants as step
+
+-- how often the job was polled
+abbrev pub polls_made : {T : Type 0} → JobId → Journal T → ℕ
+polls_made name [] = 0
+polls_made name (note ∷ before) = polls_made name before + number_if (is_name name (name_settled note))
+
+-- a poll is a job's first, or a further one
+abbrev pub poll_note : {T : Type 0} → JobId → Bool → Note T
+poll_note name false = writes.Start name
+poll_note name true = writes.Resume name
+
+-- a poll ends the job, or the job yields
+abbrev pub settle_note : {T : Type 0} → JobId → ℕ → Step T → Note T
+settle_note name time (step.Done out) = writes.Done name time out
+settle_note name time step.Yield = writes.Yield name time

@@ -1,0 +1,67 @@
+//! The journals of all actors, after a run.
+
+ghost use Rattle.std.specs.Prelude.{◌≡◌, ◌≤◌, ◌+◌, length, map};
+ghost use Rattle.rt_ids.specs.Assembly.{journal_of};
+
+use crate::journal::Journal;
+use rt_ids::ActorNo;
+use std::marker::Model;
+
+/// The journals of the cores and of the outside actor, with the numbers that they were made under.
+#[derive(Drop)]
+pub struct Assembly {
+    cores: u8,
+    cap: u16,
+    journals: Vec<Journal<u64>>,
+}
+
+impl Model for Assembly {
+    ghost use Rattle.std.specs.Prelude.{ℕ, ◌≡◌, ◌+◌, length, map};
+    ghost use Rattle.rt_ids.specs.Assembly.{Assembly};
+
+    ghost Value = { Assembly ℕ };
+
+    ghost view = { λ assembly. record {
+      cores = assembly.cores;
+      cap = assembly.cap;
+      journals = map (λ journal. journal.notes) assembly.journals.items;
+    } };
+
+    ghost invariant = { λ assembly. length assembly.journals.items ≡ assembly.cores + 1 };
+}
+
+impl Assembly {
+    /// The journals, one for each core and one for the outside actor.
+    pub fn of(cores: u8, cap: u16, journals: Vec<Journal<u64>>) -> Self
+        requires { length journals.items ≡ cores + 1 }
+        ensures { result ≡ record { cores = cores; cap = cap; journals = map (λ journal. journal.notes) journals.items } }
+    {
+        Assembly {
+            cores,
+            cap,
+            journals,
+        }
+    }
+
+    /// How many cores there are. The outside actor has the number behind them.
+    pub fn cores(&self) -> u8
+        ensures { result ≡ self.now.cores }
+    {
+        self.cores
+    }
+
+    /// How many submissions may be outstanding on each link.
+    pub fn cap(&self) -> u16
+        ensures { result ≡ self.now.cap }
+    {
+        self.cap
+    }
+
+    /// The notes of one actor.
+    pub fn journal(&self, actor: ActorNo) -> &Journal<u64>
+        requires { actor ≤ self.now.cores }
+        ensures { result.now.notes ≡ journal_of actor self.now }
+    {
+        &self.journals[actor.0 as usize]
+    }
+}

@@ -1,0 +1,85 @@
+-- A send has one result.
+use Rattle.std.proofs.Common.{◌≡◌, ℕ, ◌+◌, ◌-◌, ◌^◌, ◌<◌, ◌≤◌, [], ◌∷◌, length, sym, ◌∙◌, ap, subst, ◌⊎◌, inl, inr, arith}
+use Rattle.rt_ids.specs.declared.names.JobId.{JobId}
+use Rattle.rt_ids.specs.declared.note.Note.TheVariants as writes
+use Rattle.rt_ids.specs.declared.order.Order.{Order}
+use Rattle.rt_ids.specs.declared.order.SendError.TheVariants.{Full, Spent}
+use Rattle.rt_ids.specs.Filters.{accepted_orders}
+use Rattle.rt_ids.specs.Journal.{Journal}
+use Rattle.rt_ids.specs.Outstanding.{outstanding_count}
+use Rattle.rt_ids.specs.Lawful.{IsNextSent}
+use Rattle.rt_world.specs.declared.event.Reply.{Reply}
+use Rattle.rt_world.specs.declared.event.Reply.TheVariants as reply
+use Rattle.rt_world.specs.State.{WorldView, order_note, journal_at, noted, with_sent}
+use Rattle.rt_world.specs.Sends.{Sends}
+
+module _ {J T : Type 0} (sender core : ℕ) (order : Order J) (old : WorldView J T) where
+  abbrev journal : Journal T
+  journal = journal_at sender old
+
+  abbrev accepted : ℕ
+  accepted = length (accepted_orders core journal)
+
+  abbrev next_name : JobId
+  next_name = record { from = sender; to = core; number = accepted + 1 }
+
+  -- the world after the order was accepted under this name
+  abbrev with_name : JobId → WorldView J T
+  with_name name = record (noted sender (writes.Sent name (order_note order) ∷ []) old) { sent = with_sent sender core order old }
+
+  -- the order was accepted under the next name
+  record IsAccepted (new : WorldView J T) (answer : Reply J) : Type 0 where
+    credit : outstanding_count core journal < old.cap
+    in_range : accepted + 1 < 2 ^ 63
+    told : answer ≡ reply.Sent next_name
+    changed : new ≡ with_name next_name
+
+  -- it was refused, since the link was full
+  record IsFull (new : WorldView J T) (answer : Reply J) : Type 0 where
+    no_credit : old.cap ≤ outstanding_count core journal
+    told : answer ≡ reply.NotSent (Full order)
+    same : new ≡ old
+
+  -- it was refused, since the last number was given
+  record IsSpent (new : WorldView J T) (answer : Reply J) : Type 0 where
+    credit : outstanding_count core journal < old.cap
+    all_given : accepted ≡ 2 ^ 63 - 1
+    told : answer ≡ reply.NotSent (Spent order)
+    same : new ≡ old
+
+  name_is : (name : JobId) → IsNextSent sender old.cap name journal → name.to ≡ core → name ≡ next_name
+  name_is name next to = λ i. record { from = next.sender i; to = to i; number = number i }
+    where
+      number : name.number ≡ accepted + 1
+      number = next.next ∙ ap (λ at. length (accepted_orders at journal) + 1) to
+
+  sorted : (new : WorldView J T) (answer : Reply J) → Sends sender core order old new answer → IsAccepted new answer ⊎ (IsFull new answer ⊎ IsSpent new answer)
+  sorted new (reply.Sent name) sends =
+      let is = name_is name sends.0 sends.1 in
+      inl (record {
+        credit = subst (λ at. outstanding_count at journal < old.cap) sends.1 sends.0.credit;
+        in_range = subst (λ name. name.number < 2 ^ 63) is sends.0.in_range;
+        told = ap reply.Sent is;
+        changed = sends.2 ∙ ap with_name is;
+      })
+  sorted new (reply.NotSent (Full back)) sends =
+      inr (inl (record { no_credit = sends.1; told = ap (λ order. reply.NotSent (Full order)) sends.0; same = sends.2 }))
+  sorted new (reply.NotSent (Spent back)) sends =
+      inr (inr (record { credit = sends.1; all_given = sends.2; told = ap (λ order. reply.NotSent (Spent order)) sends.0; same = sends.3 }))
+  sorted new _ sends = absurd sends
+
+  module _ (new other : WorldView J T) (answer other_answer : Reply J) where
+    one : IsAccepted new answer ⊎ (IsFull new answer ⊎ IsSpent new answer) → IsAccepted other other_answer ⊎ (IsFull other other_answer ⊎ IsSpent other other_answer) →
+        (new ≡ other) × (answer ≡ other_answer)
+    one (inl a) (inl b) = (a.changed ∙ sym b.changed, a.told ∙ sym b.told)
+    one (inl a) (inr (inl b)) = absurd (omega (arith, a.credit, b.no_credit))
+    one (inl a) (inr (inr b)) = absurd (omega (arith, a.in_range, b.all_given))
+    one (inr (inl a)) (inl b) = absurd (omega (arith, a.no_credit, b.credit))
+    one (inr (inl a)) (inr (inl b)) = (a.same ∙ sym b.same, a.told ∙ sym b.told)
+    one (inr (inl a)) (inr (inr b)) = absurd (omega (arith, a.no_credit, b.credit))
+    one (inr (inr a)) (inl b) = absurd (omega (arith, a.all_given, b.in_range))
+    one (inr (inr a)) (inr (inl b)) = absurd (omega (arith, a.credit, b.no_credit))
+    one (inr (inr a)) (inr (inr b)) = (a.same ∙ sym b.same, a.told ∙ sym b.told)
+
+    pub sends_once : Sends sender core order old new answer → Sends sender core order old other other_answer → (new ≡ other) × (answer ≡ other_answer)
+    sends_once first second = one (sorted new answer first) (sorted other other_answer second)

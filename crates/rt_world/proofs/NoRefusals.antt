@@ -1,0 +1,199 @@
+-- Where no queue is ordered, no refusal is told.
+use Rattle.std.proofs.Common.{◌≡◌, ℕ, zero, suc, ◌+◌, Bool, true, false, cond, List, [], ◌∷◌, ◌++◌, length, refl, sym, ◌∙◌, ap, subst, ◌⊎◌, inl, inr, ⊎_elim, get_or, set}
+use Rattle.std.specs.Prelude.{◌||◌, Option, Some, None, slice_get, nat_le, unwrap_or}
+use Rattle.std.proofs.lemmas.Bool.{cases_eq, cases_lt, true≢false}
+use Rattle.std.proofs.lemmas.List.{get_or-set_same, get_or-set_other, set_past}
+use Rattle.rt_ids.specs.declared.names.JobId.{JobId}
+use Rattle.rt_ids.specs.declared.note.Note.{Note}
+use Rattle.rt_ids.specs.declared.note.Note.TheVariants as writes
+use Rattle.rt_ids.specs.declared.order.Answer.{Answer}
+use Rattle.rt_ids.specs.declared.order.Answer.TheVariants as told_answers
+use Rattle.rt_ids.specs.declared.order.Order.{Order}
+use Rattle.rt_ids.specs.declared.order.Order.TheVariants.{Job, Create, SetShares}
+use Rattle.rt_ids.specs.declared.order.Reason.{Reason}
+use Rattle.rt_ids.specs.declared.order.SendError.TheVariants.{Full, Spent}
+use Rattle.rt_ids.specs.Commands.{last_queue, refusal, effect_note}
+use Rattle.rt_ids.specs.Filters.{name_started}
+use Rattle.rt_ids.specs.Journal.{Journal, is_told}
+use Rattle.rt_ids.specs.Lawful.{IsOpening}
+use Rattle.rt_jobs.specs.declared.job.Step.{Step}
+use Rattle.rt_jobs.specs.declared.job.Step.TheVariants as steps
+use Rattle.rt_world.specs.declared.event.Event.{Event}
+use Rattle.rt_world.specs.declared.event.Event.TheVariants.{Send, Deliver, Turn}
+use Rattle.rt_world.specs.declared.event.Reply.{Reply}
+use Rattle.rt_world.specs.declared.event.Reply.TheVariants as reply
+use Rattle.rt_world.specs.State.{WorldView, order_note, journal_at, sent_at, noted, with_sent}
+use Rattle.rt_world.specs.Sends.{Sends}
+use Rattle.rt_world.specs.Deliveries.{entry_note, with_effect, IsDelivery, next_place, Delivers}
+use Rattle.rt_world.specs.Turns.{poll_note, settle_note, Turns}
+use Rattle.rt_world.specs.Runs.{Steps, Happens}
+use Rattle.rt_world.specs.Opening.{IsUnbegun}
+use Rattle.rt_world.specs.Determined.{is_refusal, tells_refusal, WasRefused, IsToldRun}
+use Rattle.rt_world.specs.Creations.{IsNoCreation, OrdersNoQueue, OrderNoQueues, RunOfJobsIsDetermined}
+use Rattle.rt_world.proofs.KeptLists.{turn_notes}
+use Rattle.rt_world.proofs.DeterminedRuns.{run_once}
+
+-- after one place of a list was set, each place has the new item or what it had
+pub set_or : {A : Type 0} (items : List A) (place : ℕ) (item : A) (at : ℕ) (default : A) →
+    (get_or (set items place item) at default ≡ item) ⊎ (get_or (set items place item) at default ≡ get_or items at default)
+set_or items place item at default =
+    ⊎_elim
+    (
+    λ here.
+    ⊎_elim (λ within. inl (ap (λ at. get_or (set items place item) at default) here ∙ get_or-set_same items place item default within))
+    (λ past. inr (ap (λ all. get_or all at default) (set_past items place item past))) (cases_lt place (length items))
+    )
+    (λ other. inr (get_or-set_other items place at item default other)) (cases_eq at place)
+
+-- an item of a longer list is one of the shorter list, or the last
+last_or : {A : Type 0} (items : List A) (last item : A) (place : ℕ) → slice_get (items ++ last ∷ []) place ≡ Some item → (slice_get items place ≡ Some item) ⊎ (last ≡ item)
+last_or [] last item zero at = inr (cc)
+last_or [] last item (suc place) at = cc
+last_or (first ∷ items) last item zero at = inl at
+last_or (first ∷ items) last item (suc place) at = last_or items last item place at
+
+-- notes that tell no refusal don't hide whether the notes before told one
+not_added : {T : Type 0} (notes before : Journal T) → tells_refusal notes ≡ false → tells_refusal (notes ++ before) ≡ true → tells_refusal before ≡ true
+not_added [] before none told = told
+not_added {T} (note ∷ notes) before none told = by_note (is_refusal note) none told (not_added notes before)
+  where
+    by_note : (first : Bool) → (first || tells_refusal notes) ≡ false → (first || tells_refusal (notes ++ before)) ≡ true →
+        (tells_refusal notes ≡ false → tells_refusal (notes ++ before) ≡ true → tells_refusal before ≡ true) → tells_refusal before ≡ true
+    by_note true none told rest = absurd (true≢false none)
+    by_note false none told rest = rest none told
+
+module _ (T : Type 0) where
+  taken_plain : (name : JobId) (queue : ℕ) (reason : Option Reason) → tells_refusal {T = T} (entry_note name queue reason ∷ []) ≡ false
+  taken_plain name queue None = refl
+  taken_plain name queue (Some reason) = refl
+
+  abbrev shares_notes : JobId → ℕ → ℕ → Answer → List (Note T)
+  shares_notes name queue weight answer = with_effect (effect_note (SetShares queue weight) answer) (writes.Answered name answer ∷ [])
+
+  shares_plain : (name : JobId) (queue weight : ℕ) (there : Bool) → tells_refusal (shares_notes name queue weight (cond there told_answers.SharesSet told_answers.NoQueue)) ≡ false
+  shares_plain name queue weight true = refl
+  shares_plain name queue weight false = refl
+
+module _ {T : Type 0} where
+  turn_plain : (name : JobId) (queue runtime time : ℕ) (step : Step T) (started : Bool) → tells_refusal (settle_note name time step ∷ poll_note name started ∷ writes.Pick queue runtime ∷ []) ≡ false
+  turn_plain name queue runtime time (steps.Done out) true = refl
+  turn_plain name queue runtime time (steps.Done out) false = refl
+  turn_plain name queue runtime time steps.Yield true = refl
+  turn_plain name queue runtime time steps.Yield false = refl
+
+  opening_plain : (journal : Journal T) → IsOpening journal → tells_refusal journal ≡ false
+  opening_plain [] opening = refl
+  opening_plain (writes.Created queue weight ∷ before) opening = opening_plain before opening
+  opening_plain (_ ∷ before) opening = absurd opening
+
+some≢none : {A : Type 0} (item : A) → None ≡ Some item → ⊥
+some≢none item same = cc
+
+no_creation : {J : Type 0} (order : Order J) → ((weight : ℕ) → order ≡ Create weight → ⊥) → IsNoCreation order
+no_creation (Create weight) none = none weight refl
+no_creation (Job queue job) none = tt
+no_creation (SetShares queue weight) none = tt
+
+module _ {J T : Type 0} where
+  -- no queue was ordered, and no refusal told
+  pub record IsPlain (world : WorldView J T) : Type 0 where
+    pub orders : (sender core place weight : ℕ) → slice_get (sent_at sender core world) place ≡ Some (Create weight) → ⊥
+    pub told : WasRefused world.journals → ⊥
+
+  pub plain_unbegun : (world : WorldView J T) → IsUnbegun world → IsPlain world
+  plain_unbegun world unbegun = record {
+    orders = λ sender core place weight at. some≢none (Create weight) (sym (ap (λ orders. slice_get orders place) (unbegun.no_order sender core)) ∙ at);
+    told = λ refused. true≢false (sym refused.1 ∙ opening_plain (journal_at refused.0 world) (unbegun.opening refused.0));
+  }
+
+  not_told : (world : WorldView J T) (actor : ℕ) (notes : List (Note T)) → tells_refusal notes ≡ false → (WasRefused world.journals → ⊥) → WasRefused (noted actor notes world).journals → ⊥
+  not_told world actor notes none told refused =
+      ⊎_elim (λ is. told (actor, not_added notes (journal_at actor world) none (sym (ap tells_refusal is) ∙ refused.1)))
+      (λ is. told (refused.0, sym (ap tells_refusal is) ∙ refused.1))
+      (set_or world.journals actor (notes ++ journal_at actor world) refused.0 [])
+
+  plain_noted : (world : WorldView J T) (actor : ℕ) (notes : List (Note T)) → tells_refusal notes ≡ false → IsPlain world → IsPlain (noted actor notes world)
+  plain_noted world actor notes none plain = record { orders = plain.orders; told = not_told world actor notes none plain.told }
+
+  module _ (sender core : ℕ) (order : Order J) (plain_order : IsNoCreation order) (world : WorldView J T) (plain : IsPlain world) where
+    in_link : (place weight : ℕ) → slice_get (sent_at sender core world ++ order ∷ []) place ≡ Some (Create weight) → ⊥
+    in_link place weight at =
+        ⊎_elim (λ old. plain.orders sender core place weight old) (λ last. subst IsNoCreation last plain_order)
+        (last_or (sent_at sender core world) order (Create weight) place at)
+
+    abbrev row : List (List (Order J))
+    row = set (get_or world.sent sender []) core (sent_at sender core world ++ order ∷ [])
+
+    in_row : (to place weight : ℕ) → slice_get (get_or row to []) place ≡ Some (Create weight) → ⊥
+    in_row to place weight at =
+        ⊎_elim (λ is. in_link place weight (sym (ap (λ orders. slice_get orders place) is) ∙ at))
+        (λ is. plain.orders sender to place weight (sym (ap (λ orders. slice_get orders place) is) ∙ at))
+        (set_or (get_or world.sent sender []) core (sent_at sender core world ++ order ∷ []) to [])
+
+    in_rows : (from to place weight : ℕ) → slice_get (get_or (get_or (with_sent sender core order world) from []) to []) place ≡ Some (Create weight) → ⊥
+    in_rows from to place weight at =
+        ⊎_elim (λ is. in_row to place weight (sym (ap (λ row. slice_get (get_or row to []) place) is) ∙ at))
+        (λ is. plain.orders from to place weight (sym (ap (λ row. slice_get (get_or row to []) place) is) ∙ at))
+        (set_or world.sent sender row from [])
+
+  sends_plain : (sender core : ℕ) (order : Order J) → IsNoCreation order → (old new : WorldView J T) (answer : Reply J) → Sends sender core order old new answer → IsPlain old → IsPlain new
+  sends_plain sender core order plain_order old new (reply.Sent name) happens plain =
+      subst (λ world. IsPlain world) (sym happens.2)
+      (record { orders = in_rows sender core order plain_order old plain; told = not_told old sender (writes.Sent name (order_note order) ∷ []) refl plain.told })
+  sends_plain sender core order plain_order old new (reply.NotSent (Full back)) happens plain = subst (λ world. IsPlain world) (sym happens.2) plain
+  sends_plain sender core order plain_order old new (reply.NotSent (Spent back)) happens plain = subst (λ world. IsPlain world) (sym happens.3) plain
+  sends_plain sender core order plain_order old new _ happens plain = absurd happens
+
+  delivery_plain : (name : JobId) (order : Order J) (before : Journal T) (notes : List (Note T)) → IsNoCreation order → IsDelivery name order before notes → tells_refusal notes ≡ false
+  delivery_plain name (Job queue job) before notes plain delivery = ap tells_refusal delivery ∙ taken_plain T name queue (refusal queue before)
+  delivery_plain name (Create weight) before notes plain delivery = absurd plain
+  delivery_plain name (SetShares queue weight) before notes plain delivery =
+      ap tells_refusal delivery.2
+      ∙ (ap (λ answer. tells_refusal (shares_notes T name queue weight answer)) delivery.1 ∙ shares_plain T name queue weight (nat_le queue (last_queue before)))
+
+  delivers_plain : (core sender : ℕ) (old new : WorldView J T) (answer : Reply J) → Delivers core sender old new answer → IsPlain old → IsPlain new
+  delivers_plain core sender old new reply.Noted happens plain =
+      subst (λ world. IsPlain world) (sym happens.4)
+      (
+      plain_noted old core happens.2
+      (
+      delivery_plain (record { from = sender; to = core; number = next_place sender core old + 1 }) happens.0 (journal_at core old) happens.2
+      (no_creation happens.0 (λ weight is. plain.orders sender core (next_place sender core old) weight (happens.1 ∙ ap (λ order. Some order) is))) happens.3
+      ) plain
+      )
+  delivers_plain core sender old new reply.Empty happens plain = subst (λ world. IsPlain world) (sym happens.1) plain
+  delivers_plain core sender old new _ happens plain = absurd happens
+
+module _ {J T : Type 0} (made : J → ℕ) (polls : J → ℕ → Step T → Option ℕ → Type 0) (answers : J → T → Type 0) where
+  turns_plain : (core spent : ℕ) (old new : WorldView J T) (answer : Reply J) → Turns made polls answers core spent old new answer → IsPlain old → IsPlain new
+  turns_plain core spent old new reply.Noted happens plain =
+      subst (λ world. IsPlain world) (sym happens.notes)
+      (
+      plain_noted old core (turn_notes happens.name happens.queue happens.runtime (unwrap_or happens.told spent) happens.step (journal_at core old))
+      (turn_plain happens.name happens.queue happens.runtime (unwrap_or happens.told spent) happens.step (is_told name_started happens.name (journal_at core old))) plain
+      )
+  turns_plain core spent old new reply.Idle happens plain = subst (λ world. IsPlain world) (sym happens.1) plain
+  turns_plain core spent old new reply.Spent happens plain = subst (λ world. IsPlain world) (sym happens.2) plain
+  turns_plain core spent old new _ happens plain = absurd happens
+
+  steps_plain : (event : Event J) → OrdersNoQueue event → (old new : WorldView J T) (answer : Reply J) → Steps made polls answers event old new answer → IsPlain old → IsPlain new
+  steps_plain (Send sender core order) none = sends_plain sender core order none
+  steps_plain (Deliver core sender) none = delivers_plain core sender
+  steps_plain (Turn core spent) none = turns_plain core spent
+
+  happens_plain : (event : Event J) → OrdersNoQueue event → (old new : WorldView J T) (answer : Reply J) → Happens made polls answers event old new answer → IsPlain old → IsPlain new
+  happens_plain event none old new (reply.NoActor back) happens plain = subst (λ world. IsPlain world) (sym happens.2) plain
+  happens_plain event none old new (reply.NoRoom back) happens plain = subst (λ world. IsPlain world) (sym happens.3) plain
+  happens_plain event none old new answer happens plain = steps_plain event none old new answer happens.2 plain
+
+  pub run_plain : (events : List (Event J)) → OrderNoQueues events → (old new : WorldView J T) (replies : List (Reply J)) → IsToldRun made polls answers events old new replies → IsPlain old → IsPlain new
+  run_plain [] none old new replies run plain = subst (λ world. IsPlain world) (sym run.0) plain
+  run_plain (event ∷ events) none old new replies run plain =
+      run_plain events none.1 run.0 new run.2 run.4 (happens_plain event none.0 old run.0 run.1 run.3 plain)
+
+  pub jobs_once : RunOfJobsIsDetermined made polls answers
+  jobs_once owes events old new other replies others unbegun none run other_run =
+      let plain = plain_unbegun old unbegun in
+      ⊎_elim (λ same. same)
+      (λ refused. absurd (⊎_elim (run_plain events none old new replies run plain).told (run_plain events none old other others other_run plain).told refused))
+      (run_once made polls answers owes events old new other replies others unbegun.lists run other_run)

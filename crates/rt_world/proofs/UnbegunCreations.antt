@@ -1,0 +1,69 @@
+-- A fresh world has begun nothing, nor has it with the queues that were made in it.
+use Rattle.std.proofs.Common.{◌≡◌, ℕ, ◌+◌, List, [], ◌∷◌, length, refl, sym, ◌∙◌, ap, subst, ⊎_elim, arith, get_or, replicate}
+use Rattle.std.proofs.lemmas.Bool.{cases_lt}
+use Rattle.std.proofs.lemmas.List.{length-replicate, get_or-replicate, get_or_past}
+use Rattle.rt_ids.specs.declared.note.Note.TheVariants as writes
+use Rattle.rt_ids.specs.declared.order.Order.{Order}
+use Rattle.rt_ids.specs.Commands.{last_queue}
+use Rattle.rt_ids.specs.Lawful.{IsOpening}
+use Rattle.rt_world.specs.State.{WorldView, journal_at, noted}
+use Rattle.rt_world.specs.Opening.{IsUnbegun, IsFresh}
+use Rattle.rt_world.specs.Creations.{with_creations}
+use Rattle.rt_world.proofs.KeptLists.{same_rows, keeps_lists}
+use Rattle.rt_world.proofs.NoRefusals.{set_or}
+
+module _ {J T : Type 0} where
+  pub unbegun_fresh : (cores cap room : ℕ) (world : WorldView J T) → IsFresh cores cap room world → IsUnbegun world
+  unbegun_fresh cores cap room world fresh = record { lists = fresh.lists; no_order = fresh.no_order; opening = λ actor. subst IsOpening (sym (fresh.no_note actor)) tt }
+
+  -- one more queue
+  unbegun_created : (core queue weight : ℕ) (world : WorldView J T) → IsUnbegun world → IsUnbegun (noted core (writes.Created queue weight ∷ []) world)
+  unbegun_created core queue weight world unbegun = record {
+    lists =
+        keeps_lists world (noted core (writes.Created queue weight ∷ []) world)
+        (record { actor = core; notes = writes.Created queue weight ∷ []; sent = world.sent; kept = same_rows world.sent; is = refl }) unbegun.lists;
+    no_order = unbegun.no_order;
+    opening = λ actor.
+        ⊎_elim (λ is. subst IsOpening (sym is) (unbegun.opening core)) (λ is. subst IsOpening (sym is) (unbegun.opening actor))
+        (set_or world.journals core (writes.Created queue weight ∷ journal_at core world) actor []);
+  }
+
+  pub unbegun_creations : (creations : List (ℕ × ℕ)) (world : WorldView J T) → IsUnbegun world → IsUnbegun (with_creations creations world)
+  unbegun_creations [] world unbegun = unbegun
+  unbegun_creations (creation ∷ creations) world unbegun =
+      unbegun_creations creations (noted creation.0 (writes.Created (last_queue (journal_at creation.0 world) + 1) creation.1 ∷ []) world)
+      (unbegun_created creation.0 (last_queue (journal_at creation.0 world) + 1) creation.1 world unbegun)
+
+module _ (J T : Type 0) where
+  -- a fresh world of these numbers
+  abbrev pub first_world : ℕ → ℕ → ℕ → WorldView J T
+  first_world cores cap room =
+      record { cores = cores; cap = cap; room = room; journals = replicate (cores + 1) []; sent = replicate (cores + 1) (replicate cores []) }
+
+  none_of : {A : Type 0} (count place : ℕ) → get_or {A = List A} (replicate count []) place [] ≡ []
+  none_of {A} count place =
+      ⊎_elim (λ within. get_or-replicate count place [] [] within) (λ past. get_or_past (replicate count []) place [] (omega (arith, past, length-replicate {A = List A} count []))) (cases_lt place count)
+
+  no_order : (cores sender core : ℕ) → get_or (get_or {A = List (List (Order J))} (replicate (cores + 1) (replicate cores [])) sender []) core [] ≡ []
+  no_order cores sender core =
+      ⊎_elim (λ within. ap (λ row. get_or row core []) (get_or-replicate (cores + 1) sender (replicate cores []) [] within) ∙ none_of cores core)
+      (
+      λ past.
+      ap (λ row. get_or row core []) (get_or_past (replicate (cores + 1) (replicate cores [])) sender [] (omega (arith, past, length-replicate {A = List (List (Order J))} (cores + 1) (replicate cores []))))
+      ∙ get_or_past [] core [] (omega arith)
+      ) (cases_lt sender (cores + 1))
+
+  pub fresh_first : (cores cap room : ℕ) → IsFresh cores cap room (first_world cores cap room)
+  fresh_first cores cap room = record {
+    cores_are = refl;
+    cap_is = refl;
+    room_is = refl;
+    lists = record {
+      journals_are = length-replicate (cores + 1) [];
+      senders_are = length-replicate (cores + 1) (replicate cores []);
+      links_are = λ sender there.
+          ap length (get_or-replicate (cores + 1) sender (replicate cores []) [] (omega (arith, there))) ∙ length-replicate cores [];
+    };
+    no_note = λ actor. none_of (cores + 1) actor;
+    no_order = no_order cores;
+  }

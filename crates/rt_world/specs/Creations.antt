@@ -1,0 +1,43 @@
+-- Queues that are made before the first event, and events that order none.
+use Rattle.std.specs.Prelude.{◌≡◌, ℕ, ◌+◌, Option, List, [], ◌∷◌}
+use Rattle.rt_ids.specs.declared.note.Note.TheVariants.{Created}
+use Rattle.rt_ids.specs.declared.order.Order.{Order}
+use Rattle.rt_ids.specs.declared.order.Order.TheVariants.{Create}
+use Rattle.rt_ids.specs.Commands.{last_queue}
+use Rattle.rt_jobs.specs.declared.job.Step.{Step}
+use Rattle.rt_world.specs.declared.event.Event.{Event}
+use Rattle.rt_world.specs.declared.event.Event.TheVariants.{Send}
+use Rattle.rt_world.specs.declared.event.Reply.{Reply}
+use Rattle.rt_world.specs.State.{WorldView, journal_at, noted}
+use Rattle.rt_world.specs.Opening.{IsUnbegun}
+use Rattle.rt_world.specs.Determined.{OwesOne, IsToldRun}
+
+module _ {J T : Type 0} where
+  -- queues of these cores, with these shares, each under the next number of its core
+  abbrev pub with_creations : List (ℕ × ℕ) → WorldView J T → WorldView J T
+  with_creations [] world = world
+  with_creations (creation ∷ creations) world =
+      with_creations creations (noted creation.0 (Created (last_queue (journal_at creation.0 world) + 1) creation.1 ∷ []) world)
+
+module _ {J : Type 0} where
+  -- the order is for no new queue
+  abbrev pub IsNoCreation : Order J → Type 0
+  IsNoCreation (Create weight) = ⊥
+  IsNoCreation _ = Unit {0}
+
+  abbrev pub OrdersNoQueue : Event J → Type 0
+  OrdersNoQueue (Send sender core order) = IsNoCreation order
+  OrdersNoQueue _ = Unit {0}
+
+  -- none of the events orders a queue
+  abbrev pub OrderNoQueues : List (Event J) → Type 0
+  OrderNoQueues [] = Unit {0}
+  OrderNoQueues (event ∷ events) = OrdersNoQueue event × OrderNoQueues events
+
+module _ {J T : Type 0} (made : J → ℕ) (polls : J → ℕ → Step T → Option ℕ → Type 0) (answers : J → T → Type 0) where
+  -- before its first event, a world and events that order no queue have one result
+  abbrev pub RunOfJobsIsDetermined : Type 0
+  RunOfJobsIsDetermined =
+      OwesOne polls → (events : List (Event J)) (old new other : WorldView J T) (replies others : List (Reply J)) → IsUnbegun old → OrderNoQueues events →
+      IsToldRun made polls answers events old new replies → IsToldRun made polls answers events old other others →
+      (new ≡ other) × (replies ≡ others)

@@ -1,0 +1,30 @@
+-- Runs of script jobs.
+use Rattle.std.specs.Prelude.{◌≡◌, ◌⊎◌, ℕ, Option, slice_get, List}
+use Rattle.rt_jobs.specs.declared.job.Step.{Step}
+use Rattle.rt_jobs.specs.Scripts.{Script, Does, IsAnswer}
+use Rattle.rt_world.specs.declared.event.Event.{Event}
+use Rattle.rt_world.specs.declared.event.Reply.{Reply}
+use Rattle.rt_world.specs.State.{WorldView}
+use Rattle.rt_world.specs.Opening.{HasAllLists}
+use Rattle.rt_world.specs.Determined.{WasRefused, IsToldRun}
+
+-- the words of a script job: the polls that it made, what a poll owes, and what may answer it
+abbrev pub script_made : Script → ℕ
+script_made job = job.polled
+
+abbrev pub ScriptPolls : Script → ℕ → Step ℕ → Option ℕ → Type 0
+ScriptPolls job place step told = Does (slice_get job.polls place) step told
+
+abbrev pub ScriptAnswers : Script → ℕ → Type 0
+ScriptAnswers job out = IsAnswer job.polls out
+
+-- events of script jobs, one after another, and what their actors are told
+abbrev pub IsScriptRun : List (Event Script) → WorldView Script ℕ → WorldView Script ℕ → List (Reply Script) → Type 0
+IsScriptRun = IsToldRun script_made ScriptPolls ScriptAnswers
+
+-- two runs of the same events of script jobs from one world end in one world, with the same replies; else one of them was refused memory
+abbrev pub ScriptRunIsDetermined : Type 0
+ScriptRunIsDetermined =
+    (events : List (Event Script)) (old new other : WorldView Script ℕ) (replies others : List (Reply Script)) → HasAllLists old →
+    IsScriptRun events old new replies → IsScriptRun events old other others →
+    ((new ≡ other) × (replies ≡ others)) ⊎ (WasRefused new.journals ⊎ WasRefused other.journals)

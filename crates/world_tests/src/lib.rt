@@ -1,0 +1,11 @@
+//! Tests of journals and of the model over their public calls.
+#![tactic(auto)]
+
+#[cfg(test)]
+mod boxed;
+#[cfg(test)]
+mod journal;
+#[cfg(test)]
+mod links;
+#[cfg(test)]
+mod model;
