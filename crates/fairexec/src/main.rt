@@ -5,12 +5,13 @@ ghost use Rattle.std.specs.Prelude.{◌≡◌, ◌≢◌, true, IfOk};
 ghost use Rattle.std.specs.declared.io.ErrorKind.TheVariants as kinds;
 ghost use Rattle.clap.specs.Words.{kind_of};
 ghost use Rattle.clap.specs.declared.error.kind.ErrorKind.TheVariants as command_kinds;
-ghost use Rattle.rt_script.specs.Statuses.{status_of};
-ghost use Rattle.rt_script.specs.declared.status.Status.TheVariants as status;
-ghost use Rattle.rt_script.specs.declared.fault.EngineFault.TheVariants as faults;
+ghost use Rattle.rt_text.specs.Statuses.{status_of};
+ghost use Rattle.rt_text.specs.declared.status.Status.TheVariants as status;
+ghost use Rattle.rt_text.specs.declared.fault.EngineFault.TheVariants as faults;
 
 use clap::error::ErrorKind as CommandErrorKind;
-use rt_script::{EngineFault, Status, run_script};
+use rt_engine::run_script;
+use rt_text::{EngineFault, Status};
 use std::io::ErrorKind;
 use std::process::ExitCode;
 use std::rt::{Env, Files};

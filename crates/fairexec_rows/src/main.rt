@@ -7,10 +7,11 @@
 ghost use Rattle.std.specs.Prelude.{◌≡◌, ◌++◌, Err, IfOk, IfErr, codes, decimal, string_bytes};
 ghost use Rattle.std.specs.IoError.{error_kind};
 ghost use Rattle.std.specs.declared.io.ErrorKind.TheVariants.{OutOfMemory};
-ghost use Rattle.rt_script.specs.EngineFaults.{fault_text};
-ghost use Rattle.rt_script.specs.Statuses.{code_of, status_of};
+ghost use Rattle.rt_text.specs.Faults.{fault_text};
+ghost use Rattle.rt_text.specs.Statuses.{code_of, status_of};
 
-use rt_script::{EngineFault, Status, run_script};
+use rt_engine::run_script;
+use rt_text::{EngineFault, Status};
 use std::alloc::Global;
 use std::process::ExitCode;
 use std::rt::Files;

@@ -1,35 +1,15 @@
 -- The events that a script's lines tell: their actors exist, and their jobs have made no poll.
 use Rattle.std.proofs.Common.{◌≡◌, ℕ, ◌-◌, ◌≤◌, ◌<◌, List, [], ◌∷◌, length, Some, Ok, refl, arith, ◌==◌}
-use Rattle.std.proofs.lemmas.Bool.Decides.{nat_tests}
-use Rattle.rt_ids.specs.declared.order.Order.TheVariants as order
 use Rattle.rt_jobs.specs.declared.poll.Poll.{Poll}
 use Rattle.rt_jobs.specs.Scripts.{Script}
-use Rattle.rt_jobs.specs.Ready.{HasReadyJob}
-use Rattle.rt_world.specs.Sends.{AreThere}
-use Rattle.rt_world.specs.Opening.{HasReadyEvent}
-use Rattle.rt_world.specs.declared.event.Event.{Event}
-use Rattle.rt_world.specs.declared.event.Event.TheVariants.{Send, Deliver, Turn}
 use Rattle.rt_script.specs.declared.line.Line.{Line}
-use Rattle.rt_script.specs.Numbers.{number_of}
-use Rattle.rt_script.specs.Words.{first, second, others}
-use Rattle.rt_script.specs.Fields.{core_field, actor_field, polls_field, job_field}
+use Rattle.rt_words.specs.Numbers.{number_of}
+use Rattle.rt_words.specs.Words.{first, second, others}
+use Rattle.rt_words.specs.Fields.{core_field, actor_field}
+use Rattle.rt_script.specs.Polls.{polls_field, job_field}
 use Rattle.rt_script.specs.Lines.{link_fields, submit_line, create_line, shares_line, deliver_line, turn_line}
-use Rattle.rt_script.specs.Limits.{IsEventOf, MayFollow}
-use Rattle.rt_script.proofs.FieldLemmas.{made_ok, both_ok, within_ok}
-
--- the actors of such an event exist
-pub are_there : (cores : ℕ) (event : Event Script) → IsEventOf cores event → AreThere cores event
-are_there cores (Send sender core order) here = (here.sender, here.core)
-are_there cores (Deliver core sender) here = (here.core, here.sender)
-are_there cores (Turn core spent) here = here.core
-
--- and its job may be polled
-pub is_ready : (cores : ℕ) (event : Event Script) → IsEventOf cores event → HasReadyEvent (HasReadyJob (λ job. job.polled == length job.polls) (λ job. Unit {0})) event
-is_ready cores (Send sender core (order.Job queue job)) here = (grind (arith, nat_tests, here.some_polls, here.none_made), tt)
-is_ready cores (Send sender core (order.Create weight)) here = tt
-is_ready cores (Send sender core (order.SetShares queue weight)) here = tt
-is_ready cores (Deliver core sender) here = tt
-is_ready cores (Turn core spent) here = tt
+use Rattle.rt_script.specs.Limits.{MayFollow}
+use Rattle.rt_words.proofs.FieldLemmas.{made_ok, both_ok, within_ok}
 
 core_ok : (cores : ℕ) (word : List ℕ) (core : ℕ) → 1 ≤ cores → core_field cores word ≡ Ok core → core < cores
 core_ok cores word core some e = let within = within_ok 0 (cores - 1) (number_of word) core e in omega arith

@@ -1,14 +1,5 @@
 pub mod EventLimits
-pub mod EventTexts
-pub mod FieldLemmas
-pub mod KnownLemmas
 pub mod LimitLemmas
-pub mod NumberLemmas
-pub mod OpeningLemmas
-pub mod PrintLemmas
-pub mod PlaceLemmas
 pub mod PollLemmas
 pub mod ReaderLemmas
 pub mod TextLemmas
-pub mod WordLemmas
-pub mod WorldSteps

@@ -3,26 +3,19 @@ use Rattle.std.proofs.Common.{IfOk, eqb, ap, zero-add, ◌∙◌, ◌≡◌, ℕ
 use Rattle.std.proofs.lemmas.Bool.Decides.{nat_tests}
 use Rattle.std.proofs.lemmas.List.Sums.{sum_by-append}
 use Rattle.std.proofs.lemmas.List.Elements.{All-push}
-use Rattle.rt_jobs.specs.Scripts.{Script}
-use Rattle.rt_world.specs.declared.event.Event.{Event}
-use Rattle.rt_script.specs.declared.number.Flaw.{Flaw}
-use Rattle.rt_script.specs.declared.fault.Cause.{Cause}
+use Rattle.rt_text.specs.declared.fault.Cause.{Cause}
+use Rattle.rt_script.specs.declared.event.ScriptEvent.{ScriptEvent}
 use Rattle.rt_script.specs.declared.line.Line.{Line}
 use Rattle.rt_script.specs.declared.keyword.Keyword.{Keyword}
 use Rattle.rt_script.specs.declared.keyword.Keyword.TheVariants as keyword
-use Rattle.rt_script.specs.Causes.{or_cause}
-use Rattle.rt_script.specs.Numbers.{number_of}
+use Rattle.rt_words.specs.Numbers.{number_of}
 use Rattle.rt_script.specs.Keywords.{keyword_of}
-use Rattle.rt_script.specs.Words.{first, others, third}
+use Rattle.rt_words.specs.Words.{first, others, third}
 use Rattle.rt_script.specs.Lines.{size_line, queue_line, line_of, first_line, keyword_line, later_line}
 use Rattle.rt_script.specs.Drafts.{Drafted, queue_lines}
 use Rattle.rt_script.specs.Limits.{ArePlaced, IsWithinLimits, IsCoreOf, MayFollow, AreEventsOf, IsEventFor, IsEventOf}
-use Rattle.rt_script.proofs.FieldLemmas.{made_ok, both_ok, within_ok}
+use Rattle.rt_words.proofs.FieldLemmas.{made_ok, both_ok, within_ok}
 use Rattle.rt_script.proofs.EventLimits.{submit_line_ok, create_line_ok, shares_line_ok, deliver_line_ok, turn_line_ok}
-
-or_cause_ok : {A : Type 0} (r : Result A Flaw) (value : A) → or_cause r ≡ Ok value → r ≡ Ok value
-or_cause_ok (Ok a) value e = cc
-or_cause_ok (Err flaw) value e = cc
 
 size_line_ok : (ws : List (List ℕ)) (line : Line) → size_line ws ≡ Ok line → MayFollow None line
 size_line_ok ws line e =
@@ -60,12 +53,12 @@ cond_not_ok false r cause value e = e
 
 pub first_line_ok : (ws : List (List ℕ)) (line : Line) → first_line ws ≡ Ok line → MayFollow None line
 first_line_ok ws line e =
-    size_line_ok (others ws) line (or_cause_ok _ _ (cond_ok _ _ _ _ (cond_not_ok _ _ _ _ e)))
+    size_line_ok (others ws) line (cond_ok _ _ _ _ (cond_not_ok _ _ _ _ e))
 
 keyword_line_ok : (k : Option Keyword) (size : ℕ × ℕ) (late : Bool) (ws : List (List ℕ)) (line : Line) → 1 ≤ size.0 → keyword_line k size.0 late ws ≡ Ok line → MayFollow (Some size) line
 keyword_line_ok None size late ws line some e = cc
 keyword_line_ok (Some k) size late ws line some e =
-    line_of_ok k size (others ws) line some (or_cause_ok _ _ (cond_ok _ _ _ _ (cond_not_ok _ _ _ _ e)))
+    line_of_ok k size (others ws) line some (cond_ok _ _ _ _ (cond_not_ok _ _ _ _ e))
 
 pub later_line_ok : (size : ℕ × ℕ) (late : Bool) (ws : List (List ℕ)) (line : Line) → 1 ≤ size.0 → later_line size.0 late ws ≡ Ok line → MayFollow (Some size) line
 later_line_ok size late ws line some e = keyword_line_ok (keyword_of (first ws)) size late ws line some e
@@ -95,11 +88,11 @@ limits_more draft queue limits core room = record {
   happen = limits.happen;
 }
 
-happen_more : (size : Option (ℕ × ℕ)) (events : List (Event Script)) (event : Event Script) → AreEventsOf size events → IsEventFor size event → AreEventsOf size (events ++ event ∷ [])
+happen_more : (size : Option (ℕ × ℕ)) (events : List ScriptEvent) (event : ScriptEvent) → AreEventsOf size events → IsEventFor size event → AreEventsOf size (events ++ event ∷ [])
 happen_more None events event happen here = absurd here
 happen_more (Some s) events event happen here = All-push (IsEventOf s.0) events event happen here
 
-pub limits_event : (draft : Drafted) (event : Event Script) → IsWithinLimits draft → IsEventFor draft.size event → IsWithinLimits (record { size = draft.size; queues = draft.queues; events = draft.events ++ event ∷ [] })
+pub limits_event : (draft : Drafted) (event : ScriptEvent) → IsWithinLimits draft → IsEventFor draft.size event → IsWithinLimits (record { size = draft.size; queues = draft.queues; events = draft.events ++ event ∷ [] })
 limits_event draft event limits here = record {
   sized = limits.sized;
   placed = limits.placed;

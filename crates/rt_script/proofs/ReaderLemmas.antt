@@ -2,9 +2,9 @@
 use Rattle.std.proofs.Common.{◌≡◌, ℕ, ◌≤◌, ◌++◌, ◌==◌, false, List, [], ◌∷◌, length, Result, Ok, Err, IfOk, IfErr, refl, ap, sym, ◌∙◌, append_assoc, arith}
 use Rattle.std.proofs.lemmas.List.Elements.{All-push}
 use Rattle.std.proofs.lemmas.Result.{IfOk-weaker, IfErr-weaker}
-use Rattle.rt_script.specs.declared.fault.Cause.{Cause}
-use Rattle.rt_script.specs.declared.reader.ScriptFault.{ScriptFault}
-use Rattle.rt_script.specs.declared.reader.ScriptFault.TheVariants.{Text, Memory}
+use Rattle.rt_text.specs.declared.fault.Cause.{Cause}
+use Rattle.rt_text.specs.declared.fault.EngineFault.{EngineFault}
+use Rattle.rt_text.specs.declared.fault.EngineFault.TheVariants.{Text, Read, Write, Memory}
 use Rattle.rt_script.specs.declared.script.Script.{Script}
 use Rattle.rt_script.specs.Feeds.{HasNoFeed}
 use Rattle.rt_script.specs.Drafts.{Drafted, judged}
@@ -13,11 +13,13 @@ use Rattle.rt_script.specs.Whole.{drafted}
 use Rattle.rt_script.specs.Scripts.{text_lines, Fault, judged_from, whole, Reading, script_from, IsTaken, IsRefused}
 use Rattle.rt_script.proofs.TextLemmas.{lines_at_feed, lines_at_end, lines_begun, taken, refused}
 
-pub IfFaulty-weaker : (P Q : ℕ × Cause → Type 0) (fault : ScriptFault) → ((f : ℕ × Cause) → P f → Q f) → IfFaulty P fault → IfFaulty Q fault
+pub IfFaulty-weaker : (P Q : ℕ × Cause → Type 0) (fault : EngineFault) → ((f : ℕ × Cause) → P f → Q f) → IfFaulty P fault → IfFaulty Q fault
 IfFaulty-weaker P Q (Text line cause) each h = each (line, cause) h
+IfFaulty-weaker P Q Read each h = absurd h
+IfFaulty-weaker P Q Write each h = absurd h
 IfFaulty-weaker P Q Memory each h = tt
 
-pub IfErr_faulty : {T : Type 0} (r : Result T ScriptFault) (P Q : ℕ × Cause → Type 0) → ((f : ℕ × Cause) → P f → Q f) → IfErr r (IfFaulty P) → IfErr r (IfFaulty Q)
+pub IfErr_faulty : {T : Type 0} (r : Result T EngineFault) (P Q : ℕ × Cause → Type 0) → ((f : ℕ × Cause) → P f → Q f) → IfErr r (IfFaulty P) → IfErr r (IfFaulty Q)
 IfErr_faulty r P Q each h = IfErr-weaker r (IfFaulty P) (IfFaulty Q) (λ fault. IfFaulty-weaker P Q fault each) h
 
 -- a line feed
@@ -51,10 +53,10 @@ pub end_plain : (old : Reading) → old.line ≡ [] → script_from old [] ≡ w
 end_plain old e = ap (λ line. judged_from old.number old.draft (text_lines (line ++ []))) e
 
 -- what comes of a text is what its end says
-pub IfOk_end : (r : Result Script ScriptFault) (comes ends : Result Drafted Fault) → comes ≡ ends → IfOk r (λ script. ends ≡ Ok (drafted script)) → IfOk r (λ script. comes ≡ Ok (drafted script))
+pub IfOk_end : (r : Result Script EngineFault) (comes ends : Result Drafted Fault) → comes ≡ ends → IfOk r (λ script. ends ≡ Ok (drafted script)) → IfOk r (λ script. comes ≡ Ok (drafted script))
 IfOk_end r comes ends e h = IfOk-weaker r _ (λ script. comes ≡ Ok (drafted script)) (λ script one. e ∙ one) h
 
-pub IfErr_end : (r : Result Script ScriptFault) (comes ends : Result Drafted Fault) → comes ≡ ends → IfErr r (IfFaulty (λ fault. ends ≡ Err fault)) → IfErr r (IfFaulty (λ fault. comes ≡ Err fault))
+pub IfErr_end : (r : Result Script EngineFault) (comes ends : Result Drafted Fault) → comes ≡ ends → IfErr r (IfFaulty (λ fault. ends ≡ Err fault)) → IfErr r (IfFaulty (λ fault. comes ≡ Err fault))
 IfErr_end r comes ends e h = IfErr_faulty r (λ fault. ends ≡ Err fault) (λ fault. comes ≡ Err fault) (λ fault one. e ∙ one) h
 
 pub nothing_left : (line : List ℕ) → length line ≡ 0 → line ≡ []

@@ -1,19 +1,18 @@
 -- A script as far as its lines are judged.
 use Rattle.std.specs.Prelude.{ℕ, ◌==◌, ◌++◌, ◌∷◌, [], Bool, true, List, length, Option, Some, None, Result, Ok, Err, nat_lt, if◌then◌else◌, count_by}
-use Rattle.rt_jobs.specs.Scripts.{Script}
-use Rattle.rt_world.specs.declared.event.Event.{Event}
+use Rattle.rt_script.specs.declared.event.ScriptEvent.{ScriptEvent}
 use Rattle.rt_script.specs.declared.line.Line.{Line}
 use Rattle.rt_script.specs.declared.line.Line.TheVariants.{Size, Queue, Step}
-use Rattle.rt_script.specs.declared.fault.Cause.{Cause}
-use Rattle.rt_script.specs.declared.fault.Cause.TheVariants.{TooManyLines, LineTooLong, TooManyQueues}
-use Rattle.rt_script.specs.Words.{words}
+use Rattle.rt_text.specs.declared.fault.Cause.{Cause}
+use Rattle.rt_text.specs.declared.fault.Cause.TheVariants.{TooManyLines, LineTooLong, TooManyQueues}
+use Rattle.rt_words.specs.Words.{words}
 use Rattle.rt_script.specs.Lines.{first_line, later_line}
 
 -- cores and capacity, once a line told them; the `queue` lines by core and shares; the events; all in order
 pub record Drafted : Type 0 where
   pub size : Option (ℕ × ℕ)
   pub queues : List (ℕ × ℕ)
-  pub events : List (Event Script)
+  pub events : List ScriptEvent
 
 -- before the first line
 abbrev pub empty_draft : Drafted

@@ -2,8 +2,8 @@
 use Rattle.std.specs.Prelude.{◌≡◌, ℕ, ◌≤◌, ◌<◌, [], ◌∷◌, List, Option, Some, None, All, length}
 use Rattle.rt_ids.specs.declared.order.Order.TheVariants as order
 use Rattle.rt_jobs.specs.Scripts.{Script}
-use Rattle.rt_world.specs.declared.event.Event.{Event}
-use Rattle.rt_world.specs.declared.event.Event.TheVariants.{Send, Deliver, Turn}
+use Rattle.rt_script.specs.declared.event.ScriptEvent.{ScriptEvent}
+use Rattle.rt_script.specs.declared.event.ScriptEvent.TheVariants.{Send, Deliver, Turn}
 use Rattle.rt_jobs.specs.declared.poll.Poll.TheVariants.{Yield}
 use Rattle.rt_script.specs.declared.line.Line.{Line}
 use Rattle.rt_script.specs.declared.line.Line.TheVariants.{Size, Queue, Step}
@@ -31,30 +31,30 @@ abbrev pub HasFewQueues : List (ℕ × ℕ) → Type 0
 HasFewQueues queues = (core : ℕ) → queue_lines core queues ≤ 255
 
 -- the two ends of an event; a turn has its core at both
-abbrev pub sender_of : Event Script → ℕ
+abbrev pub sender_of : ScriptEvent → ℕ
 sender_of (Send sender core order) = sender
 sender_of (Deliver core sender) = sender
-sender_of (Turn core spent) = core
+sender_of (Turn core) = core
 
-abbrev pub core_of : Event Script → ℕ
+abbrev pub core_of : ScriptEvent → ℕ
 core_of (Send sender core order) = core
 core_of (Deliver core sender) = core
-core_of (Turn core spent) = core
+core_of (Turn core) = core
 
 -- the job that an event sends; where it sends none, one of a single poll that isn't made
-abbrev pub job_of : Event Script → Script
+abbrev pub job_of : ScriptEvent → Script
 job_of (Send sender core (order.Job queue job)) = job
 job_of _ = record { polls = Yield 0 ∷ []; polled = 0 }
 
 -- an event of a system of so many cores: its ends exist, and its job has polls and has made none
-pub record IsEventOf (cores : ℕ) (event : Event Script) : Type 0 where
+pub record IsEventOf (cores : ℕ) (event : ScriptEvent) : Type 0 where
   pub sender : sender_of event ≤ cores
   pub core : core_of event < cores
   pub some_polls : 1 ≤ length (job_of event).polls
   pub none_made : (job_of event).polled ≡ 0
 
 -- each event is one of these cores, and none comes before they are told
-abbrev pub AreEventsOf : Option (ℕ × ℕ) → List (Event Script) → Type 0
+abbrev pub AreEventsOf : Option (ℕ × ℕ) → List ScriptEvent → Type 0
 AreEventsOf None events = events ≡ []
 AreEventsOf (Some size) events = All (IsEventOf size.0) events
 
@@ -69,7 +69,7 @@ abbrev pub IsCoreOf : Option (ℕ × ℕ) → ℕ → Type 0
 IsCoreOf None core = ⊥
 IsCoreOf (Some size) core = core < size.0
 
-abbrev pub IsEventFor : Option (ℕ × ℕ) → Event Script → Type 0
+abbrev pub IsEventFor : Option (ℕ × ℕ) → ScriptEvent → Type 0
 IsEventFor None event = ⊥
 IsEventFor (Some size) event = IsEventOf size.0 event
 

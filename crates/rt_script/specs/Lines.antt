@@ -2,54 +2,53 @@
 use Rattle.std.specs.Prelude.{ℕ, ◌&&◌, ◌==◌, not, Bool, false, List, codes, Option, Some, None, Result, Err, if◌then◌else◌}
 use Rattle.std.specs.Str.{bytes_eq}
 use Rattle.rt_ids.specs.declared.order.Order.TheVariants as order
-use Rattle.rt_world.specs.declared.event.Event.TheVariants.{Send, Deliver, Turn}
-use Rattle.rt_script.specs.declared.number.Flaw.{Flaw}
+use Rattle.rt_script.specs.declared.event.ScriptEvent.TheVariants.{Send, Deliver, Turn}
 use Rattle.rt_script.specs.declared.line.Line.{Line}
 use Rattle.rt_script.specs.declared.line.Line.TheVariants.{Size, Queue, Step}
 use Rattle.rt_script.specs.declared.keyword.Keyword.{Keyword}
 use Rattle.rt_script.specs.declared.keyword.Keyword.TheVariants as keyword
-use Rattle.rt_script.specs.declared.fault.Cause.{Cause}
-use Rattle.rt_script.specs.declared.fault.Cause.TheVariants.{CoresLineExpected, UnknownWord, QueueLineTooLate, WrongNumberOfWords}
-use Rattle.rt_script.specs.Causes.{or_cause}
-use Rattle.rt_script.specs.Numbers.{number_of, within}
-use Rattle.rt_script.specs.Words.{first, others, second, third, fourth, word_count}
+use Rattle.rt_text.specs.declared.fault.Cause.{Cause}
+use Rattle.rt_text.specs.declared.fault.Cause.TheVariants.{CoresLineExpected, UnknownWord, QueueLineTooLate, WrongNumberOfWords}
+use Rattle.rt_words.specs.Numbers.{number_of, within}
+use Rattle.rt_words.specs.Words.{first, others, second, third, fourth, word_count}
 use Rattle.rt_script.specs.Keywords.{keyword_of, takes, is_queue}
-use Rattle.rt_script.specs.Fields.{both, made, core_field, actor_field, queue_field, shares_field, fixed_field, job_field}
+use Rattle.rt_words.specs.Fields.{both, made, core_field, actor_field, queue_field, shares_field, fixed_field}
+use Rattle.rt_script.specs.Polls.{job_field}
 
 -- `C cap K`
-abbrev pub size_line : List (List ℕ) → Result Line Flaw
+abbrev pub size_line : List (List ℕ) → Result Line Cause
 size_line ws = made (λ p. Size p.0 (p.1).1) (both (within 1 16 (number_of (first ws))) (both (fixed_field (codes "cap") (second ws)) (within 1 1024 (number_of (third ws)))))
 
 -- `d w`
-abbrev pub queue_line : ℕ → List (List ℕ) → Result Line Flaw
+abbrev pub queue_line : ℕ → List (List ℕ) → Result Line Cause
 queue_line cores ws = made (λ p. Queue p.0 p.1) (both (core_field cores (first ws)) (shares_field (second ws)))
 
 -- `s d`, the sender and the receiver of an order
-abbrev pub link_fields : ℕ → List (List ℕ) → Result (ℕ × ℕ) Flaw
+abbrev pub link_fields : ℕ → List (List ℕ) → Result (ℕ × ℕ) Cause
 link_fields cores ws = both (actor_field cores (first ws)) (core_field cores (second ws))
 
 -- `s d q POLL ..`
-abbrev pub submit_line : ℕ → List (List ℕ) → Result Line Flaw
+abbrev pub submit_line : ℕ → List (List ℕ) → Result Line Cause
 submit_line cores ws = made (λ p. Step (Send (p.0).0 (p.0).1 (order.Job (p.1).0 (p.1).1))) (both (link_fields cores ws) (both (queue_field (third ws)) (job_field (others (others (others ws))))))
 
 -- `s d w`
-abbrev pub create_line : ℕ → List (List ℕ) → Result Line Flaw
+abbrev pub create_line : ℕ → List (List ℕ) → Result Line Cause
 create_line cores ws = made (λ p. Step (Send (p.0).0 (p.0).1 (order.Create p.1))) (both (link_fields cores ws) (shares_field (third ws)))
 
 -- `s d q w`
-abbrev pub shares_line : ℕ → List (List ℕ) → Result Line Flaw
+abbrev pub shares_line : ℕ → List (List ℕ) → Result Line Cause
 shares_line cores ws = made (λ p. Step (Send (p.0).0 (p.0).1 (order.SetShares (p.1).0 (p.1).1))) (both (link_fields cores ws) (both (queue_field (third ws)) (shares_field (fourth ws))))
 
 -- `d s`
-abbrev pub deliver_line : ℕ → List (List ℕ) → Result Line Flaw
+abbrev pub deliver_line : ℕ → List (List ℕ) → Result Line Cause
 deliver_line cores ws = made (λ p. Step (Deliver p.0 p.1)) (both (core_field cores (first ws)) (actor_field cores (second ws)))
 
--- `d`, a turn with no time of its own
-abbrev pub turn_line : ℕ → List (List ℕ) → Result Line Flaw
-turn_line cores ws = made (λ core. Step (Turn core 0)) (core_field cores (first ws))
+-- `d`
+abbrev pub turn_line : ℕ → List (List ℕ) → Result Line Cause
+turn_line cores ws = made (λ core. Step (Turn core)) (core_field cores (first ws))
 
 -- the words behind a line's first word, by what that says
-abbrev pub line_of : Keyword → ℕ → List (List ℕ) → Result Line Flaw
+abbrev pub line_of : Keyword → ℕ → List (List ℕ) → Result Line Cause
 line_of keyword.Queue cores ws = queue_line cores ws
 line_of keyword.Submit cores ws = submit_line cores ws
 line_of keyword.Create cores ws = create_line cores ws
@@ -66,7 +65,7 @@ counts test (Some count) = test count
 abbrev pub first_line : List (List ℕ) → Result Line Cause
 first_line ws =
     if not (bytes_eq (first ws) (codes "cores")) then Err CoresLineExpected
-    else (if counts (λ count. count == 4) (word_count ws) then or_cause (size_line (others ws))
+    else (if counts (λ count. count == 4) (word_count ws) then size_line (others ws)
     else Err WrongNumberOfWords)
 
 -- a line after it, with this first word; `late` says that a line other than a `queue` line came before
@@ -74,7 +73,7 @@ abbrev pub keyword_line : Option Keyword → ℕ → Bool → List (List ℕ) �
 keyword_line None cores late ws = Err UnknownWord
 keyword_line (Some keyword) cores late ws =
     if late && is_queue keyword then Err QueueLineTooLate
-    else (if counts (takes keyword) (word_count ws) then or_cause (line_of keyword cores (others ws))
+    else (if counts (takes keyword) (word_count ws) then line_of keyword cores (others ws)
     else Err WrongNumberOfWords)
 
 abbrev pub later_line : ℕ → Bool → List (List ℕ) → Result Line Cause

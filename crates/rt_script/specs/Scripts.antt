@@ -1,8 +1,8 @@
 -- A script's text: its lines, judged one after another.
 use Rattle.std.specs.Prelude.{◌≡◌, ℕ, ◌+◌, ◌-◌, ◌*◌, ◌==◌, ◌++◌, List, [], ◌∷◌, length, Option, Some, None, Result, Ok, Err}
 use Rattle.std.specs.List.{slice_split}
-use Rattle.rt_script.specs.declared.fault.Cause.{Cause}
-use Rattle.rt_script.specs.declared.fault.Cause.TheVariants.{CoresLineExpected}
+use Rattle.rt_text.specs.declared.fault.Cause.{Cause}
+use Rattle.rt_text.specs.declared.fault.Cause.TheVariants.{CoresLineExpected}
 use Rattle.rt_script.specs.Drafts.{Drafted, empty_draft, judged}
 
 -- what is left of a text's parts, where nothing behind the last line feed is no line

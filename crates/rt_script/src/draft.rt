@@ -2,61 +2,29 @@
 
 ghost use Rattle.std.specs.Prelude.{◌≡◌, Ok, Err, IfOk, IfErr, OnOk, OnErr, length, nat_lt, ◌≤◌, ◌+◌, IfSome, IsNone, None, ◌↔◌};
 ghost use Rattle.rt_script.specs.Whole.{drafted};
-ghost use Rattle.rt_script.specs.Words.{words};
+ghost use Rattle.rt_words.specs.Words.{words};
 ghost use Rattle.rt_script.specs.Drafts as spec;
 ghost use Rattle.rt_script.specs.Limits.{MayFollow};
-ghost use Rattle.rt_script.specs.LineFaults.{IfCause};
+ghost use Rattle.rt_script.specs.ScriptFaults.{IfFaulty};
 
-use crate::fault::Cause;
+use crate::event::ScriptEvent;
 use crate::line::{Line, first_line, later_line};
 use crate::script::Script;
 use rt_ids::CoreNo;
-use rt_jobs::ScriptJob;
 use rt_shares::Shares;
-use rt_world::Event;
-use std::alloc::{AllocFailed, Global};
+use rt_text::{Cause, EngineFault};
+use std::alloc::Global;
 use std::marker::Model;
 
 /// The most `queue` lines of a core: with queue 0 they make 256.
 const MOST_QUEUE_LINES: usize = 255;
-
-/// Why a line isn't taken.
-#[derive(Clone, Copy, PartialEq, Eq, Debug)]
-pub enum LineFault {
-    /// There is something wrong with it.
-    Text(Cause),
-    /// There is no memory to keep it.
-    Memory,
-}
-
-impl From<Cause> for LineFault {
-    ghost use Rattle.std.specs.Prelude.{◌≡◌};
-    ghost use Rattle.rt_script.specs.declared.draft.LineFault.TheVariants.{Text};
-
-    ghost from_gives = { λ cause fault. fault ≡ Text cause };
-
-    fn from(cause: Cause) -> LineFault {
-        LineFault::Text(cause)
-    }
-}
-
-impl<T: Drop> From<AllocFailed<T>> for LineFault {
-    ghost use Rattle.std.specs.Prelude.{◌≡◌};
-    ghost use Rattle.rt_script.specs.declared.draft.LineFault.TheVariants.{Memory};
-
-    ghost from_gives = { λ _ fault. fault ≡ Memory };
-
-    fn from(_failed: AllocFailed<T>) -> LineFault {
-        LineFault::Memory
-    }
-}
 
 /// A script as far as its lines are judged.
 #[derive(Drop)]
 pub struct Draft {
     size: Option<(u8, u16)>,
     queues: Vec<(CoreNo, Shares)>,
-    events: Vec<Event<ScriptJob>>,
+    events: Vec<ScriptEvent>,
 }
 
 impl Model for Draft {
@@ -103,18 +71,24 @@ impl Draft {
         })
     }
 
-    /// Takes one line that isn't too long.
-    pub fn take(&mut self, text: &[u8]) -> Result<(), LineFault>
+    /// Takes one line that isn't too long, by its number from 1.
+    pub fn take(&mut self, number: u32, text: &[u8]) -> Result<(), EngineFault>
         ensures ok { OnOk result (spec.with_text self.old text.now ≡ Ok self.new) }
-        ensures cause { IfErr result (IfCause (λ cause. spec.with_text self.old text.now ≡ Err cause)) }
+        ensures faulty { IfErr result (IfFaulty (λ fault.
+            (fault.0 ≡ number) × (spec.with_text self.old text.now ≡ Err fault.1))) }
         ensures one_more { OnOk result (length self.new.events ≤ length self.old.events + 1) }
         ensures err { OnErr result (self.new ≡ self.old) }
     {
         if is_skipped(text) {
             return Ok(());
         }
-        let line = self.line_at(text)?;
-        self.add(line)
+        match self.line_at(text) {
+            Ok(line) => self.add(number, line),
+            Err(cause) => Err(EngineFault::Text {
+                line: number,
+                cause,
+            }),
+        }
     }
 
     /// What a line that isn't skipped says at its place.
@@ -129,11 +103,12 @@ impl Draft {
         }
     }
 
-    /// Takes what a line says.
-    fn add(&mut self, line: Line) -> Result<(), LineFault>
+    /// Takes what a line says, by its number.
+    fn add(&mut self, number: u32, line: Line) -> Result<(), EngineFault>
         requires { MayFollow self.old.size line }
         ensures ok { OnOk result (spec.with_line self.old line ≡ Ok self.new) }
-        ensures cause { IfErr result (IfCause (λ cause. spec.with_line self.old line ≡ Err cause)) }
+        ensures faulty { IfErr result (IfFaulty (λ fault.
+            (fault.0 ≡ number) × (spec.with_line self.old line ≡ Err fault.1))) }
         ensures one_more { OnOk result (length self.new.events ≤ length self.old.events + 1) }
         ensures err { OnErr result (self.new ≡ self.old) }
     {
@@ -141,7 +116,10 @@ impl Draft {
             Line::Size(cores, cap) => self.size = Some((cores, cap)),
             Line::Queue(core, shares) => {
                 if self.queue_lines(core) >= MOST_QUEUE_LINES {
-                    return Err(LineFault::Text(Cause::TooManyQueues));
+                    return Err(EngineFault::Text {
+                        line: number,
+                        cause: Cause::TooManyQueues,
+                    });
                 }
                 self.queues.push((core, shares))?;
             }

@@ -1,11 +1,12 @@
 //! The first words of a script's lines.
 
 ghost use Rattle.std.specs.Prelude.{◌≡◌};
-ghost use Rattle.std.specs.Str.{bytes_eq};
 ghost use Rattle.rt_script.specs.Keywords as spec;
 
+use rt_words::field::is_word;
+
 /// What a line after the first does, by its first word.
-#[derive(Clone, Copy, PartialEq, Eq, Debug)]
+#[derive(Clone, Copy)]
 pub enum Keyword {
     /// `queue d w`
     Queue,
@@ -19,13 +20,6 @@ pub enum Keyword {
     Deliver,
     /// `turn d`
     Turn,
-}
-
-/// Whether the word is this one.
-pub fn is_word(word: &[u8], text: &str) -> bool
-    ensures { result ≡ bytes_eq word.now text.now }
-{
-    word == text.as_bytes()
 }
 
 /// What a line that begins with the word does, if there is such a line.

@@ -1,21 +1,22 @@
 //! What one line of a script says.
 
 ghost use Rattle.std.specs.Prelude.{◌≡◌, ◌≤◌, ◌+◌, length, IsTrue};
-ghost use Rattle.rt_script.specs.Words.{words, others};
+ghost use Rattle.rt_words.specs.Words.{words, others};
 ghost use Rattle.rt_script.specs.Keywords.{takes};
-ghost use Rattle.rt_script.specs.Numbers.{within, number_of};
+ghost use Rattle.rt_words.specs.Numbers.{within, number_of};
 ghost use Rattle.rt_script.specs.Lines as spec;
 
-use crate::fault::Cause;
-use crate::field::{actor_field, both, core_field, fixed_field, queue_field, shares_field};
-use crate::keyword::{Keyword, is_word, keyword_of};
-use crate::number::{Flaw, number_within};
+use crate::event::ScriptEvent;
+use crate::keyword::{Keyword, keyword_of};
 use crate::polls::job_field;
-use crate::words::{Words, word_count as count_words};
 use rt_ids::{ActorNo, CoreNo, Order};
-use rt_jobs::ScriptJob;
 use rt_shares::Shares;
-use rt_world::Event;
+use rt_text::Cause;
+use rt_words::field::{
+    actor_field, both, core_field, fixed_field, is_word, queue_field, shares_field,
+};
+use rt_words::number::number_within;
+use rt_words::words::{Words, word_count as count_words};
 
 /// What a line of a script says, well spelled and within its ranges.
 #[derive(Drop)]
@@ -25,7 +26,7 @@ pub enum Line {
     /// `queue d w`
     Queue(CoreNo, Shares),
     /// Any other line: one event.
-    Step(Event<ScriptJob>),
+    Step(ScriptEvent),
 }
 
 /// The first line that isn't skipped.
@@ -37,7 +38,7 @@ pub fn first_line(line: &[u8]) -> Result<Line, Cause>
         return Err(Cause::CoresLineExpected);
     }
     match count_words(line) {
-        Some(4) => Ok(size_line(&mut fields)?),
+        Some(4) => size_line(&mut fields),
         _ => Err(Cause::WrongNumberOfWords),
     }
 }
@@ -55,13 +56,13 @@ pub fn later_line(line: &[u8], cores: u8, late: bool) -> Result<Line, Cause>
         return Err(Cause::QueueLineTooLate);
     }
     match count_words(line) {
-        Some(count) if keyword.takes(count) => { Ok(line_of(keyword, cores, &mut fields, count)?) }
+        Some(count) if keyword.takes(count) => line_of(keyword, cores, &mut fields, count),
         _ => Err(Cause::WrongNumberOfWords),
     }
 }
 
 /// The words behind a line's first word, by what that says. The line has `count` words, the first one counted.
-fn line_of(keyword: Keyword, cores: u8, fields: &mut Words<'_>, count: usize) -> Result<Line, Flaw>
+fn line_of(keyword: Keyword, cores: u8, fields: &mut Words<'_>, count: usize) -> Result<Line, Cause>
     requires some { 1 ≤ cores }
     requires taken { IsTrue (takes keyword count) }
     requires left { length fields.old + 1 ≡ count }
@@ -77,31 +78,33 @@ fn line_of(keyword: Keyword, cores: u8, fields: &mut Words<'_>, count: usize) ->
     }
 }
 
-fn size_line(fields: &mut Words<'_>) -> Result<Line, Flaw>
+fn size_line(fields: &mut Words<'_>) -> Result<Line, Cause>
     ensures { result ≡ spec.size_line fields.old }
 {
     let cores = cores_field(fields.next_word());
     let cap_word = fixed_field(fields.next_word(), "cap");
     let cap = cap_field(fields.next_word());
-    let (cores, (_, cap)) = both(cores, both(cap_word, cap))?;
-    Ok(Line::Size(cores, cap))
+    match both(cores, both(cap_word, cap)) {
+        Ok((cores, (_, cap))) => Ok(Line::Size(cores, cap)),
+        Err(cause) => Err(cause),
+    }
 }
 
 /// How many cores there are.
-fn cores_field(word: &[u8]) -> Result<u8, Flaw>
+fn cores_field(word: &[u8]) -> Result<u8, Cause>
     ensures { result ≡ within 1 16 (number_of word.now) }
 {
     Ok(number_within(word, 1, 16)? as u8)
 }
 
 /// How many submissions a link may have outstanding.
-fn cap_field(word: &[u8]) -> Result<u16, Flaw>
+fn cap_field(word: &[u8]) -> Result<u16, Cause>
     ensures { result ≡ within 1 1024 (number_of word.now) }
 {
     Ok(number_within(word, 1, 1024)? as u16)
 }
 
-fn queue_line(cores: u8, fields: &mut Words<'_>) -> Result<Line, Flaw>
+fn queue_line(cores: u8, fields: &mut Words<'_>) -> Result<Line, Cause>
     requires { 1 ≤ cores }
     ensures { result ≡ spec.queue_line cores fields.old }
 {
@@ -112,7 +115,7 @@ fn queue_line(cores: u8, fields: &mut Words<'_>) -> Result<Line, Flaw>
 }
 
 /// The sender and the receiver of an order.
-fn link_fields(cores: u8, fields: &mut Words<'_>) -> Result<(ActorNo, CoreNo), Flaw>
+fn link_fields(cores: u8, fields: &mut Words<'_>) -> Result<(ActorNo, CoreNo), Cause>
     requires { 1 ≤ cores }
     ensures link { result ≡ spec.link_fields cores fields.old }
     ensures rest { fields.new ≡ others (others fields.old) }
@@ -122,7 +125,7 @@ fn link_fields(cores: u8, fields: &mut Words<'_>) -> Result<(ActorNo, CoreNo), F
     both(from, to)
 }
 
-fn submit_line(cores: u8, fields: &mut Words<'_>, polls: usize) -> Result<Line, Flaw>
+fn submit_line(cores: u8, fields: &mut Words<'_>, polls: usize) -> Result<Line, Cause>
     requires cores { 1 ≤ cores }
     requires some { 1 ≤ polls }
     requires most { polls ≤ 64 }
@@ -133,45 +136,49 @@ fn submit_line(cores: u8, fields: &mut Words<'_>, polls: usize) -> Result<Line, 
     let queue = queue_field(fields.next_word());
     let job = job_field(fields, polls);
     let ((from, to), (queue, job)) = both(link, both(queue, job))?;
-    Ok(Line::Step(Event::Send(from, to, Order::Job(queue, job))))
+    Ok(Line::Step(ScriptEvent::Send(from, to, Order::Job(queue, job))))
 }
 
-fn create_line(cores: u8, fields: &mut Words<'_>) -> Result<Line, Flaw>
+fn create_line(cores: u8, fields: &mut Words<'_>) -> Result<Line, Cause>
     requires { 1 ≤ cores }
     ensures { result ≡ spec.create_line cores fields.old }
 {
     let link = link_fields(cores, fields);
     let shares = shares_field(fields.next_word());
     let ((from, to), shares) = both(link, shares)?;
-    Ok(Line::Step(Event::Send(from, to, Order::Create(shares))))
+    Ok(Line::Step(ScriptEvent::Send(from, to, Order::Create(shares))))
 }
 
-fn shares_line(cores: u8, fields: &mut Words<'_>) -> Result<Line, Flaw>
+fn shares_line(cores: u8, fields: &mut Words<'_>) -> Result<Line, Cause>
     requires { 1 ≤ cores }
     ensures { result ≡ spec.shares_line cores fields.old }
 {
     let link = link_fields(cores, fields);
     let queue = queue_field(fields.next_word());
     let shares = shares_field(fields.next_word());
-    let ((from, to), (queue, shares)) = both(link, both(queue, shares))?;
-    Ok(Line::Step(Event::Send(from, to, Order::SetShares(queue, shares))))
+    match both(link, both(queue, shares)) {
+        Ok(((from, to), (queue, shares))) => {
+            let order = Order::SetShares(queue, shares);
+            Ok(Line::Step(ScriptEvent::Send(from, to, order)))
+        }
+        Err(cause) => Err(cause),
+    }
 }
 
-fn deliver_line(cores: u8, fields: &mut Words<'_>) -> Result<Line, Flaw>
+fn deliver_line(cores: u8, fields: &mut Words<'_>) -> Result<Line, Cause>
     requires { 1 ≤ cores }
     ensures { result ≡ spec.deliver_line cores fields.old }
 {
     let core = core_field(fields.next_word(), cores);
     let from = actor_field(fields.next_word(), cores);
     let (core, from) = both(core, from)?;
-    Ok(Line::Step(Event::Deliver(core, from)))
+    Ok(Line::Step(ScriptEvent::Deliver(core, from)))
 }
 
-/// A turn with no time of its own: script jobs tell theirs.
-fn turn_line(cores: u8, fields: &mut Words<'_>) -> Result<Line, Flaw>
+fn turn_line(cores: u8, fields: &mut Words<'_>) -> Result<Line, Cause>
     requires { 1 ≤ cores }
     ensures { result ≡ spec.turn_line cores fields.old }
 {
     let core = core_field(fields.next_word(), cores)?;
-    Ok(Line::Step(Event::Turn(core, 0)))
+    Ok(Line::Step(ScriptEvent::Turn(core)))
 }

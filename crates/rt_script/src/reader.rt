@@ -7,10 +7,10 @@ ghost use Rattle.rt_script.specs.Feeds.{HasNoFeed};
 ghost use Rattle.rt_script.specs.Drafts.{judged};
 ghost use Rattle.rt_script.specs.Whole.{drafted};
 
-use crate::draft::{Draft, LineFault};
-use crate::fault::Cause;
+use crate::draft::Draft;
 use crate::script::Script;
 use arrayvec::ArrayVec;
+use rt_text::{Cause, EngineFault};
 use std::alloc::Global;
 use std::marker::Model;
 
@@ -22,15 +22,6 @@ const MOST_LINES: u32 = 4096;
 
 /// The most bytes of a line before its line feed.
 const LONGEST_LINE: usize = 2048;
-
-/// Why the text of a script isn't taken.
-#[derive(Clone, Copy, PartialEq, Eq, Debug)]
-pub enum ScriptFault {
-    /// A line, by its number from 1, is faulty.
-    Text(u32, Cause),
-    /// There is no memory to keep the script.
-    Memory,
-}
 
 /// The text of a script, as far as it came. A contract sees the lines so far and what is read of the next.
 #[derive(Drop)]
@@ -67,7 +58,7 @@ impl ScriptReader {
     }
 
     /// Takes the next bytes of the text. Each line is judged as soon as it has ended or is too long.
-    pub fn feed(&mut self, bytes: &[u8]) -> Result<(), ScriptFault>
+    pub fn feed(&mut self, bytes: &[u8]) -> Result<(), EngineFault>
         ensures ok { OnOk result ((rest : List ℕ) →
             spec.script_from self.old (bytes.now ++ rest) ≡ spec.script_from self.new rest) }
         ensures faulty { IfErr result (IfFaulty (λ fault. (rest : List ℕ) →
@@ -81,7 +72,7 @@ impl ScriptReader {
     }
 
     /// The script, where the text ends here.
-    pub fn finish(self) -> Result<Script, ScriptFault>
+    pub fn finish(self) -> Result<Script, EngineFault>
         ensures ok { IfOk result (λ script. spec.script_from self [] ≡ Ok (drafted script)) }
         ensures faulty { IfErr result (IfFaulty (λ fault. spec.script_from self [] ≡ Err fault)) }
     {
@@ -93,7 +84,7 @@ impl ScriptReader {
     }
 
     /// The script, where the text ends with the line that is begun.
-    fn finish_line(mut self) -> Result<Script, ScriptFault>
+    fn finish_line(mut self) -> Result<Script, EngineFault>
         requires { 1 ≤ length self.line }
         ensures ok { IfOk result (λ script. spec.script_from self [] ≡ Ok (drafted script)) }
         ensures faulty { IfErr result (IfFaulty (λ fault. spec.script_from self [] ≡ Err fault)) }
@@ -105,7 +96,7 @@ impl ScriptReader {
     }
 
     /// The script, where no line is begun.
-    fn into_script(self) -> Result<Script, ScriptFault>
+    fn into_script(self) -> Result<Script, EngineFault>
         ensures ok { IfOk result (λ script.
             spec.whole self.number self.draft self.draft.size ≡ Ok (drafted script)) }
         ensures faulty { IfErr result (IfFaulty (λ fault.
@@ -118,12 +109,15 @@ impl ScriptReader {
         } = self;
         match draft.finish() {
             Some(script) => Ok(script),
-            None => Err(ScriptFault::Text(number, Cause::CoresLineExpected)),
+            None => Err(EngineFault::Text {
+                line: number,
+                cause: Cause::CoresLineExpected,
+            }),
         }
     }
 
     /// Takes one byte of the text.
-    fn take_byte(&mut self, byte: u8) -> Result<(), ScriptFault>
+    fn take_byte(&mut self, byte: u8) -> Result<(), EngineFault>
         ensures ok { OnOk result ((rest : List ℕ) →
             spec.script_from self.old (byte ∷ rest) ≡ spec.script_from self.new rest) }
         ensures faulty { IfErr result (IfFaulty (λ fault. (rest : List ℕ) →
@@ -141,7 +135,7 @@ impl ScriptReader {
     }
 
     /// Judges the line that is read, and begins the next one.
-    fn end_line(&mut self) -> Result<(), ScriptFault>
+    fn end_line(&mut self) -> Result<(), EngineFault>
         ensures feedless { HasNoFeed self.old.line }
         ensures ok { OnOk result (spec.IsTaken self.old self.new) }
         ensures faulty { IfErr result (IfFaulty (spec.IsRefused self.old)) }
@@ -153,22 +147,26 @@ impl ScriptReader {
     }
 
     /// What is wrong with a line that has a byte more than is read of it.
-    fn too_long(&self) -> ScriptFault
+    fn too_long(&self) -> EngineFault
         requires { length self.now.line ≡ 2048 }
         ensures feedless { HasNoFeed self.now.line }
         ensures faulty { IfFaulty (λ fault. (fault.0 ≡ self.now.number) × ((more : List ℕ) →
             1 ≤ length more → judged self.now.draft self.now.number (self.now.line ++ more) ≡ Err fault.1)) result }
     {
-        if self.number > MOST_LINES {
-            ScriptFault::Text(self.number, Cause::TooManyLines)
+        let cause = if self.number > MOST_LINES {
+            Cause::TooManyLines
         } else {
-            ScriptFault::Text(self.number, Cause::LineTooLong)
+            Cause::LineTooLong
+        };
+        EngineFault::Text {
+            line: self.number,
+            cause,
         }
     }
 }
 
 /// Judges a line that isn't too long, by its number from 1.
-fn judge(draft: &mut Draft, number: u32, line: &[u8]) -> Result<(), ScriptFault>
+fn judge(draft: &mut Draft, number: u32, line: &[u8]) -> Result<(), EngineFault>
     requires { length line.now ≤ 2048 }
     ensures ok { OnOk result (judged draft.old number line.now ≡ Ok draft.new) }
     ensures few { OnOk result (number ≤ 4096) }
@@ -178,11 +176,10 @@ fn judge(draft: &mut Draft, number: u32, line: &[u8]) -> Result<(), ScriptFault>
         × (judged draft.old number line.now ≡ Err fault.1))) }
 {
     if number > MOST_LINES {
-        return Err(ScriptFault::Text(number, Cause::TooManyLines));
+        return Err(EngineFault::Text {
+            line: number,
+            cause: Cause::TooManyLines,
+        });
     }
-    match draft.take(line) {
-        Ok(()) => Ok(()),
-        Err(LineFault::Text(cause)) => Err(ScriptFault::Text(number, cause)),
-        Err(LineFault::Memory) => Err(ScriptFault::Memory),
-    }
+    draft.take(number, line)
 }

@@ -3,10 +3,9 @@
 ghost use Rattle.std.specs.Prelude.{Some, length, ◌≤◌};
 ghost use Rattle.rt_script.specs.Limits.{IsSize, ArePlaced, HasFewQueues, AreEventsOf};
 
+use crate::event::ScriptEvent;
 use rt_ids::CoreNo;
-use rt_jobs::ScriptJob;
 use rt_shares::Shares;
-use rt_world::Event;
 
 /// A whole script, well spelled and within the limits of a system.
 #[derive(Drop)]
@@ -18,7 +17,7 @@ pub struct Script {
     /// The queues to create at the opening, by core, in order.
     pub queues: Vec<(CoreNo, Shares)>,
     /// What then happens, in order.
-    pub events: Vec<Event<ScriptJob>>,
+    pub events: Vec<ScriptEvent>,
     ghost sized: { IsSize cores cap },
     ghost placed: { ArePlaced (Some (cores, cap)) queues.items },
     ghost few: { HasFewQueues queues.items },

@@ -1,15 +1,15 @@
 //! Reads a whole script before anything is done.
 
 ghost use Rattle.std.specs.Prelude.{◌≡◌, ◌≢◌, Ok, Err, IfOk, IfErr, IfSome};
-ghost use Rattle.rt_script.specs.declared.fault.EngineFault.TheVariants.{Write};
+ghost use Rattle.rt_text.specs.declared.fault.EngineFault.TheVariants.{Write};
 ghost use Rattle.rt_script.specs.Scripts.{script_of};
-ghost use Rattle.rt_script.specs.EngineFaults.{IfText};
+ghost use Rattle.rt_script.specs.ScriptFaults.{IfText};
 ghost use Rattle.rt_script.specs.Whole.{drafted};
 
-use crate::fault::EngineFault;
 use crate::reader::ScriptReader;
 use crate::script::Script;
-use crate::steady::read_some;
+use rt_text::EngineFault;
+use rt_text::steady::read_some;
 use std::alloc::Global;
 use std::io::Read;
 
@@ -31,7 +31,7 @@ pub fn read_script<R: Read>(alloc: Global, source: &mut R) -> Result<Script, Eng
             return Err(EngineFault::Read);
         };
         if count == 0 {
-            return Ok(reader.finish()?);
+            return reader.finish();
         }
         reader.feed(&chunk[..count])?;
     }

@@ -1,6 +1,5 @@
 -- What a delivery does: a job enters its queue or goes back, a command is carried out and answered.
-use Rattle.std.specs.Prelude.{◌≡◌, ℕ, ◌+◌, Option, Some, None, slice_get, List, [], ◌∷◌, length}
-use Rattle.rt_ids.specs.declared.names.JobId.{JobId}
+use Rattle.std.specs.Prelude.{◌≡◌, ℕ, ◌+◌, Some, None, slice_get, List, length}
 use Rattle.rt_ids.specs.declared.note.Note.{Note}
 use Rattle.rt_ids.specs.declared.order.Order.{Order}
 use Rattle.rt_ids.specs.Filters.{delivered_names}

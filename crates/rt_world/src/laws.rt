@@ -3,8 +3,9 @@
 ghost use Rattle.std.specs.Prelude.{ℕ};
 ghost use Rattle.rt_world.specs.Creations.{RunOfJobsIsDetermined};
 ghost use Rattle.rt_world.specs.Determined.{AssemblyIsDetermined, OpeningIsDetermined, OwesOne, RunIsDetermined};
+ghost use Rattle.rt_world.specs.Hollow.{EventsKeepLists, HollowIsRefused};
 ghost use Rattle.rt_world.specs.ScriptRuns.{ScriptRunIsDetermined};
-ghost use Rattle.rt_world.specs.WorkedRows.{OneJob};
+ghost use Rattle.rt_world.specs.WorkedRows.{OneJob, TwoQueues, TwoSenders};
 
 use rt_jobs::Task;
 
@@ -17,6 +18,16 @@ pub fn run_is_determined<J: Task<Out = u64>>()
 /// The same, of script jobs.
 pub fn script_run_is_determined()
     ensures { ScriptRunIsDetermined }
+{}
+
+/// A world that has no journal, or no list of orders, isn't fresh.
+pub fn hollow_world_is_refused<J: Task<Out = u64>>()
+    ensures { HollowIsRefused J ℕ }
+{}
+
+/// Each event keeps how many journals and lists of orders there are.
+pub fn events_keep_lists<J: Task<Out = u64>>()
+    ensures { EventsKeepLists J.made J.Polls J.Answers }
 {}
 
 /// Two fresh worlds of the same numbers are one.
@@ -32,4 +43,14 @@ pub fn run_of_jobs_is_determined<J: Task<Out = u64>>()
 /// One job makes just its five notes.
 pub fn one_job_makes_its_notes()
     ensures { OneJob }
+{}
+
+/// Two queues of 1000 and 500 shares share their core by these picks.
+pub fn two_queues_share()
+    ensures { TwoQueues }
+{}
+
+/// Two senders of one core are served in the order in which their jobs came.
+pub fn two_senders_in_their_order()
+    ensures { TwoSenders }
 {}

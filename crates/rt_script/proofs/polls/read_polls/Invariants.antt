@@ -1,7 +1,8 @@
 -- What is read so far and the words that are left write what the words wrote at the start.
 use Rattle.std.proofs.Common.{◌≡◌, ◌<◌, ◌+◌, ◌++◌, length, IfOk}
 use Rattle.arrayvec.specs.ArrayVec.{array_vec_len}
-use Rattle.rt_script.specs.Fields.{both, made, polls_field}
+use Rattle.rt_words.specs.Fields.{both, made}
+use Rattle.rt_script.specs.Polls.{polls_field}
 use Rattle.rt_script.proofs.polls.read_polls.Given as goal
 
 abbrev pub invariant-loop-i : goal.invariant-loop-i

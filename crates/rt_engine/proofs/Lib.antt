@@ -1,0 +1,6 @@
+pub mod EventLimits
+pub mod EventTexts
+pub mod OpeningLemmas
+pub mod PrintLemmas
+pub mod WorldSteps
+pub mod OneOutput

@@ -1,0 +1,63 @@
+-- A world with its queues, before the first event.
+use Rattle.std.proofs.Common.{◌≡◌, ℕ, List, [], ◌∷◌, ◌++◌, length, Option, refl, sym, ap, ◌∙◌, subst, arith, All}
+use Rattle.std.specs.Io.KnownBytes.{Keeps, Appends}
+use Rattle.std.proofs.KnownBytes.{Appends-trans}
+use Rattle.rt_ids.specs.Commands.{created_count}
+use Rattle.rt_ids.specs.Commands.{IsOpening}
+use Rattle.rt_script.specs.declared.event.ScriptEvent.{ScriptEvent}
+use Rattle.rt_world.specs.Opening.{IsFresh}
+use Rattle.rt_world.specs.State.{journal_at}
+use Rattle.rt_script.specs.Limits.{HasFewQueues, IsEventOf}
+use Rattle.rt_engine.specs.Outputs.{WritesAll}
+use Rattle.rt_engine.specs.Rooms.{MayMake, IsRoomy}
+use Rattle.rt_engine.specs.Transcripts.{ScriptWorld, script_room, with_queue, with_queues}
+use Rattle.rt_text.proofs.KnownLemmas.{Appends-more_kept}
+
+-- in a fresh world all queues of a script may be made
+pub fresh_may_make : (cores cap room : ℕ) (queues : List (ℕ × ℕ)) (world : ScriptWorld) → IsFresh cores cap room world → HasFewQueues queues → MayMake queues world
+fresh_may_make cores cap room queues world fresh few = record {
+  unbegun = record { lists = fresh.lists; no_order = fresh.no_order; opening = λ actor. subst IsOpening (sym (fresh.no_note actor)) tt };
+  notes = λ core. let none : length (journal_at core world) ≡ 0 = ap length (fresh.no_note core) in let most = few core in omega arith;
+  last = λ core. let none : created_count (journal_at core world) ≡ 0 = ap created_count (fresh.no_note core) in let most = few core in omega arith;
+}
+
+-- queues are no part of a world's size
+pub queues_cores : (queues : List (ℕ × ℕ)) (world : ScriptWorld) → (with_queues queues world).cores ≡ world.cores
+queues_cores [] world = refl
+queues_cores (queue ∷ queues) world = queues_cores queues (with_queue queue world)
+
+pub queues_cap : (queues : List (ℕ × ℕ)) (world : ScriptWorld) → (with_queues queues world).cap ≡ world.cap
+queues_cap [] world = refl
+queues_cap (queue ∷ queues) world = queues_cap queues (with_queue queue world)
+
+queues_room : (queues : List (ℕ × ℕ)) (world : ScriptWorld) → (with_queues queues world).room ≡ world.room
+queues_room [] world = refl
+queues_room (queue ∷ queues) world = queues_room queues (with_queue queue world)
+
+module _ (cores cap : ℕ) (queues : List (ℕ × ℕ)) (empty world : ScriptWorld) (fresh : IsFresh cores cap (script_room cores cap) empty) (made : world ≡ with_queues queues empty) where
+  pub made_cores : world.cores ≡ cores
+  made_cores = ap (λ w. w.cores) made ∙ queues_cores queues empty ∙ fresh.cores_are
+
+  made_cap : world.cap ≡ cap
+  made_cap = ap (λ w. w.cap) made ∙ queues_cap queues empty ∙ fresh.cap_is
+
+  -- its journals have their notes alone
+  pub made_roomy : MayMake [] world → IsRoomy world.cores world.cap 255 world
+  made_roomy may = record {
+    cores_are = refl;
+    cap_is = refl;
+    room_is =
+        ap (λ w. w.room) made ∙ queues_room queues empty ∙ fresh.room_is
+        ∙ ap (λ size. script_room size cap) (sym made_cores) ∙ ap (λ size. script_room world.cores size) (sym made_cap);
+    short = λ actor. let few = may.notes actor in omega arith;
+  }
+
+  pub made_events : (events : List ScriptEvent) → All (IsEventOf cores) events → All (IsEventOf world.cores) events
+  made_events events all = subst (λ size. All (IsEventOf size) events) (sym made_cores) all
+
+-- all that was put on an empty page was written, once the page is printed
+pub all_written : (events : List ScriptEvent) (old new : ScriptWorld) (first last : List ℕ) (sink_old sink_new sink_next sink_end : Option (List ℕ)) →
+    (writes : WritesAll events old new first last sink_old sink_new) → first ≡ [] → Appends sink_new sink_next last → Keeps sink_next sink_end → Appends sink_old sink_end writes.text
+all_written events old new first last sink_old sink_new sink_next sink_end writes none printed kept =
+    let same : writes.text ≡ writes.written ++ last = sym (ap (λ page. page ++ writes.text) none) ∙ writes.whole in
+    subst (Appends sink_old sink_end) (sym same) (Appends-more_kept _ _ _ _ (Appends-trans sink_old sink_new sink_next _ _ writes.appends printed) kept)

@@ -1,0 +1,196 @@
+-- A world after one event: its size stays, and its journals have at most four notes more.
+use Rattle.std.proofs.Common.{◌≡◌, ◌≢◌, ◌⊎◌, inl, inr, ℕ, zero, suc, ◌+◌, ◌≤◌, ◌<◌, List, [], ◌∷◌, ◌++◌, length, Option, Some, None, refl, sym, ap, ◌∙◌, subst, arith, get_or, get_or-set_same, get_or-set_other, length-append, slice_get, unwrap_or}
+use Rattle.std.proofs.lemmas.List.{set_past}
+use Rattle.rt_ids.specs.declared.names.JobId.{JobId}
+use Rattle.rt_ids.specs.declared.note.Note.{Note}
+use Rattle.rt_ids.specs.declared.note.Note.TheVariants as written
+use Rattle.rt_ids.specs.declared.order.Order.{Order}
+use Rattle.rt_ids.specs.Journal.{Journal, is_told}
+use Rattle.rt_ids.specs.declared.order.Order.TheVariants as order
+use Rattle.rt_ids.specs.declared.order.SendError.TheVariants as refused
+use Rattle.rt_ids.specs.Commands.{effect_note}
+use Rattle.rt_jobs.specs.Scripts.{Script, Does, IsAnswer}
+use Rattle.rt_world.specs.declared.event.Event.{Event}
+use Rattle.rt_world.specs.declared.event.Event.TheVariants.{Send, Deliver, Turn}
+use Rattle.rt_world.specs.declared.event.Reply.{Reply}
+use Rattle.rt_world.specs.declared.event.Reply.TheVariants as reply
+use Rattle.rt_world.specs.State.{journal_at, noted, without_job, with_sent, IsNearlyFull}
+use Rattle.rt_world.specs.Sends.{actor_of, AreThere, Sends}
+use Rattle.rt_world.specs.Deliveries.{IsDelivery, with_effect, Delivers}
+use Rattle.rt_world.specs.Turns.{Turns, settle_note, poll_note}
+use Rattle.rt_ids.specs.Filters.{name_started}
+use Rattle.rt_world.specs.Runs.{Steps}
+use Rattle.rt_engine.specs.Rooms.{IsRoomy}
+use Rattle.rt_engine.specs.Transcripts.{ScriptWorld, Occurs, IsHeard}
+
+pub lt_or_le : (a b : ℕ) → (a < b) ⊎ (b ≤ a)
+lt_or_le a zero = inr (omega arith)
+lt_or_le zero (suc b) = inl (omega arith)
+lt_or_le (suc a) (suc b) = from (lt_or_le a b)
+  where
+    from : (a < b) ⊎ (b ≤ a) → (suc a < suc b) ⊎ (suc b ≤ suc a)
+    from (inl h) = inl (omega arith)
+    from (inr h) = inr (omega arith)
+
+pub eq_or_ne : (a b : ℕ) → (a ≡ b) ⊎ (a ≢ b)
+eq_or_ne a b = from (lt_or_le a b) (lt_or_le b a)
+  where
+    from : (a < b) ⊎ (b ≤ a) → (b < a) ⊎ (a ≤ b) → (a ≡ b) ⊎ (a ≢ b)
+    from (inl h) other = inr (λ e. absurd (omega arith))
+    from (inr h) (inl k) = inr (λ e. absurd (omega arith))
+    from (inr h) (inr k) = inl (omega arith)
+
+-- what the world has more after an event of this actor
+pub record Grows (actor : ℕ) (old new : ScriptWorld) : Type 0 where
+  pub notes : List (Note ℕ)
+  pub noted : journal_at actor new ≡ notes ++ journal_at actor old
+  pub short : (any : ℕ) → length (journal_at any new) ≤ length (journal_at any old) + 4
+  pub cores : new.cores ≡ old.cores
+  pub cap : new.cap ≡ old.cap
+  pub room : new.room ≡ old.room
+
+stays : (actor : ℕ) (old new : ScriptWorld) → new ≡ old → Grows actor old new
+stays actor old new same = record {
+  notes = [];
+  noted = ap (journal_at actor) same;
+  short = λ any. let e = ap (λ world. length (journal_at any world)) same in omega arith;
+  cores = ap (λ world. world.cores) same;
+  cap = ap (λ world. world.cap) same;
+  room = ap (λ world. world.room) same;
+}
+
+-- a journal after notes were added to one of them, if it is there
+module _ (actor : ℕ) (notes : List (Note ℕ)) (old : ScriptWorld) where
+  there : actor < length old.journals → journal_at actor (noted actor notes old) ≡ notes ++ journal_at actor old
+  there within = get_or-set_same old.journals actor (notes ++ journal_at actor old) [] within
+
+  past : length old.journals ≤ actor → (any : ℕ) → journal_at any (noted actor notes old) ≡ journal_at any old
+  past out any = ap (λ journals. get_or journals any []) (set_past old.journals actor (notes ++ journal_at actor old) out)
+
+  other : (any : ℕ) → any ≢ actor → journal_at any (noted actor notes old) ≡ journal_at any old
+  other any apart = get_or-set_other old.journals actor any (notes ++ journal_at actor old) [] apart
+
+  short_there : length notes ≤ 4 → actor < length old.journals → (any : ℕ) → (any ≡ actor) ⊎ (any ≢ actor) → length (journal_at any (noted actor notes old)) ≤ length (journal_at any old) + 4
+  short_there few within any (inl same) =
+      let here = ap length (there within) ∙ length-append notes (journal_at actor old) in
+      let more : length (journal_at actor (noted actor notes old)) ≤ length (journal_at actor old) + 4 = omega arith in
+      subst (λ one. length (journal_at one (noted actor notes old)) ≤ length (journal_at one old) + 4) (sym same) more
+  short_there few within any (inr apart) = let e = ap length (other any apart) in omega arith
+
+  pub adds : length notes ≤ 4 → Grows actor old (noted actor notes old)
+  adds few = from (lt_or_le actor (length old.journals))
+    where
+      from : (actor < length old.journals) ⊎ (length old.journals ≤ actor) → Grows actor old (noted actor notes old)
+      from (inl within) = record {
+        notes = notes;
+        noted = there within;
+        short = λ any. short_there few within any (eq_or_ne any actor);
+        cores = refl;
+        cap = refl;
+        room = refl;
+      }
+      from (inr out) = record {
+        notes = [];
+        noted = past out actor;
+        short = λ any. let e = ap length (past out any) in omega arith;
+        cores = refl;
+        cap = refl;
+        room = refl;
+      }
+
+few_effects : (effect : Option (Note ℕ)) (notes : List (Note ℕ)) → length (with_effect effect notes) ≤ length notes + 1
+few_effects None notes = omega arith
+few_effects (Some note) notes = omega arith
+
+delivery_few : (name : JobId) (what : Order Script) (before : Journal ℕ) (notes : List (Note ℕ)) → IsDelivery name what before notes → length notes ≤ 4
+delivery_few name (order.Job queue job) before notes is = let e : length notes ≡ 1 = ap length is in omega arith
+delivery_few name (order.Create weight) before notes is =
+    let e = ap length is.2 in
+    let few = few_effects (effect_note (order.Create weight) is.0) (written.Answered name is.0 ∷ []) in
+    omega arith
+delivery_few name (order.SetShares queue weight) before notes is =
+    let e = ap length is.2 in
+    let few = few_effects (effect_note (order.SetShares queue weight) is.0) (written.Answered name is.0 ∷ []) in
+    omega arith
+
+becomes : (actor : ℕ) (old new other : ScriptWorld) → new ≡ other → Grows actor old other → Grows actor old new
+becomes actor old new other same grows = subst (Grows actor old) (sym same) grows
+
+-- orders that were accepted are no part of a journal
+with_orders : (actor : ℕ) (notes : List (Note ℕ)) (old : ScriptWorld) (sent : List (List (List (Order Script)))) → length notes ≤ 4 → Grows actor old (record (noted actor notes old) { sent = sent })
+with_orders actor notes old sent few =
+    let grows = adds actor notes old few in
+    record { notes = grows.notes; noted = grows.noted; short = grows.short; cores = grows.cores; cap = grows.cap; room = grows.room }
+
+send_grows : (sender core : ℕ) (what : Order Script) (old new : ScriptWorld) (answer : Reply Script) → Sends sender core what old new answer → Grows sender old new
+send_grows sender core what old new (reply.Sent name) is = becomes sender old new _ is.2 (with_orders sender (written.Sent name (without_job what) ∷ []) old (with_sent sender core what old) (omega arith))
+send_grows sender core what old new (reply.NotSent (refused.Full back)) is = stays sender old new is.2
+send_grows sender core what old new (reply.NotSent (refused.Spent back)) is = stays sender old new is.3
+send_grows sender core what old new (reply.NotSent (refused.Closed back count)) is = absurd is
+send_grows sender core what old new (reply.NotSent (refused.NoCore back)) is = absurd is
+send_grows sender core what old new reply.Noted is = absurd is
+send_grows sender core what old new reply.Empty is = absurd is
+send_grows sender core what old new reply.Idle is = absurd is
+send_grows sender core what old new reply.Spent is = absurd is
+send_grows sender core what old new (reply.NoActor back) is = absurd is
+send_grows sender core what old new (reply.NoRoom back) is = absurd is
+
+deliver_grows : (core sender : ℕ) (old new : ScriptWorld) (answer : Reply Script) → Delivers core sender old new answer → Grows core old new
+deliver_grows core sender old new reply.Noted is =
+    becomes core old new _ is.4 (adds core is.2 old (delivery_few _ is.0 _ is.2 is.3))
+deliver_grows core sender old new reply.Empty is = stays core old new is.1
+deliver_grows core sender old new (reply.Sent name) is = absurd is
+deliver_grows core sender old new (reply.NotSent refusal) is = absurd is
+deliver_grows core sender old new reply.Idle is = absurd is
+deliver_grows core sender old new reply.Spent is = absurd is
+deliver_grows core sender old new (reply.NoActor back) is = absurd is
+deliver_grows core sender old new (reply.NoRoom back) is = absurd is
+
+turn_grows : (core spent : ℕ) (old new : ScriptWorld) (answer : Reply Script) → Turns (λ job. job.polled) (λ job made step told. Does (slice_get job.polls made) step told) (λ job out. IsAnswer job.polls out) core spent old new answer → Grows core old new
+turn_grows core spent old new reply.Noted is = becomes core old new _ is.notes
+    (adds core
+    (
+    settle_note is.name (unwrap_or is.told spent) is.step
+    ∷ poll_note is.name (is_told name_started is.name (journal_at core old))
+    ∷ written.Pick is.queue is.runtime ∷ []
+    ) old (omega arith))
+turn_grows core spent old new reply.Idle is = stays core old new is.1
+turn_grows core spent old new reply.Spent is = stays core old new is.2
+turn_grows core spent old new reply.Empty is = absurd is
+turn_grows core spent old new (reply.Sent name) is = absurd is
+turn_grows core spent old new (reply.NotSent refusal) is = absurd is
+turn_grows core spent old new (reply.NoActor back) is = absurd is
+turn_grows core spent old new (reply.NoRoom back) is = absurd is
+
+step_grows : (event : Event Script) (old new : ScriptWorld) (answer : Reply Script) → Steps (λ job. job.polled) (λ job made step told. Does (slice_get job.polls made) step told) (λ job out. IsAnswer job.polls out) event old new answer → Grows (actor_of event) old new
+step_grows (Send sender core what) old new answer is = send_grows sender core what old new answer is
+step_grows (Deliver core sender) old new answer is = deliver_grows core sender old new answer is
+step_grows (Turn core spent) old new answer is = turn_grows core spent old new answer is
+
+-- what an event leaves
+pub event_grows : (event : Event Script) (old new : ScriptWorld) (answer : Reply Script) → Occurs event old new answer → Grows (actor_of event) old new
+event_grows event old new (reply.NoActor back) is = stays (actor_of event) old new is.2
+event_grows event old new (reply.NoRoom back) is = stays (actor_of event) old new is.3
+event_grows event old new (reply.Sent name) is = step_grows event old new (reply.Sent name) is.2
+event_grows event old new (reply.NotSent refusal) is = step_grows event old new (reply.NotSent refusal) is.2
+event_grows event old new reply.Noted is = step_grows event old new reply.Noted is.2
+event_grows event old new reply.Empty is = step_grows event old new reply.Empty is.2
+event_grows event old new reply.Idle is = step_grows event old new reply.Idle is.2
+event_grows event old new reply.Spent is = step_grows event old new reply.Spent is.2
+
+-- an event whose actors exist and whose journal has room isn't handed back
+pub is_heard : (event : Event Script) (old new : ScriptWorld) (answer : Reply Script) → Occurs event old new answer → AreThere old.cores event → (IsNearlyFull (actor_of event) old → ⊥) → IsHeard answer
+is_heard event old new (reply.NoActor back) is here free = is.1 here
+is_heard event old new (reply.NoRoom back) is here free = free is.2
+is_heard event old new (reply.Sent name) is here free = tt
+is_heard event old new (reply.NotSent refusal) is here free = tt
+is_heard event old new reply.Noted is here free = tt
+is_heard event old new reply.Empty is here free = tt
+is_heard event old new reply.Idle is here free = tt
+is_heard event old new reply.Spent is here free = tt
+
+pub is_free : (actor : ℕ) (world : ScriptWorld) → IsRoomy world.cores world.cap 32768 world → IsNearlyFull actor world → ⊥
+is_free actor world roomy full =
+    let short = roomy.short actor in
+    let room = roomy.room_is in
+    absurd (omega arith)

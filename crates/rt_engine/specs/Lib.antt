@@ -1,0 +1,5 @@
+pub mod Replies
+pub mod Transcripts
+pub mod Rooms
+pub mod Outputs
+pub mod OneOutput

@@ -1,0 +1,44 @@
+-- What a run writes, as far as it comes.
+use Rattle.std.specs.Prelude.{◌≡◌, ℕ, List, ◌++◌, Option, Ok}
+use Rattle.std.specs.Option.{IfSome}
+use Rattle.std.specs.Io.KnownBytes.{Appends}
+use Rattle.rt_script.specs.declared.event.ScriptEvent.{ScriptEvent}
+use Rattle.rt_text.specs.declared.fault.EngineFault.{EngineFault}
+use Rattle.rt_text.specs.declared.fault.EngineFault.TheVariants.{Text, Read, Write, Memory}
+use Rattle.rt_script.specs.Drafts.{Drafted}
+use Rattle.rt_script.specs.Scripts.{script_of}
+use Rattle.rt_engine.specs.Transcripts.{ScriptWorld, PrintsAll, IsOutput}
+
+-- the events happen, and their text is on the page behind what was there, but for what was written from the page's front
+pub record WritesAll (events : List ScriptEvent) (old new : ScriptWorld) (page_old page_new : List ℕ) (sink_old sink_new : Option (List ℕ)) : Type 0 where
+  pub text : List ℕ
+  pub written : List ℕ
+  pub prints : PrintsAll events old new text
+  pub appends : Appends sink_old sink_new written
+  pub whole : page_old ++ text ≡ written ++ page_new
+
+-- the source tells this script, and its output is written
+pub record IsDone (source sink_old sink_new : Option (List ℕ)) : Type 0 where
+  pub script : Drafted
+  pub told : IfSome source (λ text. script_of text ≡ Ok script)
+  pub output : List ℕ
+  pub right : IsOutput script output
+  pub appends : Appends sink_old sink_new output
+
+-- a fact of a refused or unread text, of which nothing is printed
+abbrev pub IfUnread : Type 0 → EngineFault → Type 0
+IfUnread fact (Text line cause) = fact
+IfUnread fact Read = fact
+IfUnread fact Write = Unit {0}
+IfUnread fact Memory = Unit {0}
+
+-- the source tells a whole script
+abbrev pub TellsScript : Option (List ℕ) → Type 0
+TellsScript source = (script : Drafted) × IfSome source (λ text. script_of text ≡ Ok script)
+
+-- a fact of a text whose output couldn't be written
+abbrev pub IfUnwritten : Type 0 → EngineFault → Type 0
+IfUnwritten fact (Text line cause) = Unit {0}
+IfUnwritten fact Read = Unit {0}
+IfUnwritten fact Write = fact
+IfUnwritten fact Memory = Unit {0}

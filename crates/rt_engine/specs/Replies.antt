@@ -1,0 +1,39 @@
+-- The events of a script as events of the model, and what is printed of a reply.
+use Rattle.std.specs.Prelude.{Option, None, Some}
+use Rattle.rt_ids.specs.declared.order.SendError.TheVariants as refused
+use Rattle.rt_jobs.specs.Scripts.{Script}
+use Rattle.rt_world.specs.declared.event.Event.{Event}
+use Rattle.rt_world.specs.declared.event.Event.TheVariants as event
+use Rattle.rt_world.specs.declared.event.Reply.{Reply}
+use Rattle.rt_world.specs.declared.event.Reply.TheVariants as reply
+use Rattle.rt_script.specs.declared.event.ScriptEvent.{ScriptEvent}
+use Rattle.rt_script.specs.declared.event.ScriptEvent.TheVariants.{Send, Deliver, Turn}
+use Rattle.rt_text.specs.declared.reply.Ends.{Ends}
+use Rattle.rt_text.specs.declared.reply.Quiet.{Quiet}
+use Rattle.rt_text.specs.declared.reply.Quiet.TheVariants as quiet
+
+-- the event of the model; a turn has no time of its own
+abbrev pub event_of : ScriptEvent → Event Script
+event_of (Send sender core order) = event.Send sender core order
+event_of (Deliver core sender) = event.Deliver core sender
+event_of (Turn core) = event.Turn core 0
+
+-- who makes the step of an event, and who is at the other end of its link; a turn has nobody there
+abbrev pub ends_of : ScriptEvent → Ends
+ends_of (Send sender core order) = record { actor = sender; other = core }
+ends_of (Deliver core sender) = record { actor = core; other = sender }
+ends_of (Turn core) = record { actor = core; other = 0 }
+
+-- what is printed of a reply, if it comes with no note
+abbrev pub quiet_of : Reply Script → Option Quiet
+quiet_of reply.Idle = Some quiet.Idle
+quiet_of reply.Spent = Some quiet.NoTurnLeft
+quiet_of reply.Empty = Some quiet.Empty
+quiet_of (reply.NotSent (refused.Full back)) = Some quiet.Full
+quiet_of (reply.NotSent (refused.Closed back count)) = Some (quiet.Closed count)
+quiet_of (reply.NotSent (refused.Spent back)) = Some quiet.NoNumberLeft
+quiet_of (reply.NotSent (refused.NoCore back)) = None
+quiet_of (reply.Sent name) = None
+quiet_of reply.Noted = None
+quiet_of (reply.NoActor back) = None
+quiet_of (reply.NoRoom back) = None

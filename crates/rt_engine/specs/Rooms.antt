@@ -1,0 +1,20 @@
+-- A world in the middle of a script: its journals have room for all that is to come.
+use Rattle.std.specs.Prelude.{◌≡◌, ℕ, ◌+◌, ◌≤◌, List, length}
+use Rattle.rt_ids.specs.Commands.{created_count}
+use Rattle.rt_world.specs.Opening.{IsUnbegun}
+use Rattle.rt_world.specs.State.{journal_at}
+use Rattle.rt_script.specs.Drafts.{queue_lines}
+use Rattle.rt_engine.specs.Transcripts.{ScriptWorld, script_room}
+
+-- a world of this size, whose journals have at most so many notes
+pub record IsRoomy (cores cap notes : ℕ) (world : ScriptWorld) : Type 0 where
+  pub cores_are : world.cores ≡ cores
+  pub cap_is : world.cap ≡ cap
+  pub room_is : world.room ≡ script_room cores cap
+  pub short : (actor : ℕ) → length (journal_at actor world) ≤ notes
+
+-- these queues may still be made: no event has happened, and each core has at most 255 queues with them
+pub record MayMake (left : List (ℕ × ℕ)) (world : ScriptWorld) : Type 0 where
+  pub unbegun : IsUnbegun world
+  pub notes : (core : ℕ) → length (journal_at core world) + queue_lines core left ≤ 255
+  pub last : (core : ℕ) → created_count (journal_at core world) + queue_lines core left ≤ 255

@@ -1,0 +1,116 @@
+//! Runs a script on the model.
+
+ghost use Rattle.std.specs.Prelude.{◌≡◌, ◌<◌, ◌+◌, [], ℕ, List, length, IfOk, IfErr, OnOk, IfSome, Err, Some, true};
+ghost use Rattle.std.specs.Io.KnownBytes.{Keeps, Appends};
+ghost use Rattle.rt_ids.specs.Commands.{created_count};
+ghost use Rattle.rt_world.specs.Opening.{IsFresh, IsUnbegun};
+ghost use Rattle.rt_world.specs.State.{journal_at};
+ghost use Rattle.rt_script.specs.Limits.{IsSize, ArePlaced};
+ghost use Rattle.rt_script.specs.ScriptFaults.{IfText};
+ghost use Rattle.rt_script.specs.Scripts.{script_of};
+ghost use Rattle.rt_script.specs.Whole.{drafted};
+ghost use Rattle.rt_engine.specs.Outputs.{IsDone, IfUnread, TellsScript, IfUnwritten};
+ghost use Rattle.rt_engine.specs.Rooms.{MayMake};
+ghost use Rattle.rt_engine.specs.Transcripts.{IsOutput, script_room, with_queue, with_queues};
+
+use crate::print::{FULL_PAGE, LONGEST_PRINT, Model, print_events, print_page};
+use rt_ids::CoreNo;
+use rt_script::{Script, read_script};
+use rt_shares::Shares;
+use rt_taskqueue::CreateError;
+use rt_text::EngineFault;
+use rt_text::steady::flush;
+use rt_world::{World, WorldError};
+use std::alloc::Global;
+use std::io::{Read, Write};
+
+/// Runs the script that the source tells, and prints each event's notes, or one line where it made none.
+///
+/// # Errors
+///
+/// A faulty line of the script (`Text`), a failed read (`Read`) or write (`Write`), want of memory (`Memory`). Nothing is printed
+/// before the whole script is judged.
+pub fn run_script<R: Read, W: Write>(
+    alloc: Global,
+    source: &mut R,
+    sink: &mut W,
+) -> Result<bool, EngineFault>
+    ensures done { IfOk result (λ done. (done ≡ true)
+        × IsDone (R.remaining source.old) (W.contents sink.old) (W.contents sink.new)) }
+    ensures faulty { IfErr result (IfText (λ fault.
+        IfSome (R.remaining source.old) (λ text. script_of text ≡ Err fault))) }
+    ensures silent { IfErr result (IfUnread (Keeps (W.contents sink.old) (W.contents sink.new))) }
+    ensures judged { IfErr result (IfUnwritten (TellsScript (R.remaining source.old))) }
+{
+    let script = read_script(alloc, source)?;
+    play(alloc, script, sink)?;
+    Ok(true)
+}
+
+/// Runs a whole script.
+fn play<W: Write>(alloc: Global, script: Script, sink: &mut W) -> Result<(), EngineFault>
+    ensures ok { OnOk result ((output : List ℕ) × IsOutput (drafted script) output
+        × Appends (W.contents sink.old) (W.contents sink.new) output) }
+    ensures device { IfErr result (IfUnread ⊥) }
+{
+    let Script {
+        cores,
+        cap,
+        queues,
+        events,
+    } = script;
+    let mut model = open_model(alloc, cores, cap)?;
+    create_queues(&mut model, queues.as_slice())?;
+    let mut page = String::with_capacity(alloc, FULL_PAGE + LONGEST_PRINT)?;
+    print_events(&mut model, events, &mut page, sink)?;
+    print_page(&mut page, sink)?;
+    match flush(sink) {
+        Ok(()) => Ok(()),
+        Err(_) => Err(EngineFault::Write),
+    }
+}
+
+/// A world of so many cores with links of that capacity. Its journals have room for all notes of a script.
+fn open_model(alloc: Global, cores: u8, cap: u16) -> Result<Model, EngineFault>
+    requires { IsSize cores cap }
+    ensures ok { IfOk result (IsFresh cores cap (script_room cores cap)) }
+    ensures device { IfErr result (IfUnread ⊥) }
+{
+    let room = 32768 + 3 * u32::from(cores) * u32::from(cap) + 4;
+    match World::try_new(alloc, alloc, cores, cap, room) {
+        Ok(model) => Ok(model),
+        Err(WorldError::Memory) => Err(EngineFault::Memory),
+        Err(WorldError::BadConfig) => unreachable!(),
+    }
+}
+
+/// Makes the queues of the `queue` lines, in their order.
+fn create_queues(model: &mut Model, queues: &[(CoreNo, Shares)]) -> Result<(), EngineFault>
+    requires may { MayMake queues.now model.old }
+    requires room { 255 < model.old.room }
+    requires placed { ArePlaced (Some (model.old.cores, model.old.cap)) queues.now }
+    ensures ok { OnOk result (model.new ≡ with_queues queues.now model.old) }
+    ensures after { OnOk result (MayMake [] model.new) }
+    ensures device { IfErr result (IfUnread ⊥) }
+{
+    for queue in queues {
+        create_queue(model, queue.0, queue.1)?;
+    }
+    Ok(())
+}
+
+/// Makes one queue, under the next number of its core.
+fn create_queue(model: &mut Model, core: CoreNo, shares: Shares) -> Result<(), EngineFault>
+    requires core { core < model.old.cores }
+    requires unbegun { IsUnbegun model.old }
+    requires room { length (journal_at core model.old) < model.old.room }
+    requires few { created_count (journal_at core model.old) < 255 }
+    ensures ok { OnOk result (model.new ≡ with_queue (core, shares) model.old) }
+    ensures device { IfErr result (IfUnread ⊥) }
+{
+    match model.create(core, shares) {
+        Ok(_) => Ok(()),
+        Err(CreateError::Memory) => Err(EngineFault::Memory),
+        Err(CreateError::TooMany) => unreachable!(),
+    }
+}

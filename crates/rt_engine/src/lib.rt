@@ -1,0 +1,9 @@
+//! Runs scripts on the model, and prints what happens.
+#![tactic(auto)]
+
+pub mod engine;
+pub mod laws;
+mod print;
+pub mod reply;
+
+pub use engine::run_script;

@@ -1,0 +1,105 @@
+//! Lets the events of a script happen, and prints each.
+
+ghost use Rattle.std.specs.Prelude.{◌≡◌, ◌≤◌, ◌++◌, [], ℕ, List, length, drop, reverse, IfErr, OnOk, Some, string_bytes};
+ghost use Rattle.std.specs.Io.KnownBytes.{Appends};
+ghost use Rattle.rt_script.specs.Limits.{AreEventsOf, IsEventOf};
+ghost use Rattle.rt_engine.specs.Outputs.{WritesAll, IfUnread};
+ghost use Rattle.rt_engine.specs.Rooms.{IsRoomy};
+ghost use Rattle.rt_engine.specs.Transcripts.{Prints, note_lines};
+
+use crate::reply::{ends_of, event_of, quiet_of};
+use rt_ids::ActorNo;
+use rt_jobs::ScriptJob;
+use rt_script::ScriptEvent;
+use rt_text::page::write_page;
+use rt_text::{EngineFault, NoteLine, ReplyLine};
+use rt_world::{Journal, World};
+use std::alloc::Global;
+use std::io::Write;
+
+/// A world of script jobs.
+pub(crate) type Model = World<ScriptJob, Global>;
+
+/// So much is printed at once.
+pub(crate) const FULL_PAGE: usize = 16384;
+
+/// More than the lines of one event, which fill the page a little above that: four notes of at most 128 bytes.
+pub(crate) const LONGEST_PRINT: usize = 1024;
+
+/// Lets the events happen, one after another. Where the page is full it is printed, and so the sink has its front.
+pub(crate) fn print_events<W: Write>(
+    model: &mut Model,
+    events: Vec<ScriptEvent>,
+    page: &mut String,
+    sink: &mut W,
+) -> Result<(), EngineFault>
+    requires roomy { IsRoomy model.old.cores model.old.cap 255 model.old }
+    requires there { AreEventsOf (Some (model.old.cores, model.old.cap)) events.items }
+    requires short { length events.items ≤ 4096 }
+    ensures ok { OnOk result (WritesAll events.items model.old model.new (string_bytes page.old) (string_bytes page.new)
+        (W.contents sink.old) (W.contents sink.new)) }
+    ensures device { IfErr result (IfUnread ⊥) }
+{
+    for event in events {
+        print_event(model, event, page)?;
+        if page.len() >= FULL_PAGE {
+            print_page(page, sink)?;
+        }
+    }
+    Ok(())
+}
+
+/// Lets the event happen, and puts its lines on the page.
+fn print_event(model: &mut Model, event: ScriptEvent, page: &mut String) -> Result<(), EngineFault>
+    requires roomy { IsRoomy model.old.cores model.old.cap 32768 model.old }
+    requires there { IsEventOf model.old.cores event }
+    ensures ok { OnOk result ((text : List ℕ) × Prints event model.old model.new text
+        × (string_bytes page.new ≡ string_bytes page.old ++ text)) }
+    ensures device { IfErr result (IfUnread ⊥) }
+{
+    let ends = ends_of(&event);
+    let before = model.journal(ends.actor).len();
+    let reply = model.step(event_of(event));
+    let journal = model.journal(ends.actor);
+    if journal.len() > before {
+        return print_notes(ends.actor, journal, before, page);
+    }
+    if let Some(quiet) = quiet_of(&reply) {
+        let line = ReplyLine(ends, quiet);
+        writeln!(page, "{line}")?;
+    }
+    Ok(())
+}
+
+/// Puts the notes from that place on upon the page, the oldest first.
+fn print_notes(
+    actor: ActorNo,
+    journal: &Journal<u64>,
+    first: usize,
+    page: &mut String,
+) -> Result<(), EngineFault>
+    requires { first ≤ length journal.now.notes }
+    ensures ok { OnOk result (string_bytes page.new
+        ≡ string_bytes page.old ++ note_lines actor (drop first (reverse journal.now.notes))) }
+    ensures device { IfErr result (IfUnread ⊥) }
+{
+    for place in first..journal.len() {
+        if let Some(note) = journal.get(place) {
+            let line = NoteLine(actor, note);
+            writeln!(page, "{line}")?;
+        }
+    }
+    Ok(())
+}
+
+/// Prints the page, and empties it.
+pub(crate) fn print_page<W: Write>(page: &mut String, sink: &mut W) -> Result<(), EngineFault>
+    ensures ok { OnOk result (Appends (W.contents sink.old) (W.contents sink.new) (string_bytes page.old)) }
+    ensures empty { OnOk result (string_bytes page.new ≡ []) }
+    ensures device { IfErr result (IfUnread ⊥) }
+{
+    match write_page(page, sink) {
+        Ok(()) => Ok(()),
+        Err(_) => Err(EngineFault::Write),
+    }
+}

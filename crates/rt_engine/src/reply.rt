@@ -1,0 +1,60 @@
+//! The events of a script as events of the model, and what is printed of a reply.
+
+ghost use Rattle.std.specs.Prelude.{◌≡◌};
+ghost use Rattle.rt_engine.specs.Replies as spec;
+
+use rt_ids::{ActorNo, SendError};
+use rt_jobs::ScriptJob;
+use rt_script::ScriptEvent;
+use rt_text::{Ends, Quiet};
+use rt_world::{Event, Reply};
+
+/// The event of the model. A turn has no time of its own, since script jobs tell theirs.
+pub fn event_of(event: ScriptEvent) -> Event<ScriptJob>
+    ensures { result ≡ spec.event_of event }
+{
+    match event {
+        ScriptEvent::Send(from, to, order) => Event::Send(from, to, order),
+        ScriptEvent::Deliver(core, from) => Event::Deliver(core, from),
+        ScriptEvent::Turn(core) => Event::Turn(core, 0),
+    }
+}
+
+/// The actor that makes the step of the event, and who is at the other end of its link.
+pub fn ends_of(event: &ScriptEvent) -> Ends
+    ensures { result ≡ spec.ends_of event.now }
+{
+    match event {
+        ScriptEvent::Send(from, to, _) => Ends {
+            actor: *from,
+            other: to.0,
+        },
+        ScriptEvent::Deliver(core, from) => Ends {
+            actor: ActorNo(core.0),
+            other: from.0,
+        },
+        ScriptEvent::Turn(core) => Ends {
+            actor: ActorNo(core.0),
+            other: 0,
+        },
+    }
+}
+
+/// What the line says of this reply, or None where the reply comes with notes or is none of a script's.
+pub fn quiet_of(reply: &Reply<ScriptJob>) -> Option<Quiet>
+    ensures { result ≡ spec.quiet_of reply.now }
+{
+    match reply {
+        Reply::Idle => Some(Quiet::Idle),
+        Reply::Spent => Some(Quiet::NoTurnLeft),
+        Reply::Empty => Some(Quiet::Empty),
+        Reply::NotSent(SendError::Full(_)) => Some(Quiet::Full),
+        Reply::NotSent(SendError::Closed(_, count)) => Some(Quiet::Closed(*count)),
+        Reply::NotSent(SendError::Spent(_)) => Some(Quiet::NoNumberLeft),
+        Reply::NotSent(SendError::NoCore(_)) => None,
+        Reply::Sent(_) => None,
+        Reply::Noted => None,
+        Reply::NoActor(_) => None,
+        Reply::NoRoom(_) => None,
+    }
+}

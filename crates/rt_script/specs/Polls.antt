@@ -1,0 +1,34 @@
+-- The polls of a script's job, as words spell them.
+use Rattle.std.specs.Prelude.{ℕ, ◌==◌, List, [], ◌∷◌, Result, Ok, Err, if◌then◌else◌}
+use Rattle.std.specs.List.{before_first, after_first}
+use Rattle.rt_jobs.specs.declared.poll.Poll.{Poll}
+use Rattle.rt_jobs.specs.declared.poll.Poll.TheVariants.{Yield, Done}
+use Rattle.rt_jobs.specs.Scripts.{Script}
+use Rattle.rt_text.specs.declared.fault.Cause.{Cause}
+use Rattle.rt_text.specs.declared.fault.Cause.TheVariants.{BadWord}
+use Rattle.rt_words.specs.Fields.{both, made, count_field}
+
+-- `yT`, a poll that yields and tells T
+abbrev pub yield_field : List ℕ → Result Poll Cause
+yield_field [] = Err BadWord
+yield_field (letter ∷ rest) = if letter == 121 then made Yield (count_field rest) else Err BadWord
+
+-- `dT=V`, a poll that is done with V and tells T; the first `=` counts
+abbrev pub done_field : List ℕ → Result Poll Cause
+done_field [] = Err BadWord
+done_field (letter ∷ rest) =
+    if letter == 100 then made (λ p. Done p.0 p.1) (both (count_field (before_first (λ byte. byte == 61) rest)) (count_field (after_first (λ byte. byte == 61) rest)))
+    else Err BadWord
+
+-- the polls of a job: the last word is a poll that is done, and each before it one that yields
+abbrev pub polls_field : List (List ℕ) → Result (List Poll) Cause
+polls_field [] = Err BadWord
+polls_field (word ∷ []) = made (λ poll. poll ∷ []) (done_field word)
+polls_field (word ∷ next ∷ others) = made (λ p. p.0 ∷ p.1) (both (yield_field word) (polls_field (next ∷ others)))
+
+-- a job of these polls that has made none
+abbrev pub fresh_job : List Poll → Script
+fresh_job polls = record { polls = polls; polled = 0 }
+
+abbrev pub job_field : List (List ℕ) → Result Script Cause
+job_field ws = made fresh_job (polls_field ws)

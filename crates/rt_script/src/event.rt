@@ -1,0 +1,15 @@
+//! What the lines of a script let happen.
+
+use rt_ids::{ActorNo, CoreNo, Order};
+use rt_jobs::ScriptJob;
+
+/// What one line of a script lets happen, after its `queue` lines.
+#[derive(Drop)]
+pub enum ScriptEvent {
+    /// The actor sends the order to the core.
+    Send(ActorNo, CoreNo, Order<ScriptJob>),
+    /// The core takes the next submission of the actor.
+    Deliver(CoreNo, ActorNo),
+    /// The core makes a turn. Script jobs tell their own time.
+    Turn(CoreNo),
+}

@@ -1,0 +1,4 @@
+pub mod Notes
+pub mod Replies
+pub mod Faults
+pub mod Statuses

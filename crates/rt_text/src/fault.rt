@@ -1,0 +1,99 @@
+//! What can be wrong with a text, and with a run.
+
+ghost use Rattle.std.specs.Prelude.{◌≡◌, Some};
+ghost use Rattle.rt_text.specs.Faults.{cause_text, fault_text};
+
+use std::alloc::{AllocError, AllocFailed};
+use std::fmt;
+
+/// What is wrong with a line of a script. Of several causes the first in this order is told.
+#[derive(Clone, Copy, PartialEq, Eq)]
+pub enum Cause {
+    /// It is line 4097.
+    TooManyLines,
+    /// It has more than 2048 bytes.
+    LineTooLong,
+    /// The first line that says something doesn't begin with `cores`, or no line says anything.
+    CoresLineExpected,
+    /// The first word is none that a script has here.
+    UnknownWord,
+    /// A `queue` line stands after a line of another kind.
+    QueueLineTooLate,
+    /// The line has too few or too many words, or an empty one.
+    WrongNumberOfWords,
+    /// A word isn't spelled as it has to be.
+    BadWord,
+    /// A number is too small or too large.
+    OutOfRange,
+    /// It is the 256th `queue` line of its core.
+    TooManyQueues,
+}
+
+impl Cause {
+    /// The words that are printed of it.
+    pub fn words(self) -> &'static str
+        ensures { result.now ≡ cause_text self }
+    {
+        match self {
+            Cause::TooManyLines => "too many lines",
+            Cause::LineTooLong => "line too long",
+            Cause::CoresLineExpected => "cores line expected",
+            Cause::UnknownWord => "unknown word",
+            Cause::QueueLineTooLate => "queue line too late",
+            Cause::WrongNumberOfWords => "wrong number of words",
+            Cause::BadWord => "bad word",
+            Cause::OutOfRange => "out of range",
+            Cause::TooManyQueues => "too many queues",
+        }
+    }
+}
+
+/// Why an engine stops.
+#[derive(Clone, Copy, PartialEq, Eq)]
+pub enum EngineFault {
+    /// A line of the text, by its number from 1, is faulty.
+    Text { line: u32, cause: Cause },
+    /// The text couldn't be read.
+    Read,
+    /// The output couldn't be written.
+    Write,
+    /// There is no memory.
+    Memory,
+}
+
+/// What is printed of a fault.
+impl fmt::Display for EngineFault {
+    ghost output = { λ fault. Some (fault_text fault) };
+
+    fn fmt<W: fmt::Write>(&self, f: &mut fmt::Formatter<W>) -> fmt::Result {
+        match self {
+            EngineFault::Text { line, cause } => {
+                let words = cause.words();
+                write!(f, "line {line}: {words}")
+            }
+            EngineFault::Read => f.write_str("read failed"),
+            EngineFault::Write => f.write_str("write failed"),
+            EngineFault::Memory => f.write_str("out of memory"),
+        }
+    }
+}
+
+impl From<AllocError> for EngineFault {
+    ghost use Rattle.rt_text.specs.declared.fault.EngineFault.TheVariants.{Memory};
+
+    ghost from_gives = { λ _ engine. engine ≡ Memory };
+
+    fn from(_error: AllocError) -> EngineFault {
+        EngineFault::Memory
+    }
+}
+
+impl<T: Drop> From<AllocFailed<T>> for EngineFault {
+    ghost use Rattle.rt_text.specs.declared.fault.EngineFault.TheVariants.{Memory};
+
+    ghost from_gives = { λ _ engine. engine ≡ Memory };
+
+    fn from(_failed: AllocFailed<T>) -> EngineFault {
+        EngineFault::Memory
+    }
+}

@@ -1,0 +1,4 @@
+pub mod FieldLemmas
+pub mod NumberLemmas
+pub mod PlaceLemmas
+pub mod WordLemmas

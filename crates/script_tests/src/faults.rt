@@ -1,0 +1,63 @@
+//! Causes, faults and statuses.
+
+use rt_text::{Cause, EngineFault, Status};
+use std::alloc::{AllocError, Global};
+use std::test::Fail;
+
+/// Each way in which an engine ends, with its status, and what is printed of it.
+const ENDS: [(Result<bool, EngineFault>, u8, &str); 6] = [
+    (Ok(true), 0, ""),
+    (Ok(false), 1, ""),
+    (
+        Err(EngineFault::Text {
+            line: 17,
+            cause: Cause::BadWord,
+        }),
+        2,
+        "line 17: bad word",
+    ),
+    (Err(EngineFault::Read), 3, "read failed"),
+    (Err(EngineFault::Write), 3, "write failed"),
+    (Err(EngineFault::Memory), 4, "out of memory"),
+];
+
+/// Each cause, and its words.
+const CAUSES: [(Cause, &str); 9] = [
+    (Cause::TooManyLines, "too many lines"),
+    (Cause::LineTooLong, "line too long"),
+    (Cause::CoresLineExpected, "cores line expected"),
+    (Cause::UnknownWord, "unknown word"),
+    (Cause::QueueLineTooLate, "queue line too late"),
+    (Cause::WrongNumberOfWords, "wrong number of words"),
+    (Cause::BadWord, "bad word"),
+    (Cause::OutOfRange, "out of range"),
+    (Cause::TooManyQueues, "too many queues"),
+];
+
+/// Whether this is what is printed of the answer.
+fn is_told(
+    alloc: Global,
+    answer: Result<bool, EngineFault>,
+    text: &str,
+) -> Result<bool, AllocError> {
+    match answer {
+        Ok(_) => Ok(text.is_empty()),
+        Err(fault) => Ok(format!(in alloc; "{fault}")?.as_str() == text),
+    }
+}
+
+#[test]
+fn each_end_has_its_status_and_text(rt: HostRuntime) -> Result<(), Fail> {
+    for (answer, code, text) in ENDS {
+        assert_eq!(rt; Status::of(&answer).code(), code);
+        assert!(rt; is_told(rt.alloc(), answer, text)?, "{text}");
+    }
+    Ok(())
+}
+
+#[test]
+fn each_cause_has_its_words(rt: HostRuntime) {
+    for (cause, words) in CAUSES {
+        assert_eq!(rt; cause.words(), words);
+    }
+}

@@ -1,0 +1,11 @@
+//! Tests of scripts, their runs and their texts over the public calls.
+#![tactic(auto)]
+
+#[cfg(test)]
+mod devices;
+#[cfg(test)]
+mod faults;
+#[cfg(test)]
+mod runs;
+#[cfg(test)]
+mod texts;

@@ -1,0 +1,151 @@
+//! Notes and replies as lines.
+
+use rt_ids::{ActorNo, Answer, CoreNo, JobId, Mode, Note, Order, OutcomeNote, QueueNo, Reason};
+use rt_shares::Shares;
+use rt_text::{Ends, NoteLine, Quiet, ReplyLine};
+use std::alloc::{AllocError, Global};
+use std::test::Fail;
+
+const NAME: JobId = JobId {
+    from: ActorNo(2),
+    to: CoreNo(1),
+    number: 3,
+};
+
+/// Notes of jobs, and their lines in the journal of actor 1.
+const JOB_NOTES: [(Note<u64>, &str); 12] = [
+    (
+        Note::Sent(NAME, Order::Job(QueueNo(4), ())),
+        "1 sent 2>1#3 job q4",
+    ),
+    (Note::Took(NAME, QueueNo(255)), "1 took 2>1#3 q255"),
+    (Note::Back(NAME, Reason::NoQueue), "1 back 2>1#3 noqueue"),
+    (
+        Note::Answered(NAME, Answer::Created(QueueNo(9))),
+        "1 answered 2>1#3 created q9",
+    ),
+    (Note::Start(NAME), "1 start 2>1#3"),
+    (Note::Resume(NAME), "1 resume 2>1#3"),
+    (Note::Yield(NAME, 70), "1 yield 2>1#3 70"),
+    (Note::Done(NAME, 70, 8), "1 done 2>1#3 70 = 8"),
+    (
+        Note::Returned(NAME, Reason::CoreReturned),
+        "1 returned 2>1#3 corereturned",
+    ),
+    (
+        Note::Collected(NAME, OutcomeNote::Finished(8)),
+        "1 collected 2>1#3 finished 8",
+    ),
+    (
+        Note::Redeemed(NAME, OutcomeNote::Returned(Reason::QueueClosed)),
+        "1 redeemed 2>1#3 returned queueclosed",
+    ),
+    (Note::Detached(NAME), "1 detached 2>1#3"),
+];
+
+/// The other notes.
+const CORE_NOTES: [(Note<u64>, &str); 4] = [
+    (
+        Note::QueueClosed(QueueNo(7), Mode::Finish),
+        "1 closed q7 finish",
+    ),
+    (Note::CoreClosed(Mode::Return), "1 coreclosed return"),
+    (
+        Note::Pick(QueueNo(0), 1 << 64),
+        "1 pick q0 at 18446744073709551616",
+    ),
+    (Note::Shut(ActorNo(2), 6), "1 shut 2 6"),
+];
+
+/// Answers of commands.
+const ANSWERS: [(Answer, &str); 7] = [
+    (Answer::TooMany, "1 answered 2>1#3 toomany"),
+    (Answer::NoMemory, "1 answered 2>1#3 nomemory"),
+    (Answer::CoreClosing, "1 answered 2>1#3 closing"),
+    (Answer::SharesSet, "1 answered 2>1#3 sharesset"),
+    (Answer::NoQueue, "1 answered 2>1#3 noqueue"),
+    (Answer::Closed, "1 answered 2>1#3 closed"),
+    (Answer::AlreadyClosed, "1 answered 2>1#3 alreadyclosed"),
+];
+
+/// What events come to that made no note, at actor 3 and with 12 at the other end.
+const REPLIES: [(Quiet, &str); 6] = [
+    (Quiet::Idle, "3 idle"),
+    (Quiet::NoTurnLeft, "3 spent"),
+    (Quiet::Full, "3 full 12"),
+    (Quiet::Closed(5), "3 closed 12 5"),
+    (Quiet::NoNumberLeft, "3 spent 12"),
+    (Quiet::Empty, "3 empty 12"),
+];
+
+fn is_line(alloc: Global, note: Note<u64>, text: &str) -> Result<bool, AllocError> {
+    let line = NoteLine(ActorNo(1), note);
+    Ok(format!(in alloc; "{line}")?.as_str() == text)
+}
+
+fn is_reply(alloc: Global, quiet: Quiet, text: &str) -> Result<bool, AllocError> {
+    let ends = Ends {
+        actor: ActorNo(3),
+        other: 12,
+    };
+    let line = ReplyLine(ends, quiet);
+    Ok(format!(in alloc; "{line}")?.as_str() == text)
+}
+
+/// Whether all notes that tell these shares are written so.
+fn are_shares_told(alloc: Global, shares: Shares) -> Result<bool, AllocError> {
+    let queue = QueueNo(2);
+    let create = Note::Sent(NAME, Order::Create(shares));
+    let set = Note::Sent(NAME, Order::SetShares(queue, shares));
+    Ok(
+        is_line(alloc, create, "1 sent 2>1#3 create 500")?
+            && is_line(alloc, set, "1 sent 2>1#3 shares q2 500")?
+            && is_line(alloc, Note::Created(queue, shares), "1 queue q2 500")?
+            && is_line(alloc, Note::SharesSet(queue, shares), "1 shares q2 500")?,
+    )
+}
+
+#[test]
+fn notes_of_jobs(rt: HostRuntime) -> Result<(), Fail> {
+    for (note, text) in JOB_NOTES {
+        assert!(rt; is_line(rt.alloc(), note, text)?, "{text}");
+    }
+    Ok(())
+}
+
+#[test]
+fn notes_of_cores(rt: HostRuntime) -> Result<(), Fail> {
+    for (note, text) in CORE_NOTES {
+        assert!(rt; is_line(rt.alloc(), note, text)?, "{text}");
+    }
+    Ok(())
+}
+
+#[test]
+fn notes_of_shares(rt: HostRuntime) -> Result<(), Fail> {
+    let told = match Shares::try_new(500) {
+        Ok(shares) => are_shares_told(rt.alloc(), shares)?,
+        Err(_) => false,
+    };
+    assert!(rt; told);
+    Ok(())
+}
+
+#[test]
+fn answers_of_commands(rt: HostRuntime) -> Result<(), Fail> {
+    for (answer, text) in ANSWERS {
+        assert!(rt;
+            is_line(rt.alloc(), Note::Answered(NAME, answer), text)?,
+            "{text}"
+        );
+    }
+    Ok(())
+}
+
+#[test]
+fn replies_without_notes(rt: HostRuntime) -> Result<(), Fail> {
+    for (quiet, text) in REPLIES {
+        assert!(rt; is_reply(rt.alloc(), quiet, text)?, "{text}");
+    }
+    Ok(())
+}
