@@ -3,3 +3,4 @@ pub mod EventTexts
 pub mod OpeningLemmas
 pub mod PrintLemmas
 pub mod WorldSteps
+pub mod OneOutput

@@ -2,3 +2,4 @@ pub mod Replies
 pub mod Transcripts
 pub mod Rooms
 pub mod Outputs
+pub mod OneOutput

@@ -2,6 +2,7 @@
 #![tactic(auto)]
 
 pub mod engine;
+pub mod laws;
 mod print;
 pub mod reply;
 

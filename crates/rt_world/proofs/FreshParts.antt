@@ -1,8 +1,8 @@
 -- A core, a link and a world as they open: nothing was noted, and each part is as a part of a world at rest.
-use Rattle.std.proofs.Common.{◌≡◌, ℕ, zero, suc, ◌+◌, ◌*◌, ◌<◌, ◌≤◌, List, [], length, refl, sym, ◌∙◌, ap, subst, ⊎_elim, arith, get_or}
-use Rattle.std.specs.Prelude.{Option, Some, None, map, All}
+use Rattle.std.proofs.Common.{◌≡◌, ℕ, zero, suc, ◌+◌, ◌*◌, ◌<◌, ◌≤◌, List, [], refl, sym, ◌∙◌, ap, subst, ⊎_elim, arith, get_or}
+use Rattle.std.specs.Prelude.{Option, Some, None, All}
 use Rattle.std.proofs.lemmas.Bool.{cases_lt}
-use Rattle.std.proofs.lemmas.List.{length-map, length-replicate, get_or-replicate, get_or_past}
+use Rattle.std.proofs.lemmas.List.{length-replicate, get_or-replicate, get_or_past}
 use Rattle.std.proofs.lemmas.List.Elements.{All-nil}
 use Rattle.rt_ids.specs.declared.order.Order.{Order}
 use Rattle.rt_ids.specs.declared.order.Outcome.{Outcome}
@@ -22,8 +22,8 @@ use Rattle.rt_world.specs.Links.{row_of, link_at, no_link, AreFresh}
 use Rattle.rt_world.specs.Inside.{Parts, notes_at, world_of, IsCoreAtRest, IsLinkBetween, AreOpened, AreEmpty}
 use Rattle.rt_world.specs.Tasks.{HasTask, IsWorld}
 use Rattle.rt_journal.specs.Agreement.{AreMarked, names_of}
-use Rattle.rt_world.specs.Opening.{HasAllLists, IsFresh}
-use Rattle.rt_journal.proofs.NumberedOrders.{get_or-map}
+use Rattle.rt_world.specs.Opening.{IsFresh}
+use Rattle.rt_world.proofs.Hollow.{world_lists}
 use Rattle.rt_world.proofs.WorldViews.{journal_at-world, sent_at-world}
 
 none≢some : {A : Type 0} (item : A) → None ≡ Some item → ⊥
@@ -148,15 +148,6 @@ module _ {J T : Type 0} (same : J → J → Type 0) (made : J → ℕ) (polls : 
           ap (λ row. (get_or row core (no_link {J = J} {T = T} sender core)).sent) (get_or_past links sender [] (omega (arith, past, links_open.rows_are)))
           ∙ ap (λ link. link.sent) (get_or_past [] core (no_link {J = J} {T = T} sender core) (omega arith))
 
-  lists : HasAllLists (world_of parts)
-  lists = record {
-    journals_are = length-map journals (λ journal. journal.notes) ∙ journals_open.journals_are;
-    senders_are = length-map links (map (λ link. link.sent)) ∙ links_open.rows_are;
-    links_are = λ sender known.
-        ap length (get_or-map (map (λ link. link.sent)) links sender [])
-        ∙ (length-map (row_of sender links) (λ link. link.sent) ∙ links_open.cores_are sender known);
-  }
-
   -- nothing has happened in it
   pub fresh_at_opening : IsFresh cores cap room (world_of parts)
-  fresh_at_opening = record { cores_are = refl; cap_is = refl; room_is = refl; lists = lists; no_note = no_note; no_order = no_order }
+  fresh_at_opening = record { cores_are = refl; cap_is = refl; room_is = refl; lists = world_lists same made polls fits ready parts world_at_opening; no_note = no_note; no_order = no_order }

@@ -4,6 +4,7 @@ pub mod PartOpening
 pub mod WorldViews
 pub mod WorldAfter
 pub mod WorldQuiet
+pub mod Hollow
 pub mod FreshParts
 pub mod SentNotes
 pub mod SentLinks

@@ -186,7 +186,7 @@ module _ {J T : Type 0} (made : J → ℕ) (polls : J → ℕ → Step T → Opt
   happens_plain event none old new (reply.NoRoom back) happens plain = subst (λ world. IsPlain world) (sym happens.3) plain
   happens_plain event none old new answer happens plain = steps_plain event none old new answer happens.2 plain
 
-  run_plain : (events : List (Event J)) → OrderNoQueues events → (old new : WorldView J T) (replies : List (Reply J)) → IsToldRun made polls answers events old new replies → IsPlain old → IsPlain new
+  pub run_plain : (events : List (Event J)) → OrderNoQueues events → (old new : WorldView J T) (replies : List (Reply J)) → IsToldRun made polls answers events old new replies → IsPlain old → IsPlain new
   run_plain [] none old new replies run plain = subst (λ world. IsPlain world) (sym run.0) plain
   run_plain (event ∷ events) none old new replies run plain =
       run_plain events none.1 run.0 new run.2 run.4 (happens_plain event none.0 old run.0 run.1 run.3 plain)

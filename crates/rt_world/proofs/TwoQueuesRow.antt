@@ -156,4 +156,78 @@ module _ (room : ℕ) (enough : 100 ≤ room) where
 pub two_queues : TwoQueues
 two_queues =
     runs_just 1 4 ((0, 500) ∷ []) _ _ _ (tt, (tt, (tt, (tt, (tt, (tt, (tt, (tt, (tt, (tt, tt))))))))))
-    (λ room enough. record { end = turned_10 room enough; run = (sent_1 room enough, (reply.Sent (name 0 0 1)), _, sends_1 room enough, (sent_2 room enough, (reply.Sent (name 0 0 2)), _, sends_2 room enough, (taken_3 room enough, reply.Noted, _, delivers_3 room enough, (taken_4 room enough, reply.Noted, _, delivers_4 room enough, (turned_5 room enough, reply.Noted, _, turns_5 room enough, (turned_6 room enough, reply.Noted, _, turns_6 room enough, (turned_7 room enough, reply.Noted, _, turns_7 room enough, (turned_8 room enough, reply.Noted, _, turns_8 room enough, (turned_9 room enough, reply.Noted, _, turns_9 room enough, (turned_10 room enough, reply.Noted, _, turns_10 room enough, (refl, refl), refl), refl), refl), refl), refl), refl), refl), refl), refl), refl); ends = refl })
+    (λ room enough. record {
+      end = turned_10 room enough;
+      run = (
+        sent_1 room enough,
+        (reply.Sent (name 0 0 1)),
+        _,
+        sends_1 room enough,
+        (
+          sent_2 room enough,
+          (reply.Sent (name 0 0 2)),
+          _,
+          sends_2 room enough,
+          (
+            taken_3 room enough,
+            reply.Noted,
+            _,
+            delivers_3 room enough,
+            (
+              taken_4 room enough,
+              reply.Noted,
+              _,
+              delivers_4 room enough,
+              (
+                turned_5 room enough,
+                reply.Noted,
+                _,
+                turns_5 room enough,
+                (
+                  turned_6 room enough,
+                  reply.Noted,
+                  _,
+                  turns_6 room enough,
+                  (
+                    turned_7 room enough,
+                    reply.Noted,
+                    _,
+                    turns_7 room enough,
+                    (
+                      turned_8 room enough,
+                      reply.Noted,
+                      _,
+                      turns_8 room enough,
+                      (
+                        turned_9 room enough,
+                        reply.Noted,
+                        _,
+                        turns_9 room enough,
+                        (
+                          turned_10 room enough,
+                          reply.Noted,
+                          _,
+                          turns_10 room enough,
+                          (refl, refl),
+                          refl,
+                        ),
+                        refl,
+                      ),
+                      refl,
+                    ),
+                    refl,
+                  ),
+                  refl,
+                ),
+                refl,
+              ),
+              refl,
+            ),
+            refl,
+          ),
+          refl,
+        ),
+        refl,
+      );
+      ends = refl;
+    })

@@ -128,4 +128,92 @@ module _ (room : ℕ) (enough : 100 ≤ room) where
 pub two_senders : TwoSenders
 two_senders =
     runs_just 2 2 [] _ _ _ (tt, (tt, (tt, (tt, (tt, (tt, (tt, (tt, (tt, (tt, (tt, (tt, tt))))))))))))
-    (λ room enough. record { end = turned_10 room enough; run = (sent_1 room enough, (reply.Sent (name 2 0 1)), _, sends_1 room enough, (sent_2 room enough, (reply.Sent (name 1 0 1)), _, sends_2 room enough, (sent_3 room enough, (reply.Sent (name 2 0 2)), _, sends_3 room enough, (sent_3 room enough, (reply.NotSent (Full (Job 0 (short_job 4)))), _, full_4 room enough, (taken_5 room enough, reply.Noted, _, delivers_5 room enough, (taken_6 room enough, reply.Noted, _, delivers_6 room enough, (taken_7 room enough, reply.Noted, _, delivers_7 room enough, (turned_8 room enough, reply.Noted, _, turns_8 room enough, (turned_9 room enough, reply.Noted, _, turns_9 room enough, (turned_10 room enough, reply.Noted, _, turns_10 room enough, (turned_10 room enough, reply.Empty, _, empty_11 room enough, (turned_10 room enough, reply.Idle, _, idle_12 room enough, (refl, refl), refl), refl), refl), refl), refl), refl), refl), refl), refl), refl), refl), refl); ends = refl })
+    (λ room enough. record {
+      end = turned_10 room enough;
+      run = (
+        sent_1 room enough,
+        (reply.Sent (name 2 0 1)),
+        _,
+        sends_1 room enough,
+        (
+          sent_2 room enough,
+          (reply.Sent (name 1 0 1)),
+          _,
+          sends_2 room enough,
+          (
+            sent_3 room enough,
+            (reply.Sent (name 2 0 2)),
+            _,
+            sends_3 room enough,
+            (
+              sent_3 room enough,
+              (reply.NotSent (Full (Job 0 (short_job 4)))),
+              _,
+              full_4 room enough,
+              (
+                taken_5 room enough,
+                reply.Noted,
+                _,
+                delivers_5 room enough,
+                (
+                  taken_6 room enough,
+                  reply.Noted,
+                  _,
+                  delivers_6 room enough,
+                  (
+                    taken_7 room enough,
+                    reply.Noted,
+                    _,
+                    delivers_7 room enough,
+                    (
+                      turned_8 room enough,
+                      reply.Noted,
+                      _,
+                      turns_8 room enough,
+                      (
+                        turned_9 room enough,
+                        reply.Noted,
+                        _,
+                        turns_9 room enough,
+                        (
+                          turned_10 room enough,
+                          reply.Noted,
+                          _,
+                          turns_10 room enough,
+                          (
+                            turned_10 room enough,
+                            reply.Empty,
+                            _,
+                            empty_11 room enough,
+                            (
+                              turned_10 room enough,
+                              reply.Idle,
+                              _,
+                              idle_12 room enough,
+                              (refl, refl),
+                              refl,
+                            ),
+                            refl,
+                          ),
+                          refl,
+                        ),
+                        refl,
+                      ),
+                      refl,
+                    ),
+                    refl,
+                  ),
+                  refl,
+                ),
+                refl,
+              ),
+              refl,
+            ),
+            refl,
+          ),
+          refl,
+        ),
+        refl,
+      );
+      ends = refl;
+    })

@@ -13,3 +13,4 @@ pub mod ScriptRuns
 pub mod Creations
 pub mod Rows
 pub mod WorkedRows
+pub mod Hollow

@@ -3,6 +3,7 @@
 ghost use Rattle.std.specs.Prelude.{ℕ};
 ghost use Rattle.rt_world.specs.Creations.{RunOfJobsIsDetermined};
 ghost use Rattle.rt_world.specs.Determined.{AssemblyIsDetermined, OpeningIsDetermined, OwesOne, RunIsDetermined};
+ghost use Rattle.rt_world.specs.Hollow.{EventsKeepLists, HollowIsRefused};
 ghost use Rattle.rt_world.specs.ScriptRuns.{ScriptRunIsDetermined};
 ghost use Rattle.rt_world.specs.WorkedRows.{OneJob, TwoQueues, TwoSenders};
 
@@ -17,6 +18,16 @@ pub fn run_is_determined<J: Task<Out = u64>>()
 /// The same, of script jobs.
 pub fn script_run_is_determined()
     ensures { ScriptRunIsDetermined }
+{}
+
+/// A world that has no journal, or no list of orders, isn't fresh.
+pub fn hollow_world_is_refused<J: Task<Out = u64>>()
+    ensures { HollowIsRefused J ℕ }
+{}
+
+/// Each event keeps how many journals and lists of orders there are.
+pub fn events_keep_lists<J: Task<Out = u64>>()
+    ensures { EventsKeepLists J.made J.Polls J.Answers }
 {}
 
 /// Two fresh worlds of the same numbers are one.

@@ -1,0 +1,18 @@
+-- Each script has one output, unless a core had no memory for a queue that it orders.
+use Rattle.std.specs.Prelude.{◌≡◌, ◌⊎◌, ℕ, List, map}
+use Rattle.rt_world.specs.Creations.{OrderNoQueues}
+use Rattle.rt_world.specs.Determined.{WasRefused}
+use Rattle.rt_script.specs.Drafts.{Drafted}
+use Rattle.rt_engine.specs.Replies.{event_of}
+use Rattle.rt_engine.specs.Transcripts.{IsOutput}
+
+-- two outputs of a script are one; else a journal behind one of them tells that there was no memory for a queue
+abbrev pub OutputIsDetermined : Type 0
+OutputIsDetermined =
+    (script : Drafted) (output other : List ℕ) (first : IsOutput script output) (second : IsOutput script other) →
+    (output ≡ other) ⊎ (WasRefused first.end.journals ⊎ WasRefused second.end.journals)
+
+-- a script that orders no queue by an event has one output
+abbrev pub OutputOfJobsIsDetermined : Type 0
+OutputOfJobsIsDetermined =
+    (script : Drafted) (output other : List ℕ) → OrderNoQueues (map event_of script.events) → IsOutput script output → IsOutput script other → output ≡ other

@@ -1,0 +1,13 @@
+//! Laws over the definitions alone.
+
+ghost use Rattle.rt_engine.specs.OneOutput.{OutputIsDetermined, OutputOfJobsIsDetermined};
+
+/// Each script has one output, unless a core had no memory for a queue that the script orders.
+pub fn output_is_determined()
+    ensures { OutputIsDetermined }
+{}
+
+/// A script that orders no queue by an event has one output.
+pub fn output_of_jobs_is_determined()
+    ensures { OutputOfJobsIsDetermined }
+{}
