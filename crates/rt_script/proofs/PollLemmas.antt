@@ -8,7 +8,7 @@ use Rattle.rt_jobs.proofs.FillLemmas.{with_yield-end, with_last-end}
 use Rattle.rt_text.specs.declared.fault.Cause.{Cause}
 use Rattle.rt_words.specs.Fields.{both, made, is_misspelled, worse}
 use Rattle.rt_words.specs.Words.{first, others}
-use Rattle.rt_script.specs.Polls.{yield_field, done_field, polls_field, fresh_job, job_field, IsPartOf}
+use Rattle.rt_script.specs.Polls.{yield_field, done_field, polls_field, fresh_job, IsPartOf}
 
 -- of three causes the same one is told, whichever two are compared first
 worse_assoc : (a b c : Cause) → worse (worse a b) c ≡ worse a (worse b c)

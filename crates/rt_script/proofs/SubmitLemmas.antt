@@ -6,7 +6,6 @@ use Rattle.rt_text.specs.declared.fault.Cause.{Cause}
 use Rattle.rt_words.specs.Fields.{both, made, queue_field}
 use Rattle.rt_words.specs.Words.{third, others}
 use Rattle.rt_script.specs.declared.event.ScriptEvent.TheVariants.{Send}
-use Rattle.rt_script.specs.declared.line.Line.{Line}
 use Rattle.rt_script.specs.declared.line.Line.TheVariants.{Step}
 use Rattle.rt_script.specs.Polls.{job_field}
 use Rattle.rt_script.specs.Lines.{link_fields, submit_line}

@@ -1,5 +1,4 @@
-use Rattle.std.proofs.Common.{◌≡◌, ◌+◌, length, ap, arith, length-append}
-use Rattle.rt_jobs.specs.declared.poll.Poll.TheVariants.{Done}
+use Rattle.std.proofs.Common.{◌≡◌, length, arith}
 use Rattle.rt_script.proofs.PollLemmas.{part_none, part_more, part_last, length-others}
 use Rattle.rt_script.proofs.polls.read_job.Goals as goal
 
