@@ -6,9 +6,15 @@ mod commands;
 #[cfg(test)]
 mod keys;
 #[cfg(test)]
+mod lines;
+#[cfg(test)]
 mod memory;
 #[cfg(test)]
 mod one_core;
+#[cfg(test)]
+mod rounds;
+#[cfg(test)]
+mod slips;
 #[cfg(test)]
 mod sorted_list;
 #[cfg(test)]

@@ -9,11 +9,11 @@ use std::test::Fail;
 
 /// Numbers that look random, the same in each run.
 #[derive(Drop)]
-struct Dice(u64);
+pub(crate) struct Dice(pub(crate) u64);
 
 impl Dice {
     /// A number below `sides`.
-    fn roll(&mut self, sides: usize) -> usize
+    pub(crate) fn roll(&mut self, sides: usize) -> usize
         requires { 0 < sides }
         ensures { result < sides }
     {

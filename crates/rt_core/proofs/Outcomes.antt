@@ -1,5 +1,6 @@
 -- What a delivered command came to, from what its parts did.
-use Rattle.std.proofs.Common.{◌≡◌, ℕ, List, [], ◌∷◌, ◌++◌, Result, Ok, Err, sym, ap, ◌∙◌, subst}
+use Rattle.std.proofs.Common.{◌≡◌, ◌↔◌, ℕ, ◌<◌, ◌≤◌, Bool, true, false, List, [], ◌∷◌, ◌++◌, Result, Ok, Err, ⊎_elim, sym, ap, ◌∙◌, subst}
+use Rattle.std.proofs.lemmas.Bool.{cases_lt, true≢false}
 use Rattle.std.specs.Prelude.{slice_set}
 use Rattle.rt_ids.specs.declared.names.JobId.{JobId}
 use Rattle.rt_ids.specs.declared.note.Note.{Note}
@@ -8,6 +9,10 @@ use Rattle.rt_taskqueue.specs.declared.queues.CreateError.{CreateError}
 use Rattle.rt_taskqueue.specs.declared.queues.CreateError.TheVariants.{TooMany, Memory}
 use Rattle.rt_core.specs.State.{CoreView, no_tally}
 use Rattle.rt_core.specs.Deliveries.{Creates, CreatesQueue, CountsAlone, counted}
+
+-- a queue that isn't there is past all
+pub past_if_not : (there : Bool) (queue count : ℕ) → (there ≡ true) ↔ (queue < count) → there ≡ false → count ≤ queue
+past_if_not there queue count says not_there = ⊎_elim (λ within. absurd (true≢false (sym (says.1 within) ∙ not_there))) (λ past. past) (cases_lt queue count)
 
 module _ {J T : Type 0} where
   pub same_cores : (old : CoreView J) (weight : ℕ) (made : Result ℕ CreateError) (new : CoreView J) (written : List (Note T)) →

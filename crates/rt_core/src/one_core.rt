@@ -33,8 +33,8 @@ pub struct Core<J: Task, A: Allocator + Clone = Global> {
     core: CoreNo,
     cores: u8,
     queues: Queues<J, A>,
-    // The queues in which a job waits, but for that of the job that is out. A queue's slip is here while it is among them, and with
-    // its queue else.
+    // The queues in which a job waits, except that of the job that is out. A queue's slip is here while it is among them. At all other
+    // times it is with its queue.
     ready: Timeline<A>,
     tallies: Vec<Tally, A>,
     delivered: Vec<u64, A>,
@@ -186,7 +186,7 @@ impl<J: Task, A: Allocator + Clone> Core<J, A> {
         }
     }
 
-    /// Settles the poll of the job that is out. Where the job told no time of its own, `spent` nanoseconds count.
+    /// Settles the poll of the job that is out. If the job told no time of its own, `spent` nanoseconds count.
     pub fn settle(&mut self, ran: Ran<J>, spent: u64) -> (Settled<J::Out>, Notes<J::Out>)
     where
         J::Out: Copy,

@@ -1,157 +1,169 @@
 -- What one more job, one job less, other shares and one more queue change.
-use Rattle.std.proofs.Common.{◌≡◌, ℕ, ◌+◌, ◌<◌, List, [], ◌∷◌, ◌++◌, length, map, get_or, set, take, drop, suc, Some, refl, sym, ap, ◌∙◌, ⊎_elim, arith}
-use Rattle.std.specs.List.{position, remove}
-use Rattle.std.proofs.lemmas.Bool.{ne_eqb, eqb-true, cases_lt}
+use Rattle.std.proofs.Common.{◌≡◌, ℕ, zero, suc, ◌+◌, ◌<◌, ◌≤◌, List, [], ◌∷◌, ◌++◌, length, set, Option, refl, sym, ap, ◌∙◌, ⊎_elim, subst, arith}
+use Rattle.std.specs.Prelude.{Bool, IsSome, is_some, count_by}
+use Rattle.std.proofs.lemmas.Bool.{cases_lt, cases_eq}
 use Rattle.std.proofs.lemmas.List.{length_push, length-set, get_or_push, get_or_append_left, get_or_past, get_or-set_same, get_or-set_other}
-use Rattle.std.proofs.lemmas.List.Edits.{length-remove}
-use Rattle.std.proofs.lemmas.List.Elements.{All-push, All-append, All-take, All-drop, All-weaker}
-use Rattle.std.proofs.lemmas.List.Quantifiers.{position-Some}
+use Rattle.std.proofs.lemmas.List.Sums.{sum_by-set, sum_by-cons, sum_by_push}
+use Rattle.slab.specs.Slab.{Slab, get, slab_len}
+use Rattle.rt_ids.specs.declared.names.JobId.{JobId}
 use Rattle.rt_taskqueue.specs.declared.waiting.Waiting.{Waiting}
-use Rattle.rt_taskqueue.specs.Queues.{waiting_of, ChangesLine, ChangesShares, AddsQueue, held_count}
-use Rattle.rt_taskqueue.specs.Plain.{is_in, shown, line_in, plain_view, IsPlain}
-use Rattle.rt_taskqueue.proofs.Lines.{filter-remove_failed, filter_at_position, line_in-push, line_in-push_other}
-use Rattle.rt_taskqueue.proofs.PlainLemmas.{queue_count-plain, shares_of-plain, waiting_of-plain, held_count-plain}
+use Rattle.rt_taskqueue.specs.declared.line.Line.{Line}
+use Rattle.rt_taskqueue.specs.Queues.{ChangesLine, ChangesShares, AddsQueue}
+use Rattle.rt_taskqueue.specs.Linked.{no_line, line_at, job_count, key_at, chain, IsLinked, IsKept}
+use Rattle.rt_taskqueue.proofs.Links.{ChangesOne}
+use Rattle.rt_taskqueue.proofs.Views.{alone, queue_count-view, shares_of-view, waiting_of-view, held_count-view}
 
--- the old elements stay where one joins the end
-get_or-push_other : (xs : List ℕ) (y i : ℕ) → (i ≡ length xs → ⊥) → get_or (xs ++ y ∷ []) i 0 ≡ get_or xs i 0
-get_or-push_other xs y i differs =
+-- one line is written
+pub ChangesOne-set : (lines : List Line) (queue : ℕ) (line : Line) → queue < length lines → ChangesOne (line_at lines) (line_at (set lines queue line)) queue line
+ChangesOne-set lines queue line within = record {
+  changed = get_or-set_same lines queue line no_line within;
+  others = λ other differs. get_or-set_other lines queue other line no_line differs;
+}
+
+-- how many jobs wait, as one line is written
+pub job_count-set : (lines : List Line) (queue : ℕ) (line : Line) → queue < length lines → job_count (set lines queue line) + (line_at lines queue).count ≡ job_count lines + line.count
+job_count-set lines queue line within = sum_by-set (λ (l : Line). l.count) lines queue line no_line within
+
+-- each place except the new one shows what it showed
+line_at-push : (lines : List Line) (line : Line) (queue : ℕ) → (queue ≡ length lines → ⊥) → line_at (lines ++ line ∷ []) queue ≡ line_at lines queue
+line_at-push lines line queue differs =
     ⊎_elim
-    (λ h. get_or_append_left xs (y ∷ []) 0 i h)
-    (λ past. get_or_past (xs ++ y ∷ []) i 0 (omega (arith, length_push xs y)) ∙ sym (get_or_past xs i 0 past))
-    (cases_lt i (length xs))
+    (λ h. get_or_append_left lines (line ∷ []) no_line queue h)
+    (λ past. get_or_past (lines ++ line ∷ []) queue no_line (omega (arith, length_push lines line)) ∙ sym (get_or_past lines queue no_line past))
+    (cases_lt queue (length lines))
 
-module _ {J : Type 0} {room job_places share_places : ℕ} {jobs : List (Waiting J)} {shares : List ℕ} where
-  pub IsPlain-push : (new : Waiting J) → IsPlain room job_places share_places jobs shares → new.queue < length shares → length jobs < room
-      → IsPlain room job_places share_places (jobs ++ new ∷ []) shares
-  IsPlain-push new plain exists fits =
-      let P : Waiting J → Type 0 = λ waiting. waiting.queue < length shares in
-      record {
-        placed = All-push P jobs new plain.placed exists;
-        within_room = omega (arith, length_push jobs new);
-        reserved = plain.reserved;
-        some_queue = plain.some_queue;
-        few_queues = plain.few_queues;
-        queues_reserved = plain.queues_reserved;
-      }
+-- what one line has in common with the one that it stands for, all lines have
+pub read-set : {X : Type 0} (f : Line → X) (lines : List Line) (queue : ℕ) (line : Line) → queue < length lines → f line ≡ f (line_at lines queue) → (other : ℕ) → f (line_at (set lines queue line) other) ≡ f (line_at lines other)
+read-set f lines queue line within same other =
+    let now = ChangesOne-set lines queue line within in
+    ⊎_elim
+    (λ here. ap (λ n. f (line_at (set lines queue line) n)) here ∙ ap f now.changed ∙ same ∙ ap (λ n. f (line_at lines n)) (sym here))
+    (λ differs. ap f (now.others other differs))
+    (cases_eq other queue)
 
-  pub ChangesLine-push : (new : Waiting J) → IsPlain room job_places share_places jobs shares → new.queue < length shares → length jobs < room
-      → ChangesLine (plain_view room jobs shares) (plain_view room (jobs ++ new ∷ []) shares) new.queue (waiting_of new.queue (plain_view room jobs shares) ++ shown new ∷ [])
-  ChangesLine-push new plain exists fits =
-      let after = IsPlain-push new plain exists fits in
-      let was = waiting_of-plain plain in
-      let is = waiting_of-plain after in
+-- what a line behind the others has in common with the empty one, no place shows
+pub read-push : {X : Type 0} (f : Line → X) (lines : List Line) (line : Line) → f line ≡ f no_line → (queue : ℕ) → f (line_at (lines ++ line ∷ []) queue) ≡ f (line_at lines queue)
+read-push f lines line same queue =
+    ⊎_elim
+    (λ here. ap f (get_or_push lines line no_line queue (sym here)) ∙ same ∙ ap f (sym (get_or_past lines queue no_line (omega arith))))
+    (λ differs. ap f (line_at-push lines line queue differs))
+    (cases_eq queue (length lines))
+
+-- chains are linked by their heads, tails and counts alone
+pub IsLinked-lines : {J : Type 0} (entry : ℕ → Option (Waiting J)) (old new : ℕ → Line)
+    → ((queue : ℕ) → (new queue).head ≡ (old queue).head) → ((queue : ℕ) → (new queue).tail ≡ (old queue).tail) → ((queue : ℕ) → (new queue).count ≡ (old queue).count) → IsLinked entry old → IsLinked entry new
+IsLinked-lines {J} entry old new heads tails counts linked = record {
+  filled = λ queue place h. subst (λ head. IsSome (entry (key_at entry head place))) (sym (heads queue)) (linked.filled queue place (omega (arith, counts queue)));
+  apart = λ one here other there h k same.
+      linked.apart one here other there (omega (arith, counts one)) (omega (arith, counts other))
+      (ap (λ head. key_at entry head here) (sym (heads one)) ∙ same ∙ ap (λ head. key_at entry head there) (heads other));
+  tails = λ queue last is. tails queue ∙ linked.tails queue last (sym (counts queue) ∙ is) ∙ ap (λ head. key_at entry head last) (sym (heads queue));
+}
+
+module _ {J : Type 0} {room line_places : ℕ} {old new : Slab (Waiting J)} {lines : List Line} where
+  -- the line of one queue is another, and the others show what they showed
+  pub ChangesLine-set : (queue : ℕ) (line : Line) (shows : List (JobId × Bool × J)) → IsKept room line_places old lines → IsKept room line_places new (set lines queue line) → queue < length lines
+      → line.shares ≡ (line_at lines queue).shares → chain (get new) line.head line.count ≡ shows
+      → ((other : ℕ) → (other ≡ queue → ⊥) → chain (get new) (line_at lines other).head (line_at lines other).count ≡ chain (get old) (line_at lines other).head (line_at lines other).count)
+      → slab_len new + length (chain (get old) (line_at lines queue).head (line_at lines queue).count) ≡ slab_len old + length shows
+      → ChangesLine (alone room old lines) (alone room new (set lines queue line)) queue shows
+  ChangesLine-set queue line shows was is within weight changed others counted =
+      let now = ChangesOne-set lines queue line within in
+      let after = waiting_of-view room new (set lines queue line) in
+      let before = waiting_of-view room old lines in
       record {
-        changed = is new.queue ∙ line_in-push jobs new ∙ ap (λ line. line ++ shown new ∷ []) (sym (was new.queue));
-        others = λ other differs. is other ∙ line_in-push_other jobs new other differs ∙ sym (was other);
-        same_shares = λ other. shares_of-plain after other ∙ sym (shares_of-plain plain other);
-        same_count = queue_count-plain after ∙ sym (queue_count-plain plain);
+        changed = after queue ∙ ap (λ (l : Line). chain (get new) l.head l.count) now.changed ∙ changed;
+        others = λ other differs. after other ∙ ap (λ (l : Line). chain (get new) l.head l.count) (now.others other differs) ∙ others other differs ∙ sym (before other);
+        same_shares = λ other. shares_of-view room new (set lines queue line) other ∙ read-set (λ (l : Line). l.shares) lines queue line within weight other ∙ sym (shares_of-view room old lines other);
+        same_count = queue_count-view room new (set lines queue line) ∙ length-set lines queue line ∙ sym (queue_count-view room old lines);
         same_room = refl;
-        held = omega (arith, held_count-plain after, held_count-plain plain, length_push jobs new, length_push (waiting_of new.queue (plain_view room jobs shares)) (shown new));
+        held = omega (arith, held_count-view is, held_count-view was, counted, ap length (before queue));
       }
 
-  pub held_count-push : (new : Waiting J) → IsPlain room job_places share_places jobs shares → new.queue < length shares → length jobs < room
-      → held_count (plain_view room (jobs ++ new ∷ []) shares) ≡ held_count (plain_view room jobs shares) + 1
-  held_count-push new plain exists fits =
-      omega (arith, held_count-plain (IsPlain-push new plain exists fits), held_count-plain plain, length_push jobs new)
-
-  pub IsPlain-remove : (place : ℕ) → IsPlain room job_places share_places jobs shares → place < length jobs
-      → IsPlain room job_places share_places (remove jobs place) shares
-  IsPlain-remove place plain within =
-      let P : Waiting J → Type 0 = λ waiting. waiting.queue < length shares in
+module _ {J : Type 0} {room line_places : ℕ} {jobs : Slab (Waiting J)} {lines : List Line} where
+  -- one queue gets shares
+  pub IsKept-weighed : (queue : ℕ) (line : Line) → IsKept room line_places jobs lines → queue < length lines
+      → line.head ≡ (line_at lines queue).head → line.tail ≡ (line_at lines queue).tail → line.count ≡ (line_at lines queue).count → IsKept room line_places jobs (set lines queue line)
+  IsKept-weighed queue line kept within head tail count =
+      let same = length-set lines queue line in
       record {
-        placed = All-append P (take place jobs) (drop (suc place) jobs) (All-take P place jobs plain.placed) (All-drop P (suc place) jobs plain.placed);
-        within_room = omega (arith, plain.within_room, length-remove jobs place within);
-        reserved = plain.reserved;
-        some_queue = plain.some_queue;
-        few_queues = plain.few_queues;
-        queues_reserved = plain.queues_reserved;
+        linked = IsLinked-lines (get jobs) (line_at lines) (line_at (set lines queue line)) (read-set (λ (l : Line). l.head) lines queue line within head)
+            (read-set (λ (l : Line). l.tail) lines queue line within tail) (read-set (λ (l : Line). l.count) lines queue line within count) kept.linked;
+        counted = omega (arith, kept.counted, job_count-set lines queue line within);
+        within_room = kept.within_room;
+        reserved = kept.reserved;
+        some_queue = omega (arith, kept.some_queue);
+        few_queues = omega (arith, kept.few_queues);
+        queues_reserved = kept.queues_reserved;
       }
 
-  -- the job that is found first stands at the head
-  pub waiting_of_at_position : (queue place : ℕ) (front : Waiting J) → IsPlain room job_places share_places jobs shares → position (is_in queue) jobs ≡ Some place → front ≡ get_or jobs place front
-      → waiting_of queue (plain_view room jobs shares) ≡ shown front ∷ waiting_of queue (plain_view room (remove jobs place) shares)
-  waiting_of_at_position queue place front plain found here =
-      let at = position-Some (is_in queue) jobs place front found in
-      let after = IsPlain-remove place plain at.0 in
-      waiting_of-plain plain queue ∙ ap (map shown) (filter_at_position (is_in queue) jobs place front found)
-      ∙ ap (λ job. shown job ∷ line_in queue (remove jobs place)) (sym here)
-      ∙ ap (λ line. shown front ∷ line) (sym (waiting_of-plain after queue))
-
-  pub ChangesLine-remove : (queue place : ℕ) (front : Waiting J) → IsPlain room job_places share_places jobs shares → position (is_in queue) jobs ≡ Some place → front ≡ get_or jobs place front
-      → ChangesLine (plain_view room jobs shares) (plain_view room (remove jobs place) shares) queue (drop 1 (waiting_of queue (plain_view room jobs shares)))
-  ChangesLine-remove queue place front plain found here =
-      let at = position-Some (is_in queue) jobs place front found in
-      let after = IsPlain-remove place plain at.0 in
-      let was = waiting_of-plain plain in
-      let is = waiting_of-plain after in
-      let head = waiting_of_at_position queue place front plain found here in
-      let rest : drop 1 (waiting_of queue (plain_view room jobs shares)) ≡ waiting_of queue (plain_view room (remove jobs place) shares) = ap (drop 1) head in
-      let own : (get_or jobs place front).queue ≡ queue = eqb-true _ _ at.1 in
+  pub ChangesShares-weighed : (queue : ℕ) (line : Line) → IsKept room line_places jobs lines → queue < length lines
+      → line.head ≡ (line_at lines queue).head → line.tail ≡ (line_at lines queue).tail → line.count ≡ (line_at lines queue).count
+      → ChangesShares (alone room jobs lines) (alone room jobs (set lines queue line)) queue line.shares
+  ChangesShares-weighed queue line kept within head tail count =
+      let now = ChangesOne-set lines queue line within in
+      let after = shares_of-view room jobs (set lines queue line) in
+      let before = shares_of-view room jobs lines in
+      let same : chain (get jobs) line.head line.count ≡ chain (get jobs) (line_at lines queue).head (line_at lines queue).count =
+      ap (λ key. chain (get jobs) key line.count) head ∙ ap (chain (get jobs) (line_at lines queue).head) count in
       record {
-        changed = sym rest;
-        others = λ other differs.
-            is other ∙ ap (map shown) (filter-remove_failed (is_in other) jobs place front at.0 (ne_eqb _ other (λ e. differs (sym e ∙ own)))) ∙ sym (was other);
-        same_shares = λ other. shares_of-plain after other ∙ sym (shares_of-plain plain other);
-        same_count = queue_count-plain after ∙ sym (queue_count-plain plain);
+        changed = after queue ∙ ap (λ (l : Line). l.shares) now.changed;
+        others = λ other differs. after other ∙ ap (λ (l : Line). l.shares) (now.others other differs) ∙ sym (before other);
+        same_lines = λ other. waiting_of-view room jobs (set lines queue line) other ∙ read-set (λ (l : Line). chain (get jobs) l.head l.count) lines queue line within same other ∙ sym (waiting_of-view room jobs lines other);
+        same_count = queue_count-view room jobs (set lines queue line) ∙ length-set lines queue line ∙ sym (queue_count-view room jobs lines);
         same_room = refl;
-        held = omega (arith, held_count-plain after, held_count-plain plain, length-remove jobs place at.0, ap length head, ap length rest);
+        same_held = held_count-view (IsKept-weighed queue line kept within head tail count) ∙ sym (held_count-view kept);
       }
 
-  pub held_count-remove : (place : ℕ) → IsPlain room job_places share_places jobs shares → place < length jobs
-      → held_count (plain_view room (remove jobs place) shares) + 1 ≡ held_count (plain_view room jobs shares)
-  held_count-remove place plain within =
-      omega (arith, held_count-plain (IsPlain-remove place plain within), held_count-plain plain, length-remove jobs place within)
-
-  pub room-remove : (place : ℕ) → IsPlain room job_places share_places jobs shares → place < length jobs → held_count (plain_view room (remove jobs place) shares) < room
-  room-remove place plain within = omega (arith, held_count-plain (IsPlain-remove place plain within), plain.within_room, length-remove jobs place within)
-
-  pub IsPlain-set : (queue weight : ℕ) → IsPlain room job_places share_places jobs shares → IsPlain room job_places share_places jobs (set shares queue weight)
-  IsPlain-set queue weight plain =
-      let same = length-set shares queue weight in
+  -- one more queue
+  pub IsKept-created : (line : Line) → IsKept room line_places jobs lines → (length lines ≡ 256 → ⊥) → line.head ≡ 0 → line.tail ≡ 0 → line.count ≡ 0 → IsKept room line_places jobs (lines ++ line ∷ [])
+  IsKept-created line kept more head tail count =
+      let longer = length_push lines line in
       record {
-        placed = All-weaker (λ (waiting : Waiting J). waiting.queue < length shares) (λ (waiting : Waiting J). waiting.queue < length (set shares queue weight)) (λ job h. omega arith) jobs plain.placed;
-        some_queue = omega (arith, plain.some_queue);
-        few_queues = omega (arith, plain.few_queues);
-        within_room = plain.within_room;
-        reserved = plain.reserved;
-        queues_reserved = plain.queues_reserved;
+        linked = IsLinked-lines (get jobs) (line_at lines) (line_at (lines ++ line ∷ [])) (read-push (λ (l : Line). l.head) lines line head)
+            (read-push (λ (l : Line). l.tail) lines line tail) (read-push (λ (l : Line). l.count) lines line count) kept.linked;
+        counted = omega (arith, kept.counted, sum_by_push (λ (l : Line). l.count) lines line);
+        within_room = kept.within_room;
+        reserved = kept.reserved;
+        some_queue = omega (arith, kept.some_queue);
+        few_queues = omega (arith, kept.few_queues);
+        queues_reserved = kept.queues_reserved;
       }
 
-  pub ChangesShares-set : (queue weight : ℕ) → IsPlain room job_places share_places jobs shares → queue < length shares
-      → ChangesShares (plain_view room jobs shares) (plain_view room jobs (set shares queue weight)) queue weight
-  ChangesShares-set queue weight plain exists =
-      let after = IsPlain-set queue weight plain in
+  pub AddsQueue-created : (line : Line) → IsKept room line_places jobs lines → (length lines ≡ 256 → ⊥) → line.head ≡ 0 → line.tail ≡ 0 → line.count ≡ 0
+      → AddsQueue (alone room jobs lines) (alone room jobs (lines ++ line ∷ [])) (length lines) line.shares
+  AddsQueue-created line kept more head tail count =
+      let after = shares_of-view room jobs (lines ++ line ∷ []) in
+      let before = shares_of-view room jobs lines in
+      let same : chain (get jobs) line.head line.count ≡ [] = ap (chain (get jobs) line.head) count in
       record {
-        changed = shares_of-plain after queue ∙ get_or-set_same shares queue weight 0 exists;
-        others = λ other differs. shares_of-plain after other ∙ get_or-set_other shares queue other weight 0 differs ∙ sym (shares_of-plain plain other);
-        same_lines = λ other. waiting_of-plain after other ∙ sym (waiting_of-plain plain other);
-        same_count = queue_count-plain after ∙ length-set shares queue weight ∙ sym (queue_count-plain plain);
+        number = sym (queue_count-view room jobs lines);
+        count = queue_count-view room jobs (lines ++ line ∷ []) ∙ length_push lines line ∙ ap (λ n. n + 1) (sym (queue_count-view room jobs lines));
+        given = after (length lines) ∙ ap (λ (l : Line). l.shares) (get_or_push lines line no_line (length lines) refl);
+        others = λ other differs. after other ∙ ap (λ (l : Line). l.shares) (line_at-push lines line other differs) ∙ sym (before other);
+        same_lines = λ other. waiting_of-view room jobs (lines ++ line ∷ []) other ∙ read-push (λ (l : Line). chain (get jobs) l.head l.count) lines line same other ∙ sym (waiting_of-view room jobs lines other);
         same_room = refl;
-        same_held = held_count-plain after ∙ sym (held_count-plain plain);
+        same_held = held_count-view (IsKept-created line kept more head tail count) ∙ sym (held_count-view kept);
       }
 
-  pub IsPlain-create : (weight : ℕ) → IsPlain room job_places share_places jobs shares → (length shares ≡ 256 → ⊥) → IsPlain room job_places share_places jobs (shares ++ weight ∷ [])
-  IsPlain-create weight plain more =
-      let longer = length_push shares weight in
-      record {
-        placed = All-weaker (λ (waiting : Waiting J). waiting.queue < length shares) (λ (waiting : Waiting J). waiting.queue < length (shares ++ weight ∷ [])) (λ job h. omega arith) jobs plain.placed;
-        some_queue = omega (arith, plain.some_queue);
-        few_queues = omega (arith, plain.few_queues);
-        within_room = plain.within_room;
-        reserved = plain.reserved;
-        queues_reserved = plain.queues_reserved;
-      }
-
-  pub AddsQueue-create : (weight : ℕ) → IsPlain room job_places share_places jobs shares → (length shares ≡ 256 → ⊥)
-      → AddsQueue (plain_view room jobs shares) (plain_view room jobs (shares ++ weight ∷ [])) (length shares) weight
-  AddsQueue-create weight plain more =
-      let after = IsPlain-create weight plain more in
-      record {
-        number = sym (queue_count-plain plain);
-        count = queue_count-plain after ∙ length_push shares weight ∙ ap (λ n. n + 1) (sym (queue_count-plain plain));
-        given = shares_of-plain after (length shares) ∙ get_or_push shares weight 0 (length shares) refl;
-        others = λ other differs. shares_of-plain after other ∙ get_or-push_other shares weight other differs ∙ sym (shares_of-plain plain other);
-        same_lines = λ other. waiting_of-plain after other ∙ sym (waiting_of-plain plain other);
-        same_room = refl;
-        same_held = held_count-plain after ∙ sym (held_count-plain plain);
-      }
+-- one queue in which no job waits
+pub IsKept-opened : {J : Type 0} (room line_places : ℕ) (jobs : Slab (Waiting J)) (line : Line) → jobs.slots ≡ [] → line.count ≡ 0 → room ≤ jobs.capacity → 256 ≤ line_places → IsKept room line_places jobs (line ∷ [])
+IsKept-opened room line_places jobs line empty none reserved places =
+    let free : slab_len jobs ≡ 0 = ap (count_by is_some) empty in
+    record {
+      linked = record {
+        filled = λ queue place h. absurd (omega (arith, counts queue));
+        apart = λ one here other there h k same. absurd (omega (arith, counts one));
+        tails = λ queue last is. absurd (omega (arith, counts queue));
+      };
+      counted = omega (arith, sum_by-cons (λ (l : Line). l.count) line []);
+      within_room = omega arith;
+      reserved = reserved;
+      some_queue = omega arith;
+      few_queues = omega arith;
+      queues_reserved = places;
+    }
+  where
+    counts : (queue : ℕ) → (line_at (line ∷ []) queue).count ≡ 0
+    counts zero = none
+    counts (suc queue) = refl

@@ -1,5 +1,9 @@
-pub mod Lines
-pub mod PlainLemmas
-pub mod Changes
+pub mod Chains
+pub mod Links
 pub mod QueuesLemmas
+pub mod Ends
 pub mod OwnSlips
+pub mod Views
+pub mod Changes
+pub mod Joins
+pub mod Leaves

@@ -3,8 +3,10 @@ use Rattle.std.proofs.Common.{◌≡◌, ℕ, zero, suc, ◌+◌, ◌<◌, ◌�
 use Rattle.std.specs.Prelude.{◌⊎◌, Bool, is_some, IfSome, true, false}
 use Rattle.std.proofs.lemmas.Bool.{cases_eq, cases_lt}
 use Rattle.std.proofs.lemmas.List.{length_push, length-set, get_or_push, get_or_append_left, get_or_past, get_or_read, get_or-map, map-set, get_or-set_same, get_or-set_other}
+use Rattle.slab.specs.Slab.{Slab}
 use Rattle.rt_taskqueue.specs.declared.waiting.Waiting.{Waiting}
-use Rattle.rt_taskqueue.specs.Plain.{slipped_view, HasOwnSlips}
+use Rattle.rt_taskqueue.specs.declared.line.Line.{Line}
+use Rattle.rt_taskqueue.specs.Linked.{linked_view, HasOwnSlips}
 
 -- the slip of the first queue
 pub HasOwnSlips-one : (places : ℕ) → 256 ≤ places → HasOwnSlips 1 places (Some 0 ∷ [])
@@ -69,10 +71,10 @@ own-at count places slips place queue (Some slip) has within here same =
     has.own place slip (sym (get_or_read slips place (Some slip) within here None)) ∙ same
 
 -- a caller sees that a slip goes or comes back
-pub slipped_view-set : {J : Type 0} (room : ℕ) (jobs : List (Waiting J)) (shares : List ℕ) (slips : List (Option ℕ)) (place queue : ℕ) (entry : Option ℕ) → place ≡ queue →
-    slipped_view room jobs shares (set slips place entry) ≡ record (slipped_view room jobs shares slips) { slips = set (map is_some slips) queue (is_some entry) }
-slipped_view-set room jobs shares slips place queue entry same =
-    ap (λ (there : List Bool). record (slipped_view room jobs shares slips) { slips = there }) (map-set is_some slips place entry ∙ ap (λ n. set (map is_some slips) n (is_some entry)) same)
+pub linked_view-set : {J : Type 0} (room : ℕ) (jobs : Slab (Waiting J)) (lines : List Line) (slips : List (Option ℕ)) (place queue : ℕ) (entry : Option ℕ) → place ≡ queue →
+    linked_view room jobs lines (set slips place entry) ≡ record (linked_view room jobs lines slips) { slips = set (map is_some slips) queue (is_some entry) }
+linked_view-set room jobs lines slips place queue entry same =
+    ap (λ (there : List Bool). record (linked_view room jobs lines slips) { slips = there }) (map-set is_some slips place entry ∙ ap (λ n. set (map is_some slips) n (is_some entry)) same)
 
 -- a slip that was given out isn't there
 pub out-set : (slips : List Bool) (queue : ℕ) → get_or (set slips queue false) queue false ≡ false

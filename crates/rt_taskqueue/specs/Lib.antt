@@ -1,3 +1,4 @@
 pub mod Queues
 pub mod Slips
-pub mod Plain
+pub mod Linked
+pub mod Entries

@@ -1,10 +1,10 @@
 //! The task queues of a core: each has its shares and a line of jobs that wait in it.
 #![tactic(auto)]
 
-mod queues;
-#[cfg(test)]
-mod tests;
 // A crate can name the queues in a contract only if the types of their fields are exported.
+#[doc(hidden)]
+pub mod line;
+mod queues;
 #[doc(hidden)]
 pub mod waiting;
 

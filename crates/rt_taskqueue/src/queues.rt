@@ -2,10 +2,12 @@
 ghost use Rattle.std.specs.Prelude.{◌≡◌, ◌+◌, ◌<◌, ◌≤◌, ◌↔◌, [], ◌∷◌, ◌++◌, true, false, drop, length, is_some, IsTrue, IfOk, OnErr, IfSome, IfNone, OnSome};
 ghost use Rattle.rt_taskqueue.specs.Slips.{queue_count, shares_of, waiting_of, held_count, has_slip, without_slip, with_slip, first_queue, IsWithinLimits, ChangesLine, ChangesShares, AddsQueue};
 
-use crate::waiting::{Waiting, head_place, line_length};
+use crate::line::Line;
+use crate::waiting::{Waiting, append};
 use rt_ids::{JobId, QueueNo};
 use rt_shares::Shares;
 use rt_timeline::Slip;
+use slab::Slab;
 use std::alloc::{AllocError, Allocator};
 use std::marker::Model;
 
@@ -29,8 +31,9 @@ pub enum CreateError {
 /// Only `open` and `try_create` take memory.
 #[derive(Drop)]
 pub struct Queues<J, A: Allocator> {
-    jobs: Vec<Waiting<J>, A>,
-    shares: Vec<Shares, A>,
+    // The jobs of all queues, each with the key of the next in its line. A key names nothing outside this crate.
+    jobs: Slab<Waiting<J>, A>,
+    lines: Vec<Line, A>,
     slips: Vec<Option<Slip<A>>, A>,
     room: usize,
     // What the slip of a new queue is taken from.
@@ -43,13 +46,13 @@ impl<J, A: Allocator> Model for Queues<J, A> {
     ghost Value = { SlippedView J };
 
     ghost use Rattle.std.specs.Prelude.{length, vec_capacity};
-    ghost use Rattle.rt_taskqueue.specs.Plain.{slipped_view, IsPlain, HasOwnSlips};
+    ghost use Rattle.rt_taskqueue.specs.Linked.{linked_view, IsKept, HasOwnSlips};
 
-    ghost view = { λ q. slipped_view q.room q.jobs.items q.shares.items q.slips.items };
+    ghost view = { λ q. linked_view q.room q.jobs q.lines.items q.slips.items };
 
     ghost invariant = { λ q.
-        IsPlain q.room (vec_capacity q.jobs) (vec_capacity q.shares) q.jobs.items q.shares.items
-        × HasOwnSlips (length q.shares.items) (vec_capacity q.slips) q.slips.items };
+        IsKept q.room (vec_capacity q.lines) q.jobs q.lines.items
+        × HasOwnSlips (length q.lines.items) (vec_capacity q.slips) q.slips.items };
 }
 
 impl<J: Drop, A: Allocator + Clone> Queues<J, A> {
@@ -57,14 +60,14 @@ impl<J: Drop, A: Allocator + Clone> Queues<J, A> {
     pub fn open(alloc: A, room: usize) -> Result<Self, AllocError>
         ensures opened { IfOk result (λ queues. queues ≡ first_queue room) }
     {
-        let mut shares = Vec::with_capacity(alloc.clone()?, MOST_QUEUES)?;
+        let mut lines = Vec::with_capacity(alloc.clone()?, MOST_QUEUES)?;
         let mut slips = Vec::with_capacity(alloc.clone()?, MOST_QUEUES)?;
-        let jobs = Vec::with_capacity(alloc.clone()?, room)?;
-        shares.push_reserved(Shares::default());
+        let jobs = Slab::with_capacity(alloc.clone()?, room)?;
+        lines.push_reserved(Line::empty(Shares::default()));
         slips.push_reserved(Some(new_slip(&alloc, QueueNo(0))?));
         Ok(Queues {
             jobs,
-            shares,
+            lines,
             slips,
             room,
             alloc,
@@ -78,7 +81,7 @@ impl<J: Drop, A: Allocator + Clone> Queues<J, A> {
         ensures refused { OnErr result (self.new ≡ self.old) }
         ensures limits { IsWithinLimits self.new }
     {
-        let count = self.shares.len();
+        let count = self.lines.len();
         if count == MOST_QUEUES {
             return Err(CreateError::TooMany);
         }
@@ -86,7 +89,7 @@ impl<J: Drop, A: Allocator + Clone> Queues<J, A> {
         let Ok(slip) = new_slip(&self.alloc, queue) else {
             return Err(CreateError::Memory);
         };
-        self.shares.push_reserved(shares);
+        self.lines.push_reserved(Line::empty(shares));
         self.slips.push_reserved(Some(slip));
         Ok(queue)
     }
@@ -96,7 +99,7 @@ impl<J: Drop, A: Allocator + Clone> Queues<J, A> {
         ensures value { result ≡ queue_count self.now }
         ensures limits { IsWithinLimits self.now }
     {
-        self.shares.len() as u16
+        self.lines.len() as u16
     }
 
     /// Whether one more job may join.
@@ -115,13 +118,7 @@ impl<J: Drop, A: Allocator + Clone> Queues<J, A> {
         ensures one_more { held_count self.new ≡ held_count self.old + 1 }
         ensures limits { IsWithinLimits self.new }
     {
-        let admitted = Waiting {
-            queue,
-            name,
-            started: false,
-            job,
-        };
-        self.jobs.push_reserved(admitted);
+        self.join(queue, name, false, job);
     }
 
     /// Takes the job at the head, with its name and whether it was started.
@@ -135,8 +132,18 @@ impl<J: Drop, A: Allocator + Clone> Queues<J, A> {
         ensures room { OnSome result (held_count self.new < self.new.room) }
         ensures limits { IsWithinLimits self.new }
     {
-        let place = head_place(&self.jobs, queue)?;
-        let front = self.jobs.remove(place);
+        let place = queue.0 as usize;
+        let line = self.lines[place];
+        if line.count == 0 {
+            return None;
+        }
+        let front = self.jobs.remove(line.head);
+        self.lines[place] = Line {
+            head: front.next,
+            tail: line.tail,
+            count: line.count - 1,
+            shares: line.shares,
+        };
         Some((front.name, front.started, front.job))
     }
 
@@ -148,13 +155,7 @@ impl<J: Drop, A: Allocator + Clone> Queues<J, A> {
         ensures one_more { held_count self.new ≡ held_count self.old + 1 }
         ensures limits { IsWithinLimits self.new }
     {
-        let yielded = Waiting {
-            queue,
-            name,
-            started: true,
-            job,
-        };
-        self.jobs.push_reserved(yielded);
+        self.join(queue, name, true, job);
     }
 
     /// Whether no job waits in this queue.
@@ -162,7 +163,7 @@ impl<J: Drop, A: Allocator + Clone> Queues<J, A> {
         requires exists { queue < queue_count self.now }
         ensures { IsTrue result ↔ (waiting_of queue self.now ≡ []) }
     {
-        head_place(&self.jobs, queue).is_none()
+        self.lines[queue.0 as usize].count == 0
     }
 
     /// How many jobs wait in this queue.
@@ -170,7 +171,8 @@ impl<J: Drop, A: Allocator + Clone> Queues<J, A> {
         requires exists { queue < queue_count self.now }
         ensures { result ≡ length (waiting_of queue self.now) }
     {
-        line_length(&self.jobs, queue)
+        let place = queue.0 as usize;
+        self.lines[place].count
     }
 
     /// The shares of this queue.
@@ -179,7 +181,7 @@ impl<J: Drop, A: Allocator + Clone> Queues<J, A> {
         ensures { result ≡ shares_of queue self.now }
     {
         let place = queue.0 as usize;
-        self.shares[place]
+        self.lines[place].shares
     }
 
     /// Gives this queue other shares.
@@ -188,8 +190,9 @@ impl<J: Drop, A: Allocator + Clone> Queues<J, A> {
         ensures given { ChangesShares self.old self.new queue shares }
         ensures limits { IsWithinLimits self.new }
     {
-        self.shares[queue.0 as usize] = shares;
+        self.lines[queue.0 as usize].shares = shares;
     }
+
     /// Gives the slip of this queue out, if it is with the queue. Takes no memory.
     pub fn take_slip(&mut self, queue: QueueNo) -> Option<Slip<A>>
         requires exists { queue < queue_count self.old }
@@ -209,6 +212,27 @@ impl<J: Drop, A: Allocator + Clone> Queues<J, A> {
     {
         let place = slip.queue().0 as usize;
         self.slips[place] = Some(slip);
+    }
+}
+
+impl<J: Drop, A: Allocator + Clone> Queues<J, A> {
+    /// A job joins the tail.
+    fn join(&mut self, queue: QueueNo, name: JobId, started: bool, job: J)
+        requires exists { queue < queue_count self.old }
+        requires room { held_count self.old < self.old.room }
+        ensures joins { ChangesLine self.old self.new queue (waiting_of queue self.old ++ (name, started, job) ∷ []) }
+        ensures one_more { held_count self.new ≡ held_count self.old + 1 }
+        ensures limits { IsWithinLimits self.new }
+    {
+        let place = queue.0 as usize;
+        let line = self.lines[place];
+        let last = Waiting {
+            next: 0,
+            name,
+            job,
+            started,
+        };
+        self.lines[place] = append(&mut self.jobs, line, last);
     }
 }
 

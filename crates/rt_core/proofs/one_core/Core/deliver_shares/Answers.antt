@@ -4,6 +4,7 @@ use Rattle.rt_taskqueue.specs.Slips.{queues_alone}
 use Rattle.rt_core.specs.State.{CoreView}
 use Rattle.rt_core.specs.Inside.{core_view, job_out}
 use Rattle.rt_core.proofs.Fits.{IsBounded-from_turns}
+use Rattle.rt_core.proofs.Outcomes.{past_if_not}
 use Rattle.rt_core.proofs.Parts.{IsPollable-same}
 use Rattle.rt_core.proofs.Counting.{IsCounted-weighs, IsListed-same}
 use Rattle.rt_core.proofs.SlipsKept.{KeepsSlips-same}
@@ -40,3 +41,19 @@ returns-clause-bounded g c =
       tallies = core.turns.tallies;
       floor = core.turns.floor;
     })
+
+pub count-requires : goal.count-requires
+count-requires g c = c.requires
+
+pub returns-then-not-has_queue-clause-delivers : goal.returns-then-not-has_queue-clause-delivers
+returns-then-not-has_queue-clause-delivers g c =
+    let past = past_if_not c.has_queue.result c.args.queue (queue_count c.args.self.now.queues) c.has_queue.ensures c.if-not-has_queue.true in
+    (past, c.count.ensures.counts, c.one_note.ensures)
+
+pub returns-then-not-has_queue-clause-bounded : goal.returns-then-not-has_queue-clause-bounded
+returns-then-not-has_queue-clause-bounded g c = c.count.ensures.bounded
+
+pub set_shares-requires : goal.set_shares-requires
+set_shares-requires g c = record {
+  exists = subst (λ (view : CoreView g.row.J.Denot). c.args.queue < queue_count view.queues) (sym c.self.view_is) (c.has_queue.ensures.0 c.if-not-has_queue.false);
+}

@@ -5,6 +5,7 @@ use Rattle.rt_taskqueue.specs.Queues.{waiting_of, shares_of}
 use Rattle.rt_taskqueue.specs.Slips.{queues_alone}
 use Rattle.rt_core.specs.State.{JobOut, is_any}
 use Rattle.rt_core.specs.Inside.{core_view, job_out, unsettled_count, FitsTurns}
+use Rattle.rt_core.proofs.Fits.{IsBounded-from_turns}
 use Rattle.rt_core.proofs.Charging.{charge_written, charge_fits}
 use Rattle.rt_core.proofs.Counting.{IsCounted-yields, some_inside}
 use Rattle.rt_core.proofs.Entries.{is_any-push}
@@ -82,3 +83,84 @@ returns-clause-yields g c =
       line = c.push_back.ensures.joins.queues;
       rest = λ i. core_view inside.core inside.cores (queues_alone c.push_back.new.self) (written i) inside.floor inside.turns (free i) inside.delivered.items;
     })
+
+pub shares-shares-requires : goal.shares-shares-requires
+shares-shares-requires g c =
+    let inside = c.self.inside in
+    let core = c.self.invariant in
+    let old = core_view inside.core inside.cores (queues_alone inside.queues) inside.tallies.items inside.floor inside.turns (job_out inside.out) inside.delivered.items in
+    let out : JobOut g.row.J.Denot = record { name = c.in-Some.out.name; queue = c.in-Some.out.queue; job = c.in-Some.out.job.value } in
+    let was_out : job_out inside.out ≡ Some out = ap job_out (sym c.take.ensures.value ∙ c.in-Some.is) in
+    let exists = some_inside old inside.inside inside.room inside.tallies.cap out was_out core.counted in
+    record { exists = exists.1 }
+
+pub index-requires : goal.index-requires
+index-requires g c =
+    let inside = c.self.inside in
+    let core = c.self.invariant in
+    let old = core_view inside.core inside.cores (queues_alone inside.queues) inside.tallies.items inside.floor inside.turns (job_out inside.out) inside.delivered.items in
+    let out : JobOut g.row.J.Denot = record { name = c.in-Some.out.name; queue = c.in-Some.out.queue; job = c.in-Some.out.job.value } in
+    let was_out : job_out inside.out ≡ Some out = ap job_out (sym c.take.ensures.value ∙ c.in-Some.is) in
+    let exists = some_inside old inside.inside inside.room inside.tallies.cap out was_out core.counted in
+    omega (arith, core.counted.tallies, exists.1, c.place.ensures, inside.tallies.ok.0)
+
+pub charged-tally-requires : goal.charged-tally-requires
+charged-tally-requires g c =
+    let inside = c.self.inside in
+    let core = c.self.invariant in
+    let old = core_view inside.core inside.cores (queues_alone inside.queues) inside.tallies.items inside.floor inside.turns (job_out inside.out) inside.delivered.items in
+    let out : JobOut g.row.J.Denot = record { name = c.in-Some.out.name; queue = c.in-Some.out.queue; job = c.in-Some.out.job.value } in
+    let was_out : job_out inside.out ≡ Some out = ap job_out (sym c.take.ensures.value ∙ c.in-Some.is) in
+    let exists = some_inside old inside.inside inside.room inside.tallies.cap out was_out core.counted in
+    let within : out.queue < length inside.tallies.items = omega (arith, core.counted.tallies, exists.1) in
+    let there : c.place.result < length inside.tallies.items = omega (arith, c.place.ensures) in
+    let was = c.index.result.now in
+    let one : unsettled_count old ≡ 1 = ap (λ (held : Option (JobOut g.row.J.Denot)). number_if (is_some held)) was_out in
+    let before : FitsTurns inside.turns 1 was =
+    subst (FitsTurns inside.turns 1) (sym c.index.ensures) (subst (λ polls. FitsTurns inside.turns polls (slice_index_or inside.tallies.items c.place.result was)) one (core.turns.tallies c.place.result was there)) in
+    record {
+      runtime = omega (arith, before.runtime, c.self.ranges);
+      time = omega (arith, before.time, c.self.ranges);
+      finished = omega (arith, before.finished, c.self.ranges);
+    }
+
+pub index_mut-requires : goal.index_mut-requires
+index_mut-requires g c =
+    let inside = c.self.inside in
+    let core = c.self.invariant in
+    let old = core_view inside.core inside.cores (queues_alone inside.queues) inside.tallies.items inside.floor inside.turns (job_out inside.out) inside.delivered.items in
+    let out : JobOut g.row.J.Denot = record { name = c.in-Some.out.name; queue = c.in-Some.out.queue; job = c.in-Some.out.job.value } in
+    let was_out : job_out inside.out ≡ Some out = ap job_out (sym c.take.ensures.value ∙ c.in-Some.is) in
+    let exists = some_inside old inside.inside inside.room inside.tallies.cap out was_out core.counted in
+    omega (arith, core.counted.tallies, exists.1, c.place-2.ensures, inside.tallies.ok.0)
+
+pub push_back-requires : goal.push_back-requires
+push_back-requires g c =
+    let inside = c.self.inside in
+    let core = c.self.invariant in
+    let old = core_view inside.core inside.cores (queues_alone inside.queues) inside.tallies.items inside.floor inside.turns (job_out inside.out) inside.delivered.items in
+    let out : JobOut g.row.J.Denot = record { name = c.in-Some.out.name; queue = c.in-Some.out.queue; job = c.in-Some.out.job.value } in
+    let was_out : job_out inside.out ≡ Some out = ap job_out (sym c.take.ensures.value ∙ c.in-Some.is) in
+    let exists = some_inside old inside.inside inside.room inside.tallies.cap out was_out core.counted in
+    let one : unsettled_count old ≡ 1 = ap (λ (held : Option (JobOut g.row.J.Denot)). number_if (is_some held)) was_out in
+    record { exists = exists.1; room = omega (arith, one, core.counted.all_inside, core.counted.within_room, core.counted.same_room) }
+
+pub returns-clause-bounded : goal.returns-clause-bounded
+returns-clause-bounded g c =
+    let inside = c.self.inside in
+    let core = c.self.invariant in
+    let old = core_view inside.core inside.cores (queues_alone inside.queues) inside.tallies.items inside.floor inside.turns (job_out inside.out) inside.delivered.items in
+    let out : JobOut g.row.J.Denot = record { name = c.in-Some.out.name; queue = c.in-Some.out.queue; job = c.in-Some.out.job.value } in
+    let was_out : job_out inside.out ≡ Some out = ap job_out (sym c.take.ensures.value ∙ c.in-Some.is) in
+    let exists = some_inside old inside.inside inside.room inside.tallies.cap out was_out core.counted in
+    let free : job_out c.take.new.self ≡ None = ap job_out c.take.ensures.after in
+    let within : out.queue < length inside.tallies.items = omega (arith, core.counted.tallies, exists.1) in
+    let there : c.place.result < length inside.tallies.items = omega (arith, c.place.ensures) in
+    let was = c.index.result.now in
+    let one : unsettled_count old ≡ 1 = ap (λ (held : Option (JobOut g.row.J.Denot)). number_if (is_some held)) was_out in
+    let before : FitsTurns inside.turns 1 was =
+    subst (FitsTurns inside.turns 1) (sym c.index.ensures) (subst (λ polls. FitsTurns inside.turns polls (slice_index_or inside.tallies.items c.place.result was)) one (core.turns.tallies c.place.result was there)) in
+    let charged = c.charged-tally.ensures in
+    let fits : FitsTurns inside.turns 0 c.charged-tally.result =
+    charge_fits inside.turns was c.charged-tally.result c.args.time c.shares-shares.result 0 before charged.value charged.charge charged.clamped (omega arith) in
+    IsBounded-from_turns (core_view inside.core inside.cores (queues_alone inside.queues) (slice_set inside.tallies.items c.place-2.result c.charged-tally.result) inside.floor inside.turns (job_out c.take.new.self) inside.delivered.items) (IsWithinTurns-settles old (core_view inside.core inside.cores (queues_alone inside.queues) (slice_set inside.tallies.items c.place-2.result c.charged-tally.result) inside.floor inside.turns (job_out c.take.new.self) inside.delivered.items) out c.place-2.result c.charged-tally.result was_out free refl refl refl fits core.turns)

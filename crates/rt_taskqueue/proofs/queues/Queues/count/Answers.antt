@@ -1,14 +1,17 @@
-use Rattle.std.proofs.Common.{◌≡◌, List, length, filter, sym, ap}
-use Rattle.rt_taskqueue.specs.declared.waiting.Waiting.{Waiting}
-use Rattle.rt_taskqueue.specs.Plain.{is_in, line_in}
-use Rattle.rt_taskqueue.proofs.Lines.{length-line_in}
-use Rattle.rt_taskqueue.proofs.PlainLemmas.{waiting_of-plain}
+use Rattle.std.proofs.Common.{ap, sym, arith}
+use Rattle.rt_taskqueue.specs.Slips.{queues_alone}
+use Rattle.rt_taskqueue.proofs.Views.{line_read, exists-view, length-waiting_of}
 use Rattle.rt_taskqueue.proofs.queues.Queues.count.Goals as goal
+
+pub index-requires : goal.index-requires
+index-requires g c =
+    let exists = exists-view c.self.inside.room c.self.inside.jobs c.self.inside.lines.items (ap queues_alone c.self.view_is) c.requires.exists in
+    omega (arith, exists, c.queue.view_is, c.self.inside.lines.ok.0)
 
 pub returns : goal.returns
 returns g c =
-    let jobs : List (Waiting g.row.J.Denot) = c.self.inside.jobs.items in
-    let read : length (filter (is_in c.args.queue) c.deref.result.now) ≡ length (filter (is_in c.args.queue) jobs) =
-    ap (λ (xs : List (Waiting g.row.J.Denot)). length (filter (is_in c.args.queue) xs)) c.deref.ensures.value in
-    let counted : c.line_length.result ≡ length (line_in c.args.queue jobs) = rw (c.line_length.ensures, read) (sym (length-line_in c.args.queue jobs)) in
-    rw (← c.self.view_is) (rw (waiting_of-plain c.self.invariant.0 c.args.queue) counted)
+    let inside = c.self.inside in
+    let lines = inside.lines.items in
+    let exists = exists-view inside.room inside.jobs lines (ap queues_alone c.self.view_is) c.requires.exists in
+    let here = line_read lines c.queue.inside.0 c.args.queue c.index.result.now (omega (arith, exists, c.queue.view_is)) c.index.ensures c.queue.view_is in
+    rw (← c.self.view_is) (sym (length-waiting_of c.self.invariant.0 c.args.queue c.index.result.now here))

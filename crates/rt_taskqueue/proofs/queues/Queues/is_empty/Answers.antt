@@ -1,11 +1,24 @@
-use Rattle.std.proofs.Common.{refl, is_some, sym, ap, ◌∙◌}
-use Rattle.rt_taskqueue.proofs.Lines.{line_in_unless_position, position_read}
-use Rattle.rt_taskqueue.proofs.PlainLemmas.{waiting_of-plain}
+use Rattle.std.proofs.Common.{length, ap, sym, ◌∙◌, arith}
+use Rattle.std.proofs.lemmas.Bool.{eqb-true, eq-eqb}
+use Rattle.std.proofs.lemmas.List.{nil_from_length}
+use Rattle.rt_taskqueue.specs.Queues.{waiting_of}
+use Rattle.rt_taskqueue.specs.Slips.{queues_alone}
+use Rattle.rt_taskqueue.proofs.Views.{alone, line_read, exists-view, length-waiting_of}
 use Rattle.rt_taskqueue.proofs.queues.Queues.is_empty.Goals as goal
+
+pub index-requires : goal.index-requires
+index-requires g c =
+    let exists = exists-view c.self.inside.room c.self.inside.jobs c.self.inside.lines.items (ap queues_alone c.self.view_is) c.requires.exists in
+    omega (arith, exists, c.queue.view_is, c.self.inside.lines.ok.0)
 
 pub returns : goal.returns
 returns g c =
-    let shown = waiting_of-plain c.self.invariant.0 c.args.queue in
-    let found = position_read c.args.queue c.deref.ensures.value c.head_place.ensures refl in
-    let empty = line_in_unless_position c.args.queue c.self.inside.jobs.items c.is_none.result (ap is_some found ∙ c.is_none.ensures) in
-    rw (← c.self.view_is) (λ t. shown ∙ empty.0 t, λ h. empty.1 (sym shown ∙ h))
+    let inside = c.self.inside in
+    let lines = inside.lines.items in
+    let exists = exists-view inside.room inside.jobs lines (ap queues_alone c.self.view_is) c.requires.exists in
+    let here = line_read lines c.queue.inside.0 c.args.queue c.index.result.now (omega (arith, exists, c.queue.view_is)) c.index.ensures c.queue.view_is in
+    let counted = length-waiting_of c.self.invariant.0 c.args.queue c.index.result.now here in
+    rw (← c.self.view_is) (
+      λ t. nil_from_length (waiting_of c.args.queue (alone inside.room inside.jobs lines)) (counted ∙ eqb-true c.index.result.now.count 0 t),
+      λ h. eq-eqb c.index.result.now.count 0 (sym counted ∙ ap length h),
+    )

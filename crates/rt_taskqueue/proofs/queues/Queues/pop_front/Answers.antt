@@ -1,52 +1,174 @@
-use Rattle.std.proofs.Common.{true, is_some, refl, ap, ◌∙◌}
-use Rattle.std.proofs.lemmas.List.Quantifiers.{position-Some}
-use Rattle.rt_taskqueue.specs.Plain.{is_in}
-use Rattle.rt_taskqueue.proofs.Lines.{line_in_unless_position, position_read}
-use Rattle.rt_taskqueue.proofs.PlainLemmas.{IsWithinLimits-plain, waiting_of-plain}
-use Rattle.rt_taskqueue.proofs.Changes.{IsPlain-remove, waiting_of_at_position, ChangesLine-remove, held_count-remove, room-remove}
+use Rattle.std.proofs.Common.{◌≡◌, ℕ, ◌-◌, ◌<◌, sym, ap, subst, refl, arith, length-set}
+use Rattle.rt_taskqueue.specs.declared.line.Line.{Line}
+use Rattle.rt_taskqueue.specs.Slips.{queues_alone}
+use Rattle.rt_taskqueue.specs.Linked.{HasOwnSlips}
+use Rattle.rt_taskqueue.proofs.Leaves.{Leaves, IsKept-left, waiting_of-left, ChangesLine-left, held_count-left}
+use Rattle.rt_taskqueue.proofs.Views.{line_read, exists-view, head_filled, held_count-view, IsWithinLimits-view}
 use Rattle.rt_taskqueue.proofs.queues.Queues.pop_front.Goals as goal
 
-pub returns-in_err-place-clause-empty : goal.returns-in_err-place-clause-empty
-returns-in_err-place-clause-empty g c =
-    let none = position_read c.args.queue c.deref.ensures.value c.head_place.ensures c.in_err-place.was in
-    let empty = line_in_unless_position c.args.queue c.self.inside.jobs.items true (ap is_some none) in
-    rw (c.from_residual.ensures, ← c.self.view_is) (waiting_of-plain c.self.invariant.0 c.args.queue ∙ empty.0 refl)
+some-count : (n : ℕ) → (n ≡ 0 → ⊥) → 0 < n
+some-count n none = omega arith
 
-pub returns-in_err-place-clause-limits : goal.returns-in_err-place-clause-limits
-returns-in_err-place-clause-limits g c = rw (← c.self.view_is) (IsWithinLimits-plain c.self.invariant.0)
+pub returns-then-line-eq0-clause-limits : goal.returns-then-line-eq0-clause-limits
+returns-then-line-eq0-clause-limits g c = rw (← c.self.view_is) (IsWithinLimits-view c.self.invariant.0)
+
+pub remove-front-requires : goal.remove-front-requires
+remove-front-requires g c =
+    let inside = c.self.inside in
+    let lines = inside.lines.items in
+    let line = c.index-line.result.now in
+    let exists = exists-view inside.room inside.jobs lines (ap queues_alone c.self.view_is) c.requires.exists in
+    let here = line_read lines c.queue.inside.0 c.args.queue line (omega (arith, exists, c.queue.view_is)) c.index-line.ensures c.queue.view_is in
+    head_filled c.self.invariant.0 c.args.queue line here (some-count line.count c.if-line-eq0.false)
 
 pub invariant_of-self : goal.invariant_of-self
 invariant_of-self g c =
-    let found = position_read c.args.queue c.deref.ensures.value c.head_place.ensures c.in_ok-place.was in
-    let within = (position-Some (is_in c.args.queue) c.self.inside.jobs.items c.in_ok-place.place c.remove-front.result found).0 in
-    rw (c.remove-front.ensures.items, c.remove-front.ensures.capacity) (IsPlain-remove c.in_ok-place.place c.self.invariant.0 within, c.self.invariant.1)
+    let inside = c.self.inside in
+    let lines = inside.lines.items in
+    let line = c.index-line.result.now in
+    let front = c.remove-front.result in
+    let rest : Line = record { head = front.next; tail = line.tail; count = line.count - 1; shares = line.shares } in
+    let exists = exists-view inside.room inside.jobs lines (ap queues_alone c.self.view_is) c.requires.exists in
+    let here = line_read lines c.queue.inside.0 c.args.queue line (omega (arith, exists, c.queue.view_is)) c.index-line.ensures c.queue.view_is in
+    let leaves_line : Leaves inside.jobs line front c.remove-front.new.self rest = record {
+      some = some-count line.count c.if-line-eq0.false;
+      first = c.remove-front.ensures.value;
+      updates = c.remove-front.ensures.updates;
+      len = c.remove-front.ensures.len;
+      capacity = c.remove-front.ensures.capacity;
+      head = refl;
+      tail = refl;
+      count = refl;
+      shares = refl;
+    } in
+    let leaves = subst (λ (l : Line). Leaves inside.jobs l front c.remove-front.new.self rest) (sym here) leaves_line in
+    rw c.queue.view_is (
+      IsKept-left c.args.queue front rest c.self.invariant.0 leaves exists,
+      subst (λ count. HasOwnSlips count inside.slips.cap inside.slips.items) (sym (length-set lines c.args.queue rest)) c.self.invariant.1,
+    )
 
 pub returns-clause-head : goal.returns-clause-head
 returns-clause-head g c =
-    let found = position_read c.args.queue c.deref.ensures.value c.head_place.ensures c.in_ok-place.was in
-    rw (c.remove-front.ensures.items, ← c.self.view_is)
-    (waiting_of_at_position c.args.queue c.in_ok-place.place c.remove-front.result c.self.invariant.0 found c.remove-front.ensures.value)
+    let inside = c.self.inside in
+    let lines = inside.lines.items in
+    let line = c.index-line.result.now in
+    let front = c.remove-front.result in
+    let rest : Line = record { head = front.next; tail = line.tail; count = line.count - 1; shares = line.shares } in
+    let exists = exists-view inside.room inside.jobs lines (ap queues_alone c.self.view_is) c.requires.exists in
+    let here = line_read lines c.queue.inside.0 c.args.queue line (omega (arith, exists, c.queue.view_is)) c.index-line.ensures c.queue.view_is in
+    let leaves_line : Leaves inside.jobs line front c.remove-front.new.self rest = record {
+      some = some-count line.count c.if-line-eq0.false;
+      first = c.remove-front.ensures.value;
+      updates = c.remove-front.ensures.updates;
+      len = c.remove-front.ensures.len;
+      capacity = c.remove-front.ensures.capacity;
+      head = refl;
+      tail = refl;
+      count = refl;
+      shares = refl;
+    } in
+    let leaves = subst (λ (l : Line). Leaves inside.jobs l front c.remove-front.new.self rest) (sym here) leaves_line in
+    rw (← c.self.view_is, c.queue.view_is) (waiting_of-left c.args.queue front rest c.self.invariant.0 leaves exists)
 
 pub returns-clause-rest : goal.returns-clause-rest
 returns-clause-rest g c =
-    let found = position_read c.args.queue c.deref.ensures.value c.head_place.ensures c.in_ok-place.was in
-    rw (c.remove-front.ensures.items, ← c.self.view_is)
-    (record { queues = ChangesLine-remove c.args.queue c.in_ok-place.place c.remove-front.result c.self.invariant.0 found c.remove-front.ensures.value; slips = refl })
+    let inside = c.self.inside in
+    let lines = inside.lines.items in
+    let line = c.index-line.result.now in
+    let front = c.remove-front.result in
+    let rest : Line = record { head = front.next; tail = line.tail; count = line.count - 1; shares = line.shares } in
+    let exists = exists-view inside.room inside.jobs lines (ap queues_alone c.self.view_is) c.requires.exists in
+    let here = line_read lines c.queue.inside.0 c.args.queue line (omega (arith, exists, c.queue.view_is)) c.index-line.ensures c.queue.view_is in
+    let leaves_line : Leaves inside.jobs line front c.remove-front.new.self rest = record {
+      some = some-count line.count c.if-line-eq0.false;
+      first = c.remove-front.ensures.value;
+      updates = c.remove-front.ensures.updates;
+      len = c.remove-front.ensures.len;
+      capacity = c.remove-front.ensures.capacity;
+      head = refl;
+      tail = refl;
+      count = refl;
+      shares = refl;
+    } in
+    let leaves = subst (λ (l : Line). Leaves inside.jobs l front c.remove-front.new.self rest) (sym here) leaves_line in
+    rw (← c.self.view_is, c.queue.view_is) (record { queues = ChangesLine-left c.args.queue front rest c.self.invariant.0 leaves exists; slips = refl })
 
 pub returns-clause-one_less : goal.returns-clause-one_less
 returns-clause-one_less g c =
-    let found = position_read c.args.queue c.deref.ensures.value c.head_place.ensures c.in_ok-place.was in
-    let within = (position-Some (is_in c.args.queue) c.self.inside.jobs.items c.in_ok-place.place c.remove-front.result found).0 in
-    rw (c.remove-front.ensures.items, ← c.self.view_is) (held_count-remove c.in_ok-place.place c.self.invariant.0 within)
+    let inside = c.self.inside in
+    let lines = inside.lines.items in
+    let line = c.index-line.result.now in
+    let front = c.remove-front.result in
+    let rest : Line = record { head = front.next; tail = line.tail; count = line.count - 1; shares = line.shares } in
+    let exists = exists-view inside.room inside.jobs lines (ap queues_alone c.self.view_is) c.requires.exists in
+    let here = line_read lines c.queue.inside.0 c.args.queue line (omega (arith, exists, c.queue.view_is)) c.index-line.ensures c.queue.view_is in
+    let leaves_line : Leaves inside.jobs line front c.remove-front.new.self rest = record {
+      some = some-count line.count c.if-line-eq0.false;
+      first = c.remove-front.ensures.value;
+      updates = c.remove-front.ensures.updates;
+      len = c.remove-front.ensures.len;
+      capacity = c.remove-front.ensures.capacity;
+      head = refl;
+      tail = refl;
+      count = refl;
+      shares = refl;
+    } in
+    let leaves = subst (λ (l : Line). Leaves inside.jobs l front c.remove-front.new.self rest) (sym here) leaves_line in
+    rw (← c.self.view_is, c.queue.view_is) (held_count-left c.args.queue front rest c.self.invariant.0 leaves exists)
 
 pub returns-clause-room : goal.returns-clause-room
 returns-clause-room g c =
-    let found = position_read c.args.queue c.deref.ensures.value c.head_place.ensures c.in_ok-place.was in
-    let within = (position-Some (is_in c.args.queue) c.self.inside.jobs.items c.in_ok-place.place c.remove-front.result found).0 in
-    rw c.remove-front.ensures.items (room-remove c.in_ok-place.place c.self.invariant.0 within)
+    let inside = c.self.inside in
+    let lines = inside.lines.items in
+    let line = c.index-line.result.now in
+    let front = c.remove-front.result in
+    let rest : Line = record { head = front.next; tail = line.tail; count = line.count - 1; shares = line.shares } in
+    let exists = exists-view inside.room inside.jobs lines (ap queues_alone c.self.view_is) c.requires.exists in
+    let here = line_read lines c.queue.inside.0 c.args.queue line (omega (arith, exists, c.queue.view_is)) c.index-line.ensures c.queue.view_is in
+    let leaves_line : Leaves inside.jobs line front c.remove-front.new.self rest = record {
+      some = some-count line.count c.if-line-eq0.false;
+      first = c.remove-front.ensures.value;
+      updates = c.remove-front.ensures.updates;
+      len = c.remove-front.ensures.len;
+      capacity = c.remove-front.ensures.capacity;
+      head = refl;
+      tail = refl;
+      count = refl;
+      shares = refl;
+    } in
+    let leaves = subst (λ (l : Line). Leaves inside.jobs l front c.remove-front.new.self rest) (sym here) leaves_line in
+    let fewer = held_count-left c.args.queue front rest c.self.invariant.0 leaves exists in
+    rw c.queue.view_is (omega (arith, fewer, held_count-view c.self.invariant.0, c.self.invariant.0.within_room))
 
 pub returns-clause-limits : goal.returns-clause-limits
 returns-clause-limits g c =
-    let found = position_read c.args.queue c.deref.ensures.value c.head_place.ensures c.in_ok-place.was in
-    let within = (position-Some (is_in c.args.queue) c.self.inside.jobs.items c.in_ok-place.place c.remove-front.result found).0 in
-    rw c.remove-front.ensures.items (IsWithinLimits-plain (IsPlain-remove c.in_ok-place.place c.self.invariant.0 within))
+    let inside = c.self.inside in
+    let lines = inside.lines.items in
+    let line = c.index-line.result.now in
+    let front = c.remove-front.result in
+    let rest : Line = record { head = front.next; tail = line.tail; count = line.count - 1; shares = line.shares } in
+    let exists = exists-view inside.room inside.jobs lines (ap queues_alone c.self.view_is) c.requires.exists in
+    let here = line_read lines c.queue.inside.0 c.args.queue line (omega (arith, exists, c.queue.view_is)) c.index-line.ensures c.queue.view_is in
+    let leaves_line : Leaves inside.jobs line front c.remove-front.new.self rest = record {
+      some = some-count line.count c.if-line-eq0.false;
+      first = c.remove-front.ensures.value;
+      updates = c.remove-front.ensures.updates;
+      len = c.remove-front.ensures.len;
+      capacity = c.remove-front.ensures.capacity;
+      head = refl;
+      tail = refl;
+      count = refl;
+      shares = refl;
+    } in
+    let leaves = subst (λ (l : Line). Leaves inside.jobs l front c.remove-front.new.self rest) (sym here) leaves_line in
+    rw c.queue.view_is (IsWithinLimits-view (IsKept-left c.args.queue front rest c.self.invariant.0 leaves exists))
+
+pub index-line-requires : goal.index-line-requires
+index-line-requires g c =
+    let exists = exists-view c.self.inside.room c.self.inside.jobs c.self.inside.lines.items (ap queues_alone c.self.view_is) c.requires.exists in
+    omega (arith, exists, c.queue.view_is, c.self.inside.lines.ok.0)
+
+pub index_mut-requires : goal.index_mut-requires
+index_mut-requires g c =
+    let exists = exists-view c.self.inside.room c.self.inside.jobs c.self.inside.lines.items (ap queues_alone c.self.view_is) c.requires.exists in
+    omega (arith, exists, c.queue.view_is, c.self.inside.lines.ok.0)

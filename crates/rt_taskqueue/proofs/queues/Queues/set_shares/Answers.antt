@@ -1,16 +1,45 @@
-use Rattle.std.proofs.Common.{arith, ap, refl}
+use Rattle.std.proofs.Common.{sym, ap, subst, refl, arith, length-set}
+use Rattle.rt_taskqueue.specs.declared.line.Line.{Line}
 use Rattle.rt_taskqueue.specs.Slips.{queues_alone}
-use Rattle.rt_taskqueue.proofs.PlainLemmas.{IsWithinLimits-plain, exists-plain}
-use Rattle.rt_taskqueue.proofs.Changes.{IsPlain-set, ChangesShares-set}
+use Rattle.rt_taskqueue.specs.Linked.{HasOwnSlips}
+use Rattle.rt_taskqueue.proofs.Changes.{IsKept-weighed, ChangesShares-weighed}
+use Rattle.rt_taskqueue.proofs.Views.{line_read, exists-view, IsWithinLimits-view}
 use Rattle.rt_taskqueue.proofs.queues.Queues.set_shares.Goals as goal
 
 pub index_mut-requires : goal.index_mut-requires
 index_mut-requires g c =
-    omega (arith, exists-plain c.self.invariant.0 (ap queues_alone c.self.view_is) c.requires.exists, c.queue.view_is, c.self.inside.shares.ok.0)
+    let inside = c.self.inside in
+    let exists = exists-view inside.room inside.jobs inside.lines.items (ap queues_alone c.self.view_is) c.requires.exists in
+    omega (arith, exists, c.queue.view_is, inside.lines.ok.0)
 
-pub returns-clause-given : goal.returns-clause-given
-returns-clause-given g c =
-    rw (← c.self.view_is, c.queue.view_is) (record { queues = ChangesShares-set c.args.queue c.args.shares c.self.invariant.0 (exists-plain c.self.invariant.0 (ap queues_alone c.self.view_is) c.requires.exists); slips = refl })
+pub invariant_of-self : goal.invariant_of-self
+invariant_of-self g c =
+    let inside = c.self.inside in
+    let lines = inside.lines.items in
+    let was = c.index_mut.result.now in
+    let line : Line = record was { shares = c.args.shares } in
+    let exists = exists-view inside.room inside.jobs lines (ap queues_alone c.self.view_is) c.requires.exists in
+    let here = line_read lines c.queue.inside.0 c.args.queue was (omega (arith, exists, c.queue.view_is)) c.index_mut.ensures.value c.queue.view_is in
+    let head = ap (λ (l : Line). l.head) (sym here) in
+    let tail = ap (λ (l : Line). l.tail) (sym here) in
+    let count = ap (λ (l : Line). l.count) (sym here) in
+    rw c.queue.view_is (
+      IsKept-weighed c.args.queue line c.self.invariant.0 exists head tail count,
+      subst (λ places. HasOwnSlips places inside.slips.cap inside.slips.items) (sym (length-set lines c.args.queue line)) c.self.invariant.1,
+    )
 
-pub returns-clause-limits : goal.returns-clause-limits
-returns-clause-limits g c = IsWithinLimits-plain (IsPlain-set c.queue.inside.0 c.args.shares c.self.invariant.0)
+pub returns : goal.returns
+returns g c =
+    let inside = c.self.inside in
+    let lines = inside.lines.items in
+    let was = c.index_mut.result.now in
+    let line : Line = record was { shares = c.args.shares } in
+    let exists = exists-view inside.room inside.jobs lines (ap queues_alone c.self.view_is) c.requires.exists in
+    let here = line_read lines c.queue.inside.0 c.args.queue was (omega (arith, exists, c.queue.view_is)) c.index_mut.ensures.value c.queue.view_is in
+    let head = ap (λ (l : Line). l.head) (sym here) in
+    let tail = ap (λ (l : Line). l.tail) (sym here) in
+    let count = ap (λ (l : Line). l.count) (sym here) in
+    rw (← c.self.view_is, c.queue.view_is) (record {
+      given = record { queues = ChangesShares-weighed c.args.queue line c.self.invariant.0 exists head tail count; slips = refl };
+      limits = IsWithinLimits-view (IsKept-weighed c.args.queue line c.self.invariant.0 exists head tail count);
+    })

@@ -1,17 +1,18 @@
-use Rattle.std.proofs.Common.{ℕ, get_or, sym, ap, ◌∙◌, arith}
-use Rattle.std.proofs.lemmas.List.{get_or_read}
+use Rattle.std.proofs.Common.{◌∙◌, ap, sym, arith}
+use Rattle.rt_taskqueue.specs.declared.line.Line.{Line}
 use Rattle.rt_taskqueue.specs.Slips.{queues_alone}
-use Rattle.rt_taskqueue.proofs.PlainLemmas.{exists-plain, shares_of-plain}
+use Rattle.rt_taskqueue.proofs.Views.{line_read, exists-view, shares_of-view}
 use Rattle.rt_taskqueue.proofs.queues.Queues.shares.Goals as goal
 
 pub index-requires : goal.index-requires
 index-requires g c =
-    omega (arith, exists-plain c.self.invariant.0 (ap queues_alone c.self.view_is) c.requires.exists, c.queue.view_is, c.self.inside.shares.ok.0)
+    let exists = exists-view c.self.inside.room c.self.inside.jobs c.self.inside.lines.items (ap queues_alone c.self.view_is) c.requires.exists in
+    omega (arith, exists, c.queue.view_is, c.self.inside.lines.ok.0)
 
 pub returns : goal.returns
 returns g c =
-    let weights = c.self.inside.shares.items in
-    let exists = exists-plain c.self.invariant.0 (ap queues_alone c.self.view_is) c.requires.exists in
-    rw (← c.self.view_is)
-    (get_or_read weights _ _ (omega (arith, exists, c.queue.view_is)) c.index.ensures 0 ∙ ap (λ (n : ℕ). get_or weights n 0) c.queue.view_is
-    ∙ sym (shares_of-plain c.self.invariant.0 c.args.queue))
+    let inside = c.self.inside in
+    let lines = inside.lines.items in
+    let exists = exists-view inside.room inside.jobs lines (ap queues_alone c.self.view_is) c.requires.exists in
+    let here = line_read lines c.queue.inside.0 c.args.queue c.index.result.now (omega (arith, exists, c.queue.view_is)) c.index.ensures c.queue.view_is in
+    rw (← c.self.view_is) (ap (λ (l : Line). l.shares) (sym here) ∙ sym (shares_of-view inside.room inside.jobs lines c.args.queue))
