@@ -3,6 +3,7 @@
 use rt_ids::{
     ActorNo, CoreNo, JobId, Key, Mode, Note, Order, OutcomeNote, QueueNo, QueueStats, Ticket,
 };
+use rt_shares::Shares;
 
 /// Keys as pairs of a virtual runtime and a queue, and whether the first stands before the second.
 const PAIRS: [((u128, u8), (u128, u8), bool); 5] = [
@@ -47,6 +48,24 @@ fn is_copied_outcome(outcome: OutcomeNote<u64>) -> bool {
         Ok(copy) => copy == outcome,
         Err(_) => false,
     }
+}
+
+fn is_told(order: Order<u64>, note: Order<()>) -> bool {
+    order.without_job() == note
+}
+
+#[test]
+fn an_order_is_told_without_its_job(rt: HostRuntime) {
+    let shares = Shares::default();
+    let job = is_told(Order::Job(QueueNo(4), 7), Order::Job(QueueNo(4), ()));
+    let create = is_told(Order::Create(shares), Order::Create(shares));
+    assert!(rt;
+        job && create
+            && is_told(
+                Order::SetShares(QueueNo(4), shares),
+                Order::SetShares(QueueNo(4), shares)
+            )
+    );
 }
 
 #[test]

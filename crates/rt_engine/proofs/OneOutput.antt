@@ -1,6 +1,6 @@
 -- Two outputs of a script are one, unless one of its runs was refused memory.
 use Rattle.std.proofs.Common.{◌≡◌, ℕ, List, [], ◌∷◌, ◌++◌, refl, sym, ◌∙◌, ap, subst, ◌⊎◌, inl, inr, ⊎_elim}
-use Rattle.std.specs.Prelude.{map, reverse}
+use Rattle.std.specs.Prelude.{map, reverse, Option, Result, Ok}
 use Rattle.std.proofs.lemmas.List.{append_cancel_right}
 use Rattle.std.proofs.lemmas.Option.{same_Some}
 use Rattle.rt_jobs.specs.Scripts.{Script}
@@ -20,9 +20,10 @@ use Rattle.rt_world.proofs.NoRefusals.{plain_unbegun, run_plain}
 use Rattle.rt_world.proofs.UnbegunCreations.{unbegun_fresh, unbegun_creations}
 use Rattle.rt_script.specs.declared.event.ScriptEvent.{ScriptEvent}
 use Rattle.rt_script.specs.Drafts.{Drafted}
+use Rattle.rt_script.specs.Scripts.{script_of}
 use Rattle.rt_engine.specs.Replies.{event_of, ends_of, quiet_of}
 use Rattle.rt_engine.specs.Transcripts.{ScriptWorld, event_text, Prints, PrintsAll, with_queue, with_queues, script_room, IsOutput}
-use Rattle.rt_engine.specs.OneOutput.{OutputIsDetermined, OutputOfJobsIsDetermined}
+use Rattle.rt_engine.specs.OneOutput.{OutputIsDetermined, OutputOfJobsIsDetermined, TextHasOneOutput}
 
 -- what an event prints is determined, if what it does is
 module _ (event : ScriptEvent) (old new other : ScriptWorld) (text other_text : List ℕ) (first : Prints event old new text) (second : Prints event old other other_text) where
@@ -131,3 +132,11 @@ output_of_jobs_once script output other none first second =
     ⊎_elim (λ same. same)
     (λ refused. absurd (⊎_elim (not_refused script output first none) (not_refused script other second none) refused))
     (once script output other first second)
+
+same_ok : {A E : Type 0} (found : Result A E) (one other : A) → found ≡ Ok one → found ≡ Ok other → one ≡ other
+same_ok found one other first second = cc
+
+pub text_once : TextHasOneOutput
+text_once text sink sink_new other_sink other_new first second =
+    subst (λ script. (right : IsOutput script second.output) → (first.output ≡ second.output) ⊎ (WasRefused first.right.end.journals ⊎ WasRefused right.end.journals))
+    (same_ok (script_of text) first.script second.script first.told second.told) (λ right. once first.script first.output second.output first.right right) second.right

@@ -2,8 +2,8 @@
 use Rattle.std.proofs.Common.{◌≡◌, ℕ, List, [], ◌∷◌, ◌++◌, length, Option, refl, sym, ap, ◌∙◌, subst, arith, All}
 use Rattle.std.specs.Io.KnownBytes.{Keeps, Appends}
 use Rattle.std.proofs.KnownBytes.{Appends-trans}
-use Rattle.rt_ids.specs.Commands.{last_queue}
-use Rattle.rt_ids.specs.Lawful.{IsOpening}
+use Rattle.rt_ids.specs.Commands.{created_count}
+use Rattle.rt_ids.specs.Commands.{IsOpening}
 use Rattle.rt_script.specs.declared.event.ScriptEvent.{ScriptEvent}
 use Rattle.rt_world.specs.Opening.{IsFresh}
 use Rattle.rt_world.specs.State.{journal_at}
@@ -18,7 +18,7 @@ pub fresh_may_make : (cores cap room : ℕ) (queues : List (ℕ × ℕ)) (world 
 fresh_may_make cores cap room queues world fresh few = record {
   unbegun = record { lists = fresh.lists; no_order = fresh.no_order; opening = λ actor. subst IsOpening (sym (fresh.no_note actor)) tt };
   notes = λ core. let none : length (journal_at core world) ≡ 0 = ap length (fresh.no_note core) in let most = few core in omega arith;
-  last = λ core. let none : last_queue (journal_at core world) ≡ 0 = ap last_queue (fresh.no_note core) in let most = few core in omega arith;
+  last = λ core. let none : created_count (journal_at core world) ≡ 0 = ap created_count (fresh.no_note core) in let most = few core in omega arith;
 }
 
 -- queues are no part of a world's size

@@ -14,7 +14,7 @@ use Rattle.rt_world.specs.declared.event.Event.{Event}
 use Rattle.rt_world.specs.declared.event.Event.TheVariants.{Send, Deliver, Turn}
 use Rattle.rt_world.specs.declared.event.Reply.{Reply}
 use Rattle.rt_world.specs.declared.event.Reply.TheVariants as reply
-use Rattle.rt_world.specs.State.{journal_at, noted, order_note, with_sent, IsNearlyFull}
+use Rattle.rt_world.specs.State.{journal_at, noted, without_job, with_sent, IsNearlyFull}
 use Rattle.rt_world.specs.Sends.{actor_of, AreThere, Sends}
 use Rattle.rt_world.specs.Deliveries.{IsDelivery, with_effect, Delivers}
 use Rattle.rt_world.specs.Turns.{Turns, settle_note, poll_note}
@@ -123,7 +123,7 @@ with_orders actor notes old sent few =
     record { notes = grows.notes; noted = grows.noted; short = grows.short; cores = grows.cores; cap = grows.cap; room = grows.room }
 
 send_grows : (sender core : ℕ) (what : Order Script) (old new : ScriptWorld) (answer : Reply Script) → Sends sender core what old new answer → Grows sender old new
-send_grows sender core what old new (reply.Sent name) is = becomes sender old new _ is.2 (with_orders sender (written.Sent name (order_note what) ∷ []) old (with_sent sender core what old) (omega arith))
+send_grows sender core what old new (reply.Sent name) is = becomes sender old new _ is.2 (with_orders sender (written.Sent name (without_job what) ∷ []) old (with_sent sender core what old) (omega arith))
 send_grows sender core what old new (reply.NotSent (refused.Full back)) is = stays sender old new is.2
 send_grows sender core what old new (reply.NotSent (refused.Spent back)) is = stays sender old new is.3
 send_grows sender core what old new (reply.NotSent (refused.Closed back count)) is = absurd is

@@ -1,9 +1,10 @@
 -- Each script has one output, unless a core had no memory for a queue that it orders.
-use Rattle.std.specs.Prelude.{◌≡◌, ◌⊎◌, ℕ, List, map}
+use Rattle.std.specs.Prelude.{◌≡◌, ◌⊎◌, ℕ, List, map, Option, Some}
 use Rattle.rt_world.specs.Creations.{OrderNoQueues}
 use Rattle.rt_world.specs.Determined.{WasRefused}
 use Rattle.rt_script.specs.Drafts.{Drafted}
 use Rattle.rt_engine.specs.Replies.{event_of}
+use Rattle.rt_engine.specs.Outputs.{IsDone}
 use Rattle.rt_engine.specs.Transcripts.{IsOutput}
 
 -- two outputs of a script are one; else a journal behind one of them tells that there was no memory for a queue
@@ -16,3 +17,9 @@ OutputIsDetermined =
 abbrev pub OutputOfJobsIsDetermined : Type 0
 OutputOfJobsIsDetermined =
     (script : Drafted) (output other : List ℕ) → OrderNoQueues (map event_of script.events) → IsOutput script output → IsOutput script other → output ≡ other
+
+-- two runs that are done over one text wrote one output; else a journal behind one of them tells so
+abbrev pub TextHasOneOutput : Type 0
+TextHasOneOutput =
+    (text : List ℕ) (sink sink_new other_sink other_new : Option (List ℕ)) (first : IsDone (Some text) sink sink_new) (second : IsDone (Some text) other_sink other_new) →
+    (first.output ≡ second.output) ⊎ (WasRefused first.right.end.journals ⊎ WasRefused second.right.end.journals)

@@ -1,6 +1,6 @@
 -- A world in the middle of a script: its journals have room for all that is to come.
 use Rattle.std.specs.Prelude.{◌≡◌, ℕ, ◌+◌, ◌≤◌, List, length}
-use Rattle.rt_ids.specs.Commands.{last_queue}
+use Rattle.rt_ids.specs.Commands.{created_count}
 use Rattle.rt_world.specs.Opening.{IsUnbegun}
 use Rattle.rt_world.specs.State.{journal_at}
 use Rattle.rt_script.specs.Drafts.{queue_lines}
@@ -17,4 +17,4 @@ pub record IsRoomy (cores cap notes : ℕ) (world : ScriptWorld) : Type 0 where
 pub record MayMake (left : List (ℕ × ℕ)) (world : ScriptWorld) : Type 0 where
   pub unbegun : IsUnbegun world
   pub notes : (core : ℕ) → length (journal_at core world) + queue_lines core left ≤ 255
-  pub last : (core : ℕ) → last_queue (journal_at core world) + queue_lines core left ≤ 255
+  pub last : (core : ℕ) → created_count (journal_at core world) + queue_lines core left ≤ 255

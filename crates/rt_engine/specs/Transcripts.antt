@@ -2,7 +2,7 @@
 use Rattle.std.specs.Prelude.{◌≡◌, ℕ, ◌+◌, ◌*◌, ◌++◌, List, [], ◌∷◌, codes, reverse, slice_get, Option, Some, None}
 use Rattle.rt_ids.specs.declared.note.Note.{Note}
 use Rattle.rt_ids.specs.declared.note.Note.TheVariants.{Created}
-use Rattle.rt_ids.specs.Commands.{last_queue}
+use Rattle.rt_ids.specs.Commands.{created_count}
 use Rattle.rt_jobs.specs.Scripts.{Script, Does, IsAnswer}
 use Rattle.rt_world.specs.declared.event.Event.{Event}
 use Rattle.rt_script.specs.declared.event.ScriptEvent.{ScriptEvent}
@@ -66,7 +66,7 @@ PrintsAll (event ∷ events) old new text =
 
 -- a queue is made at the opening, under the next number
 abbrev pub with_queue : ℕ × ℕ → ScriptWorld → ScriptWorld
-with_queue queue world = noted queue.0 (Created (last_queue (journal_at queue.0 world) + 1) queue.1 ∷ []) world
+with_queue queue world = noted queue.0 (Created (created_count (journal_at queue.0 world) + 1) queue.1 ∷ []) world
 
 abbrev pub with_queues : List (ℕ × ℕ) → ScriptWorld → ScriptWorld
 with_queues [] world = world

@@ -2,7 +2,7 @@
 
 ghost use Rattle.std.specs.Prelude.{◌≡◌, ◌<◌, ◌+◌, [], ℕ, List, length, IfOk, IfErr, OnOk, IfSome, Err, Some, true};
 ghost use Rattle.std.specs.Io.KnownBytes.{Keeps, Appends};
-ghost use Rattle.rt_ids.specs.Commands.{last_queue};
+ghost use Rattle.rt_ids.specs.Commands.{created_count};
 ghost use Rattle.rt_world.specs.Opening.{IsFresh, IsUnbegun};
 ghost use Rattle.rt_world.specs.State.{journal_at};
 ghost use Rattle.rt_script.specs.Limits.{IsSize, ArePlaced};
@@ -104,7 +104,7 @@ fn create_queue(model: &mut Model, core: CoreNo, shares: Shares) -> Result<(), E
     requires core { core < model.old.cores }
     requires unbegun { IsUnbegun model.old }
     requires room { length (journal_at core model.old) < model.old.room }
-    requires few { last_queue (journal_at core model.old) < 255 }
+    requires few { created_count (journal_at core model.old) < 255 }
     ensures ok { OnOk result (model.new ≡ with_queue (core, shares) model.old) }
     ensures device { IfErr result (IfUnread ⊥) }
 {

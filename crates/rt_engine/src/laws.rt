@@ -1,6 +1,6 @@
 //! Laws over the definitions alone.
 
-ghost use Rattle.rt_engine.specs.OneOutput.{OutputIsDetermined, OutputOfJobsIsDetermined};
+ghost use Rattle.rt_engine.specs.OneOutput.{OutputIsDetermined, OutputOfJobsIsDetermined, TextHasOneOutput};
 
 /// Each script has one output, unless a core had no memory for a queue that the script orders.
 pub fn output_is_determined()
@@ -10,4 +10,9 @@ pub fn output_is_determined()
 /// A script that orders no queue by an event has one output.
 pub fn output_of_jobs_is_determined()
     ensures { OutputOfJobsIsDetermined }
+{}
+
+/// Two runs that are done over one text wrote one output, unless a core had no memory for a queue.
+pub fn text_has_one_output()
+    ensures { TextHasOneOutput }
 {}

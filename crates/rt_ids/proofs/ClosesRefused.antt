@@ -1,5 +1,5 @@
 -- Each fault of closing breaks the third clause.
-use Rattle.std.proofs.Common.{◌≡◌, arith}
+use Rattle.std.proofs.Common.{arith}
 use Rattle.rt_ids.specs.BadCloses.{ClosesAreRefused}
 
 pub closes_refused : ClosesAreRefused

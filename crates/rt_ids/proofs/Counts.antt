@@ -7,10 +7,11 @@ use Rattle.rt_ids.specs.declared.note.Note.{Note}
 use Rattle.rt_ids.specs.declared.note.Note.TheVariants.{Took, Start, Resume, Yield, Done, Returned}
 use Rattle.rt_ids.specs.Journal.{Journal, EachNote}
 use Rattle.rt_ids.specs.Lawful.{MayFollow, MayStand, IsTurnOf}
-use Rattle.rt_ids.specs.Laws.{IsCounted}
+use Rattle.rt_ids.specs.Laws.{JobsAddUp}
 use Rattle.rt_ids.specs.Lines.{line, jobs_out, names_but, queue_of_first, queue_out}
 use Rattle.rt_ids.specs.Names.{is_number}
 use Rattle.rt_ids.specs.Work.{queue_of, number_if}
+use Rattle.rt_ids.specs.Terms.{Terms}
 use Rattle.rt_ids.proofs.JobsOut.{nobody_out, jobs_out-start, jobs_out-resume, names_but-alone}
 use Rattle.rt_ids.proofs.Known.{Known, known_of, queue_stays, first_in_line}
 use Rattle.rt_ids.proofs.LineSteps.{names_but-turn, names_but-turn_elsewhere, line-done}
@@ -32,44 +33,44 @@ queue_out-alone name journal alone = rw alone
 pub queue_out-nobody : {T : Type 0} (journal : Journal T) → jobs_out journal ≡ [] → queue_out journal ≡ None
 queue_out-nobody journal nobody = rw nobody
 
-module _ {T : Type 0} (actor cap : ℕ) where
+module _ {T : Type 0} (terms : Terms) where
   -- a job that stays out stays of its queue
-  queue_out-stays : (note : Note T) (before : Journal T) → MayFollow actor cap note before → Known before →
+  pub queue_out-stays : (note : Note T) (before : Journal T) → MayFollow terms note before → Known before →
       queue_of_first (jobs_out before) (note ∷ before) ≡ queue_out before
   queue_out-stays note before law known =
       queue_of_first-stays (jobs_out before) note before
-      (λ name there. queue_stays actor cap name note before law (known.entered_old name (known.out_inside name there).entered))
+      (λ name there. queue_stays terms name note before law (known.entered_old name (known.out_inside name there).entered))
 
   -- a turn takes one from the line of its queue, and none from another
-  length-turn : (queue : ℕ) (name : JobId) (before : Journal T) → EachNote (MayStand actor cap) before → (picked : ℕ) → IsTurnOf name picked before →
+  length-turn : (queue : ℕ) (name : JobId) (before : Journal T) → EachNote (MayStand terms) before → (picked : ℕ) → IsTurnOf name picked before →
       length (line queue before) ≡ length (names_but name (line queue before)) + number_if (is_number queue (queue_of name before))
   length-turn queue name before notes picked turn = rw its (by_test (queue == picked) refl)
     where
       its : queue_of name before ≡ Some picked
-      its = (known_of actor cap before notes).line_queue picked name (first_in_line actor cap name picked before turn)
+      its = (known_of terms before notes).line_queue picked name (first_in_line terms name picked before turn)
 
       by_test : (test : Bool) → (queue == picked) ≡ test →
           length (line queue before) ≡ length (names_but name (line queue before)) + number_if test
       by_test true same =
           let here : line queue before ≡ name ∷ turn.others = rw (eqb-true queue picked same) turn.first in
-          let left = names_but-turn actor cap before notes queue name turn.others here in
+          let left = names_but-turn terms before notes queue name turn.others here in
           rw (left, here) (omega arith)
       by_test false other =
-          let left = names_but-turn_elsewhere actor cap before notes queue picked name turn.others turn.first (eqb-false queue picked other) in
+          let left = names_but-turn_elsewhere terms before notes queue picked name turn.others turn.first (eqb-false queue picked other) in
           rw left (omega arith)
 
   -- what entered a queue has left it, waits in its line, or is out
-  pub counts_agree : (queue : ℕ) (journal : Journal T) → EachNote (MayStand actor cap) journal → IsCounted queue journal
+  pub counts_agree : (queue : ℕ) (journal : Journal T) → EachNote (MayStand terms) journal → JobsAddUp queue journal
   counts_agree queue [] notes = refl
   counts_agree queue (note ∷ before) notes = by_note note notes.0.may_follow (counts_agree queue before notes.1)
     where
-      stays : (note : Note T) → MayFollow actor cap note before → queue_of_first (jobs_out before) (note ∷ before) ≡ queue_out before
-      stays note law = queue_out-stays note before law (known_of actor cap before notes.1)
+      stays : (note : Note T) → MayFollow terms note before → queue_of_first (jobs_out before) (note ∷ before) ≡ queue_out before
+      stays note law = queue_out-stays note before law (known_of terms before notes.1)
 
       nobody : (name : JobId) (picked : ℕ) → IsTurnOf name picked before → jobs_out before ≡ []
-      nobody name picked turn = nobody_out actor cap before notes.1 picked turn.picked
+      nobody name picked turn = nobody_out terms before notes.1 picked turn.picked
 
-      by_note : (note : Note T) → MayFollow actor cap note before → IsCounted queue before → IsCounted queue (note ∷ before)
+      by_note : (note : Note T) → MayFollow terms note before → JobsAddUp queue before → JobsAddUp queue (note ∷ before)
       by_note (Took name into) law agrees =
           rw (stays (Took name into) law) (omega (arith, length-with_last_if (line queue before) name (queue == into)))
       by_note (Start name) law agrees =
@@ -87,5 +88,5 @@ module _ {T : Type 0} (actor cap : ℕ) where
       by_note (Done name time value) law agrees =
           let were : queue_out before ≡ queue_of name before = queue_out-alone name before law in
           rw (names_but-alone name before law)
-          (omega (arith, ap (λ its. number_if (is_number queue its)) were, ap length (line-done actor cap before notes.1 queue time value name law)))
+          (omega (arith, ap (λ its. number_if (is_number queue its)) were, ap length (line-done terms before notes.1 queue time value name law)))
       by_note note law agrees = rw (stays note law) (omega arith)

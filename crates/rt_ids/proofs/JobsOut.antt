@@ -8,6 +8,7 @@ use Rattle.rt_ids.specs.Clauses.{queue_just_picked}
 use Rattle.rt_ids.specs.Journal.{Journal, EachNote}
 use Rattle.rt_ids.specs.Lawful.{MayFollow, MayStand}
 use Rattle.rt_ids.specs.Lines.{jobs_out, names_but}
+use Rattle.rt_ids.specs.Terms.{Terms}
 use Rattle.rt_ids.proofs.NameLemmas.{among, same_as_itself}
 
 -- no name, or one
@@ -39,19 +40,19 @@ pub jobs_out-done : {T : Type 0} (name : JobId) (time : ℕ) (value : T) (before
     jobs_out (Done name time value ∷ before) ≡ []
 jobs_out-done name time value before alone = names_but-alone name before alone
 
-module _ {T : Type 0} (actor cap : ℕ) where
+module _ {T : Type 0} (terms : Terms) where
   -- behind a pick nobody is out
-  pub nobody_out : (before : Journal T) → EachNote (MayStand actor cap) before → (queue : ℕ) → queue_just_picked before ≡ Some queue → jobs_out before ≡ []
+  pub nobody_out : (before : Journal T) → EachNote (MayStand terms) before → (queue : ℕ) → queue_just_picked before ≡ Some queue → jobs_out before ≡ []
   nobody_out [] notes queue picked = cc
-  nobody_out (Pick other runtime ∷ before) notes queue picked = notes.0.may_follow.eligible.nobody_out
+  nobody_out (Pick other runtime ∷ before) notes queue picked = notes.0.may_follow.right.eligible.nobody_out
   nobody_out (_ ∷ before) notes queue picked = cc
 
   -- the jobs that are out are none or one
-  pub jobs_out-one : (journal : Journal T) → EachNote (MayStand actor cap) journal → IsAtMostOne (jobs_out journal)
+  pub jobs_out-one : (journal : Journal T) → EachNote (MayStand terms) journal → IsAtMostOne (jobs_out journal)
   jobs_out-one [] notes = inl refl
   jobs_out-one (note ∷ before) notes = by_note note notes.0.may_follow (jobs_out-one before notes.1)
     where
-      by_note : (note : Note T) → MayFollow actor cap note before → IsAtMostOne (jobs_out before) → IsAtMostOne (jobs_out (note ∷ before))
+      by_note : (note : Note T) → MayFollow terms note before → IsAtMostOne (jobs_out before) → IsAtMostOne (jobs_out (note ∷ before))
       by_note (Start name) law one = inr (name, jobs_out-start name before (nobody_out before notes.1 law.0 law.1.picked))
       by_note (Resume name) law one = inr (name, jobs_out-resume name before (nobody_out before notes.1 law.0 law.1.picked))
       by_note (Yield name time) law one = inl (names_but-alone name before law)

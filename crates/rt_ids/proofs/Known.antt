@@ -11,6 +11,7 @@ use Rattle.rt_ids.specs.Lawful.{MayFollow, MayStand, IsTurnOf, IsNextDelivered}
 use Rattle.rt_ids.specs.Lines.{line, jobs_out, name_joining, name_leaving, name_polled, name_settled, names_but_for}
 use Rattle.rt_ids.specs.Names.{same_name, is_name, is_number}
 use Rattle.rt_ids.specs.Work.{queue_of, queue_entered}
+use Rattle.rt_ids.specs.Terms.{Terms}
 use Rattle.rt_ids.proofs.NameLemmas.{among, one_name, same_as_itself, among-with_last, among-names_but_for}
 use Rattle.rt_ids.proofs.Told.{grows, one_longer}
 use Rattle.rt_ids.proofs.JobsOut.{alone_out, nobody_out}
@@ -37,9 +38,9 @@ pub still_old : {T : Type 0} (name : JobId) (note : Note T) (before : Journal T)
 still_old name note before old =
     omega (arith, grows (delivered_names name.from before) (name_delivered name.from note))
 
-module _ {T : Type 0} (actor cap : ℕ) where
+module _ {T : Type 0} (terms : Terms) where
   -- a job that is delivered now was not delivered before
-  pub not_old : (name other : JobId) (before : Journal T) → IsNextDelivered actor other before → IsOld name before → same_name name other ≡ false
+  pub not_old : (name other : JobId) (before : Journal T) → IsNextDelivered terms other before → IsOld name before → same_name name other ≡ false
   not_old name other before next old = by_test (same_name name other) refl
     where
       by_test : (test : Bool) → same_name name other ≡ test → test ≡ false
@@ -50,12 +51,12 @@ module _ {T : Type 0} (actor cap : ℕ) where
           absurd (omega (arith, next.next))
 
   -- a job that was delivered does not enter again
-  pub not_entering : (name : JobId) (note : Note T) (before : Journal T) → MayFollow actor cap note before → IsOld name before → queue_entered name note ≡ None
+  pub not_entering : (name : JobId) (note : Note T) (before : Journal T) → MayFollow terms note before → IsOld name before → queue_entered name note ≡ None
   not_entering name (Took other queue) before law old = rw (not_old name other before law.0 old)
   not_entering name _ before law old = refl
 
   -- what a note ends is neither inside and staying, nor out and staying
-  pub not_ending : (name : JobId) (note : Note T) (before : Journal T) → MayFollow actor cap note before → IsOld name before →
+  pub not_ending : (name : JobId) (note : Note T) (before : Journal T) → MayFollow terms note before → IsOld name before →
       is_name name (name_leaving note) ≡ false → is_name name (name_ended note) ≡ false
   not_ending name (Back other reason) before law old stays = not_old name other before law.0 old
   not_ending name (Done other time value) before law old stays = stays
@@ -63,7 +64,7 @@ module _ {T : Type 0} (actor cap : ℕ) where
   not_ending name _ before law old stays = refl
 
   -- a job is old from its delivery on
-  pub next_old : (other : JobId) (before : Journal T) (more : Option JobId) → IsNextDelivered actor other before →
+  pub next_old : (other : JobId) (before : Journal T) (more : Option JobId) → IsNextDelivered terms other before →
       more ≡ if_from other.from other other → other.number ≤ length (with_last (delivered_names other.from before) more)
   next_old other before more next says =
       rw
@@ -71,7 +72,7 @@ module _ {T : Type 0} (actor cap : ℕ) where
       (omega (arith, next.next, one_longer (delivered_names other.from before) other (other.from == other.from) (eq-eqb other.from other.from refl)))
 
   -- who enters was delivered just now
-  taking_old : (name : JobId) (note : Note T) (before : Journal T) → MayFollow actor cap note before → (queue : ℕ) → queue_entered name note ≡ Some queue →
+  taking_old : (name : JobId) (note : Note T) (before : Journal T) → MayFollow terms note before → (queue : ℕ) → queue_entered name note ≡ Some queue →
       IsOld name (note ∷ before)
   taking_old name (Took other into) before law queue took = by_test (same_name name other) refl took
     where
@@ -86,7 +87,7 @@ module _ {T : Type 0} (actor cap : ℕ) where
   first_in_line name queue before turn = rw (turn.first, same_as_itself name)
 
   -- who ends was delivered, before or just now
-  ending_old : (name : JobId) (note : Note T) (before : Journal T) → MayFollow actor cap note before → Known before →
+  ending_old : (name : JobId) (note : Note T) (before : Journal T) → MayFollow terms note before → Known before →
       is_name name (name_ended note) ≡ true → IsOld name (note ∷ before)
   ending_old name (Done other time value) before law known same =
       subst (λ one. IsOld one (Done other time value ∷ before)) (sym (one_name name other same))
@@ -102,12 +103,12 @@ module _ {T : Type 0} (actor cap : ℕ) where
   ending_old name _ before law known same = cc
 
   -- the queue of a job that was delivered before stays
-  pub queue_stays : (name : JobId) (note : Note T) (before : Journal T) → MayFollow actor cap note before → IsOld name before →
+  pub queue_stays : (name : JobId) (note : Note T) (before : Journal T) → MayFollow terms note before → IsOld name before →
       queue_of name (note ∷ before) ≡ queue_of name before
   queue_stays name note before law old = rw (not_entering name note before law old)
 
   -- a job stays inside until a note ends it
-  stays_inside : (name : JobId) (note : Note T) (before : Journal T) → MayFollow actor cap note before → Known before → IsInside name before →
+  stays_inside : (name : JobId) (note : Note T) (before : Journal T) → MayFollow terms note before → Known before → IsInside name before →
       is_name name (name_ended note) ≡ false → IsInside name (note ∷ before)
   stays_inside name note before law known inside stays = record {
     entered = rw (queue_stays name note before law (known.entered_old name inside.entered)) inside.entered;
@@ -115,13 +116,13 @@ module _ {T : Type 0} (actor cap : ℕ) where
   }
 
   -- whom a note leaves out, it does not end
-  out_not_ending : (name : JobId) (note : Note T) (before : Journal T) → MayFollow actor cap note before → EachNote (MayStand actor cap) before →
+  out_not_ending : (name : JobId) (note : Note T) (before : Journal T) → MayFollow terms note before → EachNote (MayStand terms) before →
       IsOld name before → among name (jobs_out before) ≡ true → is_name name (or_else (name_settled note) (name_polled note)) ≡ false →
       is_name name (name_ended note) ≡ false
   out_not_ending name (Back other reason) before law notes old there stays = not_old name other before law.0 old
   out_not_ending name (Done other time value) before law notes old there stays = stays
   out_not_ending name (Returned other reason) before law notes old there stays =
-      absurd (true≢false (sym there ∙ ap (among name) (nobody_out actor cap before notes law.0 law.1.picked)))
+      absurd (true≢false (sym there ∙ ap (among name) (nobody_out terms before notes law.0 law.1.picked)))
   out_not_ending name _ before law notes old there stays = refl
 
   -- a job of this queue that is inside after the note
@@ -130,7 +131,7 @@ module _ {T : Type 0} (actor cap : ℕ) where
     inside : IsInside name (note ∷ before)
 
   -- who comes to the tail of a line, is of its queue and inside
-  coming : (queue : ℕ) (name : JobId) (note : Note T) (before : Journal T) → MayFollow actor cap note before → Known before →
+  coming : (queue : ℕ) (name : JobId) (note : Note T) (before : Journal T) → MayFollow terms note before → Known before →
       name_joining queue note before ≡ Some name → Comes queue name note before
   coming queue name (Took other into) before law known came = by_test (queue == into) refl came
     where
@@ -169,7 +170,7 @@ module _ {T : Type 0} (actor cap : ℕ) where
   coming queue name _ before law known came = cc
 
   -- who is polled is inside
-  polling : (name : JobId) (note : Note T) (before : Journal T) → MayFollow actor cap note before → Known before →
+  polling : (name : JobId) (note : Note T) (before : Journal T) → MayFollow terms note before → Known before →
       name_polled note ≡ Some name → IsInside name (note ∷ before)
   polling name (Start other) before law known same =
       let one : other ≡ name = cc in
@@ -181,7 +182,7 @@ module _ {T : Type 0} (actor cap : ℕ) where
       (stays_inside other (Resume other) before law known (known.line_inside law.0 other (first_in_line other law.0 before law.1)) refl)
   polling name _ before law known same = cc
 
-  module _ (note : Note T) (before : Journal T) (law : MayFollow actor cap note before) (notes : EachNote (MayStand actor cap) before) (known : Known before) where
+  module _ (note : Note T) (before : Journal T) (law : MayFollow terms note before) (notes : EachNote (MayStand terms) before) (known : Known before) where
     -- who stands in a line after the note is of its queue and inside
     line_comes : (queue : ℕ) (name : JobId) → among name (line queue (note ∷ before)) ≡ true → Comes queue name note before
     line_comes queue name there =
@@ -236,7 +237,7 @@ module _ {T : Type 0} (actor cap : ℕ) where
     }
 
   -- they hold of each lawful journal
-  pub known_of : (journal : Journal T) → EachNote (MayStand actor cap) journal → Known journal
+  pub known_of : (journal : Journal T) → EachNote (MayStand terms) journal → Known journal
   known_of [] notes = record {
     line_queue = λ queue name there. absurd (true≢false (sym there));
     line_inside = λ queue name there. absurd (true≢false (sym there));

@@ -10,6 +10,7 @@ use Rattle.rt_ids.specs.Lawful.{MayFollow, MayStand}
 use Rattle.rt_ids.specs.Lines.{line, jobs_out, name_joining, name_leaving, name_polled, name_settled, names_but_for, names_but}
 use Rattle.rt_ids.specs.Names.{same_name, is_name, is_number}
 use Rattle.rt_ids.specs.Work.{queue_of}
+use Rattle.rt_ids.specs.Terms.{Terms}
 use Rattle.rt_ids.proofs.NameLemmas.{among, one_name, same_as_itself, among-with_last, among-names_but_for}
 use Rattle.rt_ids.proofs.JobsOut.{alone_out}
 use Rattle.rt_ids.proofs.Known.{Known, known_of, not_old}
@@ -81,9 +82,9 @@ pub record Apart {T : Type 0} (journal : Journal T) : Type 0 where
   pub distinct : (queue : ℕ) → Distinct (line queue journal)
   pub not_waiting : (queue : ℕ) (name : JobId) → among name (jobs_out journal) ≡ true → among name (line queue journal) ≡ true → ⊥
 
-module _ {T : Type 0} (actor cap : ℕ) (before : Journal T) (known : Known before) (apart : Apart before) where
+module _ {T : Type 0} (terms : Terms) (before : Journal T) (known : Known before) (apart : Apart before) where
   -- who comes to a line didn't wait in it, and wasn't out but to be settled
-  not_there : (queue : ℕ) (name : JobId) (note : Note T) → MayFollow actor cap note before → name_joining queue note before ≡ Some name →
+  not_there : (queue : ℕ) (name : JobId) (note : Note T) → MayFollow terms note before → name_joining queue note before ≡ Some name →
       among name (line queue before) ≡ true → ⊥
   not_there queue name (Took other into) law came there = by_test (queue == into) came
     where
@@ -92,7 +93,7 @@ module _ {T : Type 0} (actor cap : ℕ) (before : Journal T) (known : Known befo
       by_test true came =
           let one : name ≡ other = cc in
           let old = known.entered_old name (known.line_inside queue name there).entered in
-          true≢false (sym (rw one (same_as_itself other)) ∙ not_old actor cap name other before law.0 old)
+          true≢false (sym (rw one (same_as_itself other)) ∙ not_old terms name other before law.0 old)
   not_there queue name (Yield other time) law came there = by_test (is_number queue (queue_of other before)) came
     where
       by_test : (test : Bool) → cond test (Some other) None ≡ Some name → ⊥
@@ -103,7 +104,7 @@ module _ {T : Type 0} (actor cap : ℕ) (before : Journal T) (known : Known befo
   not_there queue name _ law came there = cc
 
   -- who comes to a line is not out from then on
-  not_out : (queue : ℕ) (name : JobId) (note : Note T) → MayFollow actor cap note before → name_joining queue note before ≡ Some name →
+  not_out : (queue : ℕ) (name : JobId) (note : Note T) → MayFollow terms note before → name_joining queue note before ≡ Some name →
       among name (jobs_out before) ≡ true → is_name name (or_else (name_settled note) (name_polled note)) ≡ false → ⊥
   not_out queue name (Took other into) law came there stays = by_test (queue == into) came
     where
@@ -112,7 +113,7 @@ module _ {T : Type 0} (actor cap : ℕ) (before : Journal T) (known : Known befo
       by_test true came =
           let one : name ≡ other = cc in
           let old = known.entered_old name (known.out_inside name there).entered in
-          true≢false (sym (rw one (same_as_itself other)) ∙ not_old actor cap name other before law.0 old)
+          true≢false (sym (rw one (same_as_itself other)) ∙ not_old terms name other before law.0 old)
   not_out queue name (Yield other time) law came there stays = by_test (is_number queue (queue_of other before)) came
     where
       by_test : (test : Bool) → cond test (Some other) None ≡ Some name → ⊥
@@ -139,7 +140,7 @@ module _ {T : Type 0} (actor cap : ℕ) (before : Journal T) (known : Known befo
   polled_comes queue name _ same came = cc
 
   -- each note keeps both
-  stays_apart : (note : Note T) → MayFollow actor cap note before → Apart (note ∷ before)
+  stays_apart : (note : Note T) → MayFollow terms note before → Apart (note ∷ before)
   stays_apart note law = record {
     distinct = λ queue.
         distinct-with_last (names_but_for (name_leaving note) (line queue before)) (name_joining queue note before)
@@ -162,7 +163,7 @@ module _ {T : Type 0} (actor cap : ℕ) (before : Journal T) (known : Known befo
   }
 
 -- they hold of each lawful journal
-pub apart_of : {T : Type 0} (actor cap : ℕ) (journal : Journal T) → EachNote (MayStand actor cap) journal → Apart journal
-apart_of actor cap [] notes = record { distinct = λ queue. tt; not_waiting = λ queue name outside inside. true≢false (sym outside) }
-apart_of actor cap (note ∷ before) notes =
-    stays_apart actor cap before (known_of actor cap before notes.1) (apart_of actor cap before notes.1) note notes.0.may_follow
+pub apart_of : {T : Type 0} (terms : Terms) (journal : Journal T) → EachNote (MayStand terms) journal → Apart journal
+apart_of terms [] notes = record { distinct = λ queue. tt; not_waiting = λ queue name outside inside. true≢false (sym outside) }
+apart_of terms (note ∷ before) notes =
+    stays_apart terms before (known_of terms before notes.1) (apart_of terms before notes.1) note notes.0.may_follow

@@ -12,6 +12,7 @@ use Rattle.rt_ids.specs.Lawful.{MayFollow, MayStand}
 use Rattle.rt_ids.specs.Lines.{line, name_joining, name_leaving, names_but_for, names_but}
 use Rattle.rt_ids.specs.Names.{same_name, is_name, is_number}
 use Rattle.rt_ids.specs.Work.{queue_of}
+use Rattle.rt_ids.specs.Terms.{Terms}
 use Rattle.rt_ids.proofs.JobsOut.{alone_out}
 use Rattle.rt_ids.proofs.Known.{IsOld, Known, known_of, queue_stays, first_in_line}
 use Rattle.rt_ids.proofs.NameLemmas.{among, one_name, same_as_itself, among-with_last, among-names_but_for}
@@ -103,13 +104,13 @@ rising-with_last : {T : Type 0} (journal : Journal T) (names : List JobId) (more
 rising-with_last journal names None rise above = rise
 rising-with_last journal names (Some name) rise above = rising-one_more journal names name rise (above name refl)
 
-module _ {T : Type 0} (actor cap : ℕ) (before : Journal T) (known : Known before) (started : Started before) where
+module _ {T : Type 0} (terms : Terms) (before : Journal T) (known : Known before) (started : Started before) where
   -- who started is old
   started_old : (name : JobId) → is_told name_started name before ≡ true → IsOld name before
   started_old name told = known.entered_old name (started.started_entered name told)
 
   -- who comes to a line and has not started was delivered just now, so its number is above all delivered before from its sender
-  joining_above : (queue : ℕ) (name : JobId) (note : Note T) → MayFollow actor cap note before → name_joining queue note before ≡ Some name →
+  joining_above : (queue : ℕ) (name : JobId) (note : Note T) → MayFollow terms note before → name_joining queue note before ≡ Some name →
       is_told name_started name (note ∷ before) ≡ false → (other : JobId) → IsOld other before → other.from ≡ name.from → other.number < name.number
   joining_above queue name (Took taken into) law came new other old same_sender = by_test (queue == into) came
     where
@@ -136,12 +137,12 @@ module _ {T : Type 0} (actor cap : ℕ) (before : Journal T) (known : Known befo
   start_brings_nobody queue name other _ now came = cc
 
   -- a job that starts is below those of its sender that wait behind it
-  start_below : (queue : ℕ) (name other : JobId) (note : Note T) → MayFollow actor cap note before → LinesRise before → is_name other (name_started note) ≡ true →
+  start_below : (queue : ℕ) (name other : JobId) (note : Note T) → MayFollow terms note before → LinesRise before → is_name other (name_started note) ≡ true →
       among name (line queue before) ≡ true → is_name name (name_leaving note) ≡ false → is_told name_started name before ≡ false →
       other.from ≡ name.from → queue_of other (note ∷ before) ≡ Some queue → other.number < name.number
   start_below queue name other (Start first) law rise now waits stays new same_sender same_queue =
       let one : other ≡ first = one_name other first now in
-      let at_pick = known.line_queue law.0 first (first_in_line actor cap first law.0 before law.1) in
+      let at_pick = known.line_queue law.0 first (first_in_line terms first law.0 before law.1) in
       let same : law.0 ≡ queue = same_Some law.0 queue (sym at_pick ∙ (ap (λ job. queue_of job before) (sym one) ∙ same_queue)) in
       let here : line queue before ≡ first ∷ law.1.others = rw (← same) law.1.first in
       let all_rise : Rising before (first ∷ law.1.others) = rw here at (rise.rising queue) in
@@ -152,7 +153,7 @@ module _ {T : Type 0} (actor cap : ℕ) (before : Journal T) (known : Known befo
   start_below queue name other _ law rise now waits stays new same_sender same_queue = cc
 
   -- each note keeps both
-  rise_after : (note : Note T) → MayFollow actor cap note before → LinesRise before → LinesRise (note ∷ before)
+  rise_after : (note : Note T) → MayFollow terms note before → LinesRise before → LinesRise (note ∷ before)
   rise_after note law rise = record {
     rising = λ queue.
         rising-with_last (note ∷ before) (names_but_for (name_leaving note) (line queue before)) (name_joining queue note before)
@@ -178,7 +179,7 @@ module _ {T : Type 0} (actor cap : ℕ) (before : Journal T) (known : Known befo
           new = new_before name note before ahead.new
 
           same_queue : IsOld other before → queue_of other before ≡ Some queue
-          same_queue old = sym (queue_stays actor cap other note before law old) ∙ ahead.same_queue
+          same_queue old = sym (queue_stays terms other note before law old) ∙ ahead.same_queue
 
           waited : (among name (line queue before) ≡ true) × (is_name name (name_leaving note) ≡ false) → other.number < name.number
           waited was =
@@ -188,7 +189,7 @@ module _ {T : Type 0} (actor cap : ℕ) (before : Journal T) (known : Known befo
               ]
 
 -- they hold of each lawful journal
-pub rise_of : {T : Type 0} (actor cap : ℕ) (journal : Journal T) → EachNote (MayStand actor cap) journal → LinesRise journal
-rise_of actor cap [] notes = record { rising = λ queue. tt; started_below = λ queue name other there ahead. absurd (true≢false (sym there)) }
-rise_of actor cap (note ∷ before) notes =
-    rise_after actor cap before (known_of actor cap before notes.1) (started_of actor cap before notes.1) note notes.0.may_follow (rise_of actor cap before notes.1)
+pub rise_of : {T : Type 0} (terms : Terms) (journal : Journal T) → EachNote (MayStand terms) journal → LinesRise journal
+rise_of terms [] notes = record { rising = λ queue. tt; started_below = λ queue name other there ahead. absurd (true≢false (sym there)) }
+rise_of terms (note ∷ before) notes =
+    rise_after terms before (known_of terms before notes.1) (started_of terms before notes.1) note notes.0.may_follow (rise_of terms before notes.1)

@@ -11,6 +11,7 @@ use Rattle.rt_ids.specs.Journal.{Journal, EachNote}
 use Rattle.rt_ids.specs.Lawful.{MayStand}
 use Rattle.rt_ids.specs.Lines.{line, jobs_out, name_joining, name_leaving, names_but}
 use Rattle.rt_ids.specs.Work.{queue_of}
+use Rattle.rt_ids.specs.Terms.{Terms}
 use Rattle.rt_ids.proofs.JobsOut.{alone_out}
 use Rattle.rt_ids.proofs.Known.{known_of}
 use Rattle.rt_ids.proofs.LineDistinct.{names_but-first, names_but-other, apart_of}
@@ -46,17 +47,17 @@ pub record TurnLeaves {T : Type 0} (queue picked runtime : ℕ) (name : JobId) (
   pub resumed : line queue (Resume name ∷ Pick picked runtime ∷ before) ≡ left
   pub returned : (reason : Reason) → line queue (Returned name reason ∷ Pick picked runtime ∷ before) ≡ left
 
-module _ {T : Type 0} (actor cap : ℕ) (before : Journal T) (notes : EachNote (MayStand actor cap) before) where
+module _ {T : Type 0} (terms : Terms) (before : Journal T) (notes : EachNote (MayStand terms) before) where
   -- a job that is done was out, and stood in no line
   pub line-done : (queue time : ℕ) (value : T) (name : JobId) → jobs_out before ≡ name ∷ [] → line queue (Done name time value ∷ before) ≡ line queue before
   line-done queue time value name alone =
       names_but-other name (line queue before)
-      (false_from_ne_true _ (λ there. (apart_of actor cap before notes).not_waiting queue name (alone_out name before alone) there))
+      (false_from_ne_true _ (λ there. (apart_of terms before notes).not_waiting queue name (alone_out name before alone) there))
 
   -- the first of a line goes, and the others stay as they were
   pub names_but-turn : (queue : ℕ) (name : JobId) (others : List JobId) → line queue before ≡ name ∷ others → names_but name (line queue before) ≡ others
   names_but-turn queue name others first =
-      let distinct = rw first at ((apart_of actor cap before notes).distinct queue) in
+      let distinct = rw first at ((apart_of terms before notes).distinct queue) in
       rw first (names_but-first name others distinct)
 
   -- the first of a line stands in no other line
@@ -69,8 +70,8 @@ module _ {T : Type 0} (actor cap : ℕ) (before : Journal T) (notes : EachNote (
 
       not_there : among name (line queue before) ≡ true → ⊥
       not_there there =
-          let here = (known_of actor cap before notes).line_queue queue name there in
-          let at_pick = (known_of actor cap before notes).line_queue picked name there_too in
+          let here = (known_of terms before notes).line_queue queue name there in
+          let at_pick = (known_of terms before notes).line_queue picked name there_too in
           other (same_Some queue picked (sym here ∙ at_pick))
 
   -- the turn takes the first of the line of the picked queue, and leaves the other lines

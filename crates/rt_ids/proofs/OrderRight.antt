@@ -1,5 +1,5 @@
 -- Order: in a lawful journal whose deliveries are as sent, one sender's jobs in one queue start by rising number.
-use Rattle.std.proofs.Common.{ℕ, [], ◌∷◌, ◌∙◌}
+use Rattle.std.proofs.Common.{[], ◌∷◌, ◌∙◌}
 use Rattle.rt_ids.specs.declared.note.Note.{Note}
 use Rattle.rt_ids.specs.declared.note.Note.TheVariants.{Sent, Took, Start}
 use Rattle.rt_ids.specs.Assembly.{Assembly}
@@ -7,22 +7,23 @@ use Rattle.rt_ids.specs.Clauses.{StandsInOrder}
 use Rattle.rt_ids.specs.Journal.{Journal, EachNote}
 use Rattle.rt_ids.specs.Joining.{DeliversAsSent}
 use Rattle.rt_ids.specs.Lawful.{MayFollow, MayStand}
+use Rattle.rt_ids.specs.Terms.{Terms}
 use Rattle.rt_ids.proofs.Known.{known_of, first_in_line}
 use Rattle.rt_ids.proofs.LineOrder.{rise_of}
 
 -- the second clause of soundness, note by note
-pub in_order : {T : Type 0} (actor cap : ℕ) (assembly : Assembly T) (journal : Journal T) → EachNote (MayStand actor cap) journal →
+pub in_order : {T : Type 0} (terms : Terms) (assembly : Assembly T) (journal : Journal T) → EachNote (MayStand terms) journal →
     EachNote (DeliversAsSent assembly) journal → EachNote (StandsInOrder assembly) journal
-in_order actor cap assembly [] notes sent = tt
-in_order {T} actor cap assembly (note ∷ before) notes sent =
-    (by_note note notes.0.may_follow sent.0, in_order actor cap assembly before notes.1 sent.1)
+in_order terms assembly [] notes sent = tt
+in_order {T} terms assembly (note ∷ before) notes sent =
+    (by_note note notes.0.may_follow sent.0, in_order terms assembly before notes.1 sent.1)
   where
-    by_note : (note : Note T) → MayFollow actor cap note before → DeliversAsSent assembly note before → StandsInOrder assembly note before
+    by_note : (note : Note T) → MayFollow terms note before → DeliversAsSent assembly note before → StandsInOrder assembly note before
     by_note (Start name) law as_sent =
         λ other started same_sender same_queue.
-        let first = first_in_line actor cap name law.0 before law.1 in
-        let its = (known_of actor cap before notes.1).line_queue law.0 name first in
-        (rise_of actor cap before notes.1).started_below law.0 name other first
+        let first = first_in_line terms name law.0 before law.1 in
+        let its = (known_of terms before notes.1).line_queue law.0 name first in
+        (rise_of terms before notes.1).started_below law.0 name other first
         (record { started = started; new = law.3; same_sender = same_sender; same_queue = same_queue ∙ its })
     by_note (Sent name order) law as_sent = law.next
     by_note (Took name queue) law as_sent = as_sent

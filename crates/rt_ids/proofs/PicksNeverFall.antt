@@ -10,6 +10,7 @@ use Rattle.rt_ids.specs.Laws.{IsNoLowerPick}
 use Rattle.rt_ids.specs.Names.{is_number}
 use Rattle.rt_ids.specs.Runtimes.{virtual_runtime, floor, place_noted, runtime_picked}
 use Rattle.rt_ids.specs.Work.{has_work, left_count, entered_count, queue_joined, number_if}
+use Rattle.rt_ids.specs.Terms.{Terms}
 
 -- a queue has work because it had, or because a job enters
 work_comes : {T : Type 0} (queue : ℕ) (note : Note T) (before : Journal T) → has_work queue (note ∷ before) ≡ true →
@@ -23,16 +24,16 @@ work_comes queue note before work = by_test (is_number queue (queue_joined note)
         let none : number_if (is_number queue (queue_joined note)) ≡ 0 = ap number_if other in
         inl (lt-ltb (left_count queue before) (entered_count queue before) (omega arith))
 
-module _ {T : Type 0} (actor cap queue : ℕ) where
+module _ {T : Type 0} (terms : Terms) (queue : ℕ) where
   -- a pick is no higher than a queue with work
-  pick_below : (note : Note T) (before : Journal T) → MayFollow actor cap note before → has_work queue (note ∷ before) ≡ true →
+  pick_below : (note : Note T) (before : Journal T) → MayFollow terms note before → has_work queue (note ∷ before) ≡ true →
       runtime_picked note ≤ virtual_runtime queue before
   pick_below (Pick other runtime) before law work =
       elim (work_comes queue (Pick other runtime) before work) [ inl had ↦ at_most had | inr enters_it ↦ cc ]
     where
       at_most : has_work queue before ≡ true → runtime ≤ virtual_runtime queue before
       at_most had =
-          let least = law.least queue (record { work = had; nobody_out = law.eligible.nobody_out }) in
+          let least = law.right.least queue (record { work = had; nobody_out = law.right.eligible.nobody_out }) in
           elim least [ inl lower ↦ omega arith | inr same ↦ omega arith ]
   pick_below _ before law work = omega arith
 
@@ -52,7 +53,7 @@ module _ {T : Type 0} (actor cap queue : ℕ) where
           ]
 
   -- a queue with work stands at or above the floor
-  pub floor_below : (journal : Journal T) → EachNote (MayStand actor cap) journal → has_work queue journal ≡ true → floor journal ≤ virtual_runtime queue journal
+  pub floor_below : (journal : Journal T) → EachNote (MayStand terms) journal → has_work queue journal ≡ true → floor journal ≤ virtual_runtime queue journal
   floor_below [] notes work = omega arith
   floor_below (note ∷ before) notes work =
       let placed = floor_below_placed note before work (floor_below before notes.1) in
@@ -60,10 +61,10 @@ module _ {T : Type 0} (actor cap queue : ℕ) where
       omega (arith, placed, below)
 
 -- no pick is lower than one before it
-pub picks_never_fall : {T : Type 0} (actor cap : ℕ) (journal : Journal T) → EachNote (MayStand actor cap) journal → EachNote IsNoLowerPick journal
-picks_never_fall actor cap [] notes = tt
-picks_never_fall {T} actor cap (note ∷ before) notes = (by_note note notes.0.may_follow, picks_never_fall actor cap before notes.1)
+pub picks_never_fall : {T : Type 0} (terms : Terms) (journal : Journal T) → EachNote (MayStand terms) journal → EachNote IsNoLowerPick journal
+picks_never_fall terms [] notes = tt
+picks_never_fall {T} terms (note ∷ before) notes = (by_note note notes.0.may_follow, picks_never_fall terms before notes.1)
   where
-    by_note : (note : Note T) → MayFollow actor cap note before → IsNoLowerPick note before
-    by_note (Pick queue runtime) law = rw law.at (floor_below actor cap queue before notes.1 law.eligible.work)
+    by_note : (note : Note T) → MayFollow terms note before → IsNoLowerPick note before
+    by_note (Pick queue runtime) law = rw law.right.at (floor_below terms queue before notes.1 law.right.eligible.work)
     by_note _ law = tt

@@ -1,5 +1,5 @@
 -- Each bad pick breaks the fifth clause.
-use Rattle.std.proofs.Common.{◌≡◌, ℕ, inl, inr, ◌<◌, ◌≤◌, ◌⊎◌, refl, ap, arith}
+use Rattle.std.proofs.Common.{◌≡◌, ℕ, inl, inr, ◌<◌, refl, ap, arith}
 use Rattle.rt_ids.specs.Keys.{KeyAtMost}
 use Rattle.rt_ids.specs.PicksRefused.{PicksAreRefused}
 use Rattle.rt_ids.proofs.NameLemmas.{first_number}

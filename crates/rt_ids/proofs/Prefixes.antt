@@ -1,5 +1,5 @@
 -- What holds of the beginning of a list.
-use Rattle.std.proofs.Common.{◌≡◌, List, ◌++◌, sym, ◌∙◌, ap}
+use Rattle.std.proofs.Common.{List, sym, ◌∙◌, ap}
 use Rattle.std.proofs.lemmas.List.{map-append}
 use Rattle.rt_ids.specs.declared.names.JobId.{JobId}
 use Rattle.rt_ids.specs.Assembly.{IsPrefix, names_of}

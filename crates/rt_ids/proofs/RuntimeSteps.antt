@@ -11,6 +11,7 @@ use Rattle.rt_ids.specs.Lawful.{MayStand}
 use Rattle.rt_ids.specs.Picks.{IsRightPick}
 use Rattle.rt_ids.specs.Runtimes.{virtual_runtime, floor, shares, shares_told, charge_noted, runtime_picked}
 use Rattle.rt_ids.specs.Work.{has_work, queue_of, queue_joined}
+use Rattle.rt_ids.specs.Terms.{Terms}
 use Rattle.rt_ids.proofs.PicksNeverFall.{floor_below}
 
 module _ {T : Type 0} (queue : ℕ) (before : Journal T) where
@@ -78,9 +79,9 @@ pub floor-stays : {T : Type 0} (note : Note T) (before : Journal T) → runtime_
 floor-stays note before none = rw none (omega arith)
 
 -- a right pick of a lawful journal is the floor from then on
-pub floor-pick : {T : Type 0} (actor cap queue runtime : ℕ) (before : Journal T) → EachNote (MayStand actor cap) before → IsRightPick queue runtime before →
+pub floor-pick : {T : Type 0} (terms : Terms) (queue runtime : ℕ) (before : Journal T) → EachNote (MayStand terms) before → IsRightPick queue runtime before →
     floor (Pick queue runtime ∷ before) ≡ runtime
-floor-pick actor cap queue runtime before notes right =
-    let below = floor_below actor cap queue before notes right.eligible.work in
+floor-pick terms queue runtime before notes right =
+    let below = floor_below terms queue before notes right.eligible.work in
     let at : runtime ≡ virtual_runtime queue before = right.at in
     omega arith

@@ -15,6 +15,7 @@ use Rattle.rt_ids.specs.Lawful.{IsLawful}
 use Rattle.rt_ids.specs.Picks.{IsRightPick}
 use Rattle.rt_ids.specs.Runtimes.{virtual_runtime}
 use Rattle.rt_ids.specs.Sound.{IsSound}
+use Rattle.rt_ids.specs.Terms.{terms_of}
 use Rattle.rt_ids.specs.Work.{has_work}
 use Rattle.rt_ids.proofs.Joining.{joining_is_sound}
 
@@ -59,11 +60,11 @@ second_pick = record { at = refl; eligible = record { work = refl; nobody_out = 
     by_test other false same work = let none : has_work other yielded ≡ false = rw same in absurd (true≢false (sym work ∙ none))
 
 -- the names are the next of their link
-outside_lawful : IsLawful 1 4 outside
+outside_lawful : IsLawful (record { actor = 1; cores = 1; cap = 4 }) outside
 outside_lawful = record {
   notes = (
-    record { may_follow = record { sender = refl; next = refl; in_range = omega arith; credit = omega arith }; turn = refl; effect = tt },
-    (record { may_follow = record { sender = refl; next = refl; in_range = omega arith; credit = omega arith }; turn = refl; effect = tt }, tt),
+    record { may_follow = record { sender = refl; receiver = omega arith; next = refl; in_range = omega arith; credit = omega arith; spelled = omega arith }; turn = refl; effect = tt; writer = tt },
+    (record { may_follow = record { sender = refl; receiver = omega arith; next = refl; in_range = omega arith; credit = omega arith; spelled = record { positive = omega arith; bounded = omega arith } }; turn = refl; effect = tt; writer = tt }, tt),
   );
   no_pick = refl;
   no_answer = refl;
@@ -71,26 +72,26 @@ outside_lawful = record {
 }
 
 -- each note may stand where it stands
-core_lawful : IsLawful 0 4 whole
+core_lawful : IsLawful (record { actor = 0; cores = 1; cap = 4 }) whole
 core_lawful = record {
   notes = (
-    record { may_follow = refl; turn = refl; effect = tt },
+    record { may_follow = refl; turn = refl; effect = tt; writer = omega arith },
     (
-      record { may_follow = (1, record { picked = refl; others = []; first = refl }, refl, refl); turn = refl; effect = tt },
+      record { may_follow = (1, record { picked = refl; others = []; first = refl }, refl, refl); turn = refl; effect = tt; writer = omega arith },
       (
-        record { may_follow = second_pick; turn = refl; effect = tt },
+        record { may_follow = record { right = second_pick; turn_left = omega arith }; turn = refl; effect = tt; writer = omega arith },
         (
-          record { may_follow = refl; turn = refl; effect = tt },
+          record { may_follow = refl; turn = refl; effect = tt; writer = omega arith },
           (
-            record { may_follow = (1, record { picked = refl; others = []; first = refl }, refl, refl); turn = refl; effect = tt },
+            record { may_follow = (1, record { picked = refl; others = []; first = refl }, refl, refl); turn = refl; effect = tt; writer = omega arith },
             (
-              record { may_follow = first_pick; turn = refl; effect = tt },
+              record { may_follow = record { right = first_pick; turn_left = omega arith }; turn = refl; effect = tt; writer = omega arith },
               (
-                record { may_follow = (record { receiver = refl; next = refl }, refl); turn = refl; effect = tt },
+                record { may_follow = (record { sender = omega arith; receiver = refl; next = refl; in_range = omega arith }, refl); turn = refl; effect = tt; writer = omega arith },
                 (
-                  record { may_follow = record { next = refl; in_range = omega arith; shares = record { positive = omega arith; bounded = omega arith } }; turn = refl; effect = refl },
+                  record { may_follow = record { next = refl; in_range = omega arith; shares = record { positive = omega arith; bounded = omega arith } }; turn = refl; effect = refl; writer = omega arith },
                   (
-                    record { may_follow = (record { receiver = refl; next = refl }, (Create 500, inr refl)); turn = refl; effect = tt },
+                    record { may_follow = (record { sender = omega arith; receiver = refl; next = refl; in_range = omega arith }, (Create 500, inr refl)); turn = refl; effect = tt; writer = omega arith },
                     tt,
                   ),
                 ),
@@ -111,7 +112,7 @@ abbrev assembly : Assembly ℕ
 assembly = record { cores = 1; cap = 4; journals = whole ∷ outside ∷ [] }
 
 -- both journals are lawful
-lawful : (actor : ℕ) → actor ≤ 1 → IsLawful actor 4 (journal_of actor assembly)
+lawful : (actor : ℕ) → actor ≤ 1 → IsLawful (terms_of actor assembly) (journal_of actor assembly)
 lawful zero within = core_lawful
 lawful (suc zero) within = outside_lawful
 lawful (suc (suc actor)) within = absurd (omega arith)
@@ -135,7 +136,7 @@ agree = record { deliveries = deliveries; collections = collections; as_sent = a
     collections sender (suc core) s c = absurd (omega arith)
 
     as_sent : (actor : ℕ) → actor ≤ 1 → EachNote (DeliversAsSent assembly) (journal_of actor assembly)
-    as_sent zero within = (tt, (tt, (tt, (tt, (tt, (tt, (refl, (tt, (refl, tt)))))))))
+    as_sent zero within = (tt, (tt, (tt, (tt, (tt, (tt, (refl, ((λ effect. (Create 500, refl, refl)), ((Create 500, refl, inr refl), tt)))))))))
     as_sent (suc zero) within = (tt, (tt, tt))
     as_sent (suc (suc actor)) within = absurd (omega arith)
 

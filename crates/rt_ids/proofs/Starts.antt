@@ -1,5 +1,5 @@
 -- In a lawful journal who is out has started, and who started had entered.
-use Rattle.std.proofs.Common.{◌≡◌, ℕ, inl, inr, true, false, [], ◌∷◌, sym, ◌∙◌, subst}
+use Rattle.std.proofs.Common.{◌≡◌, inl, inr, true, false, [], ◌∷◌, sym, ◌∙◌, subst}
 use Rattle.std.specs.Prelude.{Some, is_some}
 use Rattle.std.proofs.lemmas.Bool.{or_cases, or_left, or_right, true≢false, false_from_ne_true}
 use Rattle.rt_ids.specs.declared.names.JobId.{JobId}
@@ -11,6 +11,7 @@ use Rattle.rt_ids.specs.Lawful.{MayFollow, MayStand, IsNextDelivered}
 use Rattle.rt_ids.specs.Lines.{jobs_out, name_polled, name_settled, names_but_for}
 use Rattle.rt_ids.specs.Names.{same_name, is_name}
 use Rattle.rt_ids.specs.Work.{queue_of}
+use Rattle.rt_ids.specs.Terms.{Terms}
 use Rattle.rt_ids.proofs.JobsOut.{alone_out}
 use Rattle.rt_ids.proofs.Known.{Known, known_of, queue_stays, first_in_line, not_old}
 use Rattle.rt_ids.proofs.NameLemmas.{among, one_name, same_as_itself, among-with_last, among-names_but_for}
@@ -20,9 +21,9 @@ pub record Started {T : Type 0} (journal : Journal T) : Type 0 where
   pub out_started : (name : JobId) → among name (jobs_out journal) ≡ true → is_told name_started name journal ≡ true
   pub started_entered : (name : JobId) → is_told name_started name journal ≡ true → is_some (queue_of name journal) ≡ true
 
-module _ {T : Type 0} (actor cap : ℕ) (before : Journal T) (known : Known before) (started : Started before) where
+module _ {T : Type 0} (terms : Terms) (before : Journal T) (known : Known before) (started : Started before) where
   -- who is polled has started
-  polled_started : (name : JobId) (note : Note T) → MayFollow actor cap note before → name_polled note ≡ Some name → is_told name_started name (note ∷ before) ≡ true
+  polled_started : (name : JobId) (note : Note T) → MayFollow terms note before → name_polled note ≡ Some name → is_told name_started name (note ∷ before) ≡ true
   polled_started name (Start other) law polled =
       let one : name ≡ other = cc in
       or_left (same_name name other) (is_told name_started name before) (rw one (same_as_itself other))
@@ -32,13 +33,13 @@ module _ {T : Type 0} (actor cap : ℕ) (before : Journal T) (known : Known befo
   polled_started name _ law polled = cc
 
   -- who starts has entered
-  starting_entered : (name : JobId) (note : Note T) → MayFollow actor cap note before → is_name name (name_started note) ≡ true → is_some (queue_of name before) ≡ true
+  starting_entered : (name : JobId) (note : Note T) → MayFollow terms note before → is_name name (name_started note) ≡ true → is_some (queue_of name before) ≡ true
   starting_entered name (Start other) law now =
-      rw (one_name name other now) (known.line_inside law.0 other (first_in_line actor cap other law.0 before law.1)).entered
+      rw (one_name name other now) (known.line_inside law.0 other (first_in_line terms other law.0 before law.1)).entered
   starting_entered name _ law now = cc
 
   -- each note keeps both
-  started_after : (note : Note T) → MayFollow actor cap note before → Started (note ∷ before)
+  started_after : (note : Note T) → MayFollow terms note before → Started (note ∷ before)
   started_after note law = record { out_started = out; started_entered = entered }
     where
       out : (name : JobId) → among name (jobs_out (note ∷ before)) ≡ true → is_told name_started name (note ∷ before) ≡ true
@@ -51,7 +52,7 @@ module _ {T : Type 0} (actor cap : ℕ) (before : Journal T) (known : Known befo
           ]
 
       stays_entered : (name : JobId) → is_some (queue_of name before) ≡ true → is_some (queue_of name (note ∷ before)) ≡ true
-      stays_entered name was = rw (queue_stays actor cap name note before law (known.entered_old name was)) was
+      stays_entered name was = rw (queue_stays terms name note before law (known.entered_old name was)) was
 
       entered : (name : JobId) → is_told name_started name (note ∷ before) ≡ true → is_some (queue_of name (note ∷ before)) ≡ true
       entered name told =
@@ -61,13 +62,13 @@ module _ {T : Type 0} (actor cap : ℕ) (before : Journal T) (known : Known befo
           ]
 
 -- they hold of each lawful journal
-pub started_of : {T : Type 0} (actor cap : ℕ) (journal : Journal T) → EachNote (MayStand actor cap) journal → Started journal
-started_of actor cap [] notes = record {
+pub started_of : {T : Type 0} (terms : Terms) (journal : Journal T) → EachNote (MayStand terms) journal → Started journal
+started_of terms [] notes = record {
   out_started = λ name there. absurd (true≢false (sym there));
   started_entered = λ name told. absurd (true≢false (sym told));
 }
-started_of actor cap (note ∷ before) notes =
-    started_after actor cap before (known_of actor cap before notes.1) (started_of actor cap before notes.1) note notes.0.may_follow
+started_of terms (note ∷ before) notes =
+    started_after terms before (known_of terms before notes.1) (started_of terms before notes.1) note notes.0.may_follow
 
 -- a start tells that its job has started
 pub is_told-start : {T : Type 0} (name : JobId) (before : Journal T) → is_told name_started name (Start name ∷ before) ≡ true
@@ -79,17 +80,17 @@ pub is_told-start_elsewhere : {T : Type 0} (name other : JobId) (before : Journa
 is_told-start_elsewhere name other before apart = rw apart
 
 -- a job that is delivered now has not started
-pub is_told-delivered : {T : Type 0} (actor cap : ℕ) (name : JobId) (before : Journal T) → EachNote (MayStand actor cap) before →
-    IsNextDelivered actor name before → is_told name_started name before ≡ false
-is_told-delivered actor cap name before notes next = false_from_ne_true (is_told name_started name before) not_started
+pub is_told-delivered : {T : Type 0} (terms : Terms) (name : JobId) (before : Journal T) → EachNote (MayStand terms) before →
+    IsNextDelivered terms name before → is_told name_started name before ≡ false
+is_told-delivered terms name before notes next = false_from_ne_true (is_told name_started name before) not_started
   where
     not_started : is_told name_started name before ≡ true → ⊥
     not_started told =
-        let entered = (started_of actor cap before notes).started_entered name told in
-        let old = (known_of actor cap before notes).entered_old name entered in
-        true≢false (sym (same_as_itself name) ∙ not_old actor cap name name before next old)
+        let entered = (started_of terms before notes).started_entered name told in
+        let old = (known_of terms before notes).entered_old name entered in
+        true≢false (sym (same_as_itself name) ∙ not_old terms name name before next old)
 
 -- a job whose poll is settled has started
-pub is_told-alone : {T : Type 0} (actor cap : ℕ) (name : JobId) (before : Journal T) → EachNote (MayStand actor cap) before →
+pub is_told-alone : {T : Type 0} (terms : Terms) (name : JobId) (before : Journal T) → EachNote (MayStand terms) before →
     jobs_out before ≡ name ∷ [] → is_told name_started name before ≡ true
-is_told-alone actor cap name before notes alone = (started_of actor cap before notes).out_started name (alone_out name before alone)
+is_told-alone terms name before notes alone = (started_of terms before notes).out_started name (alone_out name before alone)

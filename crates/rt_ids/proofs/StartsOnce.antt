@@ -5,12 +5,13 @@ use Rattle.rt_ids.specs.declared.names.JobId.{JobId}
 use Rattle.rt_ids.specs.declared.note.Note.{Note}
 use Rattle.rt_ids.specs.declared.note.Note.TheVariants.{Took, Start, Resume}
 use Rattle.rt_ids.specs.Assembly.{Assembly, order_of, IsAcceptedJob}
-use Rattle.rt_ids.specs.Clauses.{StartsRight, StandsInOrder, CanBePolled}
+use Rattle.rt_ids.specs.Clauses.{StartsRight, StandsInOrder, IsAcceptedInside}
 use Rattle.rt_ids.specs.Journal.{Journal, EachNote, or_else}
 use Rattle.rt_ids.specs.Lawful.{MayFollow, MayStand, IsTurnOf}
 use Rattle.rt_ids.specs.Names.{same_name}
 use Rattle.rt_ids.specs.Work.{queue_of, queue_entered}
 use Rattle.rt_ids.specs.declared.order.Order.TheVariants.{Job}
+use Rattle.rt_ids.specs.Terms.{Terms}
 use Rattle.rt_ids.proofs.Known.{IsInside, known_of, first_in_line}
 use Rattle.rt_ids.proofs.NameLemmas.{one_name}
 
@@ -45,13 +46,13 @@ accepted_inside assembly name before order inside =
     (its.0, sent_there assembly name its.0 before order its.1)
 
 -- Clause 1 of soundness: each start and each resume is of an accepted job that is inside, and no job starts twice.
-pub starts_right : {T : Type 0} (actor cap : ℕ) (assembly : Assembly T) (journal : Journal T) → EachNote (MayStand actor cap) journal →
+pub starts_right : {T : Type 0} (terms : Terms) (assembly : Assembly T) (journal : Journal T) → EachNote (MayStand terms) journal →
     EachNote (StandsInOrder assembly) journal → EachNote (StartsRight assembly) journal
-starts_right actor cap assembly [] notes order = tt
-starts_right {T} actor cap assembly (note ∷ before) notes order =
-    (by_note note notes.0.may_follow, starts_right actor cap assembly before notes.1 order.1)
+starts_right terms assembly [] notes order = tt
+starts_right {T} terms assembly (note ∷ before) notes order =
+    (by_note note notes.0.may_follow, starts_right terms assembly before notes.1 order.1)
   where
-    polled_inside : (name : JobId) → IsInside name before → CanBePolled assembly name before
+    polled_inside : (name : JobId) → IsInside name before → IsAcceptedInside assembly name before
     polled_inside name inside = record {
       is_accepted = accepted_inside assembly name before order.1 inside;
       has_entered = inside.entered;
@@ -60,9 +61,9 @@ starts_right {T} actor cap assembly (note ∷ before) notes order =
 
     in_turn : (name : JobId) (queue : ℕ) → IsTurnOf name queue before → IsInside name before
     in_turn name queue turn =
-        (known_of actor cap before notes.1).line_inside queue name (first_in_line actor cap name queue before turn)
+        (known_of terms before notes.1).line_inside queue name (first_in_line terms name queue before turn)
 
-    by_note : (note : Note T) → MayFollow actor cap note before → StartsRight assembly note before
+    by_note : (note : Note T) → MayFollow terms note before → StartsRight assembly note before
     by_note (Start name) law = (polled_inside name (in_turn name law.0 law.1), law.3)
     by_note (Resume name) law = (polled_inside name (in_turn name law.0 law.1), law.3)
     by_note _ law = tt

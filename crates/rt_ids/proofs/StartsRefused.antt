@@ -1,5 +1,5 @@
 -- Each bad start breaks the first clause.
-use Rattle.std.proofs.Common.{◌≡◌, true, false, arith}
+use Rattle.std.proofs.Common.{arith}
 use Rattle.rt_ids.specs.BadStarts.{StartsAreRefused}
 
 pub starts_refused : StartsAreRefused

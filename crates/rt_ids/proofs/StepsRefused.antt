@@ -1,15 +1,12 @@
 -- Each bad step breaks the law of its note.
-use Rattle.std.proofs.Common.{◌≡◌, ℕ, ◌<◌, Bool, true, false, refl, sym, ◌∙◌, ap, subst, arith, cond}
-use Rattle.std.specs.Prelude.{Option, Some, None, nat_le}
+use Rattle.std.proofs.Common.{◌≡◌, ℕ, ◌<◌, ◌≤◌, Bool, true, false, refl, sym, ◌∙◌, ap, arith, cond}
+use Rattle.std.specs.Prelude.{Some, None, nat_le}
 use Rattle.std.proofs.lemmas.Option.{same_Some}
 use Rattle.rt_ids.specs.declared.names.JobId.{JobId}
-use Rattle.rt_ids.specs.declared.order.Reason.{Reason}
 use Rattle.rt_ids.specs.declared.order.Reason.TheVariants as why
 use Rattle.rt_ids.specs.Clauses.{queue_just_picked}
-use Rattle.rt_ids.specs.Commands.{return_reason}
 use Rattle.rt_ids.specs.Journal.{Journal}
 use Rattle.rt_ids.specs.Lawful.{IsTurnOf}
-use Rattle.rt_ids.specs.Lines.{line}
 use Rattle.rt_ids.specs.StepsRefused.{StepsAreRefused}
 use Rattle.rt_ids.proofs.NameLemmas.{first_number}
 
@@ -40,5 +37,9 @@ steps_refused = record {
   created = λ law. law.0.effect;
   capacity = λ law. let credit : 4 < 4 = law.0.may_follow.credit in omega arith;
   sender = λ law. let sender = law.0.may_follow.sender in cc;
+  no_core = λ law. let receiver : 7 < 1 = law.0.may_follow.receiver in omega arith;
+  beyond_queues = λ law. let queue : 256 < 256 = law.0.may_follow.spelled in omega arith;
+  no_actor = λ law. let sender : 7 ≤ 1 = law.0.may_follow.0.sender in omega arith;
+  outside = λ law. let core : 1 < 1 = law.0.writer in omega arith;
   open_end = λ lawful. let nobody = lawful.nobody_out in cc;
 }

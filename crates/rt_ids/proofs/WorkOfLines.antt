@@ -11,6 +11,7 @@ use Rattle.rt_ids.specs.Picks.{IsRightPick}
 use Rattle.rt_ids.specs.Runtimes.{virtual_runtime}
 use Rattle.rt_ids.specs.Names.{is_number}
 use Rattle.rt_ids.specs.Work.{has_work, left_count, entered_count, queue_of, number_if}
+use Rattle.rt_ids.specs.Terms.{Terms}
 use Rattle.rt_ids.proofs.Counts.{counts_agree, queue_out-alone}
 
 -- there is more than what left where something is inside
@@ -26,11 +27,11 @@ first_of_some : (names : List JobId) → nat_lt 0 (length names) ≡ true → (n
 first_of_some [] some = absurd (true≢false (sym some))
 first_of_some (name ∷ others) some = (name, others, refl)
 
-module _ {T : Type 0} (actor cap queue : ℕ) (journal : Journal T) (notes : EachNote (MayStand actor cap) journal) where
+module _ {T : Type 0} (terms : Terms) (queue : ℕ) (journal : Journal T) (notes : EachNote (MayStand terms) journal) where
   -- a queue has work as many wait in its line or are out of it
   pub has_work-line : has_work queue journal ≡ nat_lt 0 (length (line queue journal) + number_if (is_number queue (queue_out journal)))
   has_work-line =
-      more_than (left_count queue journal) (entered_count queue journal) _ (omega (arith, counts_agree actor cap queue journal notes))
+      more_than (left_count queue journal) (entered_count queue journal) _ (omega (arith, counts_agree terms queue journal notes))
 
   -- where nobody is out, the line alone tells
   pub has_work-nobody_out : jobs_out journal ≡ [] → has_work queue journal ≡ nat_lt 0 (length (line queue journal))
@@ -38,7 +39,7 @@ module _ {T : Type 0} (actor cap queue : ℕ) (journal : Journal T) (notes : Eac
       more_than (left_count queue journal) (entered_count queue journal) (length (line queue journal))
       (
       let out : number_if (is_number queue (queue_out journal)) ≡ 0 = rw nobody in
-      omega (arith, counts_agree actor cap queue journal notes)
+      omega (arith, counts_agree terms queue journal notes)
       )
 
   -- who waits in the line is work
@@ -62,15 +63,15 @@ module _ {T : Type 0} (actor cap queue : ℕ) (journal : Journal T) (notes : Eac
   first_of_work work nobody = first_of_some (line queue journal) (sym (has_work-nobody_out nobody) ∙ work)
 
 -- where nobody is out, a pick is right at a queue with a line whose key is at most that of each other queue with a line
-pub right_pick_of_lines : {T : Type 0} (actor cap queue : ℕ) (journal : Journal T) → EachNote (MayStand actor cap) journal →
+pub right_pick_of_lines : {T : Type 0} (terms : Terms) (queue : ℕ) (journal : Journal T) → EachNote (MayStand terms) journal →
     jobs_out journal ≡ [] → (name : JobId) (others : List JobId) → line queue journal ≡ name ∷ others →
     ((other : ℕ) (first : JobId) (rest : List JobId) → line other journal ≡ first ∷ rest →
     KeyAtMost (virtual_runtime queue journal) queue (virtual_runtime other journal) other) →
     IsRightPick queue (virtual_runtime queue journal) journal
-right_pick_of_lines actor cap queue journal notes nobody name others first least = record {
+right_pick_of_lines terms queue journal notes nobody name others first least = record {
   at = refl;
-  eligible = record { work = work_of_line actor cap queue journal notes name others first; nobody_out = nobody };
+  eligible = record { work = work_of_line terms queue journal notes name others first; nobody_out = nobody };
   least = λ other ready.
-      let front = first_of_work actor cap other journal notes ready.work nobody in
+      let front = first_of_work terms other journal notes ready.work nobody in
       least other front.0 front.1 front.2;
 }

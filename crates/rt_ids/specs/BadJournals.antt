@@ -5,6 +5,7 @@ use Rattle.rt_ids.specs.declared.note.Note.TheVariants.{Sent, Took, Created, Pic
 use Rattle.rt_ids.specs.declared.order.Order.TheVariants.{Job, Create}
 use Rattle.rt_ids.specs.Assembly.{Assembly}
 use Rattle.rt_ids.specs.Journal.{Journal}
+use Rattle.rt_ids.specs.Terms.{Terms}
 
 -- the submission of this number from the outside actor to the core
 abbrev pub submission : ℕ → JobId
@@ -13,6 +14,14 @@ submission number = record { from = 1; to = 0; number = number }
 -- the journals of the core and of the outside actor, whose links hold four
 abbrev pub with_journals : Journal ℕ → Journal ℕ → Assembly ℕ
 with_journals core outside = record { cores = 1; cap = 4; journals = core ∷ outside ∷ [] }
+
+-- the terms of the core
+abbrev pub core_terms : Terms
+core_terms = record { actor = 0; cores = 1; cap = 4 }
+
+-- the terms of the outside actor
+abbrev pub outside_terms : Terms
+outside_terms = record { actor = 1; cores = 1; cap = 4 }
 
 -- the outside actor sent one job for queue 0
 abbrev pub one_job : Journal ℕ

@@ -1,11 +1,11 @@
 -- Journals that the second clause of soundness refuses.
 use Rattle.std.specs.Prelude.{ℕ, [], ◌∷◌}
-use Rattle.rt_ids.specs.declared.note.Note.TheVariants.{Sent, Took, Back, Pick, Start, Yield, Done, Collected}
+use Rattle.rt_ids.specs.declared.note.Note.TheVariants.{Sent, Took, Back, Pick, Start, Yield, Collected}
 use Rattle.rt_ids.specs.declared.note.OutcomeNote.TheVariants as outcome
 use Rattle.rt_ids.specs.declared.order.Order.TheVariants.{Job}
 use Rattle.rt_ids.specs.declared.order.Reason.TheVariants.{NoQueue}
 use Rattle.rt_ids.specs.Assembly.{Assembly}
-use Rattle.rt_ids.specs.BadJournals.{submission, with_journals, one_job, two_jobs, one_command, both_taken, done}
+use Rattle.rt_ids.specs.BadJournals.{submission, with_journals, one_job, two_jobs, one_command, both_taken}
 use Rattle.rt_ids.specs.Sound.{OrderIsSound}
 
 -- the second job of a sender in a queue starts before the first one

@@ -1,10 +1,10 @@
 -- Journals that the fifth clause of soundness refuses.
 use Rattle.std.specs.Prelude.{ℕ, [], ◌∷◌}
-use Rattle.rt_ids.specs.declared.note.Note.TheVariants.{Took, Created, SharesSet, QueueClosed, Pick, Start, Resume, Yield, Done, Returned}
+use Rattle.rt_ids.specs.declared.note.Note.TheVariants.{Took, Created, SharesSet, QueueClosed, Pick, Start, Resume, Yield, Returned}
 use Rattle.rt_ids.specs.declared.order.Mode.TheVariants.{Return}
 use Rattle.rt_ids.specs.declared.order.Reason.TheVariants.{QueueReturned}
 use Rattle.rt_ids.specs.Assembly.{Assembly}
-use Rattle.rt_ids.specs.BadJournals.{submission, with_journals, one_job, two_jobs, job_for_each, both_taken, polled, yielded, done, second_queue_joins}
+use Rattle.rt_ids.specs.BadJournals.{submission, with_journals, one_job, two_jobs, job_for_each, both_taken, second_queue_joins}
 
 -- the queue of the greater virtual runtime is picked
 abbrev pub second_picked : Assembly ℕ

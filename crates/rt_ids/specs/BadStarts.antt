@@ -1,6 +1,6 @@
 -- Journals that the first clause of soundness refuses.
 use Rattle.std.specs.Prelude.{ℕ, [], ◌∷◌}
-use Rattle.rt_ids.specs.declared.note.Note.TheVariants.{Sent, Took, Pick, Start, Resume, Returned}
+use Rattle.rt_ids.specs.declared.note.Note.TheVariants.{Took, Pick, Start, Resume, Returned}
 use Rattle.rt_ids.specs.declared.order.Reason.TheVariants.{QueueReturned}
 use Rattle.rt_ids.specs.Assembly.{Assembly}
 use Rattle.rt_ids.specs.BadJournals.{submission, with_journals, one_job, one_command, yielded, done}

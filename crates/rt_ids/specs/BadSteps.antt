@@ -58,6 +58,22 @@ abbrev pub sent_beyond_capacity : Journal ℕ
 sent_beyond_capacity =
     notes.Sent (submission 5) (Job 0 tt) ∷ notes.Sent (submission 4) (Job 0 tt) ∷ notes.Sent (submission 3) (Job 0 tt) ∷ two_jobs
 
+-- an order is sent to a core that there isn't
+abbrev pub sent_to_nobody : Journal ℕ
+sent_to_nobody = notes.Sent (record { from = 1; to = 7; number = 1 }) (Job 0 tt) ∷ []
+
+-- a job is sent to a queue that no core can have
+abbrev pub sent_beyond_queues : Journal ℕ
+sent_beyond_queues = notes.Sent (submission 1) (Job 256 tt) ∷ []
+
+-- a job is delivered from an actor that there isn't
+abbrev pub taken_from_nobody : Journal ℕ
+taken_from_nobody = notes.Took (record { from = 7; to = 0; number = 1 }) 0 ∷ []
+
+-- the outside actor takes a job
+abbrev pub taken_outside : Journal ℕ
+taken_outside = notes.Took (record { from = 1; to = 1; number = 1 }) 0 ∷ []
+
 -- a core sends in the name of the outside actor
 abbrev pub sent_for_another : Journal ℕ
 sent_for_another = notes.Sent (submission 1) (Job 0 tt) ∷ []

@@ -1,5 +1,5 @@
 -- What soundness asks of one note and of the notes before it, for each of its five clauses.
-use Rattle.std.specs.Prelude.{◌≡◌, ℕ, ◌+◌, ◌<◌, Bool, true, false, Option, Some, None, is_some, [], ◌∷◌, length}
+use Rattle.std.specs.Prelude.{◌≡◌, ℕ, ◌+◌, ◌<◌, true, false, Option, Some, None, is_some, [], ◌∷◌, length}
 use Rattle.std.specs.Option.{IsSome}
 use Rattle.rt_ids.specs.declared.names.JobId.{JobId}
 use Rattle.rt_ids.specs.declared.note.Note.{Note}
@@ -12,20 +12,21 @@ use Rattle.rt_ids.specs.Filters.{accepted_orders, collected_outcomes, name_start
 use Rattle.rt_ids.specs.Work.{queue_of}
 use Rattle.rt_ids.specs.Lines.{jobs_out}
 use Rattle.rt_ids.specs.Picks.{IsRightPick}
+pub use Rattle.rt_ids.specs.Picks.{queue_just_picked, queue_served, takes_turn}
 use Rattle.rt_ids.specs.Closing.{queue_mode, core_mode, final_count}
 use Rattle.rt_ids.specs.Outstanding.{name_redeemed}
 use Rattle.rt_ids.specs.Assembly.{Assembly, journal_of, first_under, order_of, outcome_of, IsAcceptedJob, IsAcceptedCommand}
 
 -- an accepted job that entered a queue and hasn't ended
-pub record CanBePolled {T : Type 0} (assembly : Assembly T) (name : JobId) (before : Journal T) : Type 0 where
+pub record IsAcceptedInside {T : Type 0} (assembly : Assembly T) (name : JobId) (before : Journal T) : Type 0 where
   pub is_accepted : IsAcceptedJob name assembly
   pub has_entered : IsSome (queue_of name before)
   pub has_not_ended : is_told name_ended name before ≡ false
 
 -- starts: no name starts twice, and each that resumes has started
 abbrev pub StartsRight : {T : Type 0} → Assembly T → Note T → Journal T → Type 0
-StartsRight assembly (Start name) before = CanBePolled assembly name before × (is_told name_started name before ≡ false)
-StartsRight assembly (Resume name) before = CanBePolled assembly name before × (is_told name_started name before ≡ true)
+StartsRight assembly (Start name) before = IsAcceptedInside assembly name before × (is_told name_started name before ≡ false)
+StartsRight assembly (Resume name) before = IsAcceptedInside assembly name before × (is_told name_started name before ≡ true)
 StartsRight assembly _ before = Unit {0}
 
 -- order: the jobs of one sender in one queue start by rising number; a link is numbered 1, 2, 3, ..; a job enters the queue that it was sent to
@@ -55,35 +56,16 @@ name_answered (Answered name answer) = Some name
 name_answered _ = None
 
 -- outcomes: a job ends once, and is done only after it started; a command is answered once; what is collected and redeemed is what was given
-abbrev pub EndsOnce : {T : Type 0} → Assembly T → Note T → Journal T → Type 0
-EndsOnce assembly (Done name time value) before =
+abbrev pub OutcomesRight : {T : Type 0} → Assembly T → Note T → Journal T → Type 0
+OutcomesRight assembly (Done name time value) before =
     IsAcceptedJob name assembly × (is_told name_ended name before ≡ false) × (is_told name_started name before ≡ true)
-EndsOnce assembly (Back name reason) before = IsAcceptedJob name assembly × (is_told name_ended name before ≡ false)
-EndsOnce assembly (Returned name reason) before = IsAcceptedJob name assembly × (is_told name_ended name before ≡ false)
-EndsOnce assembly (Answered name answer) before = IsAcceptedCommand name assembly × (is_told name_answered name before ≡ false)
-EndsOnce assembly (Collected name outcome) before = outcome_of name assembly ≡ Some outcome
-EndsOnce assembly (Redeemed name outcome) before =
+OutcomesRight assembly (Back name reason) before = IsAcceptedJob name assembly × (is_told name_ended name before ≡ false)
+OutcomesRight assembly (Returned name reason) before = IsAcceptedJob name assembly × (is_told name_ended name before ≡ false)
+OutcomesRight assembly (Answered name answer) before = IsAcceptedCommand name assembly × (is_told name_answered name before ≡ false)
+OutcomesRight assembly (Collected name outcome) before = outcome_of name assembly ≡ Some outcome
+OutcomesRight assembly (Redeemed name outcome) before =
     (first_under name (collected_outcomes name.to before) ≡ Some outcome) × (outcome_of name assembly ≡ Some outcome) × (is_told name_redeemed name before ≡ false)
-EndsOnce assembly _ before = Unit {0}
-
--- the queue of the pick that is the last note
-abbrev pub queue_just_picked : {T : Type 0} → Journal T → Option ℕ
-queue_just_picked (Pick queue runtime ∷ before) = Some queue
-queue_just_picked _ = None
-
--- the queue whose turn a note takes
-abbrev pub queue_served : {T : Type 0} → Note T → Journal T → Option ℕ
-queue_served (Start name) before = queue_of name before
-queue_served (Resume name) before = queue_of name before
-queue_served (Returned name reason) before = queue_of name before
-queue_served _ before = None
-
--- a note that takes the turn of a pick
-abbrev pub takes_turn : {T : Type 0} → Note T → Bool
-takes_turn (Start name) = true
-takes_turn (Resume name) = true
-takes_turn (Returned name reason) = true
-takes_turn _ = false
+OutcomesRight assembly _ before = Unit {0}
 
 abbrev pub IsRightIfPick : {T : Type 0} → Note T → Journal T → Type 0
 IsRightIfPick (Pick queue runtime) before = IsRightPick queue runtime before

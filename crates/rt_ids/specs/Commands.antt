@@ -1,5 +1,5 @@
 -- What a core answers to a delivery: whether a job enters, what a command is answered, and what follows the answer.
-use Rattle.std.specs.Prelude.{◌≡◌, ◌⊎◌, ℕ, ◌+◌, Bool, true, false, nat_le, if◌then◌else◌, Option, Some, None, ◌∷◌, length}
+use Rattle.std.specs.Prelude.{◌≡◌, ◌⊎◌, ℕ, ◌+◌, Bool, true, false, nat_le, if◌then◌else◌, Option, Some, None, [], ◌∷◌, length}
 use Rattle.rt_ids.specs.declared.note.Note.{Note}
 use Rattle.rt_ids.specs.declared.note.Note.TheVariants as notes
 use Rattle.rt_ids.specs.declared.order.Order.{Order}
@@ -18,9 +18,9 @@ abbrev pub queue_created : {T : Type 0} → Note T → Option ℕ
 queue_created (notes.Created queue weight) = Some queue
 queue_created _ = None
 
--- queue 0 is there from the opening, and the others are numbered in the order of their creation
-abbrev pub last_queue : {T : Type 0} → Journal T → ℕ
-last_queue journal = length (list_told queue_created journal)
+-- how many queues were created: queue 0 is there from the opening, and the others are numbered in the order of their creation, so this is also the greatest number
+abbrev pub created_count : {T : Type 0} → Journal T → ℕ
+created_count journal = length (list_told queue_created journal)
 
 abbrev pub reason_if_closed : Option Mode → Reason → Option Reason
 reason_if_closed None reason = None
@@ -33,7 +33,7 @@ reason_if_returning _ reason = None
 -- why a job that is delivered to this queue goes back: no such queue, a closed queue, a core that hands back
 abbrev pub refusal : {T : Type 0} → ℕ → Journal T → Option Reason
 refusal queue journal =
-    if nat_le queue (last_queue journal)
+    if nat_le queue (created_count journal)
     then or_else (reason_if_closed (queue_mode queue journal) why.QueueClosed) (reason_if_returning (core_mode journal) why.CoreClosing)
     else Some why.NoQueue
 
@@ -52,9 +52,9 @@ IsCreationAnswer None false next answer = (answer ≡ answers.NoMemory) ⊎ (ans
 abbrev pub IsAnswer : {T : Type 0} → Order (Unit {0}) → Answer → Journal T → Type 0
 IsAnswer (Job queue task) answer before = ⊥
 IsAnswer (Create weight) answer before =
-    IsCreationAnswer (core_mode before) (nat_le 255 (last_queue before)) (last_queue before + 1) answer
+    IsCreationAnswer (core_mode before) (nat_le 255 (created_count before)) (created_count before + 1) answer
 IsAnswer (SetShares queue weight) answer before =
-    answer ≡ (if nat_le queue (last_queue before) then answers.SharesSet else answers.NoQueue)
+    answer ≡ (if nat_le queue (created_count before) then answers.SharesSet else answers.NoQueue)
 
 -- the note of what a command did, by its answer
 abbrev pub effect_note : {T : Type 0} → Order (Unit {0}) → Answer → Option (Note T)
@@ -69,7 +69,23 @@ has_effect answers.SharesSet = true
 has_effect answers.Closed = true
 has_effect _ = false
 
--- the answer that is the last note, if it has an effect
-abbrev pub answer_due : {T : Type 0} → Journal T → Option Answer
-answer_due (notes.Answered name answer ∷ before) = if has_effect answer then Some answer else None
-answer_due _ = None
+-- the answer whose effect is the next note: it is the last note, and has an effect
+abbrev pub effect_awaited : {T : Type 0} → Journal T → Option Answer
+effect_awaited (notes.Answered name answer ∷ before) = if has_effect answer then Some answer else None
+effect_awaited _ = None
+
+-- no note except those of the creations at the opening
+abbrev pub IsOpening : {T : Type 0} → Journal T → Type 0
+IsOpening [] = Unit {0}
+IsOpening (notes.Created queue weight ∷ before) = IsOpening before
+IsOpening _ = ⊥
+
+-- behind an answer with an effect stands the note of that effect, which stands nowhere else, except the creations at the opening
+abbrev pub IsEffectDue : {T : Type 0} → Option Answer → Note T → Journal T → Type 0
+IsEffectDue None (notes.Created queue weight) before = IsOpening before
+IsEffectDue None (notes.SharesSet queue weight) before = ⊥
+IsEffectDue None (notes.QueueClosed queue mode) before = ⊥
+IsEffectDue None _ before = Unit {0}
+IsEffectDue (Some answer) (notes.Created queue weight) before = answer ≡ answers.Created queue
+IsEffectDue (Some answer) (notes.SharesSet queue weight) before = answer ≡ answers.SharesSet
+IsEffectDue (Some answer) _ before = ⊥

@@ -11,6 +11,7 @@ use Rattle.rt_ids.specs.Picks.{turns}
 use Rattle.rt_ids.specs.Assembly.{Assembly}
 use Rattle.rt_ids.specs.Clauses.{StartsRight, StandsInOrder}
 use Rattle.rt_ids.specs.Lawful.{MayStand}
+use Rattle.rt_ids.specs.Terms.{Terms}
 
 abbrev pub IsNoLowerPick : {T : Type 0} → Note T → Journal T → Type 0
 IsNoLowerPick (Pick queue runtime) before = floor before ≤ runtime
@@ -18,30 +19,30 @@ IsNoLowerPick _ before = Unit {0}
 
 -- no pick of a lawful journal is lower than one before it
 abbrev pub PicksNeverFall : Type 0
-PicksNeverFall = (actor cap : ℕ) (journal : Journal ℕ) → EachNote (MayStand actor cap) journal → EachNote IsNoLowerPick journal
+PicksNeverFall = (terms : Terms) (journal : Journal ℕ) → EachNote (MayStand terms) journal → EachNote IsNoLowerPick journal
 
 -- each start and each resume of a lawful journal is of an accepted job that is inside, and no job starts twice
 abbrev pub StartsOnce : Type 0
 StartsOnce =
-    (actor cap : ℕ) (assembly : Assembly ℕ) (journal : Journal ℕ) → EachNote (MayStand actor cap) journal →
+    (terms : Terms) (assembly : Assembly ℕ) (journal : Journal ℕ) → EachNote (MayStand terms) journal →
     EachNote (StandsInOrder assembly) journal → EachNote (StartsRight assembly) journal
 
 -- what entered a queue has left it, waits in its line, or is out
-abbrev pub IsCounted : {T : Type 0} → ℕ → Journal T → Type 0
-IsCounted queue journal =
+abbrev pub JobsAddUp : {T : Type 0} → ℕ → Journal T → Type 0
+JobsAddUp queue journal =
     entered_count queue journal ≡ left_count queue journal + length (line queue journal) + number_if (is_number queue (queue_out journal))
 
 -- in a lawful journal all that entered is counted so
 abbrev pub JobsAreCounted : Type 0
-JobsAreCounted = (actor cap queue : ℕ) (journal : Journal ℕ) → EachNote (MayStand actor cap) journal → IsCounted queue journal
+JobsAreCounted = (terms : Terms) (queue : ℕ) (journal : Journal ℕ) → EachNote (MayStand terms) journal → JobsAddUp queue journal
 
 -- in a lawful journal a queue with work stands at or above the floor
 abbrev pub WorkIsAboveFloor : Type 0
 WorkIsAboveFloor =
-    (actor cap queue : ℕ) (journal : Journal ℕ) → EachNote (MayStand actor cap) journal →
+    (terms : Terms) (queue : ℕ) (journal : Journal ℕ) → EachNote (MayStand terms) journal →
     has_work queue journal ≡ true → floor journal ≤ virtual_runtime queue journal
 
 -- a turn costs less than 2^50, so that after n turns of a lawful journal each virtual runtime is at most n * 2^50
 abbrev pub NoRuntimeWraps : Type 0
 NoRuntimeWraps =
-    (actor cap queue : ℕ) (journal : Journal ℕ) → EachNote (MayStand actor cap) journal → virtual_runtime queue journal ≤ turns journal * 2 ^ 50
+    (terms : Terms) (queue : ℕ) (journal : Journal ℕ) → EachNote (MayStand terms) journal → virtual_runtime queue journal ≤ turns journal * 2 ^ 50

@@ -1,3 +1,4 @@
+pub mod Limits
 pub mod Keys
 pub mod Names
 pub mod Journal
@@ -8,6 +9,9 @@ pub mod Lines
 pub mod Picks
 pub mod Closing
 pub mod Assembly
+pub mod Orders
+pub mod Terms
+pub mod Spelled
 pub mod Clauses
 pub mod Sound
 pub mod Outstanding
@@ -24,3 +28,6 @@ pub mod BadPicks
 pub mod PicksRefused
 pub mod BadSteps
 pub mod StepsRefused
+pub mod BadLinks
+pub mod GoodJournals
+pub mod Lag

@@ -1,10 +1,10 @@
--- Which queue a core may pick.
-use Rattle.std.specs.Prelude.{◌≡◌, ℕ, ◌+◌, [], ◌∷◌, IsTrue}
+-- Which queue a core may pick, and which note takes the turn of a pick.
+use Rattle.std.specs.Prelude.{◌≡◌, ℕ, ◌+◌, Bool, true, false, Option, Some, None, [], ◌∷◌, IsTrue}
 use Rattle.rt_ids.specs.declared.note.Note.{Note}
-use Rattle.rt_ids.specs.declared.note.Note.TheVariants.{Pick}
+use Rattle.rt_ids.specs.declared.note.Note.TheVariants.{Pick, Start, Resume, Returned}
 use Rattle.rt_ids.specs.Keys.{KeyAtMost}
 use Rattle.rt_ids.specs.Journal.{Journal}
-use Rattle.rt_ids.specs.Work.{has_work}
+use Rattle.rt_ids.specs.Work.{queue_of, has_work}
 use Rattle.rt_ids.specs.Runtimes.{virtual_runtime}
 use Rattle.rt_ids.specs.Lines.{jobs_out}
 
@@ -28,3 +28,22 @@ pick_count _ = 0
 abbrev pub turns : {T : Type 0} → Journal T → ℕ
 turns [] = 0
 turns (note ∷ before) = turns before + pick_count note
+
+-- the queue of the pick that is the last note
+abbrev pub queue_just_picked : {T : Type 0} → Journal T → Option ℕ
+queue_just_picked (Pick queue runtime ∷ before) = Some queue
+queue_just_picked _ = None
+
+-- the queue whose turn a note takes
+abbrev pub queue_served : {T : Type 0} → Note T → Journal T → Option ℕ
+queue_served (Start name) before = queue_of name before
+queue_served (Resume name) before = queue_of name before
+queue_served (Returned name reason) before = queue_of name before
+queue_served _ before = None
+
+-- a note that takes the turn of a pick
+abbrev pub takes_turn : {T : Type 0} → Note T → Bool
+takes_turn (Start name) = true
+takes_turn (Resume name) = true
+takes_turn (Returned name reason) = true
+takes_turn _ = false

@@ -5,7 +5,7 @@ use Rattle.rt_ids.specs.Journal.{EachNote, is_told}
 use Rattle.rt_ids.specs.Filters.{accepted_orders, delivered_names, given_outcomes, collected_outcomes, name_ended}
 use Rattle.rt_ids.specs.Closing.{IsDrained}
 use Rattle.rt_ids.specs.Assembly.{Assembly, journal_of, IsPrefix, names_of, IsAcceptedJob, IsAcceptedCommand}
-use Rattle.rt_ids.specs.Clauses.{StartsRight, StandsInOrder, RespectsCloses, EndsOnce, PicksRight, name_answered, queue_just_picked}
+use Rattle.rt_ids.specs.Clauses.{StartsRight, StandsInOrder, RespectsCloses, OutcomesRight, PicksRight, name_answered, queue_just_picked}
 
 -- only accepted jobs that are inside start or resume, and each starts at most once
 pub record StartsAreSound {T : Type 0} (assembly : Assembly T) : Type 0 where
@@ -30,7 +30,7 @@ pub record AllEnded {T : Type 0} (assembly : Assembly T) (core : ℕ) : Type 0 w
 
 -- nothing ends twice, and a drained core has ended all
 pub record OutcomesAreSound {T : Type 0} (assembly : Assembly T) : Type 0 where
-  pub notes : (actor : ℕ) → actor ≤ assembly.cores → EachNote (EndsOnce assembly) (journal_of actor assembly)
+  pub notes : (actor : ℕ) → actor ≤ assembly.cores → EachNote (OutcomesRight assembly) (journal_of actor assembly)
   pub all_ended : (core : ℕ) → core < assembly.cores → IsDrained assembly.cores (journal_of core assembly) → AllEnded assembly core
 
 -- each pick takes the least pair (virtual runtime, number) among the queues that have work

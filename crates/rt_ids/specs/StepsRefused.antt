@@ -1,13 +1,13 @@
 -- That no lawful journal holds a bad step.
 use Rattle.std.specs.Prelude.{ℕ}
-use Rattle.rt_ids.specs.BadJournals.{polled}
+use Rattle.rt_ids.specs.BadJournals.{polled, core_terms, outside_terms}
 use Rattle.rt_ids.specs.BadSteps as bad
 use Rattle.rt_ids.specs.Journal.{Journal, EachNote}
 use Rattle.rt_ids.specs.Lawful.{MayStand, IsLawful}
 
 -- the notes of the core may stand, where each link holds four
 abbrev pub CoreMayWrite : Journal ℕ → Type 0
-CoreMayWrite journal = EachNote (MayStand 0 4) journal
+CoreMayWrite journal = EachNote (MayStand core_terms) journal
 
 -- none of them may stand
 pub record StepsAreRefused : Type 0 where
@@ -22,7 +22,11 @@ pub record StepsAreRefused : Type 0 where
   pub missing : CoreMayWrite bad.effect_missing → ⊥
   pub unasked : CoreMayWrite bad.effect_unasked → ⊥
   pub created : CoreMayWrite bad.created_unasked → ⊥
-  pub capacity : EachNote (MayStand 1 4) bad.sent_beyond_capacity → ⊥
+  pub capacity : EachNote (MayStand outside_terms) bad.sent_beyond_capacity → ⊥
   pub sender : CoreMayWrite bad.sent_for_another → ⊥
+  pub no_core : EachNote (MayStand outside_terms) bad.sent_to_nobody → ⊥
+  pub beyond_queues : EachNote (MayStand outside_terms) bad.sent_beyond_queues → ⊥
+  pub no_actor : CoreMayWrite bad.taken_from_nobody → ⊥
+  pub outside : EachNote (MayStand outside_terms) bad.taken_outside → ⊥
   -- a journal doesn't end while a job is out
-  pub open_end : IsLawful 0 4 polled → ⊥
+  pub open_end : IsLawful core_terms polled → ⊥

@@ -2,12 +2,14 @@
 #![tactic(auto)]
 
 pub mod laws;
+pub mod limits;
 pub mod names;
 pub mod note;
 pub mod order;
 pub mod refused;
 pub mod stats;
 
+pub use limits::{LAST_NUMBER, MOST_CAPACITY, MOST_CORES, MOST_NOTES, MOST_QUEUES};
 pub use names::{ActorNo, CoreNo, JobId, Key, QueueNo, Ticket, TicketError};
 pub use note::{Note, OutcomeNote};
 pub use order::{Answer, Envelope, Mode, Order, Outcome, Reason, SendError};

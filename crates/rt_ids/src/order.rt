@@ -1,5 +1,8 @@
 //! Orders and envelopes, outcomes, and why an order is refused.
 
+ghost use Rattle.std.specs.Prelude.{◌≡◌};
+ghost use Rattle.rt_ids.specs.Orders.{IsSpelledOrder, without_job};
+
 use crate::names::{JobId, QueueNo};
 use rt_shares::Shares;
 use std::alloc::AllocError;
@@ -58,6 +61,30 @@ pub enum Order<J> {
     Create(Shares),
     /// Give a queue these shares.
     SetShares(QueueNo, Shares),
+}
+
+impl<J> Order<J> {
+    /// The order without its job, as a note tells it. A caller also learns that its queue and its shares are within their ranges.
+    pub fn without_job(&self) -> Order<()>
+        ensures same { result ≡ without_job self.now }
+        ensures spelled { IsSpelledOrder result }
+    {
+        match self {
+            Order::Job(queue, _) => {
+                let _number = queue.0;
+                Order::Job(*queue, ())
+            }
+            Order::Create(shares) => {
+                let _in_range = shares.get();
+                Order::Create(*shares)
+            }
+            Order::SetShares(queue, shares) => {
+                let _number = queue.0;
+                let _in_range = shares.get();
+                Order::SetShares(*queue, *shares)
+            }
+        }
+    }
 }
 
 /// An accepted order on its way, under its name.

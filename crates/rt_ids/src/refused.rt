@@ -1,6 +1,7 @@
 //! Laws that small journals with one thing wrong are not sound: each clause of soundness refuses what it is there to refuse.
 
 ghost use Rattle.rt_ids.specs.BadCloses.{ClosesAreRefused};
+ghost use Rattle.rt_ids.specs.BadLinks.{LinksAreRefused};
 ghost use Rattle.rt_ids.specs.BadOrder.{OrderIsRefused};
 ghost use Rattle.rt_ids.specs.BadOutcomes.{OutcomesAreRefused};
 ghost use Rattle.rt_ids.specs.BadStarts.{StartsAreRefused};
@@ -29,4 +30,8 @@ pub fn picks()
 
 pub fn steps()
     ensures { StepsAreRefused }
+{}
+
+pub fn links()
+    ensures { LinksAreRefused }
 {}

@@ -2,6 +2,7 @@
 use Rattle.std.proofs.Common.{◌≡◌, ℕ, ◌+◌, Bool, true, false, List, [], ◌∷◌, length, refl, sym, ◌∙◌, ap, subst, arith, add-zero}
 use Rattle.std.specs.Prelude.{Option, Some, None, nat_lt, ◌||◌}
 use Rattle.std.proofs.lemmas.Bool.{lt-ltb}
+use Rattle.rt_ids.specs.Terms.{Terms}
 use Rattle.rt_ids.specs.declared.names.JobId.{JobId}
 use Rattle.rt_ids.specs.declared.note.Note.{Note}
 use Rattle.rt_ids.specs.declared.note.Note.TheVariants as writes
@@ -16,9 +17,9 @@ use Rattle.rt_ids.specs.Work.{has_work, number_if, queue_entered, queue_joined}
 use Rattle.rt_ids.specs.Lines.{line, queue_out, name_joining, name_leaving, name_polled, name_settled}
 use Rattle.rt_ids.specs.Closing.{queue_mode, core_mode}
 use Rattle.rt_ids.specs.Clauses.{queue_just_picked}
-use Rattle.rt_ids.specs.Commands.{answer_due}
+use Rattle.rt_ids.specs.Commands.{effect_awaited}
 use Rattle.rt_ids.specs.Picks.{pick_count, turns}
-use Rattle.rt_ids.specs.Lawful.{MayFollow, MayStand, takes_turn, IsEffectDue}
+use Rattle.rt_ids.specs.Lawful.{MayFollow, MayWrite, MayStand, takes_turn, IsEffectDue}
 use Rattle.rt_ids.proofs.WorkOfLines.{has_work-line}
 use Rattle.rt_ids.proofs.RuntimeSteps.{virtual_runtime-stays, floor-stays}
 use Rattle.rt_ids.proofs.LineSteps.{line-stays}
@@ -26,37 +27,31 @@ use Rattle.rt_ids.proofs.Counts.{queue_out-alone, queue_out-nobody}
 use Rattle.rt_taskqueue.specs.Queues.{waiting_of}
 use Rattle.rt_core.specs.State.{CoreView, JobOut, is_working, is_any, runtime_of}
 use Rattle.rt_core.specs.State as state
+pub use Rattle.rt_journal.specs.Agreement.{IsKept}
 use Rattle.rt_journal.specs.Agreement.{Agrees, IsJobOut, AreMarked, names_of}
 
--- the journal is one of notes that may stand where they stand, with no step half done but for a poll, and the core agrees with it
-pub record IsKept {J T : Type 0} (actor cap : ℕ) (core : CoreView J) (journal : Journal T) : Type 0 where
-  pub agrees : Agrees core journal
-  pub notes : EachNote (MayStand actor cap) journal
-  pub no_pick : queue_just_picked journal ≡ None
-  pub no_answer : answer_due journal ≡ None
-
 -- a note that takes no turn and is no effect may stand where nothing is awaited
-pub plainly_stands : {T : Type 0} (actor cap : ℕ) (note : Note T) (before : Journal T) → MayFollow actor cap note before →
-    queue_just_picked before ≡ None → answer_due before ≡ None → takes_turn note ≡ false → IsEffectDue None note before →
-    MayStand actor cap note before
-plainly_stands actor cap note before law no_pick no_answer plain free =
-    record { may_follow = law; turn = rw (no_pick, plain); effect = rw no_answer free }
+pub plainly_stands : {T : Type 0} (terms : Terms) (note : Note T) (before : Journal T) → MayWrite terms note → MayFollow terms note before →
+    queue_just_picked before ≡ None → effect_awaited before ≡ None → takes_turn note ≡ false → IsEffectDue None note before →
+    MayStand terms note before
+plainly_stands terms note before writer law no_pick no_answer plain free =
+    record { may_follow = law; turn = rw (no_pick, plain); effect = rw no_answer free; writer = writer }
 
-module _ {T : Type 0} (actor cap : ℕ) where
+module _ {T : Type 0} (terms : Terms) where
   -- no queue and no core is closed by any note that may stand
-  pub open_queues : (queue : ℕ) (journal : Journal T) → EachNote (MayStand actor cap) journal → queue_mode queue journal ≡ None
+  pub open_queues : (queue : ℕ) (journal : Journal T) → EachNote (MayStand terms) journal → queue_mode queue journal ≡ None
   open_queues queue [] notes = refl
   open_queues queue (note ∷ before) notes = by_note note notes.0.may_follow (open_queues queue before notes.1)
     where
-      by_note : (note : Note T) → MayFollow actor cap note before → queue_mode queue before ≡ None → queue_mode queue (note ∷ before) ≡ None
+      by_note : (note : Note T) → MayFollow terms note before → queue_mode queue before ≡ None → queue_mode queue (note ∷ before) ≡ None
       by_note (writes.QueueClosed other mode) law stays = absurd law
       by_note _ law stays = stays
 
-  pub open_core : (journal : Journal T) → EachNote (MayStand actor cap) journal → core_mode journal ≡ None
+  pub open_core : (journal : Journal T) → EachNote (MayStand terms) journal → core_mode journal ≡ None
   open_core [] notes = refl
   open_core (note ∷ before) notes = by_note note notes.0.may_follow (open_core before notes.1)
     where
-      by_note : (note : Note T) → MayFollow actor cap note before → core_mode before ≡ None → core_mode (note ∷ before) ≡ None
+      by_note : (note : Note T) → MayFollow terms note before → core_mode before ≡ None → core_mode (note ∷ before) ≡ None
       by_note (writes.CoreClosed mode) law stays = absurd law
       by_note _ law stays = stays
 
@@ -77,9 +72,9 @@ module _ {J T : Type 0} (core : CoreView J) (journal : Journal T) where
       by_out (Some job) alone = sym (queue_out-alone job.name journal alone.0 ∙ alone.1)
 
   -- a queue works in the core where it has work in the journal
-  pub working : (actor cap queue : ℕ) → EachNote (MayStand actor cap) journal → Agrees core journal → is_working queue core ≡ has_work queue journal
-  working actor cap queue notes agrees =
-      rw (has_work-line actor cap queue journal notes, ← queue_out-agrees agrees.out, ← agrees.lines queue)
+  pub working : (terms : Terms) (queue : ℕ) → EachNote (MayStand terms) journal → Agrees core journal → is_working queue core ≡ has_work queue journal
+  working terms queue notes agrees =
+      rw (has_work-line terms queue journal notes, ← queue_out-agrees agrees.out, ← agrees.lines queue)
       (sym (nat_lt-line (waiting_of queue core.queues) (is_number queue (state.queue_out core.out))))
 
 -- a note by which no job comes, goes, starts or costs anything

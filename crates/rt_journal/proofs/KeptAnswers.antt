@@ -1,5 +1,6 @@
 -- What a core tells of itself stays what its journal says, as a job goes back and as a command is answered.
 use Rattle.std.proofs.Common.{◌≡◌, ℕ, ◌≤◌, false, ◌∷◌, length, refl, sym, ◌∙◌, ap, arith}
+use Rattle.rt_ids.specs.Terms.{Terms}
 use Rattle.rt_ids.specs.declared.names.JobId.{JobId}
 use Rattle.rt_ids.specs.declared.note.Note.TheVariants as writes
 use Rattle.rt_ids.specs.declared.order.Order.{Order}
@@ -16,9 +17,9 @@ use Rattle.rt_journal.proofs.Kept.{IsKept, plainly_stands, stays_calm, SameJobs,
 use Rattle.rt_journal.proofs.KeptDeliveries.{IsCounted, senders_counted, delivered_counted, refusal-missing}
 
 -- a delivery that changes nothing but its count
-module _ {J T : Type 0} (actor cap : ℕ) (old new : CoreView J) (name : JobId) (journal : Journal T) (kept : IsKept actor cap old journal)
-    (next : IsNextDelivered actor name journal) (sender : name.from ≤ old.cores) (counts : CountsAlone old name new) where
-  alone_counted : IsCounted actor old new name journal
+module _ {J T : Type 0} (terms : Terms) (old new : CoreView J) (name : JobId) (journal : Journal T) (kept : IsKept terms old journal)
+    (next : IsNextDelivered terms name journal) (sender : name.from ≤ old.cores) (counts : CountsAlone old name new) where
+  alone_counted : IsCounted terms old new name journal
   alone_counted = record { known = sender; next = next; now = ap (λ core. core.delivered) counts; cores = ap (λ core. core.cores) counts }
 
   same_jobs : SameJobs old new
@@ -35,7 +36,7 @@ module _ {J T : Type 0} (actor cap : ℕ) (old new : CoreView J) (name : JobId) 
       let calm = stays_calm (writes.Back name reason) journal (calm_back journal name reason) old new same_jobs kept.agrees in
       record {
         tallied = ap (λ core. length core.tallies) counts ∙ (kept.agrees.tallied ∙ sym (ap (λ core. queue_count core.queues) counts));
-        senders = senders_counted actor old new name journal alone_counted kept.agrees;
+        senders = senders_counted terms old new name journal alone_counted kept.agrees;
         last = ap (λ core. queue_count core.queues) counts ∙ kept.agrees.last;
         lines = calm.lines;
         marks = calm.marks;
@@ -45,7 +46,7 @@ module _ {J T : Type 0} (actor cap : ℕ) (old new : CoreView J) (name : JobId) 
         out = calm.out;
         weights = λ queue there. ap (λ core. shares_of queue core.queues) counts ∙ kept.agrees.weights queue (rw (← ap (λ core. queue_count core.queues) counts) there);
         out_exists = λ out at. rw (ap (λ core. queue_count core.queues) counts) (kept.agrees.out_exists out (sym (ap (λ core. core.out) counts) ∙ at));
-        delivered = delivered_counted actor old new name journal alone_counted kept.agrees;
+        delivered = delivered_counted terms old new name journal alone_counted kept.agrees;
       }
 
   pub agrees-answered : (answer : Answer) → Agrees new (writes.Answered name answer ∷ journal)
@@ -53,7 +54,7 @@ module _ {J T : Type 0} (actor cap : ℕ) (old new : CoreView J) (name : JobId) 
       let calm = stays_calm (writes.Answered name answer) journal (calm_answered journal name answer) old new same_jobs kept.agrees in
       record {
         tallied = ap (λ core. length core.tallies) counts ∙ (kept.agrees.tallied ∙ sym (ap (λ core. queue_count core.queues) counts));
-        senders = senders_counted actor old new name journal alone_counted kept.agrees;
+        senders = senders_counted terms old new name journal alone_counted kept.agrees;
         last = ap (λ core. queue_count core.queues) counts ∙ kept.agrees.last;
         lines = calm.lines;
         marks = calm.marks;
@@ -63,16 +64,17 @@ module _ {J T : Type 0} (actor cap : ℕ) (old new : CoreView J) (name : JobId) 
         out = calm.out;
         weights = λ queue there. ap (λ core. shares_of queue core.queues) counts ∙ kept.agrees.weights queue (rw (← ap (λ core. queue_count core.queues) counts) there);
         out_exists = λ out at. rw (ap (λ core. queue_count core.queues) counts) (kept.agrees.out_exists out (sym (ap (λ core. core.out) counts) ∙ at));
-        delivered = delivered_counted actor old new name journal alone_counted kept.agrees;
+        delivered = delivered_counted terms old new name journal alone_counted kept.agrees;
       }
 
   -- a job for a queue that doesn't exist goes back
-  pub kept-back : (queue : ℕ) → queue_count old.queues ≤ queue → IsKept actor cap new (writes.Back name why.NoQueue ∷ journal)
+  pub kept-back : (queue : ℕ) → queue_count old.queues ≤ queue → IsKept terms new (writes.Back name why.NoQueue ∷ journal)
   kept-back queue missing = record {
+    is_core = kept.is_core;
     agrees = agrees-back why.NoQueue;
     notes = (
-      plainly_stands actor cap (writes.Back name why.NoQueue) journal
-          (next, (queue, refusal-missing actor cap journal kept.notes queue (omega (arith, missing, kept.agrees.last)))) kept.no_pick kept.no_answer refl tt,
+      plainly_stands terms (writes.Back name why.NoQueue) journal kept.is_core
+          (next, (queue, refusal-missing terms journal kept.notes queue (omega (arith, missing, kept.agrees.last)))) kept.no_pick kept.no_answer refl tt,
       kept.notes,
     );
     no_pick = refl;
@@ -80,13 +82,14 @@ module _ {J T : Type 0} (actor cap : ℕ) (old new : CoreView J) (name : JobId) 
   }
 
   -- a command is answered
-  pub answered_stands : (order : Order (Unit {0})) (answer : Answer) → IsAnswer order answer journal → MayStand actor cap (writes.Answered name answer) journal
+  pub answered_stands : (order : Order (Unit {0})) (answer : Answer) → IsAnswer order answer journal → MayStand terms (writes.Answered name answer) journal
   answered_stands order answer right =
-      plainly_stands actor cap (writes.Answered name answer) journal (next, (order, right)) kept.no_pick kept.no_answer refl tt
+      plainly_stands terms (writes.Answered name answer) journal kept.is_core (next, (order, right)) kept.no_pick kept.no_answer refl tt
 
   pub kept-answered : (order : Order (Unit {0})) (answer : Answer) → IsAnswer order answer journal → has_effect answer ≡ false →
-      IsKept actor cap new (writes.Answered name answer ∷ journal)
+      IsKept terms new (writes.Answered name answer ∷ journal)
   kept-answered order answer right plain = record {
+    is_core = kept.is_core;
     agrees = agrees-answered answer;
     notes = (answered_stands order answer right, kept.notes);
     no_pick = refl;

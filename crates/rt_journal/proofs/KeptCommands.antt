@@ -4,6 +4,7 @@ use Rattle.std.specs.Prelude.{◌==◌, None, nat_le}
 use Rattle.std.proofs.lemmas.Bool.{eqb-true, eqb-false, le-leb, lt-leb}
 use Rattle.std.proofs.lemmas.List.{length-append}
 use Rattle.rt_shares.specs.Charge.{InRange}
+use Rattle.rt_ids.specs.Terms.{Terms}
 use Rattle.rt_ids.specs.declared.names.JobId.{JobId}
 use Rattle.rt_ids.specs.declared.note.Note.TheVariants as writes
 use Rattle.rt_ids.specs.declared.order.Order.TheVariants as orders
@@ -11,7 +12,7 @@ use Rattle.rt_ids.specs.declared.order.Answer.{Answer}
 use Rattle.rt_ids.specs.declared.order.Answer.TheVariants as answers
 use Rattle.rt_ids.specs.Journal.{Journal, list_told}
 use Rattle.rt_ids.specs.Runtimes.{shares}
-use Rattle.rt_ids.specs.Commands.{last_queue, IsAnswer, IsCreationAnswer, queue_created}
+use Rattle.rt_ids.specs.Commands.{created_count, IsAnswer, IsCreationAnswer, queue_created}
 use Rattle.rt_ids.specs.Lawful.{IsNextDelivered}
 use Rattle.rt_ids.proofs.RuntimeSteps.{shares-created, shares-created_elsewhere, shares-set, shares-set_elsewhere}
 use Rattle.rt_taskqueue.specs.Queues.{queue_count, shares_of}
@@ -113,58 +114,60 @@ module _ {J T : Type 0} (old new : CoreView J) (queue weight : ℕ) (journal : J
               ∙ (agrees.weights other (rw (← weighs.shares.same_count) there) ∙ sym (shares-set_elsewhere other journal queue weight away))
 
 -- the commands that have an effect, with the note of the answer and that of the effect
-module _ {J T : Type 0} (actor cap : ℕ) (old new : CoreView J) (name : JobId) (queue weight : ℕ) (journal : Journal T) (kept : IsKept actor cap old journal)
-    (next : IsNextDelivered actor name journal) (sender : name.from ≤ old.cores) (in_range : InRange weight) (now : new.delivered ≡ counted name old) where
+module _ {J T : Type 0} (terms : Terms) (old new : CoreView J) (name : JobId) (queue weight : ℕ) (journal : Journal T) (kept : IsKept terms old journal)
+    (next : IsNextDelivered terms name journal) (sender : name.from ≤ old.cores) (in_range : InRange weight) (now : new.delivered ≡ counted name old) where
   abbrev middle : CoreView J
   middle = record old { delivered = counted name old }
 
   -- a creation finds a core that isn't closed, and room for one more queue
-  pub creation_answer : (full : Bool) → nat_le 255 (last_queue journal) ≡ full → (answer : Answer) → IsCreationAnswer None full (last_queue journal + 1) answer →
+  pub creation_answer : (full : Bool) → nat_le 255 (created_count journal) ≡ full → (answer : Answer) → IsCreationAnswer None full (created_count journal + 1) answer →
       IsAnswer (orders.Create weight) answer journal
-  creation_answer full at answer right = rw (open_core actor cap journal kept.notes, at) right
+  creation_answer full at answer right = rw (open_core terms journal kept.notes, at) right
 
   pub kept-created : queue ≡ queue_count old.queues → Creates old weight new →
       IsAnswer (orders.Create weight) (answers.Created queue) journal
-      × IsKept actor cap new (writes.Created queue weight ∷ writes.Answered name (answers.Created queue) ∷ journal)
+      × IsKept terms new (writes.Created queue weight ∷ writes.Answered name (answers.Created queue) ∷ journal)
   kept-created number creates = (
     right,
     record {
-      agrees = agrees-created middle new queue weight _ (agrees-answered actor cap old middle name journal kept next sender refl (answers.Created queue)) number
+      is_core = kept.is_core;
+      agrees = agrees-created middle new queue weight _ (agrees-answered terms old middle name journal kept next sender refl (answers.Created queue)) number
           (record { few = creates.few; added = creates.added; rest = creates.rest }) now;
       notes = (
-        record { may_follow = record { next = number ∙ kept.agrees.last; in_range = rw number creates.few; shares = in_range }; turn = refl; effect = refl },
-        (answered_stands actor cap old middle name journal kept next sender refl (orders.Create weight) (answers.Created queue) right, kept.notes),
+        record { may_follow = record { next = number ∙ kept.agrees.last; in_range = rw number creates.few; shares = in_range }; turn = refl; effect = refl; writer = kept.is_core },
+        (answered_stands terms old middle name journal kept next sender refl (orders.Create weight) (answers.Created queue) right, kept.notes),
       );
       no_pick = refl;
       no_answer = refl;
     },
   )
     where
-      few : nat_le 255 (last_queue journal) ≡ false
-      few = lt-leb 255 (last_queue journal) (omega (arith, creates.few, kept.agrees.last))
+      few : nat_le 255 (created_count journal) ≡ false
+      few = lt-leb 255 (created_count journal) (omega (arith, creates.few, kept.agrees.last))
 
       right : IsAnswer (orders.Create weight) (answers.Created queue) journal
       right = creation_answer false few (answers.Created queue) (inr (ap answers.Created (number ∙ kept.agrees.last)))
 
   pub kept-weighed : Weighs old queue weight new →
       IsAnswer (orders.SetShares queue weight) answers.SharesSet journal
-      × IsKept actor cap new (writes.SharesSet queue weight ∷ writes.Answered name answers.SharesSet ∷ journal)
+      × IsKept terms new (writes.SharesSet queue weight ∷ writes.Answered name answers.SharesSet ∷ journal)
   kept-weighed weighs = (
     right,
     record {
-      agrees = agrees-weighed middle new queue weight _ (agrees-answered actor cap old middle name journal kept next sender refl answers.SharesSet)
+      is_core = kept.is_core;
+      agrees = agrees-weighed middle new queue weight _ (agrees-answered terms old middle name journal kept next sender refl answers.SharesSet)
           (record { exists = weighs.exists; shares = weighs.shares; rest = weighs.rest }) now;
       notes = (
-        record { may_follow = (exists, in_range); turn = refl; effect = refl },
-        (answered_stands actor cap old middle name journal kept next sender refl (orders.SetShares queue weight) answers.SharesSet right, kept.notes),
+        record { may_follow = (exists, in_range); turn = refl; effect = refl; writer = kept.is_core },
+        (answered_stands terms old middle name journal kept next sender refl (orders.SetShares queue weight) answers.SharesSet right, kept.notes),
       );
       no_pick = refl;
       no_answer = refl;
     },
   )
     where
-      exists : queue ≤ last_queue journal
+      exists : queue ≤ created_count journal
       exists = omega (arith, weighs.exists, kept.agrees.last)
 
       right : IsAnswer (orders.SetShares queue weight) answers.SharesSet journal
-      right = rw (le-leb queue (last_queue journal) exists)
+      right = rw (le-leb queue (created_count journal) exists)

@@ -4,6 +4,7 @@ use Rattle.std.specs.Prelude.{◌==◌, Option, Some, None, is_some, max}
 use Rattle.std.proofs.lemmas.Bool.{eqb-true, eqb-false, le-leb, lt-leb, true≢false}
 use Rattle.std.proofs.lemmas.List.{map-append}
 use Rattle.std.proofs.lemmas.List.Elements.{All-append, All-cons, All-nil}
+use Rattle.rt_ids.specs.Terms.{Terms}
 use Rattle.rt_ids.specs.declared.names.JobId.{JobId}
 use Rattle.rt_ids.specs.declared.note.Note.TheVariants as writes
 use Rattle.rt_ids.specs.declared.order.Reason.TheVariants as why
@@ -13,7 +14,7 @@ use Rattle.rt_ids.specs.Filters.{delivered_names, name_started, if_from}
 use Rattle.rt_ids.specs.Work.{has_work, queue_of}
 use Rattle.rt_ids.specs.Runtimes.{virtual_runtime}
 use Rattle.rt_ids.specs.Lines.{line}
-use Rattle.rt_ids.specs.Commands.{last_queue, refusal}
+use Rattle.rt_ids.specs.Commands.{created_count, refusal}
 use Rattle.rt_ids.specs.Lawful.{MayFollow, MayStand, IsNextDelivered}
 use Rattle.rt_ids.proofs.Told.{one_longer}
 use Rattle.rt_ids.proofs.Known.{known_of, not_old}
@@ -29,13 +30,13 @@ use Rattle.rt_journal.specs.Agreement.{Agrees, IsJobOut, AreMarked, names_of}
 use Rattle.rt_journal.proofs.Kept.{IsKept, plainly_stands, turns-stays, open_queues, open_core, working}
 
 -- the next name from its sender is counted
-pub record IsCounted {J T : Type 0} (actor : ℕ) (old new : CoreView J) (name : JobId) (journal : Journal T) : Type 0 where
+pub record IsCounted {J T : Type 0} (terms : Terms) (old new : CoreView J) (name : JobId) (journal : Journal T) : Type 0 where
   pub known : name.from ≤ old.cores
-  pub next : IsNextDelivered actor name journal
+  pub next : IsNextDelivered terms name journal
   pub now : new.delivered ≡ counted name old
   pub cores : new.cores ≡ old.cores
 
-module _ {J T : Type 0} (actor : ℕ) (old new : CoreView J) (name : JobId) (journal : Journal T) (is_counted : IsCounted actor old new name journal) (agrees : Agrees old journal) where
+module _ {J T : Type 0} (terms : Terms) (old new : CoreView J) (name : JobId) (journal : Journal T) (is_counted : IsCounted terms old new name journal) (agrees : Agrees old journal) where
   pub senders_counted : length new.delivered ≡ new.cores + 1
   senders_counted = ap length is_counted.now ∙ (length-set old.delivered name.from name.number ∙ (agrees.senders ∙ ap (λ cores. cores + 1) (sym is_counted.cores)))
 
@@ -64,31 +65,31 @@ module _ {J T : Type 0} (actor : ℕ) (old new : CoreView J) (name : JobId) (jou
           ∙ agrees.delivered sender before
           )
 
-module _ {T : Type 0} (actor cap : ℕ) (journal : Journal T) (notes : EachNote (MayStand actor cap) journal) where
+module _ {T : Type 0} (terms : Terms) (journal : Journal T) (notes : EachNote (MayStand terms) journal) where
   -- a queue that exists refuses nobody, as nothing is closed, and one that doesn't exist refuses all
-  pub refusal-exists : (queue : ℕ) → queue ≤ last_queue journal → refusal queue journal ≡ None
-  refusal-exists queue exists = rw (le-leb queue (last_queue journal) exists, open_queues actor cap queue journal notes, open_core actor cap journal notes)
+  pub refusal-exists : (queue : ℕ) → queue ≤ created_count journal → refusal queue journal ≡ None
+  refusal-exists queue exists = rw (le-leb queue (created_count journal) exists, open_queues terms queue journal notes, open_core terms journal notes)
 
-  pub refusal-missing : (queue : ℕ) → last_queue journal < queue → refusal queue journal ≡ Some why.NoQueue
-  refusal-missing queue missing = rw (lt-leb queue (last_queue journal) missing)
+  pub refusal-missing : (queue : ℕ) → created_count journal < queue → refusal queue journal ≡ Some why.NoQueue
+  refusal-missing queue missing = rw (lt-leb queue (created_count journal) missing)
 
   -- who is delivered now has not entered and not started
-  pub not_entered : (name other : JobId) → IsNextDelivered actor name journal → is_some (queue_of other journal) ≡ true → same_name other name ≡ false
-  not_entered name other next entered = not_old actor cap other name journal next ((known_of actor cap journal notes).entered_old other entered)
+  pub not_entered : (name other : JobId) → IsNextDelivered terms name journal → is_some (queue_of other journal) ≡ true → same_name other name ≡ false
+  not_entered name other next entered = not_old terms other name journal next ((known_of terms journal notes).entered_old other entered)
 
-  pub not_started : (name : JobId) → IsNextDelivered actor name journal → is_told name_started name journal ≡ false
+  pub not_started : (name : JobId) → IsNextDelivered terms name journal → is_told name_started name journal ≡ false
   not_started name next =
       false_from_ne_true _
       (
       λ started.
-      let entered = (started_of actor cap journal notes).started_entered name started in
+      let entered = (started_of terms journal notes).started_entered name started in
       true≢false (sym (same_as_itself name) ∙ not_entered name name next entered)
       )
 
 -- a job enters its queue
-module _ {J T : Type 0} (actor cap : ℕ) (old new : CoreView J) (name : JobId) (queue : ℕ) (job : J) (journal : Journal T) (kept : IsKept actor cap old journal)
-    (next : IsNextDelivered actor name journal) (sender : name.from ≤ old.cores) (enters : Enters old name queue job new) where
-  took_counted : IsCounted actor old new name journal
+module _ {J T : Type 0} (terms : Terms) (old new : CoreView J) (name : JobId) (queue : ℕ) (job : J) (journal : Journal T) (kept : IsKept terms old journal)
+    (next : IsNextDelivered terms name journal) (sender : name.from ≤ old.cores) (enters : Enters old name queue job new) where
+  took_counted : IsCounted terms old new name journal
   took_counted = record { known = sender; next = next; now = ap (λ core. core.delivered) enters.rest; cores = ap (λ core. core.cores) enters.rest }
 
   took_lines : (other : ℕ) → names_of (waiting_of other new.queues) ≡ line other (writes.Took name queue ∷ journal)
@@ -119,7 +120,7 @@ module _ {J T : Type 0} (actor cap : ℕ) (old new : CoreView J) (name : JobId) 
           subst (AreMarked (writes.Took name queue ∷ journal)) (sym (ap (λ at. waiting_of at new.queues) one ∙ enters.line.changed))
           (
           All-append is_marked (waiting_of queue old.queues) ((name, false, job) ∷ []) (kept.agrees.marks queue)
-          (All-cons is_marked (name, false, job) [] (sym (not_started actor cap journal kept.notes name next)) (All-nil is_marked))
+          (All-cons is_marked (name, false, job) [] (sym (not_started terms journal kept.notes name next)) (All-nil is_marked))
           )
       by_test false apart =
           subst (AreMarked (writes.Took name queue ∷ journal)) (sym (enters.line.others other (eqb-false other queue apart))) (kept.agrees.marks other)
@@ -134,7 +135,7 @@ module _ {J T : Type 0} (actor cap : ℕ) (old new : CoreView J) (name : JobId) 
   entry_is = by_work (has_work queue journal) refl
     where
       work : is_working queue old ≡ has_work queue journal
-      work = working old journal actor cap queue kept.notes kept.agrees
+      work = working old journal terms queue kept.notes kept.agrees
 
       by_work : (test : Bool) → has_work queue journal ≡ test → entry_runtime queue old ≡ virtual_runtime queue (writes.Took name queue ∷ journal)
       by_work true busy =
@@ -160,16 +161,17 @@ module _ {J T : Type 0} (actor cap : ℕ) (old new : CoreView J) (name : JobId) 
 
   took_out : (out : Option (JobOut J)) → IsJobOut out journal → IsJobOut out (writes.Took name queue ∷ journal)
   took_out None nobody = nobody
-  took_out (Some job) alone = (alone.0, rw (not_entered actor cap journal kept.notes name job.name next (rw alone.1 refl)) alone.1)
+  took_out (Some job) alone = (alone.0, rw (not_entered terms journal kept.notes name job.name next (rw alone.1 refl)) alone.1)
 
-  took_follows : MayFollow actor cap (writes.Took name queue) journal
-  took_follows = (next, refusal-exists actor cap journal kept.notes queue (omega (arith, enters.exists, kept.agrees.last)))
+  took_follows : MayFollow terms (writes.Took name queue) journal
+  took_follows = (next, refusal-exists terms journal kept.notes queue (omega (arith, enters.exists, kept.agrees.last)))
 
-  pub kept-took : IsKept actor cap new (writes.Took name queue ∷ journal)
+  pub kept-took : IsKept terms new (writes.Took name queue ∷ journal)
   kept-took = record {
+    is_core = kept.is_core;
     agrees = record {
       tallied = ap (λ core. length core.tallies) enters.rest ∙ (length-set old.tallies queue _ ∙ (kept.agrees.tallied ∙ sym enters.line.same_count));
-      senders = senders_counted actor old new name journal took_counted kept.agrees;
+      senders = senders_counted terms old new name journal took_counted kept.agrees;
       last = enters.line.same_count ∙ kept.agrees.last;
       lines = took_lines;
       marks = took_marks;
@@ -179,9 +181,9 @@ module _ {J T : Type 0} (actor cap : ℕ) (old new : CoreView J) (name : JobId) 
       turns = ap (λ core. core.turns) enters.rest ∙ (kept.agrees.turns ∙ sym (turns-stays (writes.Took name queue) journal refl));
       out = subst (λ out. IsJobOut out (writes.Took name queue ∷ journal)) (sym (ap (λ core. core.out) enters.rest)) (took_out old.out kept.agrees.out);
       out_exists = λ out at. rw enters.line.same_count (kept.agrees.out_exists out (sym (ap (λ core. core.out) enters.rest) ∙ at));
-      delivered = delivered_counted actor old new name journal took_counted kept.agrees;
+      delivered = delivered_counted terms old new name journal took_counted kept.agrees;
     };
-    notes = (plainly_stands actor cap (writes.Took name queue) journal took_follows kept.no_pick kept.no_answer refl tt, kept.notes);
+    notes = (plainly_stands terms (writes.Took name queue) journal kept.is_core took_follows kept.no_pick kept.no_answer refl tt, kept.notes);
     no_pick = refl;
     no_answer = refl;
   }

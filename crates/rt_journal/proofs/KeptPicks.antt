@@ -5,8 +5,10 @@ use Rattle.std.specs.Prelude.{◌==◌, Some, None, nat_le, max}
 use Rattle.std.proofs.lemmas.Bool.{false_from_ne_true, eqb-true, eqb-false, leb-true, leb-false}
 use Rattle.std.proofs.lemmas.Option.{same_Some}
 use Rattle.std.proofs.lemmas.List.Elements.{All-head, All-tail}
+use Rattle.rt_ids.specs.Terms.{Terms}
 use Rattle.rt_ids.specs.declared.names.JobId.{JobId}
 use Rattle.rt_ids.specs.declared.note.Note.TheVariants as writes
+use Rattle.rt_ids.specs.Limits.{most_turns}
 use Rattle.rt_ids.specs.Keys.{KeyAtMost}
 use Rattle.rt_ids.specs.Journal.{Journal, is_told}
 use Rattle.rt_ids.specs.Filters.{name_started, delivered_names}
@@ -15,7 +17,7 @@ use Rattle.rt_ids.specs.Runtimes.{virtual_runtime, floor, shares}
 use Rattle.rt_ids.specs.Lines.{line, jobs_out}
 use Rattle.rt_ids.specs.Picks.{IsRightPick, turns}
 use Rattle.rt_ids.specs.Clauses.{queue_just_picked}
-use Rattle.rt_ids.specs.Commands.{return_reason, last_queue, answer_due}
+use Rattle.rt_ids.specs.Commands.{return_reason, created_count, effect_awaited}
 use Rattle.rt_ids.specs.Lawful.{MayStand, IsTurnOf}
 use Rattle.rt_ids.proofs.JobsOut.{jobs_out-start, jobs_out-resume}
 use Rattle.rt_ids.proofs.Known.{known_of}
@@ -35,8 +37,8 @@ use Rattle.rt_journal.proofs.PollNotes.{poll_note, is_marked, marks-start}
 no_line : {J : Type 0} (queue : ℕ) (core : CoreView J) → queue_count core.queues ≤ queue → waiting_of queue core.queues ≡ []
 no_line queue core past = ap (λ view. view.waiting) (get_or_past core.queues.queues queue no_queue past)
 
-module _ {J T : Type 0} (actor cap : ℕ) (old new : CoreView J) (name : JobId) (queue : ℕ) (was_started : Bool) (job : J) (journal : Journal T)
-    (kept : IsKept actor cap old journal) (takes : TakesOut old name queue was_started job new) where
+module _ {J T : Type 0} (terms : Terms) (old new : CoreView J) (name : JobId) (queue : ℕ) (was_started : Bool) (job : J) (journal : Journal T)
+    (kept : IsKept terms old journal) (takes : TakesOut old name queue was_started job new) where
   abbrev runtime : ℕ
   runtime = runtime_of queue old
 
@@ -70,23 +72,23 @@ module _ {J T : Type 0} (actor cap : ℕ) (old new : CoreView J) (name : JobId) 
   pub right_pick : IsRightPick queue runtime journal
   right_pick =
       subst (λ at. IsRightPick queue at journal) (sym (kept.agrees.runtimes queue))
-      (right_pick_of_lines actor cap queue journal kept.notes nobody name (names_of takes.others) first_in_line least)
+      (right_pick_of_lines terms queue journal kept.notes nobody name (names_of takes.others) first_in_line least)
 
   pub not_returning : return_reason queue journal ≡ None
-  not_returning = rw (open_queues actor cap queue journal kept.notes, open_core actor cap journal kept.notes)
+  not_returning = rw (open_queues terms queue journal kept.notes, open_core terms journal kept.notes)
 
   turn : IsTurnOf name queue picked
   turn = record { picked = refl; others = names_of takes.others; first = first_in_line }
 
-  pick_stands : MayStand actor cap (writes.Pick queue runtime) journal
-  pick_stands = plainly_stands actor cap (writes.Pick queue runtime) journal right_pick kept.no_pick kept.no_answer refl tt
+  pick_stands : turns journal < most_turns → MayStand terms (writes.Pick queue runtime) journal
+  pick_stands left = plainly_stands terms (writes.Pick queue runtime) journal kept.is_core (record { right = right_pick; turn_left = left }) kept.no_pick kept.no_answer refl tt
 
-  poll_stands : (before : Bool) → is_told name_started name journal ≡ before → MayStand actor cap (poll_note name before) picked
-  poll_stands false told = record { may_follow = (queue, turn, not_returning, told); turn = refl; effect = tt }
-  poll_stands true told = record { may_follow = (queue, turn, not_returning, told); turn = refl; effect = tt }
+  poll_stands : (before : Bool) → is_told name_started name journal ≡ before → MayStand terms (poll_note name before) picked
+  poll_stands false told = record { may_follow = (queue, turn, not_returning, told); turn = refl; effect = tt; writer = kept.is_core }
+  poll_stands true told = record { may_follow = (queue, turn, not_returning, told); turn = refl; effect = tt; writer = kept.is_core }
 
   its_queue : queue_of name journal ≡ Some queue
-  its_queue = (known_of actor cap journal kept.notes).line_queue queue name (rw (first_in_line, same_as_itself name))
+  its_queue = (known_of terms journal kept.notes).line_queue queue name (rw (first_in_line, same_as_itself name))
 
   pub exists : queue < queue_count old.queues
   exists = by_test (nat_le (queue_count old.queues) queue) refl
@@ -104,7 +106,7 @@ module _ {J T : Type 0} (actor cap : ℕ) (old new : CoreView J) (name : JobId) 
       by_test : (test : Bool) → (other == queue) ≡ test → (before : Bool) → names_of (waiting_of other new.queues) ≡ line other (poll_note name before ∷ picked)
       by_test true same before =
           let one : other ≡ queue = eqb-true other queue same in
-          let left = line-turn actor cap journal kept.notes queue runtime name (names_of takes.others) first_in_line in
+          let left = line-turn terms journal kept.notes queue runtime name (names_of takes.others) first_in_line in
           subst (λ at. names_of (waiting_of at new.queues) ≡ line at (poll_note name before ∷ picked)) (sym one) (ap names_of takes.line.changed ∙ sym (by_note before left))
         where
           by_note : (before : Bool) → TurnLeaves queue queue runtime name (names_of takes.others) journal → line queue (poll_note name before ∷ picked) ≡ names_of takes.others
@@ -112,7 +114,7 @@ module _ {J T : Type 0} (actor cap : ℕ) (old new : CoreView J) (name : JobId) 
           by_note true left = left.resumed
       by_test false apart before =
           let away : other ≡ queue → ⊥ = eqb-false other queue apart in
-          let left = line-turn_elsewhere actor cap journal kept.notes other queue runtime name (names_of takes.others) first_in_line away in
+          let left = line-turn_elsewhere terms journal kept.notes other queue runtime name (names_of takes.others) first_in_line away in
           ap names_of (takes.line.others other away) ∙ (kept.agrees.lines other ∙ sym (by_note before left))
         where
           by_note : (before : Bool) → TurnLeaves other queue runtime name (line other journal) journal → line other (poll_note name before ∷ picked) ≡ line other journal
@@ -125,7 +127,7 @@ module _ {J T : Type 0} (actor cap : ℕ) (old new : CoreView J) (name : JobId) 
       by_test : (test : Bool) → (other == queue) ≡ test → among name (names_of (waiting_of other new.queues)) ≡ false
       by_test true same =
           let one : other ≡ queue = eqb-true other queue same in
-          let distinct : Distinct (name ∷ names_of takes.others) = subst Distinct first_in_line ((apart_of actor cap journal kept.notes).distinct queue) in
+          let distinct : Distinct (name ∷ names_of takes.others) = subst Distinct first_in_line ((apart_of terms journal kept.notes).distinct queue) in
           ap (λ at. among name (names_of (waiting_of at new.queues))) one ∙ (ap (λ waiting. among name (names_of waiting)) takes.line.changed ∙ distinct.0)
       by_test false apart =
           let away : other ≡ queue → ⊥ = eqb-false other queue apart in
@@ -134,7 +136,7 @@ module _ {J T : Type 0} (actor cap : ℕ) (old new : CoreView J) (name : JobId) 
         where
           elsewhere : (other ≡ queue → ⊥) → among name (line other journal) ≡ true → ⊥
           elsewhere away there =
-              away (same_Some other queue (sym ((known_of actor cap journal kept.notes).line_queue other name there) ∙ its_queue))
+              away (same_Some other queue (sym ((known_of terms journal kept.notes).line_queue other name there) ∙ its_queue))
 
   marks_then : (other : ℕ) → AreMarked journal (waiting_of other new.queues)
   marks_then other = by_test (other == queue) refl
@@ -191,7 +193,7 @@ module _ {J T : Type 0} (actor cap : ℕ) (old new : CoreView J) (name : JobId) 
   delivered_now false sender known = ap (λ core. delivered_of sender core) takes.rest ∙ kept.agrees.delivered sender (rw (← ap (λ core. core.cores) takes.rest) known)
   delivered_now true sender known = ap (λ core. delivered_of sender core) takes.rest ∙ kept.agrees.delivered sender (rw (← ap (λ core. core.cores) takes.rest) known)
 
-  last_now : (before : Bool) → queue_count new.queues ≡ last_queue (poll_note name before ∷ picked) + 1
+  last_now : (before : Bool) → queue_count new.queues ≡ created_count (poll_note name before ∷ picked) + 1
   last_now false = takes.line.same_count ∙ kept.agrees.last
   last_now true = takes.line.same_count ∙ kept.agrees.last
 
@@ -203,12 +205,13 @@ module _ {J T : Type 0} (actor cap : ℕ) (old new : CoreView J) (name : JobId) 
   no_pick_now false = refl
   no_pick_now true = refl
 
-  no_answer_now : (before : Bool) → answer_due (poll_note name before ∷ picked) ≡ None
+  no_answer_now : (before : Bool) → effect_awaited (poll_note name before ∷ picked) ≡ None
   no_answer_now false = refl
   no_answer_now true = refl
 
-  pub kept-picked : IsKept actor cap new polled
-  kept-picked = record {
+  pub kept-picked : turns journal < most_turns → IsKept terms new polled
+  kept-picked left = record {
+    is_core = kept.is_core;
     agrees = record {
       tallied = ap (λ core. length core.tallies) takes.rest ∙ (length-set old.tallies queue _ ∙ (kept.agrees.tallied ∙ sym takes.line.same_count));
       senders = ap (λ core. length core.delivered) takes.rest ∙ (kept.agrees.senders ∙ ap (λ cores. cores + 1) (sym (ap (λ core. core.cores) takes.rest)));
@@ -223,7 +226,7 @@ module _ {J T : Type 0} (actor cap : ℕ) (old new : CoreView J) (name : JobId) 
       out_exists = one_out;
       delivered = delivered_now was_started;
     };
-    notes = (poll_stands was_started (sym start_told), (pick_stands, kept.notes));
+    notes = (poll_stands was_started (sym start_told), (pick_stands left, kept.notes));
     no_pick = no_pick_now was_started;
     no_answer = no_answer_now was_started;
   }

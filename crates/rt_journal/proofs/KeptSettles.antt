@@ -5,6 +5,7 @@ use Rattle.std.proofs.lemmas.Bool.{eqb-true, eqb-false}
 use Rattle.std.proofs.lemmas.List.{map-append}
 use Rattle.std.proofs.lemmas.List.Elements.{All-append, All-cons, All-nil}
 use Rattle.rt_shares.specs.Charge.{charge}
+use Rattle.rt_ids.specs.Terms.{Terms}
 use Rattle.rt_ids.specs.declared.names.JobId.{JobId}
 use Rattle.rt_ids.specs.declared.note.Note.TheVariants as writes
 use Rattle.rt_ids.specs.Journal.{Journal, is_told}
@@ -25,8 +26,8 @@ use Rattle.rt_journal.proofs.Kept.{IsKept, plainly_stands, turns-stays}
 none≢some : {A : Type 0} (item : A) → None ≡ Some item → ⊥
 none≢some item same = cc
 
-module _ {J T : Type 0} (actor cap : ℕ) (old : CoreView J) (job : JobOut J) (time done : ℕ) (queues : QueuesView J) (journal : Journal T)
-    (kept : IsKept actor cap old journal) (at : old.out ≡ Some job) where
+module _ {J T : Type 0} (terms : Terms) (old : CoreView J) (job : JobOut J) (time done : ℕ) (queues : QueuesView J) (journal : Journal T)
+    (kept : IsKept terms old journal) (at : old.out ≡ Some job) where
   abbrev new : CoreView J
   new = settled_view old job time done queues
 
@@ -56,8 +57,9 @@ module _ {J T : Type 0} (actor cap : ℕ) (old : CoreView J) (job : JobOut J) (t
   abbrev is_marked : JobId × Bool × J → Type 0
   is_marked entry = entry.1 ≡ is_told name_started entry.0 journal
 
-  pub kept-yield : (back : J) → ChangesLine old.queues queues job.queue (waiting_of job.queue old.queues ++ (job.name, true, back) ∷ []) → IsKept actor cap new yielded
+  pub kept-yield : (back : J) → ChangesLine old.queues queues job.queue (waiting_of job.queue old.queues ++ (job.name, true, back) ∷ []) → IsKept terms new yielded
   kept-yield back changes = record {
+    is_core = kept.is_core;
     agrees = record {
       tallied = tallied_now changes.same_count;
       senders = kept.agrees.senders;
@@ -72,7 +74,7 @@ module _ {J T : Type 0} (actor cap : ℕ) (old : CoreView J) (job : JobOut J) (t
       out_exists = λ out none. absurd (none≢some out none);
       delivered = kept.agrees.delivered;
     };
-    notes = (plainly_stands actor cap (writes.Yield job.name time) journal is_out.0 kept.no_pick kept.no_answer refl tt, kept.notes);
+    notes = (plainly_stands terms (writes.Yield job.name time) journal kept.is_core is_out.0 kept.no_pick kept.no_answer refl tt, kept.notes);
     no_pick = refl;
     no_answer = refl;
   }
@@ -102,7 +104,7 @@ module _ {J T : Type 0} (actor cap : ℕ) (old : CoreView J) (job : JobOut J) (t
               subst (AreMarked yielded) (sym (ap (λ place. waiting_of place queues) one ∙ changes.changed))
               (
               All-append is_marked (waiting_of job.queue old.queues) ((job.name, true, back) ∷ []) (kept.agrees.marks job.queue)
-              (All-cons is_marked (job.name, true, back) [] (sym (is_told-alone actor cap job.name journal kept.notes is_out.0)) (All-nil is_marked))
+              (All-cons is_marked (job.name, true, back) [] (sym (is_told-alone terms job.name journal kept.notes is_out.0)) (All-nil is_marked))
               )
           by_test false apart = subst (AreMarked yielded) (sym (changes.others other (eqb-false other job.queue apart))) (kept.agrees.marks other)
 
@@ -121,13 +123,14 @@ module _ {J T : Type 0} (actor cap : ℕ) (old : CoreView J) (job : JobOut J) (t
   abbrev finished : T → Journal T
   finished value = writes.Done job.name time value ∷ journal
 
-  pub kept-done : (value : T) → queues ≡ old.queues → IsKept actor cap new (finished value)
+  pub kept-done : (value : T) → queues ≡ old.queues → IsKept terms new (finished value)
   kept-done value same = record {
+    is_core = kept.is_core;
     agrees = record {
       tallied = tallied_now (ap queue_count same);
       senders = kept.agrees.senders;
       last = ap queue_count same ∙ kept.agrees.last;
-      lines = λ other. ap (λ view. names_of (waiting_of other view)) same ∙ (kept.agrees.lines other ∙ sym (line-done actor cap journal kept.notes other time value job.name is_out.0));
+      lines = λ other. ap (λ view. names_of (waiting_of other view)) same ∙ (kept.agrees.lines other ∙ sym (line-done terms journal kept.notes other time value job.name is_out.0));
       marks = λ other. subst (λ view. AreMarked (finished value) (waiting_of other view)) (sym same) (kept.agrees.marks other);
       runtimes = runtimes;
       weights = λ other there. ap (λ view. shares_of other view) same ∙ kept.agrees.weights other (rw (← ap queue_count same) there);
@@ -137,7 +140,7 @@ module _ {J T : Type 0} (actor cap : ℕ) (old : CoreView J) (job : JobOut J) (t
       out_exists = λ out none. absurd (none≢some out none);
       delivered = kept.agrees.delivered;
     };
-    notes = (plainly_stands actor cap (writes.Done job.name time value) journal is_out.0 kept.no_pick kept.no_answer refl tt, kept.notes);
+    notes = (plainly_stands terms (writes.Done job.name time value) journal kept.is_core is_out.0 kept.no_pick kept.no_answer refl tt, kept.notes);
     no_pick = refl;
     no_answer = refl;
   }

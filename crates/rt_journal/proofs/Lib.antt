@@ -1,3 +1,4 @@
+pub mod Sums
 pub mod NumberedOrders
 pub mod Kept
 pub mod KeptDeliveries
@@ -9,3 +10,8 @@ pub mod KeptSettles
 pub mod PollsMade
 pub mod TurnNotes
 pub mod AllOutstanding
+pub mod TakenOrders
+pub mod CarriedOut
+pub mod EndsKept
+pub mod Received
+pub mod Quiet

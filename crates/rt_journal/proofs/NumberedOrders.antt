@@ -2,7 +2,8 @@
 use Rattle.std.proofs.Common.{◌≡◌, ℕ, zero, suc, ◌+◌, ◌≤◌, List, [], ◌∷◌, ◌++◌, length, refl, ◌∙◌, ap, arith, get_or, take}
 use Rattle.std.specs.Prelude.{Some, slice_get, map}
 use Rattle.rt_ids.specs.declared.order.Order.{Order}
-use Rattle.rt_journal.specs.Orders.{order_note, numbered_orders}
+use Rattle.rt_ids.specs.Orders.{without_job}
+use Rattle.rt_journal.specs.Orders.{numbered_orders}
 
 -- reading a mapped list
 pub get_or-map : {A B : Type 0} (f : A → B) (items : List A) (place : ℕ) (default : A) → get_or (map f items) place (f default) ≡ f (get_or items place default)
@@ -37,23 +38,23 @@ module _ {J : Type 0} (sender core : ℕ) where
   -- one more order has the next number
   pub numbered-append : (before : ℕ) (orders : List (Order J)) (order : Order J) →
       numbered_orders sender core before (orders ++ order ∷ [])
-      ≡ numbered_orders sender core before orders ++ (record { from = sender; to = core; number = before + length orders + 1 }, order_note order) ∷ []
-  numbered-append before [] order = ap (λ number. (record { from = sender; to = core; number = number }, order_note order) ∷ []) (omega arith)
+      ≡ numbered_orders sender core before orders ++ (record { from = sender; to = core; number = before + length orders + 1 }, without_job order) ∷ []
+  numbered-append before [] order = ap (λ number. (record { from = sender; to = core; number = number }, without_job order) ∷ []) (omega arith)
   numbered-append before (first ∷ orders) order =
-      ap (λ rest. (record { from = sender; to = core; number = before + 1 }, order_note first) ∷ rest)
+      ap (λ rest. (record { from = sender; to = core; number = before + 1 }, without_job first) ∷ rest)
       (
       numbered-append (before + 1) orders order
-      ∙ ap (λ number. numbered_orders sender core (before + 1) orders ++ (record { from = sender; to = core; number = number }, order_note order) ∷ []) (omega arith)
+      ∙ ap (λ number. numbered_orders sender core (before + 1) orders ++ (record { from = sender; to = core; number = number }, without_job order) ∷ []) (omega arith)
       )
 
   -- the order at a place has the name of that place
   pub slice_get-numbered : (before : ℕ) (orders : List (Order J)) (place : ℕ) (order : Order J) → slice_get orders place ≡ Some order →
-      slice_get (numbered_orders sender core before orders) place ≡ Some (record { from = sender; to = core; number = before + place + 1 }, order_note order)
+      slice_get (numbered_orders sender core before orders) place ≡ Some (record { from = sender; to = core; number = before + place + 1 }, without_job order)
   slice_get-numbered before [] place order at = cc
   slice_get-numbered before (first ∷ orders) zero order at =
       let one : first ≡ order = cc in
-      ap (λ what. Some (record { from = sender; to = core; number = before + 1 }, order_note what)) one
-      ∙ ap (λ number. Some (record { from = sender; to = core; number = number }, order_note order)) (omega arith)
+      ap (λ what. Some (record { from = sender; to = core; number = before + 1 }, without_job what)) one
+      ∙ ap (λ number. Some (record { from = sender; to = core; number = number }, without_job order)) (omega arith)
   slice_get-numbered before (first ∷ orders) (suc place) order at =
       slice_get-numbered (before + 1) orders place order at
-      ∙ ap (λ number. Some (record { from = sender; to = core; number = number }, order_note order)) (omega arith)
+      ∙ ap (λ number. Some (record { from = sender; to = core; number = number }, without_job order)) (omega arith)

@@ -1,12 +1,15 @@
 -- When what a core tells of itself is what its journal says.
 use Rattle.std.specs.Prelude.{◌≡◌, ℕ, ◌+◌, ◌<◌, ◌≤◌, Bool, Option, Some, None, List, [], ◌∷◌, length, map, All}
+use Rattle.rt_ids.specs.Terms.{Terms}
 use Rattle.rt_ids.specs.declared.names.JobId.{JobId}
-use Rattle.rt_ids.specs.Journal.{Journal, is_told}
+use Rattle.rt_ids.specs.Journal.{Journal, EachNote, is_told}
 use Rattle.rt_ids.specs.Filters.{delivered_names, name_started}
 use Rattle.rt_ids.specs.Work.{queue_of}
 use Rattle.rt_ids.specs.Runtimes.{virtual_runtime, shares, floor}
 use Rattle.rt_ids.specs.Lines.{line, jobs_out}
-use Rattle.rt_ids.specs.Commands.{last_queue}
+use Rattle.rt_ids.specs.Clauses.{queue_just_picked}
+use Rattle.rt_ids.specs.Commands.{created_count, effect_awaited}
+use Rattle.rt_ids.specs.Lawful.{MayStand}
 use Rattle.rt_ids.specs.Picks.{turns}
 use Rattle.rt_taskqueue.specs.Queues.{queue_count, shares_of, waiting_of}
 use Rattle.rt_core.specs.State.{CoreView, JobOut, runtime_of, delivered_of}
@@ -28,7 +31,7 @@ module _ {J T : Type 0} where
   pub record Agrees (core : CoreView J) (journal : Journal T) : Type 0 where
     pub tallied : length core.tallies ≡ queue_count core.queues
     pub senders : length core.delivered ≡ core.cores + 1
-    pub last : queue_count core.queues ≡ last_queue journal + 1
+    pub last : queue_count core.queues ≡ created_count journal + 1
     pub lines : (queue : ℕ) → names_of (waiting_of queue core.queues) ≡ line queue journal
     pub marks : (queue : ℕ) → AreMarked journal (waiting_of queue core.queues)
     pub runtimes : (queue : ℕ) → runtime_of queue core ≡ virtual_runtime queue journal
@@ -38,3 +41,11 @@ module _ {J T : Type 0} where
     pub out : IsJobOut core.out journal
     pub out_exists : (job : JobOut J) → core.out ≡ Some job → job.queue < queue_count core.queues
     pub delivered : (sender : ℕ) → sender ≤ core.cores → delivered_of sender core ≡ length (delivered_names sender journal)
+
+-- the journal is one of notes that may stand where they stand, with no step half done but for a poll, and the core agrees with it
+pub record IsKept {J T : Type 0} (terms : Terms) (core : CoreView J) (journal : Journal T) : Type 0 where
+  pub is_core : terms.actor < terms.cores
+  pub agrees : Agrees core journal
+  pub notes : EachNote (MayStand terms) journal
+  pub no_pick : queue_just_picked journal ≡ None
+  pub no_answer : effect_awaited journal ≡ None

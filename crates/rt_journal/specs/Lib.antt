@@ -3,3 +3,6 @@ pub mod Orders
 pub mod Polls
 pub mod Deliveries
 pub mod Agreement
+pub mod Recorded
+pub mod Ends
+pub mod Steps

@@ -3,8 +3,6 @@
 
 pub mod assembly;
 pub mod journal;
-pub mod orders;
 
 pub use assembly::Assembly;
 pub use journal::Journal;
-pub use orders::with_note;

@@ -83,7 +83,7 @@ pub fn charge(time: u64, shares: &Shares) -> u64
     (counted * 1000 + (weight - 1)) / weight
 }
 
-/// Where a queue without work is placed as it gets a job.
+/// The virtual runtime at which a queue without work starts as it gets a job.
 pub fn placed(runtime: u128, floor: u128) -> u128
     ensures { result ≡ spec.placed runtime floor }
 {

@@ -21,11 +21,11 @@ use Rattle.rt_link.specs.Whole.{IsLink}
 use Rattle.rt_taskqueue.specs.Queues.{queue_count, held_count}
 use Rattle.rt_core.specs.State.{CoreView, inside_count}
 use Rattle.rt_core.specs.Deliveries.{Creates, Weighs, counted}
-use Rattle.rt_world.specs.State.{order_note, assembly_of}
+use Rattle.rt_world.specs.State.{without_job, assembly_of}
 use Rattle.rt_world.specs.Deliveries.{IsDelivery}
 use Rattle.rt_world.specs.Turns.{polls_made}
 use Rattle.rt_world.specs.Links.{link_at, ChangesLink}
-use Rattle.rt_world.specs.Inside.{Parts, core_at, notes_at, world_of}
+use Rattle.rt_world.specs.Inside.{terms_in, Parts, core_at, notes_at, world_of}
 use Rattle.rt_world.specs.Tasks.{IsWorld}
 use Rattle.rt_journal.proofs.Kept.{IsKept}
 use Rattle.rt_journal.proofs.KeptCommands.{kept-created, kept-weighed}
@@ -49,16 +49,16 @@ module _ {J T : Type 0} (same : J → J → Type 0) (made : J → ℕ) (polls : 
   abbrev view : CoreView J
   view = core_at core old.inside
 
-  kept : IsKept core old.cap view journal
+  kept : IsKept (terms_in core old) view journal
   kept = next_delivery.kept same made polls fits ready old world sender core there core_there order at number next
 
-  is_next : IsNextDelivered core name journal
+  is_next : IsNextDelivered (terms_in core old) name journal
   is_next = next_delivery.is_next same made polls fits ready old world sender core there core_there order at number next
 
   its_sender : sender ≤ view.cores
   its_sender = next_delivery.its_sender same made polls fits ready old world sender core there core_there order at number next
 
-  sent_as : (what : Order J) → order ≡ what → order_of name (assembly_of (world_of old)) ≡ Some (order_note what)
+  sent_as : (what : Order J) → order ≡ what → order_of name (assembly_of (world_of old)) ≡ Some (without_job what)
   sent_as = next_delivery.sent_as same made polls fits ready old world sender core there core_there order at number next
 
   was_polls_twice : (which : JobId) → polls_made which journal + 0 + 0 ≡ polls_made which journal
@@ -88,14 +88,14 @@ module _ {J T : Type 0} (same : J → J → Type 0) (made : J → ℕ) (polls : 
       delivered.delivered_world same made polls fits ready is_same old world sender core there core_there order at number next links changes taken law
       after_core (writes.Created queue weight ∷ writes.Answered name (answers.Created queue) ∷ journal) done in (
         world_after
-            (tt, (ap is_command (sent name (Create weight) (sent_as (Create weight) is)), journal_sent))
+            (λ has. (Create weight, sent name (Create weight) (sent_as (Create weight) is), refl), ((Create weight, sent name (Create weight) (sent_as (Create weight) is), answered.0), journal_sent))
             (tasks creates.added.same_lines was_polls_twice),
         subst (λ what. IsDelivery name what journal (writes.Created queue weight ∷ writes.Answered name (answers.Created queue) ∷ [])) (sym is)
             (answers.Created queue, answered.0, refl),
       )
     where
-      answered : IsAnswer (Create weight) (answers.Created queue) journal × IsKept core old.cap after_core (writes.Created queue weight ∷ writes.Answered name (answers.Created queue) ∷ journal)
-      answered = kept-created core old.cap view after_core name queue weight journal kept is_next its_sender in_range now number_is creates
+      answered : IsAnswer (Create weight) (answers.Created queue) journal × IsKept (terms_in core old) after_core (writes.Created queue weight ∷ writes.Answered name (answers.Created queue) ∷ journal)
+      answered = kept-created (terms_in core old) view after_core name queue weight journal kept is_next its_sender in_range now number_is creates
 
       held_same : inside_count after_core ≡ inside_count view
       held_same =
@@ -131,14 +131,14 @@ module _ {J T : Type 0} (same : J → J → Type 0) (made : J → ℕ) (polls : 
       delivered.delivered_world same made polls fits ready is_same old world sender core there core_there order at number next links changes taken law
       after_core (writes.SharesSet queue weight ∷ writes.Answered name answers.SharesSet ∷ journal) done in (
         world_after
-            (tt, (ap is_command (sent name (SetShares queue weight) (sent_as (SetShares queue weight) is)), journal_sent))
+            (λ has. (SetShares queue weight, sent name (SetShares queue weight) (sent_as (SetShares queue weight) is), refl), ((SetShares queue weight, sent name (SetShares queue weight) (sent_as (SetShares queue weight) is), answered.0), journal_sent))
             (tasks weighs.shares.same_lines was_polls_twice),
         subst (λ what. IsDelivery name what journal (writes.SharesSet queue weight ∷ writes.Answered name answers.SharesSet ∷ [])) (sym is)
             (answers.SharesSet, answered.0, refl),
       )
     where
-      answered : IsAnswer (SetShares queue weight) answers.SharesSet journal × IsKept core old.cap after_core (writes.SharesSet queue weight ∷ writes.Answered name answers.SharesSet ∷ journal)
-      answered = kept-weighed core old.cap view after_core name queue weight journal kept is_next its_sender in_range now weighs
+      answered : IsAnswer (SetShares queue weight) answers.SharesSet journal × IsKept (terms_in core old) after_core (writes.SharesSet queue weight ∷ writes.Answered name answers.SharesSet ∷ journal)
+      answered = kept-weighed (terms_in core old) view after_core name queue weight journal kept is_next its_sender in_range now weighs
 
       held_same : inside_count after_core ≡ inside_count view
       held_same =

@@ -2,6 +2,7 @@
 use Rattle.std.proofs.Common.{◌≡◌, inl, ℕ, ◌+◌, ◌<◌, ◌≤◌, true, false, List, [], ◌∷◌, length, reverse, refl, sym, ◌∙◌, ap, subst, arith}
 use Rattle.std.specs.Prelude.{Option, Some, slice_get}
 use Rattle.std.proofs.lemmas.Bool.{le-leb, lt-leb}
+use Rattle.rt_ids.specs.Orders.{IsSpelledOrder, without_job}
 use Rattle.rt_ids.specs.declared.names.JobId.{JobId}
 use Rattle.rt_ids.specs.declared.note.Note.{Note}
 use Rattle.rt_ids.specs.declared.note.Note.TheVariants as writes
@@ -12,7 +13,7 @@ use Rattle.rt_ids.specs.declared.order.Order.TheVariants.{Job, Create, SetShares
 use Rattle.rt_ids.specs.declared.order.Outcome.{Outcome}
 use Rattle.rt_ids.specs.Journal.{Journal}
 use Rattle.rt_ids.specs.Assembly.{is_command}
-use Rattle.rt_ids.specs.Commands.{last_queue, IsAnswer, has_effect}
+use Rattle.rt_ids.specs.Commands.{created_count, IsAnswer, has_effect}
 use Rattle.rt_jobs.specs.declared.job.Step.{Step}
 use Rattle.rt_jobs.specs.Steps.{IsSameTask}
 use Rattle.rt_link.specs.declared.plain.Whole.{Whole}
@@ -22,11 +23,9 @@ use Rattle.rt_core.specs.declared.delivery.Delivered.{Delivered}
 use Rattle.rt_core.specs.declared.delivery.Delivered.TheVariants.{Took, Back, Answered}
 use Rattle.rt_core.specs.State.{CoreView}
 use Rattle.rt_core.specs.Deliveries.{Delivers as CarriesOut, CountsAlone}
-use Rattle.rt_world.specs.State.{order_note}
 use Rattle.rt_world.specs.Deliveries.{IsDelivery}
-use Rattle.rt_world.specs.Opening.{HasShares}
 use Rattle.rt_world.specs.Links.{link_at, ChangesLink}
-use Rattle.rt_world.specs.Inside.{Parts, core_at, notes_at, IsCoreAtRest}
+use Rattle.rt_world.specs.Inside.{terms_in, Parts, core_at, notes_at, IsCoreAtRest}
 use Rattle.rt_world.specs.Tasks.{IsWorld}
 use Rattle.rt_journal.proofs.Kept.{open_core}
 use Rattle.rt_world.proofs.WorldDelivered.{Results}
@@ -60,28 +59,27 @@ module _ {J T : Type 0} (same : J → J → Type 0) (made : J → ℕ) (polls : 
   -- a creation that is refused, by why
   full_answer : queue_count view.queues ≡ 256 → (weight : ℕ) → IsAnswer (Create weight) answers.TooMany journal
   full_answer count weight =
-      rw (open_core core old.cap journal (world.lawful core (omega (arith, core_there))).notes, le-leb 255 (last_queue journal) (omega (arith, count, rest.agrees.last))) refl
+      rw (open_core (terms_in core old) journal (world.lawful core (omega (arith, core_there))).notes, le-leb 255 (created_count journal) (omega (arith, count, rest.agrees.last))) refl
 
   memory_answer : queue_count view.queues < 256 → (weight : ℕ) → IsAnswer (Create weight) answers.NoMemory journal
   memory_answer count weight =
-      rw (open_core core old.cap journal (world.lawful core (omega (arith, core_there))).notes, lt-leb 255 (last_queue journal) (omega (arith, count, rest.agrees.last))) (inl refl)
+      rw (open_core (terms_in core old) journal (world.lawful core (omega (arith, core_there))).notes, lt-leb 255 (created_count journal) (omega (arith, count, rest.agrees.last))) (inl refl)
 
   missing_answer : (queue weight : ℕ) → queue_count view.queues ≤ queue → IsAnswer (SetShares queue weight) answers.NoQueue journal
-  missing_answer queue weight missing = rw (lt-leb queue (last_queue journal) (omega (arith, missing, rest.agrees.last))) refl
+  missing_answer queue weight missing = rw (lt-leb queue (created_count journal) (omega (arith, missing, rest.agrees.last))) refl
 
   -- a command that is refused is answered, and nothing else is done
-  refused : (what : Order J) → order ≡ what → is_command (Some (order_note what)) ≡ true → (answer : Answer) → IsAnswer (order_note what) answer journal →
+  refused : (what : Order J) → order ≡ what → (answer : Answer) → IsAnswer (without_job what) answer journal →
       has_effect answer ≡ false → IsDelivery name what journal (writes.Answered name answer ∷ []) → (new : CoreView J) → CountsAlone view name new →
       (written : List (Note T)) → written ≡ writes.Answered name answer ∷ [] → Comes new (reverse written)
-  refused what is command answer right plain delivery new counts written written_is =
+  refused what is answer right plain delivery new counts written written_is =
       subst (λ notes. Comes new (reverse notes)) (sym written_is)
       (answers_alone same made polls fits ready is_same old world sender core there core_there order at number next links changes taken law new counts answer
-      (subst (λ which. is_command (Some (order_note which)) ≡ true) (sym is) command)
-      (subst (λ which. IsAnswer (order_note which) answer journal) (sym is) right) plain
+      (subst (λ which. IsAnswer (without_job which) answer journal) (sym is) right) plain
       (subst (λ which. IsDelivery name which journal (writes.Answered name answer ∷ [])) (sym is) delivery))
 
   -- whatever the core does with the order: the world is at rest, with the notes that the rules give
-  pub carried_out : (what : Order J) → order ≡ what → HasShares what → (delivered : Delivered J) (new : CoreView J) (written : List (Note T)) →
+  pub carried_out : (what : Order J) → order ≡ what → IsSpelledOrder (without_job what) → (delivered : Delivered J) (new : CoreView J) (written : List (Note T)) →
       CarriesOut view name what delivered new written → Comes new (reverse written)
   carried_out (Job queue job) is shares Took new written does =
       subst (λ notes. Comes new (reverse notes)) (sym does.1)
@@ -97,19 +95,19 @@ module _ {J T : Type 0} (same : J → J → Type 0) (made : J → ℕ) (polls : 
       (creates_queue same made polls fits ready is_same old world sender core there core_there order at number next links changes taken law new queue weight is shares does.0 does.1 does.2)
   carried_out (Create weight) is shares (Answered answers.TooMany) new written does =
       let right = full_answer does.0 weight in
-      refused (Create weight) is refl answers.TooMany right refl (answers.TooMany, right, refl) new does.1 written does.2
+      refused (Create weight) is answers.TooMany right refl (answers.TooMany, right, refl) new does.1 written does.2
   carried_out (Create weight) is shares (Answered answers.NoMemory) new written does =
       let right = memory_answer does.0 weight in
-      refused (Create weight) is refl answers.NoMemory right refl (answers.NoMemory, right, refl) new does.1 written does.2
+      refused (Create weight) is answers.NoMemory right refl (answers.NoMemory, right, refl) new does.1 written does.2
   carried_out (Create weight) is shares (Answered _) new written does = absurd does
   carried_out (SetShares queue weight) is shares Took new written does = absurd does
   carried_out (SetShares queue weight) is shares (Back reason back) new written does = absurd does
   carried_out (SetShares queue weight) is shares (Answered answers.SharesSet) new written does =
       subst (λ notes. Comes new (reverse notes)) (sym does.2)
-      (sets_shares same made polls fits ready is_same old world sender core there core_there order at number next links changes taken law new queue weight is shares does.0 does.1)
+      (sets_shares same made polls fits ready is_same old world sender core there core_there order at number next links changes taken law new queue weight is shares.1 does.0 does.1)
   carried_out (SetShares queue weight) is shares (Answered answers.NoQueue) new written does =
       let right = missing_answer queue weight does.0 in
-      refused (SetShares queue weight) is refl answers.NoQueue right refl (answers.NoQueue, right, refl) new does.1 written does.2
+      refused (SetShares queue weight) is answers.NoQueue right refl (answers.NoQueue, right, refl) new does.1 written does.2
   carried_out (SetShares queue weight) is shares (Answered _) new written does = absurd does
 
   -- at most two notes are written

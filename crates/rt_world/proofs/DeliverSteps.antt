@@ -2,6 +2,7 @@
 use Rattle.std.proofs.Common.{◌≡◌, ℕ, zero, suc, ◌+◌, ◌<◌, ◌≤◌, List, [], ◌∷◌, ◌++◌, length, reverse, refl, sym, ◌∙◌, ap, subst, arith, get_or, set}
 use Rattle.std.specs.Prelude.{Option, Some, None, slice_get, map}
 use Rattle.std.proofs.lemmas.List.{get_or_default, map-set}
+use Rattle.rt_ids.specs.Orders.{IsSpelledOrder, without_job}
 use Rattle.rt_ids.specs.declared.names.JobId.{JobId}
 use Rattle.rt_ids.specs.declared.note.Note.{Note}
 use Rattle.rt_ids.specs.declared.order.Envelope.{Envelope}
@@ -18,7 +19,6 @@ use Rattle.rt_core.specs.State.{CoreView, inside_count, delivered_of, opened}
 use Rattle.rt_core.specs.Deliveries.{Delivers as CarriesOut}
 use Rattle.rt_world.specs.State.{WorldView, journal_at, sent_at, noted}
 use Rattle.rt_world.specs.Deliveries.{IsDelivery, Delivers, next_place}
-use Rattle.rt_world.specs.Opening.{HasShares}
 use Rattle.rt_world.specs.declared.event.Reply.TheVariants as reply
 use Rattle.rt_journal.specs.Journals.{JournalView}
 use Rattle.rt_world.specs.Links.{link_at, ChangesLink}
@@ -111,13 +111,12 @@ module _ {J T : Type 0} (same : J → J → Type 0) (made : J → ℕ) (polls : 
             next_for_core same made polls fits ready old world sender core there core_there envelope.order at,
           ))
 
-      module _ (order : Order J) (order_is : order ≡ envelope.order) (shares : HasShares envelope.order) (delivered : Delivered J) (new : CoreView J) (written : List (Note T))
-          (does : CarriesOut view envelope.name order delivered new written) where
+      module _ (shares : IsSpelledOrder (without_job envelope.order)) (delivered : Delivered J) (new : CoreView J) (written : List (Note T))
+          (does : CarriesOut view envelope.name envelope.order delivered new written) where
         its_does : CarriesOut (core_at core old.inside) name envelope.order delivered new written
         its_does =
             subst (λ core. CarriesOut core name envelope.order delivered new written) view_is
-            (subst (λ id. CarriesOut view id envelope.order delivered new written) name_is
-            (subst (λ what. CarriesOut view envelope.name what delivered new written) order_is does))
+            (subst (λ id. CarriesOut view id envelope.order delivered new written) name_is does)
 
         pub few : length written ≤ 2
         few = few_notes same made polls fits ready is_same old world sender core there core_there envelope.order at number refl links its_changes taken law envelope.order delivered new written its_does

@@ -12,7 +12,7 @@ use Rattle.rt_ids.specs.declared.order.Mode.{Mode}
 use Rattle.rt_ids.specs.declared.order.Order.{Order}
 use Rattle.rt_ids.specs.declared.order.Order.TheVariants.{Job, Create, SetShares}
 use Rattle.rt_ids.specs.Closing.{core_mode}
-use Rattle.rt_ids.specs.Commands.{last_queue, IsCreationAnswer, IsAnswer, effect_note}
+use Rattle.rt_ids.specs.Commands.{created_count, IsCreationAnswer, IsAnswer, effect_note}
 use Rattle.rt_ids.specs.Journal.{Journal}
 use Rattle.rt_world.specs.declared.event.Reply.{Reply}
 use Rattle.rt_world.specs.declared.event.Reply.TheVariants as reply
@@ -58,7 +58,7 @@ module _ {J T : Type 0} (name : JobId) (before : Journal T) where
           (answer ≡ other) ⊎ ((tells_refusal (notes_of name (Create weight) before answer) ≡ true) ⊎ (tells_refusal (notes_of name (Create weight) before other) ≡ true))
       once answer other is is_other =
           ⊎_elim inl (λ refused. inr (⊎_elim (λ told. inl (refusal_told answer told)) (λ told. inr (refusal_told other told)) refused))
-          (creation_once (core_mode before) (nat_le 255 (last_queue before)) (last_queue before + 1) answer other is is_other)
+          (creation_once (core_mode before) (nat_le 255 (created_count before)) (created_count before + 1) answer other is is_other)
 
 module _ {J T : Type 0} (core sender : ℕ) (old : WorldView J T) (there : core < length old.journals) where
   abbrev name : JobId

@@ -8,9 +8,10 @@ use Rattle.rt_ids.specs.Filters.{accepted_orders}
 use Rattle.rt_ids.specs.Journal.{Journal}
 use Rattle.rt_ids.specs.Outstanding.{outstanding_count}
 use Rattle.rt_ids.specs.Lawful.{IsNextSent}
+use Rattle.rt_world.specs.State.{terms_at}
 use Rattle.rt_world.specs.declared.event.Reply.{Reply}
 use Rattle.rt_world.specs.declared.event.Reply.TheVariants as reply
-use Rattle.rt_world.specs.State.{WorldView, order_note, journal_at, noted, with_sent}
+use Rattle.rt_world.specs.State.{WorldView, without_job, journal_at, noted, with_sent}
 use Rattle.rt_world.specs.Sends.{Sends}
 
 module _ {J T : Type 0} (sender core : ℕ) (order : Order J) (old : WorldView J T) where
@@ -25,7 +26,7 @@ module _ {J T : Type 0} (sender core : ℕ) (order : Order J) (old : WorldView J
 
   -- the world after the order was accepted under this name
   abbrev with_name : JobId → WorldView J T
-  with_name name = record (noted sender (writes.Sent name (order_note order) ∷ []) old) { sent = with_sent sender core order old }
+  with_name name = record (noted sender (writes.Sent name (without_job order) ∷ []) old) { sent = with_sent sender core order old }
 
   -- the order was accepted under the next name
   record IsAccepted (new : WorldView J T) (answer : Reply J) : Type 0 where
@@ -47,7 +48,7 @@ module _ {J T : Type 0} (sender core : ℕ) (order : Order J) (old : WorldView J
     told : answer ≡ reply.NotSent (Spent order)
     same : new ≡ old
 
-  name_is : (name : JobId) → IsNextSent sender old.cap name journal → name.to ≡ core → name ≡ next_name
+  name_is : (name : JobId) → IsNextSent (terms_at sender old) name (without_job order) journal → name.to ≡ core → name ≡ next_name
   name_is name next to = λ i. record { from = next.sender i; to = to i; number = number i }
     where
       number : name.number ≡ accepted + 1

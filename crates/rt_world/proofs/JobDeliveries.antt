@@ -23,11 +23,11 @@ use Rattle.rt_link.specs.Whole.{IsLink}
 use Rattle.rt_taskqueue.specs.Queues.{waiting_of, held_count}
 use Rattle.rt_core.specs.State.{CoreView, inside_count}
 use Rattle.rt_core.specs.Deliveries.{Enters}
-use Rattle.rt_world.specs.State.{order_note, journal_at, order_under, assembly_of}
+use Rattle.rt_world.specs.State.{without_job, journal_at, order_under, assembly_of}
 use Rattle.rt_world.specs.Deliveries.{IsDelivery, entry_note}
 use Rattle.rt_world.specs.Turns.{polls_made}
 use Rattle.rt_world.specs.Links.{link_at, ChangesLink}
-use Rattle.rt_world.specs.Inside.{Parts, core_at, notes_at, world_of, IsCoreAtRest}
+use Rattle.rt_world.specs.Inside.{terms_in, Parts, core_at, notes_at, world_of, IsCoreAtRest}
 use Rattle.rt_world.specs.Tasks.{OwesAfter, HasTask, IsWorld}
 use Rattle.rt_journal.proofs.Kept.{IsKept}
 use Rattle.rt_journal.proofs.KeptDeliveries.{kept-took, refusal-exists}
@@ -57,13 +57,13 @@ module _ {J T : Type 0} (same : J → J → Type 0) (made : J → ℕ) (polls : 
   rest : IsCoreAtRest core old.cores old.cap view journal
   rest = next_delivery.rest same made polls fits ready old world sender core there core_there order at number next
 
-  was_lawful : IsLawful core old.cap journal
+  was_lawful : IsLawful (terms_in core old) journal
   was_lawful = next_delivery.was_lawful same made polls fits ready old world sender core there core_there order at number next
 
-  kept : IsKept core old.cap view journal
+  kept : IsKept (terms_in core old) view journal
   kept = next_delivery.kept same made polls fits ready old world sender core there core_there order at number next
 
-  is_next : IsNextDelivered core name journal
+  is_next : IsNextDelivered (terms_in core old) name journal
   is_next = next_delivery.is_next same made polls fits ready old world sender core there core_there order at number next
 
   its_sender : sender ≤ view.cores
@@ -72,7 +72,7 @@ module _ {J T : Type 0} (same : J → J → Type 0) (made : J → ℕ) (polls : 
   under_name : order_under name (world_of old) ≡ Some order
   under_name = next_delivery.under_name same made polls fits ready old world sender core there core_there order at number next
 
-  sent_as : (what : Order J) → order ≡ what → order_of name (assembly_of (world_of old)) ≡ Some (order_note what)
+  sent_as : (what : Order J) → order ≡ what → order_of name (assembly_of (world_of old)) ≡ Some (without_job what)
   sent_as = next_delivery.sent_as same made polls fits ready old world sender core there core_there order at number next
 
   was_polls : (which : JobId) → polls_made which journal + 0 ≡ polls_made which journal
@@ -91,7 +91,7 @@ module _ {J T : Type 0} (same : J → J → Type 0) (made : J → ℕ) (polls : 
 
     took_done : IsCarriedOut after_core took
     took_done = record {
-      kept_after = kept-took core old.cap view after_core name queue job journal kept is_next its_sender enters;
+      kept_after = kept-took (terms_in core old) view after_core name queue job journal kept is_next its_sender enters;
       free = ap (λ core. core.out) enters.rest;
       cores_same = ap (λ core. core.cores) enters.rest;
       room_same = enters.line.same_room;
@@ -110,7 +110,7 @@ module _ {J T : Type 0} (same : J → J → Type 0) (made : J → ℕ) (polls : 
         journal_at-world (after same made polls fits ready old core took (set old.inside core after_core) links) core
         ∙ notes_now same made polls fits ready old world core (omega (arith, core_there)) took (set old.inside core after_core) links
         )
-        ∙ (was_polls name ∙ polls_made-fresh core old.cap name journal was_lawful.notes fresh)
+        ∙ (was_polls name ∙ polls_made-fresh (terms_in core old) name journal was_lawful.notes fresh)
       where
         fresh : number ≤ length (delivered_names sender journal) → ⊥
         fresh late = omega (arith, late, is_next.next)
@@ -165,4 +165,4 @@ module _ {J T : Type 0} (same : J → J → Type 0) (made : J → ℕ) (polls : 
         )
       where
         accepted : refusal queue journal ≡ None
-        accepted = refusal-exists core old.cap journal was_lawful.notes queue (omega (arith, enters.exists, rest.agrees.last))
+        accepted = refusal-exists (terms_in core old) journal was_lawful.notes queue (omega (arith, enters.exists, rest.agrees.last))

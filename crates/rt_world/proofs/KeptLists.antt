@@ -15,7 +15,7 @@ use Rattle.rt_world.specs.declared.event.Event.{Event}
 use Rattle.rt_world.specs.declared.event.Event.TheVariants.{Send, Deliver, Turn}
 use Rattle.rt_world.specs.declared.event.Reply.{Reply}
 use Rattle.rt_world.specs.declared.event.Reply.TheVariants as reply
-use Rattle.rt_world.specs.State.{WorldView, order_note, journal_at, sent_at, noted, with_sent}
+use Rattle.rt_world.specs.State.{WorldView, without_job, journal_at, sent_at, noted, with_sent}
 use Rattle.rt_world.specs.Sends.{Sends}
 use Rattle.rt_world.specs.Deliveries.{Delivers}
 use Rattle.rt_world.specs.Turns.{poll_note, settle_note, Turns}
@@ -73,7 +73,7 @@ module _ {J T : Type 0} where
 
   sends : (sender core : ℕ) (order : Order J) (old new : WorldView J T) (answer : Reply J) → Sends sender core order old new answer → (new ≡ old) ⊎ IsLonger old new
   sends sender core order old new (reply.Sent name) happens =
-      inr (record { actor = sender; notes = writes.Sent name (order_note order) ∷ []; sent = with_sent sender core order old; kept = sent_rows sender core order old; is = happens.2 })
+      inr (record { actor = sender; notes = writes.Sent name (without_job order) ∷ []; sent = with_sent sender core order old; kept = sent_rows sender core order old; is = happens.2 })
   sends sender core order old new (reply.NotSent (Full back)) happens = inl happens.2
   sends sender core order old new (reply.NotSent (Spent back)) happens = inl happens.3
   sends sender core order old new _ happens = absurd happens

@@ -13,9 +13,9 @@ use Rattle.rt_jobs.specs.declared.job.Step.{Step}
 use Rattle.rt_link.specs.declared.plain.Whole.{Whole}
 use Rattle.rt_core.specs.State.{CoreView, delivered_of}
 use Rattle.rt_core.specs.Deliveries.{counted}
-use Rattle.rt_world.specs.State.{order_note, order_under, assembly_of}
+use Rattle.rt_world.specs.State.{without_job, order_under, assembly_of}
 use Rattle.rt_world.specs.Links.{link_at}
-use Rattle.rt_world.specs.Inside.{Parts, numbered_orders, core_at, notes_at, world_of, IsCoreAtRest}
+use Rattle.rt_world.specs.Inside.{terms_in, Parts, numbered_orders, core_at, notes_at, world_of, IsCoreAtRest}
 use Rattle.rt_world.specs.Tasks.{IsWorld}
 use Rattle.rt_journal.proofs.Kept.{IsKept}
 use Rattle.rt_world.proofs.WorldViews.{journal_of-world, sent_at-world, first_under-numbered}
@@ -44,13 +44,13 @@ module _ {J T : Type 0} (same : J → J → Type 0) (made : J → ℕ) (polls : 
   pub core_known : core ≤ old.cores
   core_known = omega (arith, core_there)
 
-  pub was_lawful : IsLawful core old.cap journal
+  pub was_lawful : IsLawful (terms_in core old) journal
   was_lawful = world.lawful core core_known
 
-  pub kept : IsKept core old.cap view journal
-  kept = record { agrees = rest.agrees; notes = was_lawful.notes; no_pick = was_lawful.no_pick; no_answer = was_lawful.no_answer }
+  pub kept : IsKept (terms_in core old) view journal
+  kept = record { is_core = core_there; agrees = rest.agrees; notes = was_lawful.notes; no_pick = was_lawful.no_pick; no_answer = was_lawful.no_answer }
 
-  pub is_next : IsNextDelivered core name journal
+  pub is_next : IsNextDelivered (terms_in core old) name journal
   is_next = next_delivered same made polls fits ready old world sender core there core_there order at number next
 
   pub its_sender : sender ≤ view.cores
@@ -72,15 +72,15 @@ module _ {J T : Type 0} (same : J → J → Type 0) (made : J → ℕ) (polls : 
       place_is : number - 1 ≡ link.taken
       place_is = omega (arith, next)
 
-  pub sent_as_order : order_of name (assembly_of (world_of old)) ≡ Some (order_note order)
+  pub sent_as_order : order_of name (assembly_of (world_of old)) ≡ Some (without_job order)
   sent_as_order =
       ap (λ journal. first_under name (accepted_orders core journal)) (journal_of-world old sender)
       ∙ (ap (first_under name) (world.between sender core there core_there).all_accepted
-      ∙ subst (λ at. first_under (record { from = sender; to = core; number = at }) (numbered_orders sender core 0 link.sent) ≡ Some (order_note order)) number_is (first_under-numbered sender core 0 link.sent link.taken order at))
+      ∙ subst (λ at. first_under (record { from = sender; to = core; number = at }) (numbered_orders sender core 0 link.sent) ≡ Some (without_job order)) number_is (first_under-numbered sender core 0 link.sent link.taken order at))
     where
       number_is : 0 + link.taken + 1 ≡ number
       number_is = omega (arith, next)
 
   -- it stands there without its task too
-  pub sent_as : (what : Order J) → order ≡ what → order_of name (assembly_of (world_of old)) ≡ Some (order_note what)
-  sent_as what is = sent_as_order ∙ ap (λ order. Some (order_note order)) is
+  pub sent_as : (what : Order J) → order ≡ what → order_of name (assembly_of (world_of old)) ≡ Some (without_job what)
+  sent_as what is = sent_as_order ∙ ap (λ order. Some (without_job order)) is

@@ -12,17 +12,17 @@ use Rattle.rt_ids.specs.declared.order.Order.{Order}
 use Rattle.rt_ids.specs.declared.order.Order.TheVariants.{Job, Create, SetShares}
 use Rattle.rt_ids.specs.declared.order.Reason.{Reason}
 use Rattle.rt_ids.specs.declared.order.SendError.TheVariants.{Full, Spent}
-use Rattle.rt_ids.specs.Commands.{last_queue, refusal, effect_note}
+use Rattle.rt_ids.specs.Commands.{created_count, refusal, effect_note}
 use Rattle.rt_ids.specs.Filters.{name_started}
 use Rattle.rt_ids.specs.Journal.{Journal, is_told}
-use Rattle.rt_ids.specs.Lawful.{IsOpening}
+use Rattle.rt_ids.specs.Commands.{IsOpening}
 use Rattle.rt_jobs.specs.declared.job.Step.{Step}
 use Rattle.rt_jobs.specs.declared.job.Step.TheVariants as steps
 use Rattle.rt_world.specs.declared.event.Event.{Event}
 use Rattle.rt_world.specs.declared.event.Event.TheVariants.{Send, Deliver, Turn}
 use Rattle.rt_world.specs.declared.event.Reply.{Reply}
 use Rattle.rt_world.specs.declared.event.Reply.TheVariants as reply
-use Rattle.rt_world.specs.State.{WorldView, order_note, journal_at, sent_at, noted, with_sent}
+use Rattle.rt_world.specs.State.{WorldView, without_job, journal_at, sent_at, noted, with_sent}
 use Rattle.rt_world.specs.Sends.{Sends}
 use Rattle.rt_world.specs.Deliveries.{entry_note, with_effect, IsDelivery, next_place, Delivers}
 use Rattle.rt_world.specs.Turns.{poll_note, settle_note, Turns}
@@ -139,7 +139,7 @@ module _ {J T : Type 0} where
   sends_plain : (sender core : ℕ) (order : Order J) → IsNoCreation order → (old new : WorldView J T) (answer : Reply J) → Sends sender core order old new answer → IsPlain old → IsPlain new
   sends_plain sender core order plain_order old new (reply.Sent name) happens plain =
       subst (λ world. IsPlain world) (sym happens.2)
-      (record { orders = in_rows sender core order plain_order old plain; told = not_told old sender (writes.Sent name (order_note order) ∷ []) refl plain.told })
+      (record { orders = in_rows sender core order plain_order old plain; told = not_told old sender (writes.Sent name (without_job order) ∷ []) refl plain.told })
   sends_plain sender core order plain_order old new (reply.NotSent (Full back)) happens plain = subst (λ world. IsPlain world) (sym happens.2) plain
   sends_plain sender core order plain_order old new (reply.NotSent (Spent back)) happens plain = subst (λ world. IsPlain world) (sym happens.3) plain
   sends_plain sender core order plain_order old new _ happens plain = absurd happens
@@ -149,7 +149,7 @@ module _ {J T : Type 0} where
   delivery_plain name (Create weight) before notes plain delivery = absurd plain
   delivery_plain name (SetShares queue weight) before notes plain delivery =
       ap tells_refusal delivery.2
-      ∙ (ap (λ answer. tells_refusal (shares_notes T name queue weight answer)) delivery.1 ∙ shares_plain T name queue weight (nat_le queue (last_queue before)))
+      ∙ (ap (λ answer. tells_refusal (shares_notes T name queue weight answer)) delivery.1 ∙ shares_plain T name queue weight (nat_le queue (created_count before)))
 
   delivers_plain : (core sender : ℕ) (old new : WorldView J T) (answer : Reply J) → Delivers core sender old new answer → IsPlain old → IsPlain new
   delivers_plain core sender old new reply.Noted happens plain =

@@ -50,7 +50,7 @@ module _ (room : ℕ) (enough : 100 ≤ room) where
   sends = (
     (omega arith, omega arith),
     some_room room 0 enough (omega arith),
-    (record { sender = refl; next = refl; in_range = few_names 1 (omega arith); credit = omega arith }, refl, refl),
+    (record { sender = refl; receiver = omega arith; next = refl; in_range = few_names 1 (omega arith); credit = omega arith; spelled = omega arith }, refl, refl),
   )
 
   delivers : Happens script_made ScriptPolls ScriptAnswers (Deliver 0 0) sent delivered reply.Noted

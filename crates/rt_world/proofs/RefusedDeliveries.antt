@@ -20,11 +20,11 @@ use Rattle.rt_link.specs.Whole.{IsLink}
 use Rattle.rt_taskqueue.specs.Queues.{queue_count, waiting_of}
 use Rattle.rt_core.specs.State.{CoreView, inside_count}
 use Rattle.rt_core.specs.Deliveries.{CountsAlone}
-use Rattle.rt_world.specs.State.{order_note, assembly_of}
+use Rattle.rt_world.specs.State.{without_job, assembly_of}
 use Rattle.rt_world.specs.Deliveries.{IsDelivery, entry_note}
 use Rattle.rt_world.specs.Turns.{polls_made}
 use Rattle.rt_world.specs.Links.{link_at, ChangesLink}
-use Rattle.rt_world.specs.Inside.{Parts, core_at, notes_at, world_of, IsCoreAtRest}
+use Rattle.rt_world.specs.Inside.{terms_in, Parts, core_at, notes_at, world_of, IsCoreAtRest}
 use Rattle.rt_world.specs.Tasks.{IsWorld}
 use Rattle.rt_journal.proofs.Kept.{IsKept}
 use Rattle.rt_journal.proofs.KeptDeliveries.{refusal-missing}
@@ -52,22 +52,22 @@ module _ {J T : Type 0} (same : J → J → Type 0) (made : J → ℕ) (polls : 
   rest : IsCoreAtRest core old.cores old.cap view journal
   rest = next_delivery.rest same made polls fits ready old world sender core there core_there order at number next
 
-  was_lawful : IsLawful core old.cap journal
+  was_lawful : IsLawful (terms_in core old) journal
   was_lawful = next_delivery.was_lawful same made polls fits ready old world sender core there core_there order at number next
 
-  kept : IsKept core old.cap view journal
+  kept : IsKept (terms_in core old) view journal
   kept = next_delivery.kept same made polls fits ready old world sender core there core_there order at number next
 
-  is_next : IsNextDelivered core name journal
+  is_next : IsNextDelivered (terms_in core old) name journal
   is_next = next_delivery.is_next same made polls fits ready old world sender core there core_there order at number next
 
   its_sender : sender ≤ view.cores
   its_sender = next_delivery.its_sender same made polls fits ready old world sender core there core_there order at number next
 
-  sent_as_order : order_of name (assembly_of (world_of old)) ≡ Some (order_note order)
+  sent_as_order : order_of name (assembly_of (world_of old)) ≡ Some (without_job order)
   sent_as_order = next_delivery.sent_as_order same made polls fits ready old world sender core there core_there order at number next
 
-  sent_as : (what : Order J) → order ≡ what → order_of name (assembly_of (world_of old)) ≡ Some (order_note what)
+  sent_as : (what : Order J) → order ≡ what → order_of name (assembly_of (world_of old)) ≡ Some (without_job what)
   sent_as = next_delivery.sent_as same made polls fits ready old world sender core there core_there order at number next
 
   was_polls : (which : JobId) → polls_made which journal + 0 ≡ polls_made which journal
@@ -101,17 +101,17 @@ module _ {J T : Type 0} (same : J → J → Type 0) (made : J → ℕ) (polls : 
         let world_after =
         delivered.delivered_world same made polls fits ready is_same old world sender core there core_there order at number next links changes taken law
         after_core (writes.Back name why.NoQueue ∷ journal) done in (
-          world_after ((queue, sent name (Job queue tt) (sent_as (Job queue job) is)), journal_sent)
+          world_after ((queue, sent name (Job queue tt) (sent_as (Job queue job) is), refused), journal_sent)
               (tasks lines_alone was_polls),
           subst (λ what. IsDelivery name what journal (writes.Back name why.NoQueue ∷ [])) (sym is) (ap (λ reason. entry_note name queue reason ∷ []) (sym refused)),
         )
       where
         refused : refusal queue journal ≡ Some why.NoQueue
-        refused = refusal-missing core old.cap journal was_lawful.notes queue (omega (arith, missing, rest.agrees.last))
+        refused = refusal-missing (terms_in core old) journal was_lawful.notes queue (omega (arith, missing, rest.agrees.last))
 
         done : IsCarriedOut after_core (writes.Back name why.NoQueue ∷ journal)
         done = record {
-          kept_after = kept-back core old.cap view after_core name journal kept is_next its_sender counts queue missing;
+          kept_after = kept-back (terms_in core old) view after_core name journal kept is_next its_sender counts queue missing;
           free = ap (λ core. core.out) counts;
           cores_same = ap (λ core. core.cores) counts;
           room_same = ap (λ core. core.queues.room) counts;
@@ -121,9 +121,9 @@ module _ {J T : Type 0} (same : J → J → Type 0) (made : J → ℕ) (polls : 
         }
 
     -- a command is answered, and nothing else is done
-    pub answers_alone : (answer : Answer) → is_command (Some (order_note order)) ≡ true → IsAnswer (order_note order) answer journal → has_effect answer ≡ false →
+    pub answers_alone : (answer : Answer) → IsAnswer (without_job order) answer journal → has_effect answer ≡ false →
         (IsDelivery name order journal (writes.Answered name answer ∷ [])) → Results after_core (writes.Answered name answer ∷ [])
-    answers_alone answer command right plain delivery =
+    answers_alone answer right plain delivery =
         let sent =
         delivered.stays_sent same made polls fits ready is_same old world sender core there core_there order at number next links changes taken law
         after_core (writes.Answered name answer ∷ journal) done in
@@ -137,14 +137,14 @@ module _ {J T : Type 0} (same : J → J → Type 0) (made : J → ℕ) (polls : 
         delivered.delivered_world same made polls fits ready is_same old world sender core there core_there order at number next links changes taken law
         after_core (writes.Answered name answer ∷ journal) done in (
           world_after
-              (ap is_command (sent name (order_note order) sent_as_order) ∙ command, journal_sent)
+              ((without_job order, sent name (without_job order) sent_as_order, right), journal_sent)
               (tasks lines_alone was_polls),
           delivery,
         )
       where
         done : IsCarriedOut after_core (writes.Answered name answer ∷ journal)
         done = record {
-          kept_after = kept-answered core old.cap view after_core name journal kept is_next its_sender counts (order_note order) answer right plain;
+          kept_after = kept-answered (terms_in core old) view after_core name journal kept is_next its_sender counts (without_job order) answer right plain;
           free = ap (λ core. core.out) counts;
           cores_same = ap (λ core. core.cores) counts;
           room_same = ap (λ core. core.queues.room) counts;

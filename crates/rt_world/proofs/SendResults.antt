@@ -2,6 +2,7 @@
 use Rattle.std.proofs.Common.{◌≡◌, ℕ, ◌+◌, ◌<◌, ◌≤◌, true, false, List, [], ◌∷◌, ◌++◌, length, refl, sym, ◌∙◌, ap, subst, arith, get_or, set}
 use Rattle.std.specs.Prelude.{Option, Result, Ok, Err}
 use Rattle.std.proofs.lemmas.Bool.{true≢false}
+use Rattle.rt_ids.specs.Orders.{IsSpelledOrder}
 use Rattle.rt_ids.specs.declared.names.JobId.{JobId}
 use Rattle.rt_ids.specs.declared.note.Note.TheVariants as writes
 use Rattle.rt_ids.specs.declared.order.Order.{Order}
@@ -14,12 +15,12 @@ use Rattle.rt_jobs.specs.declared.job.Step.{Step}
 use Rattle.rt_link.specs.declared.plain.Whole.{Whole}
 use Rattle.rt_link.specs.Whole.{out_of, IsLink}
 use Rattle.rt_link.specs.Calls.{Sends}
-use Rattle.rt_world.specs.State.{WorldView, order_note, journal_at}
+use Rattle.rt_world.specs.State.{WorldView, without_job, journal_at}
 use Rattle.rt_world.specs.Sends.{Sends as SendsOrder}
 use Rattle.rt_world.specs.declared.event.Reply.TheVariants as reply
 use Rattle.rt_journal.specs.Journals.{JournalView}
 use Rattle.rt_world.specs.Links.{link_at, ChangesLink}
-use Rattle.rt_world.specs.Inside.{Parts, notes_at, world_of, IsLinkBetween}
+use Rattle.rt_world.specs.Inside.{terms_in, Parts, notes_at, world_of, IsLinkBetween}
 use Rattle.rt_world.specs.Tasks.{IsWorld}
 use Rattle.rt_world.proofs.JournalReads.{journal_written}
 use Rattle.rt_world.proofs.SameLinks.{same_links}
@@ -40,7 +41,7 @@ module _ {J T : Type 0} (same : J → J → Type 0) (made : J → ℕ) (polls : 
   link = link_at sender core old.links
 
   abbrev Answers : Result ℕ (SendError J) → Type 0
-  Answers result = Sends (out_of link) link.redeemed order (out_of (link_at sender core links)) result
+  Answers result = Sends (out_of link) link.credited order (out_of (link_at sender core links)) result
 
   is_between : IsLinkBetween sender core old.cap link (accepted_orders core (notes_at sender old.journals)) (delivered_names sender (notes_at core old.journals))
   is_between = world.between sender core there core_there
@@ -50,17 +51,17 @@ module _ {J T : Type 0} (same : J → J → Type 0) (made : J → ℕ) (polls : 
 
   -- the world with the accepted order and its note
   abbrev with_order : ℕ → Parts J T
-  with_order number = after same made polls fits ready old sender (writes.Sent (name number) (order_note order) ∷ notes_at sender old.journals) old.inside links
+  with_order number = after same made polls fits ready old sender (writes.Sent (name number) (without_job order) ∷ notes_at sender old.journals) old.inside links
 
   -- the note of the accepted order, written on the journal that was read
   pub note_written : (number : ℕ) (view new : JournalView T) → view ≡ get_or old.journals sender view → (given : JobId) (what : Order (Unit {0})) →
-      given ≡ name number → what ≡ order_note order → new ≡ record view { notes = writes.Sent given what ∷ view.notes } →
+      given ≡ name number → what ≡ without_job order → new ≡ record view { notes = writes.Sent given what ∷ view.notes } →
       set old.journals sender new ≡ (with_order number).journals
   note_written number view new read given what given_is what_is is =
-      journal_written old world.all_there sender there view new read (writes.Sent (name number) (order_note order) ∷ [])
+      journal_written old world.all_there sender there view new read (writes.Sent (name number) (without_job order) ∷ [])
       (is ∙ (ap (λ id. record view { notes = writes.Sent id what ∷ view.notes }) given_is ∙ ap (λ told. record view { notes = writes.Sent (name number) told ∷ view.notes }) what_is))
 
-  module _ (number : ℕ) (accepts : Answers (Ok number)) where
+  module _ (number : ℕ) (accepts : Answers (Ok number)) (spelled : IsSpelledOrder (without_job order)) where
     longer : (link_at sender core links).sent ≡ link.sent ++ order ∷ []
     longer = ap (λ out. out.sent) accepts.4
 
@@ -77,10 +78,10 @@ module _ {J T : Type 0} (same : J → J → Type 0) (made : J → ℕ) (polls : 
     next = omega (arith, accepts.2, is_between.base)
 
     pub accepted_world : IsWorld same made polls fits ready (with_order number)
-    accepted_world = world-sent same made polls fits ready old world sender core there core_there order number links its_changes its_link credit next accepts.3 law
+    accepted_world = world-sent same made polls fits ready old world sender core there core_there order number links its_changes its_link credit next accepts.3 law spelled
 
     pub accepted_sends : SendsOrder sender core order (world_of old) (world_of (with_order number)) (reply.Sent (name number))
-    accepted_sends = sends-now same made polls fits ready old world sender core there core_there order number links its_changes its_link credit next accepts.3 law
+    accepted_sends = sends-now same made polls fits ready old world sender core there core_there order number links its_changes its_link credit next accepts.3 law spelled
 
     -- the same, in the words of a call that knows its parts by equations
     pub accepted_step : (before : WorldView J T) → world_of old ≡ before → (asked : Order J) → order ≡ asked → (journals : List (JournalView T)) →
@@ -106,7 +107,7 @@ module _ {J T : Type 0} (same : J → J → Type 0) (made : J → ℕ) (polls : 
   outstanding : outstanding_count core (journal_at sender (world_of old)) ≡ length link.sent
   outstanding =
       ap (outstanding_count core) (journal_at-world old sender)
-      ∙ (outstanding-accepted sender old.cap core (notes_at sender old.journals) (world.lawful sender there).notes
+      ∙ (outstanding-accepted (terms_in sender old) core (notes_at sender old.journals) (world.lawful sender there).notes
       ∙ (ap length is_between.all_accepted ∙ length-numbered sender core 0 link.sent))
 
   accepted_count : length (accepted_orders core (journal_at sender (world_of old))) ≡ length link.sent

@@ -13,7 +13,7 @@ use Rattle.rt_ids.specs.Assembly.{IsPrefix}
 use Rattle.rt_jobs.specs.declared.job.Step.{Step}
 use Rattle.rt_link.specs.declared.plain.Whole.{Whole}
 use Rattle.rt_link.specs.Whole.{IsLink}
-use Rattle.rt_world.specs.State.{order_note}
+use Rattle.rt_world.specs.State.{without_job}
 use Rattle.rt_world.specs.Links.{link_at, ChangesLink}
 use Rattle.rt_world.specs.Inside.{Parts, notes_at, numbered_orders, IsLinkBetween}
 use Rattle.rt_world.specs.Tasks.{IsWorld}
@@ -36,7 +36,7 @@ module _ {J T : Type 0} (same : J → J → Type 0) (made : J → ℕ) (polls : 
   journal = notes_at sender old.journals
 
   abbrev longer : Journal T
-  longer = writes.Sent name (order_note order) ∷ journal
+  longer = writes.Sent name (without_job order) ∷ journal
 
   abbrev new : Parts J T
   new = after same made polls fits ready old sender longer old.inside links
@@ -51,10 +51,10 @@ module _ {J T : Type 0} (same : J → J → Type 0) (made : J → ℕ) (polls : 
   accepted_count = ap length is_between.all_accepted ∙ length-numbered sender core 0 link.sent
 
   -- what each actor noted as accepted, and what each core noted as delivered
-  accepted_here : accepted_orders core (notes_at sender new.journals) ≡ accepted_orders core journal ++ (name, order_note order) ∷ []
+  accepted_here : accepted_orders core (notes_at sender new.journals) ≡ accepted_orders core journal ++ (name, without_job order) ∷ []
   accepted_here = ap (accepted_orders core) (notes_now same made polls fits ready old world sender there longer old.inside links) ∙ found (eq-eqb core core refl)
     where
-      found : (core == core) ≡ true → accepted_orders core longer ≡ accepted_orders core journal ++ (name, order_note order) ∷ []
+      found : (core == core) ≡ true → accepted_orders core longer ≡ accepted_orders core journal ++ (name, without_job order) ∷ []
       found one = rw one
 
   accepted_there : (other : ℕ) → (other ≡ core → ⊥) → accepted_orders other (notes_at sender new.journals) ≡ accepted_orders other journal
@@ -82,7 +82,7 @@ module _ {J T : Type 0} (same : J → J → Type 0) (made : J → ℕ) (polls : 
       by_core : (test : Bool) → (other == core) ≡ test → IsPrefix (accepted_orders other journal) (accepted_orders other (notes_at sender new.journals))
       by_core true one =
           let here : other ≡ core = eqb-true other core one in
-          subst (λ at. IsPrefix (accepted_orders at journal) (accepted_orders at (notes_at sender new.journals))) (sym here) ((name, order_note order) ∷ [], sym accepted_here)
+          subst (λ at. IsPrefix (accepted_orders at journal) (accepted_orders at (notes_at sender new.journals))) (sym here) ((name, without_job order) ∷ [], sym accepted_here)
       by_core false apart = ([], append-nil (accepted_orders other journal) ∙ sym (accepted_there other (eqb-false other core apart)))
 
       by_actor : (test : Bool) → (actor == sender) ≡ test → IsPrefix (accepted_orders other (notes_at actor old.journals)) (accepted_orders other (notes_at actor new.journals))
@@ -109,9 +109,9 @@ module _ {J T : Type 0} (same : J → J → Type 0) (made : J → ℕ) (polls : 
   between_here =
       subst (λ accepted. IsLinkBetween sender core old.cap (link_at sender core links) accepted (delivered_names sender (notes_at core new.journals))) (sym accepted_here)
       (
-      subst (IsLinkBetween sender core old.cap (link_at sender core links) (accepted_orders core journal ++ (name, order_note order) ∷ [])) (sym (delivered_same sender core))
+      subst (IsLinkBetween sender core old.cap (link_at sender core links) (accepted_orders core journal ++ (name, without_job order) ∷ [])) (sym (delivered_same sender core))
       (
-      subst (λ now. IsLinkBetween sender core old.cap now (accepted_orders core journal ++ (name, order_note order) ∷ []) (delivered_names sender (notes_at core old.journals))) (sym sent) now_between
+      subst (λ now. IsLinkBetween sender core old.cap now (accepted_orders core journal ++ (name, without_job order) ∷ []) (delivered_names sender (notes_at core old.journals))) (sym sent) now_between
       )
       )
     where
@@ -120,7 +120,7 @@ module _ {J T : Type 0} (same : J → J → Type 0) (made : J → ℕ) (polls : 
           let sent_taken = (world.links_law sender core there core_there).taken_sent in
           omega (arith, sent_taken, accepted_count, length-map (accepted_orders core journal) (λ order. order.0))
 
-      now_between : IsLinkBetween sender core old.cap (record link { sent = link.sent ++ order ∷ [] }) (accepted_orders core journal ++ (name, order_note order) ∷ [])
+      now_between : IsLinkBetween sender core old.cap (record link { sent = link.sent ++ order ∷ [] }) (accepted_orders core journal ++ (name, without_job order) ∷ [])
           (delivered_names sender (notes_at core old.journals))
       now_between = record {
         from = is_between.from;
@@ -130,14 +130,14 @@ module _ {J T : Type 0} (same : J → J → Type 0) (made : J → ℕ) (polls : 
         open_gate = is_between.open_gate;
         nothing_redeemed = is_between.nothing_redeemed;
         all_accepted =
-            ap (λ orders. orders ++ (name, order_note order) ∷ []) is_between.all_accepted
-            ∙ (ap (λ at. numbered_orders sender core 0 link.sent ++ (record { from = sender; to = core; number = at }, order_note order) ∷ []) (omega (arith, next))
+            ap (λ orders. orders ++ (name, without_job order) ∷ []) is_between.all_accepted
+            ∙ (ap (λ at. numbered_orders sender core 0 link.sent ++ (record { from = sender; to = core; number = at }, without_job order) ∷ []) (omega (arith, next))
             ∙ sym (numbered-append sender core 0 link.sent order));
         all_taken = is_between.all_taken;
         in_order =
             is_between.in_order
             ∙ (sym (take-longer link.taken (map (λ order. order.0) (accepted_orders core journal)) name taken_within)
-            ∙ ap (take link.taken) (sym (map-append (λ order. order.0) (accepted_orders core journal) ((name, order_note order) ∷ []))));
+            ∙ ap (take link.taken) (sym (map-append (λ order. order.0) (accepted_orders core journal) ((name, without_job order) ∷ []))));
       }
 
   pub between_now : (actor other : ℕ) → actor ≤ old.cores → other < old.cores →

@@ -3,6 +3,7 @@ use Rattle.std.proofs.Common.{◌≡◌, ℕ, ◌+◌, ◌<◌, ◌≤◌, ◌^�
 use Rattle.std.specs.Prelude.{◌==◌, Option, map}
 use Rattle.std.proofs.lemmas.Bool.{eqb-true, eqb-false}
 use Rattle.std.proofs.lemmas.List.{map-set, ext_get_or, length-map}
+use Rattle.rt_ids.specs.Orders.{IsSpelledOrder}
 use Rattle.rt_ids.specs.declared.names.JobId.{JobId}
 use Rattle.rt_ids.specs.declared.note.Note.TheVariants as writes
 use Rattle.rt_ids.specs.declared.order.Order.{Order}
@@ -12,11 +13,11 @@ use Rattle.rt_ids.specs.Lawful.{IsNextSent}
 use Rattle.rt_jobs.specs.declared.job.Step.{Step}
 use Rattle.rt_link.specs.declared.plain.Whole.{Whole}
 use Rattle.rt_link.specs.Whole.{IsLink}
-use Rattle.rt_world.specs.State.{order_note, journal_at, sent_at, with_sent}
+use Rattle.rt_world.specs.State.{without_job, journal_at, sent_at, with_sent}
 use Rattle.rt_world.specs.Sends.{Sends}
 use Rattle.rt_world.specs.declared.event.Reply.TheVariants as reply
 use Rattle.rt_world.specs.Links.{link_at, row_of, no_link, ChangesLink}
-use Rattle.rt_world.specs.Inside.{Parts, notes_at, world_of}
+use Rattle.rt_world.specs.Inside.{terms_in, Parts, notes_at, world_of}
 use Rattle.rt_world.specs.Tasks.{IsWorld}
 use Rattle.rt_journal.proofs.NumberedOrders.{get_or-map}
 use Rattle.rt_world.proofs.WorldAfter.{after}
@@ -39,7 +40,7 @@ module _ {J T : Type 0} (same : J → J → Type 0) (made : J → ℕ) (polls : 
   journal = notes_at sender old.journals
 
   abbrev longer : Journal T
-  longer = writes.Sent name (order_note order) ∷ journal
+  longer = writes.Sent name (without_job order) ∷ journal
 
   abbrev new : Parts J T
   new = after same made polls fits ready old sender longer old.inside links
@@ -128,9 +129,9 @@ module _ {J T : Type 0} (same : J → J → Type 0) (made : J → ℕ) (polls : 
               ∙ sym (get_or-set_other (world_of old).sent sender actor (set (get_or (world_of old).sent sender []) core (sent_at sender core (world_of old) ++ order ∷ [])) [] away))
 
   -- the event's step is the one that the rules say
-  pub sends-now : Sends sender core order (world_of old) (world_of new) (reply.Sent name)
-  sends-now = (
-    subst (IsNextSent sender old.cap name) (sym (journal_at-world old sender)) (next_sent same made polls fits ready old world sender core there core_there order number links changes sent credit next in_range law),
+  pub sends-now : IsSpelledOrder (without_job order) → Sends sender core order (world_of old) (world_of new) (reply.Sent name)
+  sends-now spelled = (
+    subst (IsNextSent (terms_in sender old) name (without_job order)) (sym (journal_at-world old sender)) (next_sent same made polls fits ready old world sender core there core_there order number links changes sent credit next in_range law spelled),
     refl,
     λ i. record {
       cores = old.cores;
@@ -141,7 +142,7 @@ module _ {J T : Type 0} (same : J → J → Type 0) (made : J → ℕ) (polls : 
     },
   )
     where
-      journals_now : map (λ journal. journal.notes) new.journals ≡ set (world_of old).journals sender ((writes.Sent name (order_note order) ∷ []) ++ journal_at sender (world_of old))
+      journals_now : map (λ journal. journal.notes) new.journals ≡ set (world_of old).journals sender ((writes.Sent name (without_job order) ∷ []) ++ journal_at sender (world_of old))
       journals_now =
           map-set (λ journal. journal.notes) old.journals sender (record { notes = longer; room = old.room })
-          ∙ ap (λ notes. set (world_of old).journals sender (writes.Sent name (order_note order) ∷ notes)) (sym (journal_at-world old sender))
+          ∙ ap (λ notes. set (world_of old).journals sender (writes.Sent name (without_job order) ∷ notes)) (sym (journal_at-world old sender))

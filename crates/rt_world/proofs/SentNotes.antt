@@ -1,6 +1,7 @@
 -- The journal of a sender at rest stays lawful as an order is accepted, and its core agrees with it.
 use Rattle.std.proofs.Common.{◌≡◌, ℕ, ◌+◌, ◌<◌, ◌≤◌, ◌^◌, List, [], ◌∷◌, ◌++◌, length, refl, ◌∙◌, ap, arith}
 use Rattle.std.specs.Prelude.{Option}
+use Rattle.rt_ids.specs.Orders.{IsSpelledOrder}
 use Rattle.rt_ids.specs.declared.names.JobId.{JobId}
 use Rattle.rt_ids.specs.declared.note.Note.TheVariants as writes
 use Rattle.rt_ids.specs.declared.order.Order.{Order}
@@ -11,9 +12,9 @@ use Rattle.rt_ids.specs.Lawful.{IsLawful, IsNextSent}
 use Rattle.rt_jobs.specs.declared.job.Step.{Step}
 use Rattle.rt_link.specs.declared.plain.Whole.{Whole}
 use Rattle.rt_link.specs.Whole.{IsLink}
-use Rattle.rt_world.specs.State.{order_note}
+use Rattle.rt_world.specs.State.{without_job}
 use Rattle.rt_world.specs.Links.{link_at, ChangesLink}
-use Rattle.rt_world.specs.Inside.{Parts, core_at, notes_at, IsCoreAtRest, IsLinkBetween}
+use Rattle.rt_world.specs.Inside.{terms_in, Parts, core_at, notes_at, IsCoreAtRest, IsLinkBetween}
 use Rattle.rt_world.specs.Tasks.{IsWorld}
 use Rattle.rt_journal.proofs.Kept.{plainly_stands, stays_calm, calm_sent, SameJobs}
 use Rattle.rt_journal.proofs.NumberedOrders.{length-numbered}
@@ -35,7 +36,7 @@ module _ {J T : Type 0} (same : J → J → Type 0) (made : J → ℕ) (polls : 
   journal = notes_at sender old.journals
 
   abbrev longer : Journal T
-  longer = writes.Sent name (order_note order) ∷ journal
+  longer = writes.Sent name (without_job order) ∷ journal
 
   abbrev link : Whole J T
   link = link_at sender core old.links
@@ -46,19 +47,21 @@ module _ {J T : Type 0} (same : J → J → Type 0) (made : J → ℕ) (polls : 
   accepted_count : length (accepted_orders core journal) ≡ length link.sent
   accepted_count = ap length is_between.all_accepted ∙ length-numbered sender core 0 link.sent
 
-  pub next_sent : IsNextSent sender old.cap name journal
-  next_sent = record {
+  pub next_sent : IsSpelledOrder (without_job order) → IsNextSent (terms_in sender old) name (without_job order) journal
+  next_sent spelled = record {
     sender = refl;
+    receiver = core_there;
+    spelled = spelled;
     next = omega (arith, next, accepted_count);
     in_range = in_range;
-    credit = omega (arith, outstanding-accepted sender old.cap core journal (world.lawful sender there).notes, accepted_count, credit);
+    credit = omega (arith, outstanding-accepted (terms_in sender old) core journal (world.lawful sender there).notes, accepted_count, credit);
   }
 
-  pub lawful_longer : IsLawful sender old.cap longer
-  lawful_longer =
+  pub lawful_longer : IsSpelledOrder (without_job order) → IsLawful (terms_in sender old) longer
+  lawful_longer spelled =
       let was = world.lawful sender there in
       record {
-        notes = (plainly_stands sender old.cap (writes.Sent name (order_note order)) journal next_sent was.no_pick was.no_answer refl tt, was.notes);
+        notes = (plainly_stands (terms_in sender old) (writes.Sent name (without_job order)) journal tt (next_sent spelled) was.no_pick was.no_answer refl tt, was.notes);
         no_pick = refl;
         no_answer = refl;
         nobody_out = was.nobody_out;
@@ -69,7 +72,7 @@ module _ {J T : Type 0} (same : J → J → Type 0) (made : J → ℕ) (polls : 
       let was = world.at_rest sender known in
       let view = core_at sender old.inside in
       let same_jobs : SameJobs view view = record { lines = λ queue. refl; runtimes = λ queue. refl; the_floor = refl; turns_made = refl; out = refl } in
-      let calm = stays_calm (writes.Sent name (order_note order)) journal (calm_sent journal name (order_note order)) view view same_jobs was.agrees in
+      let calm = stays_calm (writes.Sent name (without_job order)) journal (calm_sent journal name (without_job order)) view view same_jobs was.agrees in
       record {
         agrees = record {
           tallied = was.agrees.tallied;

@@ -22,7 +22,7 @@ use Rattle.rt_core.specs.Turns.{TakesOut}
 use Rattle.rt_world.specs.State.{journal_at}
 use Rattle.rt_world.specs.Turns.{polls_made, settle_note, IsPoll}
 use Rattle.rt_world.specs.Turns as turns
-use Rattle.rt_world.specs.Inside.{Parts, core_at, notes_at, world_of}
+use Rattle.rt_world.specs.Inside.{terms_in, Parts, core_at, notes_at, world_of}
 use Rattle.rt_world.specs.Tasks.{HasTask, IsWorld}
 use Rattle.rt_journal.specs.Agreement.{names_of}
 use Rattle.rt_journal.proofs.Kept.{IsKept}
@@ -43,11 +43,11 @@ module _ {J T : Type 0} (same : J → J → Type 0) (made : J → ℕ) (polls : 
   abbrev journal : Journal T
   journal = notes_at core old.journals
 
-  lawful : IsLawful core old.cap journal
+  lawful : IsLawful (terms_in core old) journal
   lawful = world.lawful core (omega (arith, core_there))
 
-  kept : IsKept core old.cap view journal
-  kept = record { agrees = (world.at_rest core core_there).agrees; notes = lawful.notes; no_pick = lawful.no_pick; no_answer = lawful.no_answer }
+  kept : IsKept (terms_in core old) view journal
+  kept = record { is_core = core_there; agrees = (world.at_rest core core_there).agrees; notes = lawful.notes; no_pick = lawful.no_pick; no_answer = lawful.no_answer }
 
   abbrev runtime : ℕ
   runtime = runtime_of queue view
@@ -73,7 +73,7 @@ module _ {J T : Type 0} (same : J → J → Type 0) (made : J → ℕ) (polls : 
   poll_is : poll_note {T = T} name was_started ≡ turns.poll_note name (is_told name_started name (journal_at core (world_of old)))
   poll_is =
       by_start was_started
-      ∙ ap (turns.poll_note {T = T} name) (start_told core old.cap view middle name queue was_started job journal kept takes ∙ ap (is_told name_started name) (sym here))
+      ∙ ap (turns.poll_note {T = T} name) (start_told (terms_in core old) view middle name queue was_started job journal kept takes ∙ ap (is_told name_started name) (sym here))
     where
       by_start : (before : Bool) → poll_note {T = T} name before ≡ turns.poll_note name before
       by_start false = refl
@@ -95,11 +95,11 @@ module _ {J T : Type 0} (same : J → J → Type 0) (made : J → ℕ) (polls : 
     turn_left = left;
     queue = queue;
     runtime = runtime;
-    right = subst (λ journal. IsRightPick queue runtime journal) (sym here) (right_pick core old.cap view middle name queue was_started job journal kept takes);
+    right = subst (λ journal. IsRightPick queue runtime journal) (sym here) (right_pick (terms_in core old) view middle name queue was_started job journal kept takes);
     name = name;
     others = names_of takes.others;
-    first = ap (line queue) here ∙ first_in_line core old.cap view middle name queue was_started job journal kept takes;
-    kept = ap (return_reason queue) here ∙ not_returning core old.cap view middle name queue was_started job journal kept takes;
+    first = ap (line queue) here ∙ first_in_line (terms_in core old) view middle name queue was_started job journal kept takes;
+    kept = ap (return_reason queue) here ∙ not_returning (terms_in core old) view middle name queue was_started job journal kept takes;
     job = its_task.sent;
     task = its_task.task;
     step = ran.step;

@@ -96,13 +96,13 @@ module _ (room : ℕ) (enough : 100 ≤ room) where
   sent_1 = record (noted 0 (Sent (name 0 0 1) (Job 0 tt) ∷ []) start) { sent = with_sent 0 0 (Job 0 three_polls) start }
 
   sends_1 : Occurs (Send 0 0 (Job 0 three_polls)) start sent_1 (reply.Sent (name 0 0 1))
-  sends_1 = ((omega arith, omega arith), some_room room 1 enough (omega arith), (record { sender = refl; next = refl; in_range = few_names 1 (omega arith); credit = omega arith }, refl, refl))
+  sends_1 = ((omega arith, omega arith), some_room room 1 enough (omega arith), (record { sender = refl; receiver = omega arith; next = refl; in_range = few_names 1 (omega arith); credit = omega arith; spelled = omega arith }, refl, refl))
 
   abbrev sent_2 : WorldView Script ℕ
   sent_2 = record (noted 0 (Sent (name 0 0 2) (Job 1 tt) ∷ []) sent_1) { sent = with_sent 0 0 (Job 1 three_polls) sent_1 }
 
   sends_2 : Occurs (Send 0 0 (Job 1 three_polls)) sent_1 sent_2 (reply.Sent (name 0 0 2))
-  sends_2 = ((omega arith, omega arith), some_room room 2 enough (omega arith), (record { sender = refl; next = refl; in_range = few_names 2 (omega arith); credit = omega arith }, refl, refl))
+  sends_2 = ((omega arith, omega arith), some_room room 2 enough (omega arith), (record { sender = refl; receiver = omega arith; next = refl; in_range = few_names 2 (omega arith); credit = omega arith; spelled = omega arith }, refl, refl))
 
   abbrev taken_3 : WorldView Script ℕ
   taken_3 = noted 0 (Took (name 0 0 1) 0 ∷ []) sent_2

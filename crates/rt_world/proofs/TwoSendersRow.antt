@@ -65,19 +65,19 @@ module _ (room : ℕ) (enough : 100 ≤ room) where
   sent_1 = record (noted 2 (Sent (name 2 0 1) (Job 0 tt) ∷ []) start) { sent = with_sent 2 0 (Job 0 (short_job 1)) start }
 
   sends_1 : Occurs (Send 2 0 (Job 0 (short_job 1))) start sent_1 (reply.Sent (name 2 0 1))
-  sends_1 = ((omega arith, omega arith), some_room room 0 enough (omega arith), (record { sender = refl; next = refl; in_range = few_names 1 (omega arith); credit = omega arith }, refl, refl))
+  sends_1 = ((omega arith, omega arith), some_room room 0 enough (omega arith), (record { sender = refl; receiver = omega arith; next = refl; in_range = few_names 1 (omega arith); credit = omega arith; spelled = omega arith }, refl, refl))
 
   abbrev sent_2 : WorldView Script ℕ
   sent_2 = record (noted 1 (Sent (name 1 0 1) (Job 0 tt) ∷ []) sent_1) { sent = with_sent 1 0 (Job 0 (short_job 2)) sent_1 }
 
   sends_2 : Occurs (Send 1 0 (Job 0 (short_job 2))) sent_1 sent_2 (reply.Sent (name 1 0 1))
-  sends_2 = ((omega arith, omega arith), some_room room 0 enough (omega arith), (record { sender = refl; next = refl; in_range = few_names 1 (omega arith); credit = omega arith }, refl, refl))
+  sends_2 = ((omega arith, omega arith), some_room room 0 enough (omega arith), (record { sender = refl; receiver = omega arith; next = refl; in_range = few_names 1 (omega arith); credit = omega arith; spelled = omega arith }, refl, refl))
 
   abbrev sent_3 : WorldView Script ℕ
   sent_3 = record (noted 2 (Sent (name 2 0 2) (Job 0 tt) ∷ []) sent_2) { sent = with_sent 2 0 (Job 0 (short_job 3)) sent_2 }
 
   sends_3 : Occurs (Send 2 0 (Job 0 (short_job 3))) sent_2 sent_3 (reply.Sent (name 2 0 2))
-  sends_3 = ((omega arith, omega arith), some_room room 1 enough (omega arith), (record { sender = refl; next = refl; in_range = few_names 2 (omega arith); credit = omega arith }, refl, refl))
+  sends_3 = ((omega arith, omega arith), some_room room 1 enough (omega arith), (record { sender = refl; receiver = omega arith; next = refl; in_range = few_names 2 (omega arith); credit = omega arith; spelled = omega arith }, refl, refl))
 
   full_4 : Occurs (Send 2 0 (Job 0 (short_job 4))) sent_3 sent_3 (reply.NotSent (Full (Job 0 (short_job 4))))
   full_4 = ((omega arith, omega arith), some_room room 2 enough (omega arith), (refl, omega arith, refl))

@@ -4,8 +4,8 @@ use Rattle.std.proofs.lemmas.Bool.{cases_lt}
 use Rattle.std.proofs.lemmas.List.{length-replicate, get_or-replicate, get_or_past}
 use Rattle.rt_ids.specs.declared.note.Note.TheVariants as writes
 use Rattle.rt_ids.specs.declared.order.Order.{Order}
-use Rattle.rt_ids.specs.Commands.{last_queue}
-use Rattle.rt_ids.specs.Lawful.{IsOpening}
+use Rattle.rt_ids.specs.Commands.{created_count}
+use Rattle.rt_ids.specs.Commands.{IsOpening}
 use Rattle.rt_world.specs.State.{WorldView, journal_at, noted}
 use Rattle.rt_world.specs.Opening.{IsUnbegun, IsFresh}
 use Rattle.rt_world.specs.Creations.{with_creations}
@@ -31,8 +31,8 @@ module _ {J T : Type 0} where
   pub unbegun_creations : (creations : List (ℕ × ℕ)) (world : WorldView J T) → IsUnbegun world → IsUnbegun (with_creations creations world)
   unbegun_creations [] world unbegun = unbegun
   unbegun_creations (creation ∷ creations) world unbegun =
-      unbegun_creations creations (noted creation.0 (writes.Created (last_queue (journal_at creation.0 world) + 1) creation.1 ∷ []) world)
-      (unbegun_created creation.0 (last_queue (journal_at creation.0 world) + 1) creation.1 world unbegun)
+      unbegun_creations creations (noted creation.0 (writes.Created (created_count (journal_at creation.0 world) + 1) creation.1 ∷ []) world)
+      (unbegun_created creation.0 (created_count (journal_at creation.0 world) + 1) creation.1 world unbegun)
 
 module _ (J T : Type 0) where
   -- a fresh world of these numbers

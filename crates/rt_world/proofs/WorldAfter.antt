@@ -19,7 +19,7 @@ use Rattle.rt_core.specs.State.{CoreView}
 use Rattle.rt_world.specs.State.{order_under, assembly_of}
 use Rattle.rt_world.specs.Turns.{polls_made}
 use Rattle.rt_world.specs.Links.{row_of, link_at}
-use Rattle.rt_world.specs.Inside.{Parts, core_at, notes_at, journal_view, world_of, IsCoreAtRest, IsLinkBetween}
+use Rattle.rt_world.specs.Inside.{terms_in, Parts, core_at, notes_at, journal_view, world_of, IsCoreAtRest, IsLinkBetween}
 use Rattle.rt_world.specs.Tasks.{OwesAfter, HasTask, IsWorld}
 use Rattle.rt_world.proofs.WorldViews.{journal_at-world, journal_of-world, sent_at-world, first_under-longer, slice_get-prefix, as_sent-stays}
 
@@ -55,7 +55,7 @@ module _ {J T : Type 0} (same : J → J → Type 0) (made : J → ℕ) (polls : 
       pub accepted : (sender core : ℕ) →
           IsPrefix (accepted_orders core (notes_at sender old.journals)) (accepted_orders core (notes_at sender new.journals))
       pub sent : (sender core : ℕ) → IsPrefix (link_at sender core old.links).sent (link_at sender core links).sent
-      pub lawful : IsLawful actor old.cap journal
+      pub lawful : IsLawful (terms_in actor old) journal
       pub at_rest : actor < old.cores → IsCoreAtRest actor old.cores old.cap (core_at actor inside) journal
       pub between : (sender core : ℕ) → sender ≤ old.cores → core < old.cores →
           IsLinkBetween sender core old.cap (link_at sender core links) (accepted_orders core (notes_at sender new.journals)) (delivered_names sender (notes_at core new.journals))
@@ -82,14 +82,14 @@ module _ {J T : Type 0} (same : J → J → Type 0) (made : J → ℕ) (polls : 
               ap (λ view. view.room) (get_or-set_other old.journals actor other _ (record { notes = []; room = 0 }) (eqb-false other actor apart))
               ∙ world.all_there.rooms_are other known
 
-      lawful_now : (other : ℕ) → other ≤ old.cores → IsLawful other old.cap (notes_at other new.journals)
+      lawful_now : (other : ℕ) → other ≤ old.cores → IsLawful (terms_in other old) (notes_at other new.journals)
       lawful_now other known = by_test (other == actor) refl
         where
-          by_test : (test : Bool) → (other == actor) ≡ test → IsLawful other old.cap (notes_at other new.journals)
+          by_test : (test : Bool) → (other == actor) ≡ test → IsLawful (terms_in other old) (notes_at other new.journals)
           by_test true one =
               let here : other ≡ actor = eqb-true other actor one in
-              subst (λ at. IsLawful at old.cap (notes_at at new.journals)) (sym here) (subst (IsLawful actor old.cap) (sym notes_now) keeps.lawful)
-          by_test false apart = subst (IsLawful other old.cap) (sym (notes_elsewhere other (eqb-false other actor apart))) (world.lawful other known)
+              subst (λ at. IsLawful (terms_in at old) (notes_at at new.journals)) (sym here) (subst (IsLawful (terms_in actor old)) (sym notes_now) keeps.lawful)
+          by_test false apart = subst (IsLawful (terms_in other old)) (sym (notes_elsewhere other (eqb-false other actor apart))) (world.lawful other known)
 
       rest_now : (core : ℕ) → core < old.cores → IsCoreAtRest core old.cores old.cap (core_at core inside) (notes_at core new.journals)
       rest_now core known = by_test (core == actor) refl

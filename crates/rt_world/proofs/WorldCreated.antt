@@ -8,16 +8,18 @@ use Rattle.rt_ids.specs.declared.order.Order.{Order}
 use Rattle.rt_ids.specs.declared.order.Order.TheVariants.{Job}
 use Rattle.rt_ids.specs.declared.order.Outcome.{Outcome}
 use Rattle.rt_ids.specs.Journal.{Journal}
-use Rattle.rt_ids.specs.Commands.{last_queue}
-use Rattle.rt_ids.specs.Lawful.{IsLawful, IsOpening}
+use Rattle.rt_ids.specs.Commands.{created_count}
+use Rattle.rt_ids.specs.Commands.{IsOpening}
+use Rattle.rt_ids.specs.Lawful.{IsLawful}
 use Rattle.rt_ids.specs.Work.{number_if}
 use Rattle.rt_jobs.specs.declared.job.Step.{Step}
 use Rattle.rt_taskqueue.specs.Queues.{queue_count, held_count}
 use Rattle.rt_core.specs.State.{CoreView, inside_count}
 use Rattle.rt_core.specs.Deliveries.{Creates}
+use Rattle.rt_journal.proofs.TakenOrders.{carries_out-opening}
 use Rattle.rt_world.specs.State.{journal_at}
 use Rattle.rt_world.specs.Turns.{polls_made}
-use Rattle.rt_world.specs.Inside.{Parts, core_at, notes_at, world_of, IsCoreAtRest}
+use Rattle.rt_world.specs.Inside.{terms_in, Parts, core_at, notes_at, world_of, IsCoreAtRest}
 use Rattle.rt_world.specs.Tasks.{OwesAfter, HasTask, IsWorld}
 use Rattle.rt_journal.proofs.Kept.{plainly_stands}
 use Rattle.rt_journal.proofs.KeptCommands.{agrees-created}
@@ -39,7 +41,7 @@ module _ {J T : Type 0} (same : J → J → Type 0) (made : J → ℕ) (polls : 
   rest : IsCoreAtRest core old.cores old.cap view journal
   rest = world.at_rest core core_there
 
-  lawful : IsLawful core old.cap journal
+  lawful : IsLawful (terms_in core old) journal
   lawful = world.lawful core (omega (arith, core_there))
 
   abbrev longer : Journal T
@@ -49,7 +51,7 @@ module _ {J T : Type 0} (same : J → J → Type 0) (made : J → ℕ) (polls : 
   new = quiet same made polls fits ready old world core core_there longer last
 
   -- the number is the next one
-  number_is : queue ≡ last_queue journal + 1
+  number_is : queue ≡ created_count journal + 1
   number_is = next ∙ rest.agrees.last
 
   same_inside : inside_count last ≡ inside_count view
@@ -63,7 +65,7 @@ module _ {J T : Type 0} (same : J → J → Type 0) (made : J → ℕ) (polls : 
     delivered = λ from. refl;
     lawful = record {
       notes = (
-        plainly_stands core old.cap (writes.Created queue weight) journal
+        plainly_stands (terms_in core old) (writes.Created queue weight) journal core_there
             (record { next = number_is; in_range = omega (arith, next, creates.few); shares = in_range }) lawful.no_pick lawful.no_answer refl unbegun,
         lawful.notes,
       );
@@ -95,7 +97,7 @@ module _ {J T : Type 0} (same : J → J → Type 0) (made : J → ℕ) (polls : 
 
   pub world_created : IsWorld same made polls fits ready new
   world_created =
-      world_quiet same made polls fits ready old world core core_there longer last is_quiet (tt, behind_quiet same made polls fits ready old world core core_there longer last is_quiet)
+      world_quiet same made polls fits ready old world core core_there longer last is_quiet (carries_out-opening _ (writes.Created queue weight) journal unbegun, behind_quiet same made polls fits ready old world core core_there longer last is_quiet)
       (
       λ other.
       subst (All (λ entry. HasTask same made polls (world_of new) core other entry.0 entry.2)) (sym (creates.added.same_lines other))

@@ -7,8 +7,8 @@ use Rattle.rt_ids.specs.declared.note.Note.{Note}
 use Rattle.rt_ids.specs.declared.note.Note.TheVariants as writes
 use Rattle.rt_ids.specs.declared.order.Order.{Order}
 use Rattle.rt_ids.specs.declared.order.Outcome.{Outcome}
-use Rattle.rt_ids.specs.Commands.{last_queue}
-use Rattle.rt_ids.specs.Lawful.{IsOpening}
+use Rattle.rt_ids.specs.Commands.{created_count}
+use Rattle.rt_ids.specs.Commands.{IsOpening}
 use Rattle.rt_jobs.specs.declared.job.Step.{Step}
 use Rattle.rt_taskqueue.specs.declared.queues.CreateError.{CreateError}
 use Rattle.rt_taskqueue.specs.declared.queues.CreateError.TheVariants.{TooMany, Memory}
@@ -100,10 +100,10 @@ module _ {J T : Type 0} (same : J → J → Type 0) (made : J → ℕ) (polls : 
       noted_now : world_of now ≡ noted core (writes.Created queue weight ∷ []) (world_of old)
       noted_now = λ i. record { cores = old.cores; cap = old.cap; room = old.room; journals = journals_now i; sent = (world_of old).sent }
 
-    count_is : queue_count view.queues ≡ last_queue (journal_at core (world_of old)) + 1
+    count_is : queue_count view.queues ≡ created_count (journal_at core (world_of old)) + 1
     count_is =
         ap (λ core. queue_count core.queues) (sym viewed)
-        ∙ ((world.at_rest core core_there).agrees.last ∙ ap (λ journal. last_queue journal + 1) (sym (journal_at-world old core)))
+        ∙ ((world.at_rest core core_there).agrees.last ∙ ap (λ journal. created_count journal + 1) (sym (journal_at-world old core)))
 
     -- the world is at rest again
     pub world_now : IsWorld same made polls fits ready now

@@ -21,7 +21,7 @@ use Rattle.rt_world.specs.State.{order_under, assembly_of}
 use Rattle.rt_world.specs.Deliveries.{IsDelivery}
 use Rattle.rt_world.specs.Turns.{polls_made}
 use Rattle.rt_world.specs.Links.{link_at, ChangesLink}
-use Rattle.rt_world.specs.Inside.{Parts, core_at, notes_at, world_of, IsCoreAtRest}
+use Rattle.rt_world.specs.Inside.{terms_in, Parts, core_at, notes_at, world_of, IsCoreAtRest}
 use Rattle.rt_world.specs.Tasks.{OwesAfter, HasTask, IsWorld}
 use Rattle.rt_journal.specs.Agreement.{IsJobOut}
 use Rattle.rt_journal.proofs.Kept.{IsKept}
@@ -58,7 +58,7 @@ module _ {J T : Type 0} (same : J → J → Type 0) (made : J → ℕ) (polls : 
 
   -- the core carried the delivery out: it agrees with its longer journal, nobody is out, at most one more job is inside, and the delivery is counted
   pub record IsCarriedOut (after_core : CoreView J) (longer : Journal T) : Type 0 where
-    pub kept_after : IsKept core old.cap after_core longer
+    pub kept_after : IsKept (terms_in core old) after_core longer
     pub free : after_core.out ≡ view.out
     pub cores_same : after_core.cores ≡ view.cores
     pub room_same : after_core.queues.room ≡ view.queues.room
@@ -74,7 +74,7 @@ module _ {J T : Type 0} (same : J → J → Type 0) (made : J → ℕ) (polls : 
     now_free : after_core.out ≡ None
     now_free = done.free ∙ rest.free
 
-    lawful_after : IsLawful core old.cap longer
+    lawful_after : IsLawful (terms_in core old) longer
     lawful_after = record {
       notes = done.kept_after.notes;
       no_pick = done.kept_after.no_pick;

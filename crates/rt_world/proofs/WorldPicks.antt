@@ -24,7 +24,7 @@ use Rattle.rt_world.specs.declared.event.Reply.TheVariants as reply
 use Rattle.rt_world.specs.State.{journal_at}
 use Rattle.rt_world.specs.Turns.{Turns}
 use Rattle.rt_world.specs.PickedJobs.{turn_of, TookOut, TookNone}
-use Rattle.rt_world.specs.Inside.{Parts, core_at, notes_at, world_of, IsCoreAtRest}
+use Rattle.rt_world.specs.Inside.{terms_in, Parts, core_at, notes_at, world_of, IsCoreAtRest}
 use Rattle.rt_world.specs.Tasks.{IsWorld}
 use Rattle.rt_journal.specs.Agreement.{names_of}
 use Rattle.rt_journal.proofs.PollNotes.{poll_note}
@@ -54,7 +54,7 @@ module _ {J T : Type 0} (same : J → J → Type 0) (made : J → ℕ) (polls : 
   rest : IsCoreAtRest core old.cores old.cap (core_at core old.inside) (notes_at core old.journals)
   rest = world.at_rest core core_there
 
-  lawful : IsLawful core old.cap (notes_at core old.journals)
+  lawful : IsLawful (terms_in core old) (notes_at core old.journals)
   lawful = world.lawful core (omega (arith, core_there))
 
   -- the core that the call borrows is the one of its number
@@ -74,7 +74,7 @@ module _ {J T : Type 0} (same : J → J → Type 0) (made : J → ℕ) (polls : 
   idle : ((queue : ℕ) → waiting_of queue view.queues ≡ []) → (queue : ℕ) → has_work queue (journal_at core (world_of old)) ≡ false
   idle empty queue =
       ap (has_work queue) (journal_at-world old core)
-      ∙ no_work core old.cap queue (notes_at core old.journals) lawful.notes (sym (lines queue) ∙ ap names_of (empty queue)) lawful.nobody_out
+      ∙ no_work (terms_in core old) queue (notes_at core old.journals) lawful.notes (sym (lines queue) ∙ ap names_of (empty queue)) lawful.nobody_out
 
   works : (queue : ℕ) → (waiting_of queue view.queues ≡ [] → ⊥) → has_work queue (journal_at core (world_of old)) ≡ true
   works queue some = ap (has_work queue) (journal_at-world old core) ∙ by_line (waiting_of queue view.queues) refl
@@ -82,7 +82,7 @@ module _ {J T : Type 0} (same : J → J → Type 0) (made : J → ℕ) (polls : 
       by_line : (waiting : List (JobId × Bool × J)) → waiting_of queue view.queues ≡ waiting → has_work queue (notes_at core old.journals) ≡ true
       by_line [] none = absurd (some none)
       by_line (entry ∷ others) first =
-          work_of_line core old.cap queue (notes_at core old.journals) lawful.notes entry.0 (names_of others) (sym (lines queue) ∙ ap names_of first)
+          work_of_line (terms_in core old) queue (notes_at core old.journals) lawful.notes entry.0 (names_of others) (sym (lines queue) ∙ ap names_of first)
 
   all_turns : view.turns ≡ 2 ^ 64 - 1 → turns (journal_at core (world_of old)) ≡ 2 ^ 64 - 1
   all_turns used =

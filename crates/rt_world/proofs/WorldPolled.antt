@@ -3,6 +3,7 @@ use Rattle.std.proofs.Common.{◌≡◌, ℕ, ◌+◌, ◌-◌, ◌^◌, ◌<◌
 use Rattle.std.specs.Prelude.{Option, Some, Result, unwrap_or}
 use Rattle.std.proofs.lemmas.List.{get_or_default, set-set}
 use Rattle.std.proofs.lemmas.Option.{same_Some}
+use Rattle.rt_ids.specs.Limits.{most_turns}
 use Rattle.rt_ids.specs.declared.note.Note.{Note}
 use Rattle.rt_ids.specs.declared.note.Note.TheVariants as writes
 use Rattle.rt_ids.specs.declared.order.Order.{Order}
@@ -108,18 +109,18 @@ module _ {J T : Type 0} (same : J → J → Type 0) (made : J → ℕ) (polls : 
       abbrev turned : Parts J T
       turned = after same made polls fits ready old core longer (set old.inside core last) old.links
 
-      world_turned : IsWorld same made polls fits ready turned
-      world_turned = by_step ran.step refl settled settles_middle
+      world_turned : turns (notes_at core old.journals) < most_turns → IsWorld same made polls fits ready turned
+      world_turned left = by_step ran.step refl settled settles_middle
         where
           by_step : (step : Step T) → ran.step ≡ step → (settled : Settled T) → Settles middle the_job ran spent step settled last settle_written → IsWorld same made polls fits ready turned
           by_step (steps.Done value) ends (Finished answer) settles =
               ended same made polls fits ready is_same old world core core_there middle out.name out.queue out.was_started job takes
-              ran is_ran.same_task is_ran.later spent last value ends settles.1
+              ran is_ran.same_task is_ran.later spent last left value ends settles.1
           by_step (steps.Done value) ends Yielded settles = absurd settles
           by_step steps.Yield yields (Finished answer) settles = absurd settles
           by_step steps.Yield yields Yielded settles =
               yielded same made polls fits ready is_same old world core core_there middle out.name out.queue out.was_started job takes
-              ran is_ran.same_task is_ran.later spent last yields settles.0 settles.1
+              ran is_ran.same_task is_ran.later spent last left yields settles.0 settles.1
 
       module _ (page page_middle : JournalView T) (first : IsNoted old.journals core written page page_middle) (page_again : JournalView T)
           (again_at : page_again ≡ get_or (set old.journals core page_middle) core page_again) where
@@ -165,8 +166,8 @@ module _ {J T : Type 0} (same : J → J → Type 0) (made : J → ℕ) (polls : 
               ∙ ap (λ journals. record old { inside = set (set old.inside core middle) core last; journals = journals })
               (ap (set old.journals core) (sym last_is) ∙ sym (set-set old.journals core page_middle page_last))
 
-          pub world_now : IsWorld same made polls fits ready now
-          world_now = subst (IsWorld same made polls fits ready) now_is world_turned
+          pub world_now : turns (journal_at core (world_of old)) < most_turns → IsWorld same made polls fits ready now
+          world_now left = subst (IsWorld same made polls fits ready) now_is (world_turned (subst (λ journal. turns journal < most_turns) (journal_at-world old core) left))
 
           pub poll_now : ((a b : J) (out : T) → same a b → answers a out → answers b out) → turns (journal_at core (world_of old)) < 2 ^ 64 - 1 →
               IsPoll made polls answers core spent (world_of old) (world_of now)

@@ -1,6 +1,7 @@
 -- A world at rest stays one as an order is accepted.
 use Rattle.std.proofs.Common.{◌≡◌, ℕ, ◌+◌, ◌<◌, ◌≤◌, ◌^◌, List, [], ◌∷◌, ◌++◌, length, refl, sym, ◌∙◌, ap, subst, get_or, add-zero}
 use Rattle.std.specs.Prelude.{Option, Some, All}
+use Rattle.rt_ids.specs.Orders.{IsSpelledOrder}
 use Rattle.rt_ids.specs.declared.names.JobId.{JobId}
 use Rattle.rt_ids.specs.declared.note.Note.TheVariants as writes
 use Rattle.rt_ids.specs.declared.order.Order.{Order}
@@ -12,7 +13,7 @@ use Rattle.rt_ids.specs.Joining.{DeliversAsSent}
 use Rattle.rt_jobs.specs.declared.job.Step.{Step}
 use Rattle.rt_link.specs.declared.plain.Whole.{Whole}
 use Rattle.rt_link.specs.Whole.{IsLink}
-use Rattle.rt_world.specs.State.{order_note, journal_at, assembly_of}
+use Rattle.rt_world.specs.State.{without_job, journal_at, assembly_of}
 use Rattle.rt_world.specs.Turns.{polls_made}
 use Rattle.rt_taskqueue.specs.Queues.{waiting_of}
 use Rattle.rt_world.specs.Links.{link_at, ChangesLink}
@@ -31,7 +32,7 @@ module _ {J T : Type 0} (same : J → J → Type 0) (made : J → ℕ) (polls : 
     (sent : (link_at sender core links) ≡ record (link_at sender core old.links) { sent = (link_at sender core old.links).sent ++ order ∷ [] })
     (credit : length (link_at sender core old.links).sent < old.cap)
     (next : number ≡ length (link_at sender core old.links).sent + 1) (in_range : number < 2 ^ 63)
-    (law : IsLink fits ready (link_at sender core links)) where
+    (law : IsLink fits ready (link_at sender core links)) (spelled : IsSpelledOrder (without_job order)) where
   abbrev name : JobId
   name = record { from = sender; to = core; number = number }
 
@@ -39,7 +40,7 @@ module _ {J T : Type 0} (same : J → J → Type 0) (made : J → ℕ) (polls : 
   journal = notes_at sender old.journals
 
   abbrev longer : Journal T
-  longer = writes.Sent name (order_note order) ∷ journal
+  longer = writes.Sent name (without_job order) ∷ journal
 
   abbrev new : Parts J T
   new = after same made polls fits ready old sender longer old.inside links
@@ -52,7 +53,7 @@ module _ {J T : Type 0} (same : J → J → Type 0) (made : J → ℕ) (polls : 
     other_cores = λ other known away. refl;
     accepted = sent_links.accepted_prefix same made polls fits ready old world sender core there core_there order number links changes sent credit next in_range law;
     sent = sent_links.sent_prefix same made polls fits ready old world sender core there core_there order number links changes sent credit next in_range law;
-    lawful = sent_notes.lawful_longer same made polls fits ready old world sender core there core_there order number links changes sent credit next in_range law;
+    lawful = sent_notes.lawful_longer same made polls fits ready old world sender core there core_there order number links changes sent credit next in_range law spelled;
     at_rest = sent_notes.rest_longer same made polls fits ready old world sender core there core_there order number links changes sent credit next in_range law;
     between = sent_links.between_now same made polls fits ready old world sender core there core_there order number links changes sent credit next in_range law;
     links_law = sent_links.law_now same made polls fits ready old world sender core there core_there order number links changes sent credit next in_range law;

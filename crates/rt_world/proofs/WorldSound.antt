@@ -2,6 +2,7 @@
 use Rattle.std.proofs.Common.{◌≡◌, ℕ, [], ◌∷◌, ◌++◌, refl, sym, ◌∙◌, ap, subst, drop}
 use Rattle.std.specs.Prelude.{map, Option}
 use Rattle.std.proofs.lemmas.List.{take-append-drop}
+use Rattle.rt_ids.specs.Terms.{Terms}
 use Rattle.rt_ids.specs.declared.note.Note.{Note}
 use Rattle.rt_ids.specs.declared.note.Note.TheVariants as writes
 use Rattle.rt_ids.specs.declared.order.Order.{Order}
@@ -16,16 +17,16 @@ use Rattle.rt_ids.proofs.Joining.{joining_is_sound}
 use Rattle.rt_jobs.specs.declared.job.Step.{Step}
 use Rattle.rt_world.specs.State.{assembly_of}
 use Rattle.rt_world.specs.Links.{link_at}
-use Rattle.rt_world.specs.Inside.{Parts, world_of, notes_at}
+use Rattle.rt_world.specs.Inside.{terms_in, Parts, world_of, notes_at}
 use Rattle.rt_world.specs.Tasks.{IsWorld}
 use Rattle.rt_world.proofs.WorldViews.{journal_of-world}
 
 -- a lawful journal collects nothing by now
-nothing_collected : {T : Type 0} (actor cap core : ℕ) (journal : Journal T) → EachNote (MayStand actor cap) journal → collected_outcomes core journal ≡ []
-nothing_collected actor cap core [] notes = refl
-nothing_collected {T} actor cap core (note ∷ before) notes = by_note note notes.0.may_follow (nothing_collected actor cap core before notes.1)
+nothing_collected : {T : Type 0} (terms : Terms) (core : ℕ) (journal : Journal T) → EachNote (MayStand terms) journal → collected_outcomes core journal ≡ []
+nothing_collected terms core [] notes = refl
+nothing_collected {T} terms core (note ∷ before) notes = by_note note notes.0.may_follow (nothing_collected terms core before notes.1)
   where
-    by_note : (note : Note T) → MayFollow actor cap note before → collected_outcomes core before ≡ [] → collected_outcomes core (note ∷ before) ≡ []
+    by_note : (note : Note T) → MayFollow terms note before → collected_outcomes core before ≡ [] → collected_outcomes core (note ∷ before) ≡ []
     by_note (writes.Collected name outcome) law rest = absurd law
     by_note _ law rest = rest
 
@@ -45,10 +46,10 @@ module _ {J T : Type 0} (same : J → J → Type 0) (made : J → ℕ) (polls : 
     collections = λ sender core there core_there. (
       given_outcomes sender (journal_of core assembly),
       ap (λ collected. collected ++ given_outcomes sender (journal_of core assembly))
-          (ap (collected_outcomes core) (journal_of-world parts sender) ∙ nothing_collected sender parts.cap core (notes_at sender parts.journals) (world.lawful sender there).notes),
+          (ap (collected_outcomes core) (journal_of-world parts sender) ∙ nothing_collected (terms_in sender parts) core (notes_at sender parts.journals) (world.lawful sender there).notes),
     );
     as_sent = λ actor there. subst (EachNote (DeliversAsSent assembly)) (sym (journal_of-world parts actor)) (world.as_sent actor there);
   }
 
   pub world_sound : IsSound assembly
-  world_sound = joining_is_sound assembly (λ actor there. subst (IsLawful actor parts.cap) (sym (journal_of-world parts actor)) (world.lawful actor there)) links_agree
+  world_sound = joining_is_sound assembly (λ actor there. subst (IsLawful (terms_in actor parts)) (sym (journal_of-world parts actor)) (world.lawful actor there)) links_agree

@@ -4,6 +4,8 @@ use Rattle.std.specs.Prelude.{◌==◌, Option, Some, None, unwrap_or, All, sum,
 use Rattle.std.proofs.lemmas.Bool.{eqb-true, eqb-false}
 use Rattle.std.proofs.lemmas.List.Elements.{All-append, All-cons, All-nil, All-head, All-tail}
 use Rattle.std.proofs.lemmas.List.{length-append}
+use Rattle.rt_ids.specs.Picks.{turns}
+use Rattle.rt_ids.specs.Limits.{most_turns}
 use Rattle.rt_ids.specs.declared.names.JobId.{JobId}
 use Rattle.rt_ids.specs.declared.note.Note.TheVariants as writes
 use Rattle.rt_ids.specs.declared.order.Order.{Order}
@@ -20,7 +22,7 @@ use Rattle.rt_core.specs.State.{CoreView, JobOut, inside_count, runtime_of}
 use Rattle.rt_core.specs.Turns.{TakesOut, settled_view}
 use Rattle.rt_world.specs.State.{journal_at, assembly_of}
 use Rattle.rt_world.specs.Turns.{polls_made, settle_note}
-use Rattle.rt_world.specs.Inside.{Parts, core_at, notes_at, world_of, IsCoreAtRest}
+use Rattle.rt_world.specs.Inside.{terms_in, Parts, core_at, notes_at, world_of, IsCoreAtRest}
 use Rattle.rt_world.specs.Tasks.{HasTask, IsWorld}
 use Rattle.rt_journal.specs.Agreement.{IsJobOut}
 use Rattle.rt_journal.proofs.Kept.{IsKept}
@@ -36,7 +38,7 @@ module _ {J T : Type 0} (same : J → J → Type 0) (made : J → ℕ) (polls : 
     (fits : Order J → Outcome J T → Type 0) (ready : Order J → Type 0) (is_same : IsSameTask same)
     (old : Parts J T) (world : IsWorld same made polls fits ready old) (core : ℕ) (core_there : core < old.cores)
     (middle : CoreView J) (name : JobId) (queue : ℕ) (was_started : Bool) (job : J) (takes : TakesOut (core_at core old.inside) name queue was_started job middle)
-    (ran : AfterPoll J T) (same_task : OnYield ran.step (same job ran.job)) (later : OnYield ran.step (OwesOn made polls job ran.job)) (spent : ℕ) (last : CoreView J) where
+    (ran : AfterPoll J T) (same_task : OnYield ran.step (same job ran.job)) (later : OnYield ran.step (OwesOn made polls job ran.job)) (spent : ℕ) (last : CoreView J) (left : turns (notes_at core old.journals) < most_turns) where
   abbrev view : CoreView J
   view = core_at core old.inside
 
@@ -46,11 +48,11 @@ module _ {J T : Type 0} (same : J → J → Type 0) (made : J → ℕ) (polls : 
   rest : IsCoreAtRest core old.cores old.cap view journal
   rest = world.at_rest core core_there
 
-  lawful : IsLawful core old.cap journal
+  lawful : IsLawful (terms_in core old) journal
   lawful = world.lawful core (omega (arith, core_there))
 
-  kept : IsKept core old.cap view journal
-  kept = record { agrees = rest.agrees; notes = lawful.notes; no_pick = lawful.no_pick; no_answer = lawful.no_answer }
+  kept : IsKept (terms_in core old) view journal
+  kept = record { is_core = core_there; agrees = rest.agrees; notes = lawful.notes; no_pick = lawful.no_pick; no_answer = lawful.no_answer }
 
   abbrev time : ℕ
   time = unwrap_or ran.told spent
@@ -64,12 +66,12 @@ module _ {J T : Type 0} (same : J → J → Type 0) (made : J → ℕ) (polls : 
   abbrev new : Parts J T
   new = quiet same made polls fits ready old world core core_there longer last
 
-  kept_polled : IsKept core old.cap middle polled
-  kept_polled = kept-picked core old.cap view middle name queue was_started job journal kept takes
+  kept_polled : IsKept (terms_in core old) middle polled
+  kept_polled = kept-picked (terms_in core old) view middle name queue was_started job journal kept takes left
 
   -- the core after the settled poll agrees with the longer journal
   record IsSettled : Type 0 where
-    kept_after : IsKept core old.cap last longer
+    kept_after : IsKept (terms_in core old) last longer
     free : last.out ≡ None
     cores_same : last.cores ≡ view.cores
     room_same : last.queues.room ≡ view.queues.room
@@ -106,7 +108,7 @@ module _ {J T : Type 0} (same : J → J → Type 0) (made : J → ℕ) (polls : 
     tasks_middle : (other : ℕ) → All (λ entry. HasTask same made polls (world_of new) core other entry.0 entry.2) (waiting_of other middle.queues)
     tasks_middle other =
         tasks_kept same made polls (world_of old) (world_of new) core other name (under_quiet same made polls fits ready old world core core_there longer last is_quiet) polls_now
-        (waiting_of other middle.queues) (apart_in core old.cap view middle name queue was_started job journal kept takes other) (before (other == queue) refl)
+        (waiting_of other middle.queues) (apart_in (terms_in core old) view middle name queue was_started job journal kept takes other) (before (other == queue) refl)
       where
         before : (test : Bool) → (other == queue) ≡ test → All (λ entry. HasTask same made polls (world_of old) core other entry.0 entry.2) (waiting_of other middle.queues)
         before true one =
@@ -161,10 +163,10 @@ module _ {J T : Type 0} (same : J → J → Type 0) (made : J → ℕ) (polls : 
     yield_settled : IsSettled
     yield_settled = record {
       kept_after =
-          subst (λ step. IsKept core old.cap last (settle_note name time step ∷ polled)) (sym yields)
+          subst (λ step. IsKept (terms_in core old) last (settle_note name time step ∷ polled)) (sym yields)
           (
-          subst (λ core_now. IsKept core old.cap core_now (writes.Yield name time ∷ polled)) (sym is)
-          (kept-yield core old.cap middle the_job time 0 last.queues polled kept_polled middle_out ran.job changes)
+          subst (λ core_now. IsKept (terms_in core old) core_now (writes.Yield name time ∷ polled)) (sym is)
+          (kept-yield (terms_in core old) middle the_job time 0 last.queues polled kept_polled middle_out ran.job changes)
           );
       free = ap (λ core. core.out) is;
       cores_same = ap (λ core. core.cores) is ∙ ap (λ core. core.cores) takes.rest;
@@ -201,10 +203,10 @@ module _ {J T : Type 0} (same : J → J → Type 0) (made : J → ℕ) (polls : 
     done_settled : IsSettled
     done_settled = record {
       kept_after =
-          subst (λ step. IsKept core old.cap last (settle_note name time step ∷ polled)) (sym ends)
+          subst (λ step. IsKept (terms_in core old) last (settle_note name time step ∷ polled)) (sym ends)
           (
-          subst (λ core_now. IsKept core old.cap core_now (writes.Done name time out ∷ polled)) (sym is)
-          (kept-done core old.cap middle the_job time 1 middle.queues polled kept_polled middle_out out refl)
+          subst (λ core_now. IsKept (terms_in core old) core_now (writes.Done name time out ∷ polled)) (sym is)
+          (kept-done (terms_in core old) middle the_job time 1 middle.queues polled kept_polled middle_out out refl)
           );
       free = ap (λ core. core.out) is;
       cores_same = ap (λ core. core.cores) is ∙ ap (λ core. core.cores) takes.rest;

@@ -13,7 +13,8 @@ use Rattle.rt_ids.specs.Journal.{Journal, EachNote}
 use Rattle.rt_ids.specs.Assembly.{Assembly, journal_of, first_under, order_of, is_command}
 use Rattle.rt_ids.specs.Joining.{DeliversAsSent}
 use Rattle.rt_ids.proofs.NameLemmas.{one_name, same_as_itself}
-use Rattle.rt_world.specs.State.{order_note, journal_at, sent_at, assembly_of}
+use Rattle.rt_journal.proofs.TakenOrders as taken
+use Rattle.rt_world.specs.State.{without_job, journal_at, sent_at, assembly_of}
 use Rattle.rt_world.specs.Links.{row_of, link_at, no_link}
 use Rattle.rt_world.specs.Inside.{Parts, notes_at, numbered_orders, world_of}
 use Rattle.rt_journal.proofs.NumberedOrders.{get_or-map}
@@ -49,17 +50,17 @@ slice_get-prefix (first ∷ front) rest (suc place) item at = slice_get-prefix f
 
 -- the order at a place of a link stands first under the name of that place
 pub first_under-numbered : {J : Type 0} (sender core before : ℕ) (orders : List (Order J)) (place : ℕ) (order : Order J) → slice_get orders place ≡ Some order →
-    first_under (record { from = sender; to = core; number = before + place + 1 }) (numbered_orders sender core before orders) ≡ Some (order_note order)
+    first_under (record { from = sender; to = core; number = before + place + 1 }) (numbered_orders sender core before orders) ≡ Some (without_job order)
 first_under-numbered sender core before [] place order at = cc
 first_under-numbered {J} sender core before (first ∷ orders) zero order at =
     let one : first ≡ order = cc in
-    subst (λ number. first_under (record { from = sender; to = core; number = number }) (numbered_orders sender core before (first ∷ orders)) ≡ Some (order_note order)) here (found one)
+    subst (λ number. first_under (record { from = sender; to = core; number = number }) (numbered_orders sender core before (first ∷ orders)) ≡ Some (without_job order)) here (found one)
   where
     here : before + 1 ≡ before + 0 + 1
     here = omega arith
 
-    found : first ≡ order → first_under (record { from = sender; to = core; number = before + 1 }) (numbered_orders sender core before (first ∷ orders)) ≡ Some (order_note order)
-    found one = rw (same_as_itself (record { from = sender; to = core; number = before + 1 })) (ap (λ what. Some (order_note what)) one)
+    found : first ≡ order → first_under (record { from = sender; to = core; number = before + 1 }) (numbered_orders sender core before (first ∷ orders)) ≡ Some (without_job order)
+    found one = rw (same_as_itself (record { from = sender; to = core; number = before + 1 })) (ap (λ what. Some (without_job what)) one)
 first_under-numbered {J} sender core before (first ∷ orders) (suc place) order at =
     passed (same_name name (record { from = sender; to = core; number = before + 1 })) refl (subst is_there later (first_under-numbered sender core (before + 1) orders place order at))
   where
@@ -70,11 +71,11 @@ first_under-numbered {J} sender core before (first ∷ orders) (suc place) order
     later = omega arith
 
     is_there : ℕ → Type 0
-    is_there number = first_under (record { from = sender; to = core; number = number }) (numbered_orders sender core (before + 1) orders) ≡ Some (order_note order)
+    is_there number = first_under (record { from = sender; to = core; number = number }) (numbered_orders sender core (before + 1) orders) ≡ Some (without_job order)
 
     passed : (test : Bool) → same_name (record { from = sender; to = core; number = before + suc place + 1 }) (record { from = sender; to = core; number = before + 1 }) ≡ test →
-        first_under (record { from = sender; to = core; number = before + suc place + 1 }) (numbered_orders sender core (before + 1) orders) ≡ Some (order_note order) →
-        cond test (Some (order_note first)) (first_under (record { from = sender; to = core; number = before + suc place + 1 }) (numbered_orders sender core (before + 1) orders)) ≡ Some (order_note order)
+        first_under (record { from = sender; to = core; number = before + suc place + 1 }) (numbered_orders sender core (before + 1) orders) ≡ Some (without_job order) →
+        cond test (Some (without_job first)) (first_under (record { from = sender; to = core; number = before + suc place + 1 }) (numbered_orders sender core (before + 1) orders)) ≡ Some (without_job order)
     passed false same rest = rest
     passed true same rest =
         let number : before + suc place + 1 ≡ before + 1 =
@@ -84,18 +85,4 @@ first_under-numbered {J} sender core before (first ∷ orders) (suc place) order
 -- orders that stay keep each delivery as it was sent
 pub as_sent-stays : {T : Type 0} (old new : Assembly T) → ((name : JobId) (order : Order (Unit {0})) → order_of name old ≡ Some order → order_of name new ≡ Some order) →
     (journal : Journal T) → EachNote (DeliversAsSent old) journal → EachNote (DeliversAsSent new) journal
-as_sent-stays old new stays [] each = tt
-as_sent-stays {T} old new stays (note ∷ before) each = (by_note note each.0, as_sent-stays old new stays before each.1)
-  where
-    command_stays : (name : JobId) → is_command (order_of name old) ≡ true → is_command (order_of name new) ≡ true
-    command_stays name command = by_order (order_of name old) refl command
-      where
-        by_order : (found : Option (Order (Unit {0}))) → order_of name old ≡ found → is_command found ≡ true → is_command (order_of name new) ≡ true
-        by_order None at command = absurd (true≢false (sym command))
-        by_order (Some order) at command = rw (stays name order at) command
-
-    by_note : (note : Note T) → DeliversAsSent old note before → DeliversAsSent new note before
-    by_note (Took name queue) sent = stays name (Job queue tt) sent
-    by_note (Back name reason) sent = (sent.0, stays name (Job sent.0 tt) sent.1)
-    by_note (Answered name answer) sent = command_stays name sent
-    by_note _ sent = tt
+as_sent-stays old new stays journal each = taken.as_sent-stays (λ name. order_of name old) (λ name. order_of name new) stays journal each

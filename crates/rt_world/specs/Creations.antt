@@ -3,7 +3,7 @@ use Rattle.std.specs.Prelude.{◌≡◌, ℕ, ◌+◌, Option, List, [], ◌∷�
 use Rattle.rt_ids.specs.declared.note.Note.TheVariants.{Created}
 use Rattle.rt_ids.specs.declared.order.Order.{Order}
 use Rattle.rt_ids.specs.declared.order.Order.TheVariants.{Create}
-use Rattle.rt_ids.specs.Commands.{last_queue}
+use Rattle.rt_ids.specs.Commands.{created_count}
 use Rattle.rt_jobs.specs.declared.job.Step.{Step}
 use Rattle.rt_world.specs.declared.event.Event.{Event}
 use Rattle.rt_world.specs.declared.event.Event.TheVariants.{Send}
@@ -17,7 +17,7 @@ module _ {J T : Type 0} where
   abbrev pub with_creations : List (ℕ × ℕ) → WorldView J T → WorldView J T
   with_creations [] world = world
   with_creations (creation ∷ creations) world =
-      with_creations creations (noted creation.0 (Created (last_queue (journal_at creation.0 world) + 1) creation.1 ∷ []) world)
+      with_creations creations (noted creation.0 (Created (created_count (journal_at creation.0 world) + 1) creation.1 ∷ []) world)
 
 module _ {J : Type 0} where
   -- the order is for no new queue

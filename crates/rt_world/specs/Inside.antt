@@ -2,6 +2,7 @@
 use Rattle.std.specs.Prelude.{◌≡◌, ℕ, ◌+◌, ◌*◌, ◌<◌, ◌≤◌, None, false, List, [], length, map, sum, take, slice_index_or}
 use Rattle.rt_ids.specs.declared.names.JobId.{JobId}
 use Rattle.rt_ids.specs.declared.order.Order.{Order}
+use Rattle.rt_ids.specs.Terms.{Terms}
 use Rattle.rt_ids.specs.Journal.{Journal}
 use Rattle.rt_link.specs.declared.plain.Whole.{Whole}
 use Rattle.rt_core.specs.State.{CoreView, inside_count, opened}
@@ -19,6 +20,10 @@ pub record Parts (J T : Type 0) : Type 0 where
   pub inside : List (CoreView J)
   pub links : List (List (Whole J T))
   pub journals : List (JournalView T)
+
+-- whose journal it is, and what holds of the whole house
+abbrev pub terms_in : {J T : Type 0} → ℕ → Parts J T → Terms
+terms_in actor parts = record { actor = actor; cores = parts.cores; cap = parts.cap }
 
 module _ {J : Type 0} where
   abbrev pub core_at : ℕ → List (CoreView J) → CoreView J
@@ -57,7 +62,7 @@ module _ {J T : Type 0} where
     pub base : link.base ≡ 0
     pub capacity : link.capacity ≡ cap
     pub open_gate : link.shut ≡ false
-    pub nothing_redeemed : link.redeemed ≡ 0
+    pub nothing_redeemed : link.credited ≡ 0
     pub all_accepted : accepted ≡ numbered_orders sender core 0 link.sent
     pub all_taken : link.taken ≡ length delivered
     pub in_order : delivered ≡ take link.taken (map (λ order. order.0) accepted)

@@ -1,12 +1,11 @@
 -- A world as it opens, and the numbers that it opens with.
 use Rattle.std.specs.Prelude.{◌≡◌, ℕ, ◌+◌, ◌^◌, ◌<◌, ◌≤◌, [], ◌∷◌, length, slice_index_or, Result, Ok, Err}
 use Rattle.rt_ids.specs.declared.order.Order.{Order}
-use Rattle.rt_ids.specs.Lawful.{IsOpening}
-pub use Rattle.rt_journal.specs.Orders.{HasShares}
+use Rattle.rt_ids.specs.Commands.{IsOpening}
 use Rattle.rt_world.specs.declared.event.Event.{Event}
 use Rattle.rt_world.specs.declared.event.Event.TheVariants.{Send}
 use Rattle.rt_ids.specs.declared.note.Note.TheVariants.{Created}
-use Rattle.rt_ids.specs.Commands.{last_queue}
+use Rattle.rt_ids.specs.Commands.{created_count}
 use Rattle.rt_taskqueue.specs.declared.queues.CreateError.{CreateError}
 use Rattle.rt_taskqueue.specs.declared.queues.CreateError.TheVariants.{TooMany, Memory}
 use Rattle.rt_world.specs.declared.model.WorldError.{WorldError}
@@ -56,6 +55,6 @@ Opens cores cap room (Err why.Memory) = IsConfig cores cap room
 -- a queue is made before the first event, under the next number; a core that has 256 queues says so, else there was no memory
 abbrev pub CreatesAtOpening : {J T : Type 0} → ℕ → ℕ → WorldView J T → Result ℕ CreateError → WorldView J T → Type 0
 CreatesAtOpening core weight old (Ok queue) new =
-    (queue ≡ last_queue (journal_at core old) + 1) × (queue < 256) × (new ≡ noted core (Created queue weight ∷ []) old)
-CreatesAtOpening core weight old (Err TooMany) new = (last_queue (journal_at core old) + 1 ≡ 256) × (new ≡ old)
-CreatesAtOpening core weight old (Err Memory) new = (last_queue (journal_at core old) + 1 < 256) × (new ≡ old)
+    (queue ≡ created_count (journal_at core old) + 1) × (queue < 256) × (new ≡ noted core (Created queue weight ∷ []) old)
+CreatesAtOpening core weight old (Err TooMany) new = (created_count (journal_at core old) + 1 ≡ 256) × (new ≡ old)
+CreatesAtOpening core weight old (Err Memory) new = (created_count (journal_at core old) + 1 < 256) × (new ≡ old)

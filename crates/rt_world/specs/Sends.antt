@@ -10,7 +10,7 @@ use Rattle.rt_world.specs.declared.event.Event.{Event}
 use Rattle.rt_world.specs.declared.event.Event.TheVariants.{Send, Deliver, Turn}
 use Rattle.rt_world.specs.declared.event.Reply.{Reply}
 use Rattle.rt_world.specs.declared.event.Reply.TheVariants as reply
-use Rattle.rt_world.specs.State.{WorldView, order_note, journal_at, noted, with_sent}
+use Rattle.rt_world.specs.State.{WorldView, without_job, terms_at, journal_at, noted, with_sent}
 
 -- the actor that makes the event's step
 abbrev pub actor_of : {J : Type 0} → Event J → ℕ
@@ -28,8 +28,8 @@ module _ {J T : Type 0} where
   -- Send: accepted under the next name of the link; else refused where as many as may be are outstanding, else where the last number was given
   abbrev pub Sends : ℕ → ℕ → Order J → WorldView J T → WorldView J T → Reply J → Type 0
   Sends sender core order old new (reply.Sent name) =
-      IsNextSent sender old.cap name (journal_at sender old) × (name.to ≡ core)
-      × (new ≡ record (noted sender (writes.Sent name (order_note order) ∷ []) old) { sent = with_sent sender core order old })
+      IsNextSent (terms_at sender old) name (without_job order) (journal_at sender old) × (name.to ≡ core)
+      × (new ≡ record (noted sender (writes.Sent name (without_job order) ∷ []) old) { sent = with_sent sender core order old })
   Sends sender core order old new (reply.NotSent (Full back)) =
       (back ≡ order) × (old.cap ≤ outstanding_count core (journal_at sender old)) × (new ≡ old)
   Sends sender core order old new (reply.NotSent (Spent back)) =

@@ -5,7 +5,8 @@ use Rattle.rt_ids.specs.declared.note.Note.{Note}
 use Rattle.rt_ids.specs.declared.order.Order.{Order}
 use Rattle.rt_ids.specs.Journal.{Journal}
 use Rattle.rt_ids.specs.Assembly.{Assembly}
-pub use Rattle.rt_journal.specs.Orders.{order_note}
+pub use Rattle.rt_ids.specs.Orders.{without_job}
+use Rattle.rt_ids.specs.Terms.{Terms}
 
 -- the number of cores, the capacity of each link and the room of each journal; the journals by actor; and the orders accepted, by sender and then by core, the oldest first
 pub record WorldView (J T : Type 0) : Type 0 where
@@ -18,6 +19,10 @@ pub record WorldView (J T : Type 0) : Type 0 where
 module _ {J T : Type 0} where
   abbrev pub journal_at : ℕ → WorldView J T → Journal T
   journal_at actor world = slice_index_or world.journals actor []
+
+  -- whose journal it is, and what holds of the whole house
+  abbrev pub terms_at : ℕ → WorldView J T → Terms
+  terms_at actor world = record { actor = actor; cores = world.cores; cap = world.cap }
 
   -- the orders accepted from an actor to a core
   abbrev pub sent_at : ℕ → ℕ → WorldView J T → List (Order J)

@@ -12,9 +12,8 @@ ghost use Rattle.rt_world.specs.PickedJobs.{TookOut, TookNone};
 use super::World;
 use crate::event::Reply;
 use rt_core::{PickError, Turn};
-use rt_ids::{ActorNo, CoreNo, Envelope, JobId, Note, Order, Ticket};
+use rt_ids::{ActorNo, CoreNo, JobId, Note, Order, Ticket};
 use rt_jobs::{Job, Ran, Task};
-use rt_journal::with_note;
 use std::alloc::Allocator;
 
 impl<J: Task<Out = u64>, A: Allocator + Clone> World<J, A> {
@@ -26,7 +25,7 @@ impl<J: Task<Out = u64>, A: Allocator + Clone> World<J, A> {
         requires ready { HasReadyJob J.done J.CanPoll order }
         ensures { Sends from to order self.old self.new result }
     {
-        let (order, what) = with_note(order);
+        let what = order.without_job();
         match self.links.send(from, to, order) {
             Ok(number) => {
                 let ticket = Ticket::named(JobId { from, to, number });
@@ -49,10 +48,9 @@ impl<J: Task<Out = u64>, A: Allocator + Clone> World<J, A> {
         let Some(envelope) = self.links.take(from, core) else {
             return Reply::Empty;
         };
-        let Envelope { name, order } = envelope;
-        // The shares of a command are within their range, which the law of its journal asks.
-        let (order, _) = with_note(order);
-        let (_, notes) = self.inside[index].deliver(Envelope { name, order });
+        // The queue and the shares of a command are within their ranges, which the law of its journal asks.
+        let _within_ranges = envelope.order.without_job();
+        let (_, notes) = self.inside[index].deliver(envelope);
         self.journals[index].push_all(notes.as_slice());
         Reply::Noted
     }

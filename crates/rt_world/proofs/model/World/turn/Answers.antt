@@ -62,7 +62,9 @@ push_all-requires-2 g c =
 
 pub invariant_of-self-2 : goal.invariant_of-self-2
 invariant_of-self-2 g c =
-    let there : c.core.inside.0 < c.self.inside.cores = omega (arith, c.core.view_is, c.requires.core, ap (λ world. world.cores) c.self.view_is) in (
+    let there : c.core.inside.0 < c.self.inside.cores = omega (arith, c.core.view_is, c.requires.core, ap (λ world. world.cores) c.self.view_is) in
+    let room = subst (λ world. length (journal_at c.core.inside.0 world) + 4 ≤ world.room) (sym c.self.view_is)
+    (subst (λ core. length (journal_at core c.args.self.now) + 4 ≤ c.args.self.now.room) (sym c.core.view_is) c.requires.room) in (
       c.self.invariant.0,
       world_now _ _ _ _ _ g.met.J.Task.same_task _ c.self.invariant.1 c.core.inside.0 there c.index_mut.result.now c.index_mut.ensures.value c.pick-picked.result.0 c.pick-picked.new.self c.pick-picked.result.1.items c.pick-picked.ensures.picks
           c.in-Ok.job (IfOk-at_ok (TookOut c.pick-picked.result.0) c.in-Ok.is c.job_or_reply.ensures.job)
@@ -73,7 +75,8 @@ invariant_of-self-2 g c =
           (record { borrowed = c.index_mut-3.ensures.value; slice = c.as_slice.result.now; slice_is = c.as_slice.ensures.value; pushed = c.push_all.ensures.notes })
           c.index_mut-4.result.now c.index_mut-4.ensures.value
           c.push_all-2.new.self
-          (record { borrowed = c.index_mut-4.ensures.value; slice = c.as_slice-2.result.now; slice_is = c.as_slice-2.ensures.value; pushed = c.push_all-2.ensures.notes }),
+          (record { borrowed = c.index_mut-4.ensures.value; slice = c.as_slice-2.result.now; slice_is = c.as_slice-2.ensures.value; pushed = c.push_all-2.ensures.notes })
+          (turn_left _ _ room c.self.invariant.0.low_room),
     )
 
 pub returns : goal.returns

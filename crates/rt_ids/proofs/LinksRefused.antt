@@ -1,0 +1,49 @@
+-- What each of these orders calls for is something else.
+use Rattle.std.proofs.Common.{◌≡◌, ℕ, inl, inr, [], refl, sym, ap, subst, arith}
+use Rattle.std.specs.Prelude.{Option, Some}
+use Rattle.std.proofs.lemmas.Option.{same_Some}
+use Rattle.rt_ids.specs.declared.note.Note.{Note}
+use Rattle.rt_ids.specs.declared.note.Note.TheVariants as notes
+use Rattle.rt_ids.specs.declared.order.Answer.TheVariants as answers
+use Rattle.rt_ids.specs.declared.order.Order.{Order}
+use Rattle.rt_ids.specs.declared.order.Order.TheVariants.{Job, Create}
+use Rattle.rt_ids.specs.declared.order.Reason.TheVariants as why
+use Rattle.rt_ids.specs.BadLinks.{LinksAreRefused}
+use Rattle.rt_ids.specs.Commands.{IsAnswer, effect_note, refusal}
+
+-- no creation is answered as if it set shares
+not_shares : (order : Order (Unit {0})) → Some (Create 500) ≡ Some order → IsAnswer {T = ℕ} order answers.SharesSet [] → ⊥
+not_shares order sent fits =
+    let creation : IsAnswer {T = ℕ} (Create 500) answers.SharesSet [] = subst (λ one. IsAnswer {T = ℕ} one answers.SharesSet []) (sym (same_Some (Create 500) order sent)) fits in
+    elim creation [ inl none ↦ cc | inr created ↦ cc ]
+
+-- a job for this queue
+abbrev job_for : ℕ → Order (Unit {0})
+job_for queue = Job queue tt
+
+-- no job for queue 0 goes back for want of its queue
+not_denied : (queue : ℕ) → Some (job_for 0) ≡ Some (job_for queue) → refusal {T = ℕ} queue [] ≡ Some why.NoQueue → ⊥
+not_denied queue sent refused =
+    let same : 0 ≡ queue = cc in
+    let at_0 : refusal {T = ℕ} 0 [] ≡ Some why.NoQueue = subst (λ one. refusal {T = ℕ} one [] ≡ Some why.NoQueue) (sym same) refused in
+    cc
+
+-- the shares that a note gives
+abbrev shares_given : Option (Note ℕ) → ℕ
+shares_given (Some (notes.Created queue weight)) = weight
+shares_given _ = 0
+
+-- a creation gives the shares that it says
+not_600 : (order : Order (Unit {0})) → Some (Create 500) ≡ Some order → effect_note {T = ℕ} order (answers.Created 1) ≡ Some (notes.Created 1 600) → ⊥
+not_600 order sent carried =
+    let given : shares_given (effect_note {T = ℕ} (Create 500) (answers.Created 1)) ≡ 600 =
+    subst (λ one. shares_given (effect_note {T = ℕ} one (answers.Created 1)) ≡ 600) (sym (same_Some (Create 500) order sent)) (ap shares_given carried) in
+    let weight : ◌≡◌ {A = ℕ} 500 600 = given in
+    omega arith
+
+pub links_refused : LinksAreRefused
+links_refused = record {
+  answer = λ agree. let sent = (agree.as_sent 0 (omega arith)).1.0 in not_shares sent.0 sent.1 sent.2;
+  refusal = λ agree. let sent = (agree.as_sent 0 (omega arith)).0 in not_denied sent.0 sent.1 sent.2;
+  effect = λ agree. let sent = (agree.as_sent 0 (omega arith)).0 refl in not_600 sent.0 sent.1 sent.2;
+}

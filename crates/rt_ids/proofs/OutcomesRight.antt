@@ -1,0 +1,73 @@
+-- Outcomes: in a lawful journal whose deliveries are as sent, no job ends twice, none is done before it started, and no command is answered twice.
+use Rattle.std.proofs.Common.{◌≡◌, inl, inr, true, [], ◌∷◌, refl, sym, ◌∙◌, subst}
+use Rattle.std.proofs.lemmas.Bool.{or_cases, true≢false, false_from_ne_true}
+use Rattle.rt_ids.specs.declared.names.JobId.{JobId}
+use Rattle.rt_ids.specs.declared.note.Note.{Note}
+use Rattle.rt_ids.specs.declared.note.Note.TheVariants.{Back, Answered, Done, Returned, Collected, Redeemed}
+use Rattle.std.specs.Prelude.{Some}
+use Rattle.rt_ids.specs.declared.order.Answer.{Answer}
+use Rattle.rt_ids.specs.declared.order.Order.{Order}
+use Rattle.rt_ids.specs.declared.order.Order.TheVariants.{Job, Create, SetShares}
+use Rattle.rt_ids.specs.Assembly.{Assembly, order_of, IsAcceptedCommand}
+use Rattle.rt_ids.specs.Commands.{IsAnswer}
+use Rattle.rt_ids.specs.Clauses.{StandsInOrder, OutcomesRight, name_answered}
+use Rattle.rt_ids.specs.Journal.{Journal, EachNote, is_told}
+use Rattle.rt_ids.specs.Joining.{DeliversAsSent}
+use Rattle.rt_ids.specs.Lawful.{MayFollow, MayStand, IsNextDelivered}
+use Rattle.rt_ids.specs.Names.{is_name}
+use Rattle.rt_ids.specs.Terms.{Terms}
+use Rattle.rt_ids.proofs.JobsOut.{alone_out}
+use Rattle.rt_ids.proofs.Known.{IsOld, known_of, first_in_line, next_old, not_old, still_old}
+use Rattle.rt_ids.proofs.NameLemmas.{one_name, same_as_itself}
+use Rattle.rt_ids.proofs.Starts.{started_of}
+use Rattle.rt_ids.proofs.StartsOnce.{accepted_inside}
+
+-- what is answered was sent as a command
+command_answered : {T : Type 0} (assembly : Assembly T) (name : JobId) (order : Order (Unit {0})) (answer : Answer) (before : Journal T) →
+    order_of name assembly ≡ Some order → IsAnswer order answer before → IsAcceptedCommand name assembly
+command_answered assembly name (Job queue task) answer before sent fits = absurd fits
+command_answered assembly name (Create weight) answer before sent fits = rw sent
+command_answered assembly name (SetShares queue weight) answer before sent fits = rw sent
+
+module _ {T : Type 0} (terms : Terms) where
+  -- a command that is answered was delivered
+  answering_old : (name : JobId) (note : Note T) (before : Journal T) → MayFollow terms note before → is_name name (name_answered note) ≡ true → IsOld name (note ∷ before)
+  answering_old name (Answered other answer) before law now =
+      subst (λ one. IsOld one (Answered other answer ∷ before)) (sym (one_name name other now)) (next_old terms other before _ law.0 refl)
+  answering_old name _ before law now = cc
+
+  -- each command that was answered was delivered
+  pub answered_old : (name : JobId) (journal : Journal T) → EachNote (MayStand terms) journal → is_told name_answered name journal ≡ true → IsOld name journal
+  answered_old name [] notes told = absurd (true≢false (sym told))
+  answered_old name (note ∷ before) notes told =
+      elim (or_cases (is_name name (name_answered note)) (is_told name_answered name before) told) [
+        | inl now ↦ answering_old name note before notes.0.may_follow now
+        | inr was ↦ still_old name note before (answered_old name before notes.1 was)
+      ]
+
+  -- what is delivered now is not old
+  next_not_old : (name : JobId) (before : Journal T) → IsNextDelivered terms name before → IsOld name before → ⊥
+  next_not_old name before next old = true≢false (sym (same_as_itself name) ∙ not_old terms name name before next old)
+
+  -- the fourth clause of soundness, note by note
+  pub outcomes_right : (assembly : Assembly T) (journal : Journal T) → EachNote (MayStand terms) journal → EachNote (DeliversAsSent assembly) journal →
+      EachNote (StandsInOrder assembly) journal → EachNote (OutcomesRight assembly) journal
+  outcomes_right assembly [] notes sent order = tt
+  outcomes_right assembly (note ∷ before) notes sent order =
+      (by_note note notes.0.may_follow sent.0, outcomes_right assembly before notes.1 sent.1 order.1)
+    where
+      by_note : (note : Note T) → MayFollow terms note before → DeliversAsSent assembly note before → OutcomesRight assembly note before
+      by_note (Done name time value) law as_sent =
+          let inside = (known_of terms before notes.1).out_inside name (alone_out name before law) in
+          let started = (started_of terms before notes.1).out_started name (alone_out name before law) in
+          (accepted_inside assembly name before order.1 inside, inside.going_on, started)
+      by_note (Returned name reason) law as_sent =
+          let inside = (known_of terms before notes.1).line_inside law.0 name (first_in_line terms name law.0 before law.1) in
+          (accepted_inside assembly name before order.1 inside, inside.going_on)
+      by_note (Back name reason) law as_sent =
+          ((as_sent.0, as_sent.1), false_from_ne_true _ (λ ended. next_not_old name before law.0 ((known_of terms before notes.1).ended_old name ended)))
+      by_note (Answered name answer) law as_sent =
+          (command_answered assembly name as_sent.0 answer before as_sent.1 as_sent.2, false_from_ne_true _ (λ answered. next_not_old name before law.0 (answered_old name before notes.1 answered)))
+      by_note (Collected name outcome) law as_sent = absurd law
+      by_note (Redeemed name outcome) law as_sent = absurd law
+      by_note _ law as_sent = tt

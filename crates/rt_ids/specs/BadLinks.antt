@@ -1,0 +1,26 @@
+-- Journals that no order calls for: each may be lawful by itself, and may even be sound, and the links don't agree.
+use Rattle.std.specs.Prelude.{ℕ, [], ◌∷◌}
+use Rattle.rt_ids.specs.declared.note.Note.TheVariants as notes
+use Rattle.rt_ids.specs.declared.order.Answer.TheVariants as answers
+use Rattle.rt_ids.specs.declared.order.Reason.TheVariants as why
+use Rattle.rt_ids.specs.Assembly.{Assembly}
+use Rattle.rt_ids.specs.BadJournals.{submission, with_journals, one_job, one_command}
+use Rattle.rt_ids.specs.Joining.{LinksAgree}
+
+-- an order to create a queue is answered, and carried out, as if it set shares
+abbrev pub answered_otherwise : Assembly ℕ
+answered_otherwise = with_journals (notes.SharesSet 0 500 ∷ notes.Answered (submission 1) answers.SharesSet ∷ []) one_command
+
+-- a job for an open queue goes back as if there were no such queue
+abbrev pub open_queue_denied : Assembly ℕ
+open_queue_denied = with_journals (notes.Back (submission 1) why.NoQueue ∷ []) one_job
+
+-- a queue is created with other shares than the command gives it
+abbrev pub created_with_other_shares : Assembly ℕ
+created_with_other_shares = with_journals (notes.Created 1 600 ∷ notes.Answered (submission 1) (answers.Created 1) ∷ []) one_command
+
+-- the links of none of them agree
+pub record LinksAreRefused : Type 0 where
+  pub answer : LinksAgree answered_otherwise → ⊥
+  pub refusal : LinksAgree open_queue_denied → ⊥
+  pub effect : LinksAgree created_with_other_shares → ⊥

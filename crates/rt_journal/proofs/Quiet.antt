@@ -1,0 +1,86 @@
+-- Notes by which nothing is delivered: a core beside its journal stays recorded, and the ends of its links stay beside it.
+use Rattle.std.proofs.Common.{◌≡◌, ℕ, ◌+◌, ◌*◌, ◌≤◌, Bool, true, false, List, [], ◌∷◌, length, refl, sym, ◌∙◌, ap, subst, arith, add-zero}
+use Rattle.std.specs.Prelude.{Option}
+use Rattle.std.proofs.lemmas.List.{append-nil, length-append}
+use Rattle.rt_ids.specs.declared.names.JobId.{JobId}
+use Rattle.rt_ids.specs.declared.note.Note.TheVariants as writes
+use Rattle.rt_ids.specs.declared.order.Order.{Order}
+use Rattle.rt_ids.specs.Journal.{Journal, EachNote}
+use Rattle.rt_ids.specs.Filters.{delivered_names, given_outcomes}
+use Rattle.rt_jobs.specs.declared.job.Step.{Step}
+use Rattle.rt_jobs.specs.declared.job.Step.TheVariants as steps
+use Rattle.rt_ids.specs.Joining.{DeliversAs}
+use Rattle.rt_journal.specs.Polls.{poll_note, settle_note}
+use Rattle.rt_journal.specs.Recorded.{RecordedView, IsHeld, IsTaken, sum_upto, delivered_count, given_count}
+use Rattle.rt_journal.specs.Ends.{KeepsIn, IsSameSeat}
+use Rattle.rt_journal.proofs.CarriedOut.{KeepsLists, prefix-with_last}
+use Rattle.rt_journal.proofs.EndsKept.{keeps_in}
+use Rattle.rt_journal.proofs.Sums.{sum_upto-same}
+
+-- nothing is sent, collected or delivered by the notes; what is given may be more
+pub record IsQuiet {T : Type 0} (old new : Journal T) : Type 0 where
+  pub lists : KeepsLists old new
+  pub delivered : (sender : ℕ) → delivered_names sender new ≡ delivered_names sender old
+
+module _ {T : Type 0} (notes : Journal T) where
+  -- a creation
+  pub quiet-created : (queue weight : ℕ) → IsQuiet notes (writes.Created queue weight ∷ notes)
+  quiet-created queue weight = record {
+    lists = record { accepted = λ core. refl; outstanding = λ core. refl; collected = λ core. refl; given = λ sender. ([], append-nil (given_outcomes sender notes)) };
+    delivered = λ sender. refl;
+  }
+
+  -- a pick, and the note of the poll that begins
+  pub quiet-picked : (name : JobId) (queue runtime : ℕ) (was_started : Bool) → IsQuiet notes (poll_note name was_started ∷ writes.Pick queue runtime ∷ notes)
+  quiet-picked name queue runtime false = record {
+    lists = record { accepted = λ core. refl; outstanding = λ core. refl; collected = λ core. refl; given = λ sender. ([], append-nil (given_outcomes sender notes)) };
+    delivered = λ sender. refl;
+  }
+  quiet-picked name queue runtime true = record {
+    lists = record { accepted = λ core. refl; outstanding = λ core. refl; collected = λ core. refl; given = λ sender. ([], append-nil (given_outcomes sender notes)) };
+    delivered = λ sender. refl;
+  }
+
+  -- a poll that is settled
+  pub quiet-settled : (name : JobId) (time : ℕ) (step : Step T) → IsQuiet notes (settle_note name time step ∷ notes)
+  quiet-settled name time (steps.Done out) = record {
+    lists = record { accepted = λ core. refl; outstanding = λ core. refl; collected = λ core. refl; given = λ sender. prefix-with_last (given_outcomes sender notes) _ };
+    delivered = λ sender. refl;
+  }
+  quiet-settled name time steps.Yield = record {
+    lists = record { accepted = λ core. refl; outstanding = λ core. refl; collected = λ core. refl; given = λ sender. ([], append-nil (given_outcomes sender notes)) };
+    delivered = λ sender. refl;
+  }
+
+  -- deliveries stay as sent behind the notes of a poll
+  pub as_sent-picked : (under : JobId → Option (Order (Unit {0}))) (name : JobId) (queue runtime : ℕ) (was_started : Bool) → EachNote (DeliversAs under) notes →
+      EachNote (DeliversAs under) (poll_note name was_started ∷ writes.Pick queue runtime ∷ notes)
+  as_sent-picked under name queue runtime false before = (tt, (tt, before))
+  as_sent-picked under name queue runtime true before = (tt, (tt, before))
+
+  pub as_sent-settled : (under : JobId → Option (Order (Unit {0}))) (name : JobId) (time : ℕ) (step : Step T) → EachNote (DeliversAs under) notes → EachNote (DeliversAs under) (settle_note name time step ∷ notes)
+  as_sent-settled under name time (steps.Done out) before = (tt, before)
+  as_sent-settled under name time steps.Yield before = (tt, before)
+
+-- places and names stay where nothing is delivered
+module _ {T : Type 0} (old new : Journal T) (quiet : IsQuiet old new) (cores cap : ℕ) where
+  delivered_same : (sender : ℕ) → delivered_count new sender ≡ delivered_count old sender
+  delivered_same sender = ap length (quiet.delivered sender)
+
+  pub held-quiet : (jobs now : ℕ) → IsHeld cores cap jobs old → now + sum_upto (given_count new) cores ≤ jobs + sum_upto (given_count old) cores → IsHeld cores cap now new
+  held-quiet jobs now held fewer = record {
+    each = λ sender there.
+        let was : delivered_count old sender ≤ given_count old sender + cap = held.each sender there in
+        let grows = quiet.lists.given sender in
+        omega (arith, was, delivered_same sender, ap length grows.1, length-append (given_outcomes sender old) grows.0);
+    inside = omega (arith, held.inside, fewer, sum_upto-same (delivered_count new) (delivered_count old) cores delivered_same);
+  }
+
+  pub taken-quiet : (name : JobId) → IsTaken cores old name → IsTaken cores new name
+  taken-quiet name taken = record { sender = taken.sender; old = omega (arith, taken.old, delivered_same name.from) }
+
+-- the ends of all senders stay
+pub ins-quiet : {J T : Type 0} (old new : RecordedView J T) → IsSameSeat old new → IsQuiet old.journal.notes new.journal.notes → new.took ≡ old.took →
+    (sender : ℕ) → KeepsIn sender old new
+ins-quiet old new seat quiet took sender =
+    keeps_in old new seat sender (quiet.lists.given sender) (ap length (quiet.delivered sender)) (λ name order from at. rw (← took) at)

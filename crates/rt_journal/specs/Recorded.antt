@@ -1,0 +1,85 @@
+-- A core beside its journal and the orders that were delivered to it, as callers see them.
+use Rattle.std.specs.Prelude.{◌≡◌, ℕ, zero, suc, ◌+◌, ◌*◌, ◌≤◌, Bool, Option, Some, None, if◌then◌else◌, List, [], ◌∷◌, length, All}
+use Rattle.std.specs.Option.{option_map}
+use Rattle.rt_ids.specs.declared.names.JobId.{JobId}
+use Rattle.rt_ids.specs.declared.order.Envelope.{Envelope}
+use Rattle.rt_ids.specs.declared.order.Order.{Order}
+use Rattle.rt_ids.specs.declared.order.Order.TheVariants.{Job}
+use Rattle.rt_ids.specs.Terms.{Terms}
+use Rattle.rt_ids.specs.Names.{same_name}
+use Rattle.rt_ids.specs.Journal.{Journal, EachNote}
+use Rattle.rt_ids.specs.Filters.{delivered_names, given_outcomes}
+use Rattle.rt_jobs.specs.declared.job.Step.{Step}
+use Rattle.rt_taskqueue.specs.Queues.{waiting_of}
+use Rattle.rt_core.specs.State.{CoreView, JobOut, inside_count}
+use Rattle.rt_journal.specs.Journals.{JournalView}
+use Rattle.rt_ids.specs.Orders.{without_job}
+use Rattle.rt_journal.specs.Polls.{polls_made}
+use Rattle.rt_journal.specs.Agreement.{IsKept}
+use Rattle.rt_ids.specs.Joining.{DeliversAs}
+
+-- the capacity of each link, the core, its journal, and the orders that were delivered to it, the oldest first
+pub record RecordedView (J T : Type 0) : Type 0 where
+  pub cap : ℕ
+  pub core : CoreView J
+  pub journal : JournalView T
+  pub took : List (Envelope J)
+
+-- whose journal it is, and what holds of the whole house
+abbrev pub terms_at : {J T : Type 0} → RecordedView J T → Terms
+terms_at view = record { actor = view.core.core; cores = view.core.cores; cap = view.cap }
+
+-- a count of the first actors together, the last one included
+abbrev pub sum_upto : (ℕ → ℕ) → ℕ → ℕ
+sum_upto count zero = count 0
+sum_upto count (suc last) = sum_upto count last + count (suc last)
+
+module _ {T : Type 0} where
+  abbrev pub delivered_count : Journal T → ℕ → ℕ
+  delivered_count notes sender = length (delivered_names sender notes)
+
+  abbrev pub given_count : Journal T → ℕ → ℕ
+  given_count notes sender = length (given_outcomes sender notes)
+
+  -- of each sender at most `cap` orders wait for their outcome, and no more jobs are inside than orders wait
+  pub record IsHeld (cores cap jobs : ℕ) (notes : Journal T) : Type 0 where
+    pub each : (sender : ℕ) → sender ≤ cores → delivered_count notes sender ≤ given_count notes sender + cap
+    pub inside : jobs + sum_upto (given_count notes) cores ≤ sum_upto (delivered_count notes) cores
+
+module _ {J : Type 0} where
+  -- the order that was delivered under a name
+  abbrev pub order_taken : List (Envelope J) → JobId → Option (Order J)
+  order_taken [] name = None
+  order_taken (envelope ∷ later) name = if same_name name envelope.name then Some envelope.order else order_taken later name
+
+  -- the same, as a note tells it
+  abbrev pub note_taken : List (Envelope J) → JobId → Option (Order (Unit {0}))
+  note_taken took name = option_map without_job (order_taken took name)
+
+-- the name was delivered, by a sender that there is
+pub record IsTaken {T : Type 0} (cores : ℕ) (notes : Journal T) (name : JobId) : Type 0 where
+  pub sender : name.from ≤ cores
+  pub old : name.number ≤ delivered_count notes name.from
+
+module _ {J T : Type 0} (same : J → J → Type 0) (made : J → ℕ) (polls : J → ℕ → Step T → Option ℕ → Type 0) where
+  -- after so many polls, a poll of this job owes what the next poll of the job that was sent owes
+  abbrev pub OwesAfter : J → ℕ → J → Type 0
+  OwesAfter sent count job =
+      (more : ℕ) (step : Step T) (told : Option ℕ) → polls job (made job + more) step told → polls sent (made sent + (count + more)) step told
+
+  -- the job has the task that was sent under its name to this queue, and was polled as often as the journal says
+  pub record HasTask (took : List (Envelope J)) (notes : Journal T) (queue : ℕ) (name : JobId) (job : J) : Type 0 where
+    pub sent : J
+    pub task : order_taken took name ≡ Some (Job queue sent)
+    pub same_task : same sent job
+    pub owes : OwesAfter sent (polls_made name notes) job
+
+  -- the core agrees with its journal; each delivery is as its order calls for; each job inside has the task that was sent, and its place
+  pub record IsRecorded (view : RecordedView J T) : Type 0 where
+    pub kept : IsKept (terms_at view) view.core view.journal.notes
+    pub room : view.core.queues.room ≡ (view.core.cores + 1) * view.cap
+    pub held : IsHeld view.core.cores view.cap (inside_count view.core) view.journal.notes
+    pub taken : (name : JobId) (order : Order J) → order_taken view.took name ≡ Some order → IsTaken view.core.cores view.journal.notes name
+    pub as_sent : EachNote (DeliversAs (note_taken view.took)) view.journal.notes
+    pub waiting : (queue : ℕ) → All (λ entry. HasTask view.took view.journal.notes queue entry.0 entry.2) (waiting_of queue view.core.queues)
+    pub out : (job : JobOut J) → view.core.out ≡ Some job → HasTask view.took view.journal.notes job.queue job.name job.job
