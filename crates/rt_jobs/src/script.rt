@@ -128,6 +128,10 @@ impl Task for ScriptJob {
 
     ghost answers_same = { λ a b out same here. subst (λ polls. IsAnswer polls out) same here };
 
+    ghost polls_same = { λ a b made step told same owed. subst (λ polls. Does (slice_get polls made) step told) same owed };
+
+    ghost can_poll_same = { λ a b same can. can };
+
     fn is_done(&self) -> bool {
         self.polled > self.yields.len()
     }
