@@ -9,6 +9,8 @@ use crate::poll::{Poll, Yielding};
 use arrayvec::ArrayVec;
 use std::marker::Model;
 
+mod fill;
+
 /// The most polls of a script job.
 pub const MOST_POLLS: usize = 64;
 
