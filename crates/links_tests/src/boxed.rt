@@ -47,7 +47,7 @@ impl Polled for Nine {
 
 /// Takes an order, polls its job to its end and gives the answer. Whether there was a job.
 fn answer_one<J: Job, I: InEnd<J>>(end: &mut I) -> bool
-    ensures { I.link end.new ≡ I.link end.old }
+    ensures { I.untouched end.new ≡ I.untouched end.old }
 {
     let Some(Envelope { name, order }) = end.take() else {
         return false;

@@ -32,7 +32,7 @@ pub trait Link {
 }
 
 fn at_sender<O: OutEnd<Number>>(out: &mut O, step: Step) -> Option<Told>
-    ensures { O.link out.new ≡ O.link out.old }
+    ensures { O.untouched out.new ≡ O.untouched out.old }
 {
     Some(match step {
         Step::Send(value) => send(out, value),
@@ -45,7 +45,7 @@ fn at_sender<O: OutEnd<Number>>(out: &mut O, step: Step) -> Option<Told>
 }
 
 fn at_receiver<I: InEnd<Number>>(inward: &mut I, step: Step) -> Told
-    ensures { I.link inward.new ≡ I.link inward.old }
+    ensures { I.untouched inward.new ≡ I.untouched inward.old }
 {
     match step {
         Step::Take => take(inward),

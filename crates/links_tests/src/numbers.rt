@@ -40,6 +40,10 @@ impl Task for Number {
 
     ghost answers_same = { λ a b out same here. here ∙ same };
 
+    ghost polls_same = { λ a b made step told same owed. owed };
+
+    ghost can_poll_same = { λ a b same can. can };
+
     fn is_done(&self) -> bool {
         false
     }
@@ -104,8 +108,8 @@ fn told_of_refusal(error: SendError<Number>, value: u64) -> Told {
 
 /// Sends a job of this value. Refused, it comes back.
 pub fn send<O: OutEnd<Number>>(out: &mut O, value: u64) -> Told
-    ensures link { O.link out.new ≡ O.link out.old }
-    ensures redeemed { O.redeemed out.new ≡ O.redeemed out.old }
+    ensures untouched { O.untouched out.new ≡ O.untouched out.old }
+    ensures credited { O.credited out.new ≡ O.credited out.old }
     ensures got { (O.out out.new).got ≡ (O.out out.old).got }
 {
     match out.send(job(value)) {
@@ -117,7 +121,7 @@ pub fn send<O: OutEnd<Number>>(out: &mut O, value: u64) -> Told
 /// Sends a command.
 pub fn command<O: OutEnd<Number>>(out: &mut O, order: Order<Number>) -> Told
     requires { order ≡ Order.Create 1000 }
-    ensures { O.link out.new ≡ O.link out.old }
+    ensures { O.untouched out.new ≡ O.untouched out.old }
 {
     match out.send(order) {
         Ok(number) => Told::Sent(number),
@@ -138,7 +142,7 @@ pub fn told_of(number: u64, outcome: Outcome<Number, u64>) -> Told {
 
 /// Collects an outcome and gives its credit back.
 pub fn redeem<O: OutEnd<Number>>(out: &mut O) -> Told
-    ensures { O.link out.new ≡ O.link out.old }
+    ensures { O.untouched out.new ≡ O.untouched out.old }
 {
     let Some((number, outcome)) = out.collect() else {
         return Told::Nothing;
@@ -149,7 +153,7 @@ pub fn redeem<O: OutEnd<Number>>(out: &mut O) -> Told
 
 /// Collects an outcome of a full link and gives its credit back, and sees that the link is full in between.
 pub fn redeem_late<O: OutEnd<Number>>(out: &mut O) -> Told
-    ensures { O.link out.new ≡ O.link out.old }
+    ensures { O.untouched out.new ≡ O.untouched out.old }
 {
     let Some((number, outcome)) = out.collect() else {
         return Told::Nothing;
@@ -184,7 +188,7 @@ fn number_of(name: JobId) -> Told {
 
 /// Takes an order and gives its outcome.
 pub fn serve<I: InEnd<Number>>(inward: &mut I) -> Told
-    ensures { I.link inward.new ≡ I.link inward.old }
+    ensures { I.untouched inward.new ≡ I.untouched inward.old }
 {
     let Some(Envelope { name, order }) = inward.take() else {
         return Told::Nothing;
@@ -195,7 +199,7 @@ pub fn serve<I: InEnd<Number>>(inward: &mut I) -> Told
 
 /// Takes an order.
 pub fn take<I: InEnd<Number>>(inward: &mut I) -> Told
-    ensures { I.link inward.new ≡ I.link inward.old }
+    ensures { I.untouched inward.new ≡ I.untouched inward.old }
 {
     match inward.take() {
         Some(envelope) => number_of(envelope.name),
@@ -205,7 +209,7 @@ pub fn take<I: InEnd<Number>>(inward: &mut I) -> Told
 
 /// Takes an order and hands its job back.
 pub fn hand_back<I: InEnd<Number>>(inward: &mut I) -> Told
-    ensures { I.link inward.new ≡ I.link inward.old }
+    ensures { I.untouched inward.new ≡ I.untouched inward.old }
 {
     let Some(Envelope { name, order }) = inward.take() else {
         return Told::Nothing;

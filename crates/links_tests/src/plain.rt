@@ -73,9 +73,9 @@ fn send_through<O: OutEnd<Number>>(
     order: Order<Number>,
 ) -> Result<u64, SendError<Number>>
     requires { HasReadyJob ⟦<Number as Task>⟧.done ⟦<Number as Task>⟧.CanPoll order }
-    ensures link { O.link link.new ≡ O.link link.old }
-    ensures redeemed { O.redeemed link.new ≡ O.redeemed link.old }
-    ensures sends { Sends (O.out link.old) (O.redeemed link.old) order (O.out link.new) result }
+    ensures untouched { O.untouched link.new ≡ O.untouched link.old }
+    ensures credited { O.credited link.new ≡ O.credited link.old }
+    ensures sends { Sends (O.out link.old) (O.credited link.old) order (O.out link.new) result }
 {
     link.send(order)
 }

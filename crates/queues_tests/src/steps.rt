@@ -30,6 +30,10 @@ impl Task for Steps {
 
     ghost answers_same = { λ _ _ _ _ _. tt };
 
+    ghost polls_same = { λ _ _ _ _ _ _ _. tt };
+
+    ghost can_poll_same = { λ _ _ _ can. can };
+
     fn is_done(&self) -> bool {
         self.done
     }

@@ -18,7 +18,7 @@ abbrev pub OutputOfJobsIsDetermined : Type 0
 OutputOfJobsIsDetermined =
     (script : Drafted) (output other : List ℕ) → OrderNoQueues (map event_of script.events) → IsOutput script output → IsOutput script other → output ≡ other
 
--- two runs that are done over one text wrote one output; else a journal behind one of them tells so
+-- two runs that are done over one text wrote one output; else a journal behind one of them tells that there was no memory for a queue
 abbrev pub TextHasOneOutput : Type 0
 TextHasOneOutput =
     (text : List ℕ) (sink sink_new other_sink other_new : Option (List ℕ)) (first : IsDone (Some text) sink sink_new) (second : IsDone (Some text) other_sink other_new) →

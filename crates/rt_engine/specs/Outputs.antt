@@ -9,7 +9,7 @@ use Rattle.rt_script.specs.Drafts.{Drafted}
 use Rattle.rt_script.specs.Scripts.{script_of}
 use Rattle.rt_engine.specs.Transcripts.{ScriptWorld, PrintsAll, IsOutput}
 
--- the events happen, and their text is on the page behind what was there, but for what was written from the page's front
+-- the events happen, and their text is put behind what the page had; a first part of the page may be written already
 pub record WritesAll (events : List ScriptEvent) (old new : ScriptWorld) (page_old page_new : List ℕ) (sink_old sink_new : Option (List ℕ)) : Type 0 where
   pub text : List ℕ
   pub written : List ℕ

@@ -63,6 +63,8 @@ fn play<W: Write>(alloc: Global, script: Script, sink: &mut W) -> Result<(), Eng
     create_queues(&mut model, queues.as_slice())?;
     let mut page = String::with_capacity(alloc, FULL_PAGE + LONGEST_PRINT)?;
     print_events(&mut model, events, &mut page, sink)?;
+    model.complete();
+    model.sound();
     print_page(&mut page, sink)?;
     match flush(sink) {
         Ok(()) => Ok(()),

@@ -1,4 +1,4 @@
-//! Laws over the definitions alone.
+//! Laws over the definitions.
 
 ghost use Rattle.rt_engine.specs.OneOutput.{OutputIsDetermined, OutputOfJobsIsDetermined, TextHasOneOutput};
 

@@ -26,7 +26,7 @@ pub(crate) const FULL_PAGE: usize = 16384;
 /// More than the lines of one event, which fill the page a little above that: four notes of at most 128 bytes.
 pub(crate) const LONGEST_PRINT: usize = 1024;
 
-/// Lets the events happen, one after another. Where the page is full it is printed, and so the sink has its front.
+/// Lets the events happen, one after another. A full page is written to the sink at once.
 pub(crate) fn print_events<W: Write>(
     model: &mut Model,
     events: Vec<ScriptEvent>,

@@ -35,7 +35,7 @@ queue_out-nobody journal nobody = rw nobody
 
 module _ {T : Type 0} (terms : Terms) where
   -- a job that stays out stays of its queue
-  queue_out-stays : (note : Note T) (before : Journal T) → MayFollow terms note before → Known before →
+  pub queue_out-stays : (note : Note T) (before : Journal T) → MayFollow terms note before → Known before →
       queue_of_first (jobs_out before) (note ∷ before) ≡ queue_out before
   queue_out-stays note before law known =
       queue_of_first-stays (jobs_out before) note before

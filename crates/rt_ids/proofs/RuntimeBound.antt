@@ -63,7 +63,7 @@ module _ {T : Type 0} (terms : Terms) where
   charge_noted-bounded queue _ before range = omega arith
 
   -- a queue is placed no higher than at the floor
-  place_noted-bounded : (queue : ℕ) (note : Note T) (before : Journal T) → place_noted queue note before ≤ floor before
+  pub place_noted-bounded : (queue : ℕ) (note : Note T) (before : Journal T) → place_noted queue note before ≤ floor before
   place_noted-bounded queue note before = by_test (is_number queue (queue_joined note) && not (has_work queue before))
     where
       by_test : (test : Bool) → cond test (floor before) 0 ≤ floor before

@@ -30,3 +30,4 @@ pub mod BadSteps
 pub mod StepsRefused
 pub mod BadLinks
 pub mod GoodJournals
+pub mod Lag

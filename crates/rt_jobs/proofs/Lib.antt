@@ -1,2 +1,3 @@
 pub mod ExampleLemmas
 pub mod ScriptLemmas
+pub mod FillLemmas

@@ -6,3 +6,4 @@ pub mod Kept
 pub mod Bodies
 pub mod Ranges
 pub mod Example
+pub mod Filling

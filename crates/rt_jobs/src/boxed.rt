@@ -108,6 +108,10 @@ impl<B: Drop, C: Drop, M: Meaning> Task for BoxedJob<B, C, M> {
 
     ghost answers_same = { λ a b out same here. subst (λ key. M.answers key out) same here };
 
+    ghost polls_same = { λ a b made step told same owed. owed };
+
+    ghost can_poll_same = { λ a b same can. can };
+
     fn is_done(&self) -> bool {
         match &self.body {
             Body::Polled(job) => job.is_none(),

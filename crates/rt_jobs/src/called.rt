@@ -58,6 +58,10 @@ impl<C: Called> Task for OnceOf<C> {
 
     ghost answers_same = { λ a b out same here. subst (λ call. IfSome call (λ c. C.gives c out)) same here };
 
+    ghost polls_same = { λ a b made step told same owed. owed };
+
+    ghost can_poll_same = { λ a b same can. can };
+
     fn is_done(&self) -> bool {
         self.call.is_none()
     }

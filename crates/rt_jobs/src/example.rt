@@ -43,6 +43,10 @@ impl Task for Work {
 
     ghost answers_same = { λ a b out same here. (same out).0 here };
 
+    ghost polls_same = { λ a b made step told same owed. owed };
+
+    ghost can_poll_same = { λ a b same can. can };
+
     fn is_done(&self) -> bool {
         matches!(self, Work::Ended)
     }

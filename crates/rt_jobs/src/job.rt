@@ -50,10 +50,15 @@ pub trait Task: Drop {
     fn told(&self) -> Option<u64>
         ensures { result ≡ says self.now };
 
-    // Two laws: to have the same task is an equivalence, and jobs of one task have the same answers.
+    // Four laws: to have the same task is an equivalence; jobs of one task have the same answers, owe the same polls, and can
+    // be polled alike, so a job that comes back can be sent again where it isn't done.
     ghost same_task: { IsSameTask SameTask };
 
     ghost answers_same: { (a b : Self) (out : Self.Out) → SameTask a b → Answers a out → Answers b out };
+
+    ghost polls_same: { (a b : Self) (made : ℕ) (step : Step Self.Out) (told : Option ℕ) → SameTask a b → Polls a made step told → Polls b made step told };
+
+    ghost can_poll_same: { (a b : Self) → SameTask a b → CanPoll a → CanPoll b };
 }
 
 /// Work that is done in polls.

@@ -48,6 +48,10 @@ impl<R: Drop, F: FnOnce() -> R + Drop> Task for Once<F> {
 
     ghost answers_same = { λ a b out same here. subst (λ call. IfSome call (λ f. F.post f out)) same here };
 
+    ghost polls_same = { λ a b made step told same owed. owed };
+
+    ghost can_poll_same = { λ a b same can. subst (λ call. ForSome call F.IsAlwaysCallable) same can };
+
     fn is_done(&self) -> bool {
         self.call.is_none()
     }

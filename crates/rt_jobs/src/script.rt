@@ -9,6 +9,8 @@ use crate::poll::{Poll, Yielding};
 use arrayvec::ArrayVec;
 use std::marker::Model;
 
+mod fill;
+
 /// The most polls of a script job.
 pub const MOST_POLLS: usize = 64;
 
@@ -127,6 +129,10 @@ impl Task for ScriptJob {
     ghost same_task = { same_value (λ job. job.polls) };
 
     ghost answers_same = { λ a b out same here. subst (λ polls. IsAnswer polls out) same here };
+
+    ghost polls_same = { λ a b made step told same owed. subst (λ polls. Does (slice_get polls made) step told) same owed };
+
+    ghost can_poll_same = { λ a b same can. can };
 
     fn is_done(&self) -> bool {
         self.polled > self.yields.len()

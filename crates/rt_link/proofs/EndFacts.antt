@@ -12,11 +12,11 @@ use Rattle.rt_link.specs.Whole.{out_of, inward_of, IsLink}
 use Rattle.rt_link.proofs.Lists.{StartsWith-self, StartsWith-take}
 
 module _ {J T : Type 0} {fits : Order J → Outcome J T → Type 0} {ready : Order J → Type 0} {link : Whole J T} (l : IsLink fits ready link) where
-  pub SoundOut-IsLink : SoundOut (out_of link) link.redeemed
+  pub SoundOut-IsLink : SoundOut (out_of link) link.credited
   SoundOut-IsLink = record {
     numbered = l.numbered;
     room = l.room;
-    credits = l.redeemed_got;
+    credits = l.credited_got;
     behind = l.got_given;
     within = omega (arith, l.got_given, l.given_taken, l.taken_sent);
   }
@@ -26,7 +26,7 @@ module _ {J T : Type 0} {fits : Order J → Outcome J T → Type 0} {ready : Ord
     numbered = l.numbered;
     behind = l.taken_sent;
     within = l.given_taken;
-    room = omega (arith, l.room, l.redeemed_got, l.got_given);
+    room = omega (arith, l.room, l.credited_got, l.got_given);
     named = l.named;
   }
 
@@ -42,13 +42,13 @@ module _ {J T : Type 0} {fits : Order J → Outcome J T → Type 0} {ready : Ord
     final = λ h. refl;
   }
 
-  -- at most `capacity` orders are sent and not redeemed
-  pub outstanding-IsLink : length link.sent - link.redeemed ≤ link.capacity
+  -- at most `capacity` orders are sent and not credited
+  pub outstanding-IsLink : length link.sent - link.credited ≤ link.capacity
   outstanding-IsLink = omega (arith, l.room)
 
   -- a delivery finds room: at most `capacity` orders are taken and not given
   pub room-IsLink : link.taken ≤ length link.given + link.capacity
-  room-IsLink = omega (arith, l.room, l.redeemed_got, l.got_given, l.taken_sent)
+  room-IsLink = omega (arith, l.room, l.credited_got, l.got_given, l.taken_sent)
 
   -- what was taken is a beginning of what was sent
   pub taken-IsLink : StartsWith link.sent (take link.taken link.sent) × (length (take link.taken link.sent) ≡ link.taken)
@@ -60,29 +60,29 @@ module _ {J T : Type 0} {fits : Order J → Outcome J T → Type 0} {ready : Ord
 
 module _ {J T : Type 0} where
   -- a send keeps what is true of a sender's end
-  pub SoundOut-Sends : (old new : Outward J T) (redeemed : ℕ) (order : Order J) (result : Result ℕ (SendError J))
-      → SoundOut old redeemed → Sends old redeemed order new result → SoundOut new redeemed
-  SoundOut-Sends old new redeemed order (Ok number) s sends =
+  pub SoundOut-Sends : (old new : Outward J T) (credited : ℕ) (order : Order J) (result : Result ℕ (SendError J))
+      → SoundOut old credited → Sends old credited order new result → SoundOut new credited
+  SoundOut-Sends old new credited order (Ok number) s sends =
       let longer : length (old.sent ++ order ∷ []) ≡ length old.sent + 1 = length-append old.sent (order ∷ []) in
-      let room : length old.sent < redeemed + old.capacity = sends.1 in
+      let room : length old.sent < credited + old.capacity = sends.1 in
       let named : number ≡ old.base + length old.sent + 1 = sends.2 in
       let low : number < 2 ^ 63 = sends.3 in
-      subst (λ o. SoundOut o redeemed) (sym sends.4) record {
+      subst (λ o. SoundOut o credited) (sym sends.4) record {
         numbered = omega arith;
         room = omega arith;
         credits = s.credits;
         behind = s.behind;
         within = omega (arith, s.within);
       }
-  SoundOut-Sends old new redeemed order (Err (Closed back final)) s sends =
-      subst (λ o. SoundOut o redeemed) (sym sends.2) record { numbered = s.numbered; room = s.room; credits = s.credits; behind = s.behind; within = s.within }
-  SoundOut-Sends old new redeemed order (Err (Full back)) s sends = subst (λ o. SoundOut o redeemed) (sym sends.3) s
-  SoundOut-Sends old new redeemed order (Err (Spent back)) s sends = subst (λ o. SoundOut o redeemed) (sym sends.4) s
-  SoundOut-Sends old new redeemed order (Err (NoCore back)) s sends = absurd sends
+  SoundOut-Sends old new credited order (Err (Closed back final)) s sends =
+      subst (λ o. SoundOut o credited) (sym sends.2) record { numbered = s.numbered; room = s.room; credits = s.credits; behind = s.behind; within = s.within }
+  SoundOut-Sends old new credited order (Err (Full back)) s sends = subst (λ o. SoundOut o credited) (sym sends.3) s
+  SoundOut-Sends old new credited order (Err (Spent back)) s sends = subst (λ o. SoundOut o credited) (sym sends.4) s
+  SoundOut-Sends old new credited order (Err (NoCore back)) s sends = absurd sends
 
   -- so does a credit
-  pub SoundOut-credit : (out : Outward J T) (redeemed : ℕ) → SoundOut out redeemed → redeemed < out.got → SoundOut out (redeemed + 1)
-  SoundOut-credit out redeemed s more = record {
+  pub SoundOut-credit : (out : Outward J T) (credited : ℕ) → SoundOut out credited → credited < out.got → SoundOut out (credited + 1)
+  SoundOut-credit out credited s more = record {
     numbered = s.numbered;
     room = omega (arith, s.room);
     credits = omega arith;

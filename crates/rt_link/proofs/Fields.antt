@@ -33,7 +33,7 @@ module _ {A : Type 0} where
 
 module _ {J T : Type 0} {fits : Order J → Outcome J T → Type 0} {ready : Order J → Type 0} {p : Inside J T} (kept : IsPlain fits ready p) where
   pub IsPlain-send : (order : Order J) (sent : History (Order J)) (orders : Buffer (Order J)) → ready order → sent.items ≡ p.sent.items ++ order ∷ []
-      → orders ≡ buffer (p.orders.items ++ order ∷ []) p.orders.capacity → p.base + p.count + 1 < 2 ^ 63 → p.count < p.redeemed + p.capacity
+      → orders ≡ buffer (p.orders.items ++ order ∷ []) p.orders.capacity → p.base + p.count + 1 < 2 ^ 63 → p.count < p.credited + p.capacity
       → IsPlain fits ready (record p { sent = sent; orders = orders; count = p.count + 1 })
   IsPlain-send order sent orders is_ready longer pushed below room =
       let count_is : p.count ≡ length p.sent.items = kept.count_is in
@@ -78,7 +78,7 @@ module _ {J T : Type 0} {fits : Order J → Outcome J T → Type 0} {ready : Ord
         let awaits : length p.given.items < p.taken = IsLink-awaits kept.link number outcome may in
         let held : length p.outcomes.items ≡ length (drop p.got p.given.items) = ap (λ (b : Buffer (ℕ × Outcome J T)). length b.items) kept.outcomes_are in
         let places : p.outcomes.capacity ≡ p.capacity = ap (λ (b : Buffer (ℕ × Outcome J T)). b.capacity) kept.outcomes_are in
-        omega (arith, length-drop p.got p.given.items, kept.link.taken_sent, kept.link.room, kept.link.redeemed_got, kept.link.got_given)
+        omega (arith, length-drop p.got p.given.items, kept.link.taken_sent, kept.link.room, kept.link.credited_got, kept.link.got_given)
 
     pub IsPlain-give : (given : History (ℕ × Outcome J T)) (outcomes : Buffer (ℕ × Outcome J T)) → given.items ≡ p.given.items ++ (number, outcome) ∷ []
         → outcomes ≡ buffer (p.outcomes.items ++ (number, outcome) ∷ []) p.outcomes.capacity → IsPlain fits ready (record p { given = given; outcomes = outcomes })

@@ -1,4 +1,4 @@
--- A plain link is changed by a call through a trait as by the call itself: what the trait leaves open, its `link` tells.
+-- A plain link is changed by a call through a trait as by the call itself: what the trait leaves open, its `untouched` tells.
 use Rattle.std.proofs.Common.{◌≡◌, ℕ, ◌+◌, Bool, true, false, [], ◌∷◌, ◌++◌, length, Option, Some, None, Ok, Err, refl, sym, ap, ◌∙◌, arith}
 use Rattle.std.specs.Prelude.{slice_get}
 use Rattle.std.proofs.lemmas.Option.{slice_get_past}
@@ -23,7 +23,7 @@ gate_number-same false false e = refl
 module _ {J T : Type 0} where
   -- a link by its sender's end
   by_out : Outward J T → ℕ → ℕ → Whole J T
-  by_out out redeemed taken = record {
+  by_out out credited taken = record {
     from = out.from;
     to = out.to;
     base = out.base;
@@ -32,13 +32,13 @@ module _ {J T : Type 0} where
     taken = taken;
     given = out.seen;
     got = out.got;
-    redeemed = redeemed;
+    credited = credited;
     shut = out.closed;
   }
 
   -- a link by its receiver's end
   by_inward : Inward J T → ℕ → ℕ → Whole J T
-  by_inward inward got redeemed = record {
+  by_inward inward got credited = record {
     from = inward.from;
     to = inward.to;
     base = inward.base;
@@ -47,21 +47,21 @@ module _ {J T : Type 0} where
     taken = inward.taken;
     given = inward.given;
     got = got;
-    redeemed = redeemed;
+    credited = credited;
     shut = inward.shut;
   }
 
-  same_by_out : (a b : Whole J T) → out_of a ≡ out_of b → a.redeemed ≡ b.redeemed → a.taken ≡ b.taken → a ≡ b
+  same_by_out : (a b : Whole J T) → out_of a ≡ out_of b → a.credited ≡ b.credited → a.taken ≡ b.taken → a ≡ b
   unfolding by_out
-  same_by_out a b out redeemed taken =
-      ap (λ (o : Outward J T). by_out o a.redeemed a.taken) out ∙ (ap (λ r. by_out (out_of b) r a.taken) redeemed ∙ ap (by_out (out_of b) b.redeemed) taken)
+  same_by_out a b out credited taken =
+      ap (λ (o : Outward J T). by_out o a.credited a.taken) out ∙ (ap (λ r. by_out (out_of b) r a.taken) credited ∙ ap (by_out (out_of b) b.credited) taken)
 
-  same_by_inward : (a b : Whole J T) → inward_of a ≡ inward_of b → a.got ≡ b.got → a.redeemed ≡ b.redeemed → a ≡ b
+  same_by_inward : (a b : Whole J T) → inward_of a ≡ inward_of b → a.got ≡ b.got → a.credited ≡ b.credited → a ≡ b
   unfolding by_inward
-  same_by_inward a b inward got redeemed =
-      ap (λ (i : Inward J T). by_inward i a.got a.redeemed) inward ∙ (ap (λ g. by_inward (inward_of b) g a.redeemed) got ∙ ap (by_inward (inward_of b) b.got) redeemed)
+  same_by_inward a b inward got credited =
+      ap (λ (i : Inward J T). by_inward i a.got a.credited) inward ∙ (ap (λ g. by_inward (inward_of b) g a.credited) got ∙ ap (by_inward (inward_of b) b.got) credited)
 
-  module _ (old new : Whole J T) (credits : new.redeemed ≡ old.redeemed) (kept : kept_by_sender new ≡ kept_by_sender old) where
+  module _ (old new : Whole J T) (credits : new.credited ≡ old.credited) (kept : kept_by_sender new ≡ kept_by_sender old) where
     taken : new.taken ≡ old.taken
     taken = cc
 
@@ -69,15 +69,15 @@ module _ {J T : Type 0} where
     shut = let e : gate_number new.shut ≡ gate_number old.shut = cc in gate_number-same new.shut old.shut e
 
     -- an accepted order is sent, and nothing else changes
-    pub Sends-accepted : (order : Order J) (number : ℕ) → Sends (out_of old) old.redeemed order (out_of new) (Ok number) → new ≡ record old { sent = old.sent ++ order ∷ [] }
+    pub Sends-accepted : (order : Order J) (number : ℕ) → Sends (out_of old) old.credited order (out_of new) (Ok number) → new ≡ record old { sent = old.sent ++ order ∷ [] }
     Sends-accepted order number sends = same_by_out new (record old { sent = old.sent ++ order ∷ [] }) sends.4 credits taken
 
     -- only where the gate is shut is an order refused as closed
-    pub Sends-closed : (order back : Order J) (final : ℕ) → Sends (out_of old) old.redeemed order (out_of new) (Err (Closed back final)) → old.shut ≡ true
+    pub Sends-closed : (order back : Order J) (final : ℕ) → Sends (out_of old) old.credited order (out_of new) (Err (Closed back final)) → old.shut ≡ true
     Sends-closed order back final sends = sym shut ∙ ap (λ (o : Outward J T). o.closed) sends.2
 
     -- a refused order changes nothing
-    pub Sends-refused : (order : Order J) (error : SendError J) → Sends (out_of old) old.redeemed order (out_of new) (Err error) → new ≡ old
+    pub Sends-refused : (order : Order J) (error : SendError J) → Sends (out_of old) old.credited order (out_of new) (Err error) → new ≡ old
     Sends-refused order (Closed back final) sends =
         same_by_out new old (sends.2 ∙ ap (λ b. record (out_of old) { closed = b }) (sym (Sends-closed order back final sends))) credits taken
     Sends-refused order (Full back) sends = same_by_out new old sends.3 credits taken
@@ -107,7 +107,7 @@ module _ {J T : Type 0} where
     got_same : new.got ≡ old.got
     got_same = cc
 
-    redeemed_same : new.redeemed ≡ old.redeemed
+    redeemed_same : new.credited ≡ old.credited
     redeemed_same = cc
 
     -- a take takes the next order, and nothing else changes

@@ -12,7 +12,7 @@ module _ {J T : Type 0} {fits : Order J → Outcome J T → Type 0} {ready : Ord
   IsLink-fresh from to capacity base low = record {
     numbered = omega arith;
     room = omega arith;
-    redeemed_got = omega arith;
+    credited_got = omega arith;
     got_given = omega arith;
     given_taken = omega arith;
     taken_sent = omega arith;
@@ -22,13 +22,13 @@ module _ {J T : Type 0} {fits : Order J → Outcome J T → Type 0} {ready : Ord
   }
 
   module _ {link : Whole J T} (l : IsLink fits ready link) where
-    pub IsLink-send : (order : Order J) → ready order → link.base + length link.sent + 1 < 2 ^ 63 → length link.sent < link.redeemed + link.capacity
+    pub IsLink-send : (order : Order J) → ready order → link.base + length link.sent + 1 < 2 ^ 63 → length link.sent < link.credited + link.capacity
         → IsLink fits ready (record link { sent = link.sent ++ order ∷ [] })
     IsLink-send order is_ready below room =
         let longer : length (link.sent ++ order ∷ []) ≡ length link.sent + 1 = length-append link.sent (order ∷ []) in record {
           numbered = omega arith;
           room = omega arith;
-          redeemed_got = l.redeemed_got;
+          credited_got = l.credited_got;
           got_given = l.got_given;
           given_taken = l.given_taken;
           taken_sent = omega (arith, l.taken_sent);
@@ -41,7 +41,7 @@ module _ {J T : Type 0} {fits : Order J → Outcome J T → Type 0} {ready : Ord
     IsLink-take more = record {
       numbered = l.numbered;
       room = l.room;
-      redeemed_got = l.redeemed_got;
+      credited_got = l.credited_got;
       got_given = l.got_given;
       given_taken = omega (arith, l.given_taken);
       taken_sent = omega arith;
@@ -62,7 +62,7 @@ module _ {J T : Type 0} {fits : Order J → Outcome J T → Type 0} {ready : Ord
         let high : number ≤ link.base + link.taken = may.1 in record {
           numbered = l.numbered;
           room = l.room;
-          redeemed_got = l.redeemed_got;
+          credited_got = l.credited_got;
           got_given = omega (arith, l.got_given);
           given_taken = omega arith;
           taken_sent = l.taken_sent;
@@ -75,7 +75,7 @@ module _ {J T : Type 0} {fits : Order J → Outcome J T → Type 0} {ready : Ord
     IsLink-collect more = record {
       numbered = l.numbered;
       room = l.room;
-      redeemed_got = omega (arith, l.redeemed_got);
+      credited_got = omega (arith, l.credited_got);
       got_given = omega arith;
       given_taken = l.given_taken;
       taken_sent = l.taken_sent;
@@ -84,11 +84,11 @@ module _ {J T : Type 0} {fits : Order J → Outcome J T → Type 0} {ready : Ord
       ready_orders = l.ready_orders;
     }
 
-    pub IsLink-credit : link.redeemed < link.got → IsLink fits ready (record link { redeemed = link.redeemed + 1 })
+    pub IsLink-credit : link.credited < link.got → IsLink fits ready (record link { credited = link.credited + 1 })
     IsLink-credit more = record {
       numbered = l.numbered;
       room = omega (arith, l.room);
-      redeemed_got = omega arith;
+      credited_got = omega arith;
       got_given = l.got_given;
       given_taken = l.given_taken;
       taken_sent = l.taken_sent;
@@ -101,7 +101,7 @@ module _ {J T : Type 0} {fits : Order J → Outcome J T → Type 0} {ready : Ord
     IsLink-shut = record {
       numbered = l.numbered;
       room = l.room;
-      redeemed_got = l.redeemed_got;
+      credited_got = l.credited_got;
       got_given = l.got_given;
       given_taken = l.given_taken;
       taken_sent = l.taken_sent;

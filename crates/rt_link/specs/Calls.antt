@@ -12,18 +12,18 @@ use Rattle.rt_link.specs.Ends.{StartsWith}
 module _ {J T : Type 0} where
   -- a send is accepted under the next number, or refused in this order: the gate is shut, as many as may be are outstanding, the last number was given
   abbrev pub Sends : Outward J T → ℕ → Order J → Outward J T → Result ℕ (SendError J) → Type 0
-  Sends old redeemed order new (Ok number) =
-      (old.closed ≡ false) × (length old.sent < redeemed + old.capacity)
+  Sends old credited order new (Ok number) =
+      (old.closed ≡ false) × (length old.sent < credited + old.capacity)
       × (number ≡ old.base + length old.sent + 1) × (number < 2 ^ 63)
       × (new ≡ record old { sent = old.sent ++ order ∷ [] })
-  Sends old redeemed order new (Err (Closed back final)) =
+  Sends old credited order new (Err (Closed back final)) =
       (back ≡ order) × (final ≡ old.base + length old.sent) × (new ≡ record old { closed = true })
-  Sends old redeemed order new (Err (Full back)) =
-      (back ≡ order) × (old.closed ≡ false) × (length old.sent ≡ redeemed + old.capacity) × (new ≡ old)
-  Sends old redeemed order new (Err (Spent back)) =
-      (back ≡ order) × (old.closed ≡ false) × (length old.sent < redeemed + old.capacity)
+  Sends old credited order new (Err (Full back)) =
+      (back ≡ order) × (old.closed ≡ false) × (length old.sent ≡ credited + old.capacity) × (new ≡ old)
+  Sends old credited order new (Err (Spent back)) =
+      (back ≡ order) × (old.closed ≡ false) × (length old.sent < credited + old.capacity)
       × (old.base + length old.sent ≡ 2 ^ 63 - 1) × (new ≡ old)
-  Sends old redeemed order new (Err (NoCore back)) = ⊥
+  Sends old credited order new (Err (NoCore back)) = ⊥
 
   -- a collection gets the next outcome, or finds that all it sees is got
   abbrev pub Collects : Outward J T → Outward J T → Option (ℕ × Outcome J T) → Type 0

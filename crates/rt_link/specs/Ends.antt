@@ -32,10 +32,10 @@ module _ {J T : Type 0} where
       × AreDistinct outcomes
 
   -- the sender's end, at any time: no number is above the last one, at most `capacity` are outstanding, a credit is of an outcome that was got
-  pub record SoundOut (out : Outward J T) (redeemed : ℕ) : Type 0 where
+  pub record SoundOut (out : Outward J T) (credited : ℕ) : Type 0 where
     pub numbered : out.base + length out.sent < 2 ^ 63
-    pub room : length out.sent ≤ redeemed + out.capacity
-    pub credits : redeemed ≤ out.got
+    pub room : length out.sent ≤ credited + out.capacity
+    pub credits : credited ≤ out.got
     pub behind : out.got ≤ length out.seen
     pub within : out.got ≤ length out.sent
 

@@ -19,7 +19,7 @@ module _ {J T : Type 0} where
     taken = fields.taken;
     given = fields.given.items;
     got = fields.got;
-    redeemed = fields.redeemed;
+    credited = fields.credited;
     shut = fields.shut;
   }
 

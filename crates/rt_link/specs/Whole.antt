@@ -45,7 +45,7 @@ module _ {J T : Type 0} where
 
   -- what only the sender changes, as numbers: how many orders it sent, how many outcomes it got, and how many credits it gave back
   abbrev pub kept_by_receiver : Whole J T → List ℕ
-  kept_by_receiver link = length link.sent ∷ link.got ∷ link.redeemed ∷ []
+  kept_by_receiver link = length link.sent ∷ link.got ∷ link.credited ∷ []
 
   -- a link that was just opened
   abbrev pub fresh : ℕ → ℕ → ℕ → ℕ → Whole J T
@@ -58,16 +58,16 @@ module _ {J T : Type 0} where
     taken = 0;
     given = [];
     got = 0;
-    redeemed = 0;
+    credited = 0;
     shut = false;
   }
 
-  -- the law of a link: numbers end at the last one; at most `capacity` are sent and not redeemed; what is redeemed was got, what is got was given,
+  -- the law of a link: numbers end at the last one; at most `capacity` are sent without a credit; what has its credit was got, what is got was given,
   -- what is given was taken, and what is taken was sent; each outcome fits the order of its number, and each order that was sent was ready
   pub record IsLink (fits : Order J → Outcome J T → Type 0) (ready : Order J → Type 0) (link : Whole J T) : Type 0 where
     pub numbered : link.base + length link.sent < 2 ^ 63
-    pub room : length link.sent ≤ link.redeemed + link.capacity
-    pub redeemed_got : link.redeemed ≤ link.got
+    pub room : length link.sent ≤ link.credited + link.capacity
+    pub credited_got : link.credited ≤ link.got
     pub got_given : link.got ≤ length link.given
     pub given_taken : length link.given ≤ link.taken
     pub taken_sent : link.taken ≤ length link.sent

@@ -58,13 +58,13 @@ pub trait OutEnd<J: Task> {
     ghost use Rattle.rt_link.specs.Ends.{AreOf, SoundOut};
     ghost use Rattle.rt_link.specs.Fits.{Fits};
 
-    // What no call of this end changes: which link it is, and what else only the other end changes.
-    ghost link: { Self → List ℕ };
+    // What no call of this end changes: which link it is, where the ends are two values, and what only the other end changes.
+    ghost untouched: { Self → List ℕ };
 
     ghost out: { Self → Outward J J.Out };
 
     // How many credits were given back.
-    ghost redeemed: { Self → ℕ };
+    ghost credited: { Self → ℕ };
 
     /// Sends an order. The number is its own on this link.
     ///
@@ -74,32 +74,32 @@ pub trait OutEnd<J: Task> {
     /// `Full` where as many are outstanding as may be; `Spent` after number 2^63 - 1.
     fn send(&mut self, order: Order<J>) -> Result<u64, SendError<J>>
         requires ready { HasReadyJob J.done J.CanPoll order }
-        ensures link { link self.new ≡ link self.old }
-        ensures redeemed { redeemed self.new ≡ redeemed self.old }
-        ensures sends { Sends (out self.old) (redeemed self.old) order (out self.new) result };
+        ensures untouched { untouched self.new ≡ untouched self.old }
+        ensures credited { credited self.new ≡ credited self.old }
+        ensures sends { Sends (out self.old) (credited self.old) order (out self.new) result };
 
     /// The next outcome and the number of its order. `None`: all that this end sees is got.
     ///
     /// An outcome earns a credit.
     fn collect(&mut self) -> Option<(u64, Outcome<J, J::Out>)>
-        ensures link { link self.new ≡ link self.old }
-        ensures redeemed { redeemed self.new ≡ redeemed self.old }
+        ensures untouched { untouched self.new ≡ untouched self.old }
+        ensures credited { credited self.new ≡ credited self.old }
         ensures collects { Collects (out self.old) (out self.new) result }
-        ensures earned { OnSome result (redeemed self.new < (out self.new).got) }
-        ensures sound { SoundOut (out self.new) (redeemed self.new) }
+        ensures earned { OnSome result (credited self.new < (out self.new).got) }
+        ensures sound { SoundOut (out self.new) (credited self.new) }
         ensures named { AreOf (Fits J.SameTask J.Answers) (out self.new).base (out self.new).sent (out self.new).seen };
 
     /// From now on one submission whose outcome was collected is no longer outstanding.
     fn credit(&mut self)
-        requires { redeemed self.old < (out self.old).got }
-        ensures link { link self.new ≡ link self.old }
-        ensures redeemed { redeemed self.new ≡ redeemed self.old + 1 }
+        requires { credited self.old < (out self.old).got }
+        ensures untouched { untouched self.new ≡ untouched self.old }
+        ensures credited { credited self.new ≡ credited self.old + 1 }
         ensures same { out self.new ≡ out self.old };
 
     /// How many submissions are outstanding.
     fn outstanding(&self) -> u64
-        ensures value { result ≡ length (out self.now).sent - redeemed self.now }
-        ensures sound { SoundOut (out self.now) (redeemed self.now) };
+        ensures value { result ≡ length (out self.now).sent - credited self.now }
+        ensures sound { SoundOut (out self.now) (credited self.now) };
 }
 
 /// The end that takes orders and gives their outcomes.
@@ -111,14 +111,14 @@ pub trait InEnd<J: Task> {
     ghost use Rattle.rt_link.specs.Ends.{AreNamed, SoundIn};
     ghost use Rattle.rt_link.specs.Fits.{Fits};
 
-    // What no call of this end changes: which link it is, and what else only the other end changes.
-    ghost link: { Self → List ℕ };
+    // What no call of this end changes: which link it is, where the ends are two values, and what only the other end changes.
+    ghost untouched: { Self → List ℕ };
 
     ghost inward: { Self → Inward J J.Out };
 
     /// The next order, under its name. `None`: all that this end sees is taken.
     fn take(&mut self) -> Option<Envelope<J>>
-        ensures link { link self.new ≡ link self.old }
+        ensures untouched { untouched self.new ≡ untouched self.old }
         ensures named { AreNamed (inward self.old).base (inward self.old).taken (inward self.old).given }
         ensures takes { Takes (inward self.old) (inward self.new) result }
         ensures sound { SoundIn (inward self.new) }
@@ -127,15 +127,16 @@ pub trait InEnd<J: Task> {
     /// Gives the outcome of the order of this number, which was taken and has none yet.
     fn give(&mut self, number: u64, outcome: Outcome<J, J::Out>)
         requires { MayGive (Fits J.SameTask J.Answers) (inward self.old) number outcome }
-        ensures link { link self.new ≡ link self.old }
+        ensures untouched { untouched self.new ≡ untouched self.old }
         ensures gives { inward self.new ≡ record (inward self.old) { given = (inward self.old).given ++ (number, outcome) ∷ [] } };
 
     /// Shuts the gate: no order is accepted from now on. The number is that of the last one that was.
     ///
     /// A second call answers the same.
     fn shut(&mut self) -> u64
-        ensures link { link self.new ≡ link self.old }
-        ensures shuts { Shuts (inward self.old) (inward self.new) result };
+        ensures untouched { untouched self.new ≡ untouched self.old }
+        ensures shuts { Shuts (inward self.old) (inward self.new) result }
+        ensures sound { SoundIn (inward self.new) };
 
     /// The number of the last accepted order, once the gate is shut.
     fn final_count(&self) -> Option<u64>

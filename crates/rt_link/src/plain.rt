@@ -38,7 +38,7 @@ pub struct Whole<J, T> {
     /// How many of these were got, from the first on.
     pub got: u64,
     /// How many credits were given back.
-    pub redeemed: u64,
+    pub credited: u64,
     /// Whether the gate is shut.
     pub shut: bool,
 }
@@ -60,7 +60,7 @@ pub struct PlainLink<J: Task> {
     count: u64,
     taken: u64,
     got: u64,
-    redeemed: u64,
+    credited: u64,
     shut: bool,
     sent: History<Order<J>>,
     given: History<(u64, Outcome<J, J::Out>)>,
@@ -119,7 +119,7 @@ impl<J: Task> PlainLink<J> {
             count: 0,
             taken: 0,
             got: 0,
-            redeemed: 0,
+            credited: 0,
             shut: false,
             sent: History::new(),
             given: History::new(),
@@ -128,16 +128,16 @@ impl<J: Task> PlainLink<J> {
 }
 
 impl<J: Task> OutEnd<J> for PlainLink<J> {
-    ghost link = { kept_by_sender };
+    ghost untouched = { kept_by_sender };
 
     ghost out = { out_of };
 
-    ghost redeemed = { λ link. link.redeemed };
+    ghost credited = { λ link. link.credited };
 
     fn send(&mut self, order: Order<J>) -> Result<u64, SendError<J>>
         requires ready { HasReadyJob J.done J.CanPoll order }
-        ensures redeemed { self.new.redeemed ≡ self.old.redeemed }
-        ensures sends { Sends (out_of self.old) self.old.redeemed order (out_of self.new) result }
+        ensures credited { self.new.credited ≡ self.old.credited }
+        ensures sends { Sends (out_of self.old) self.old.credited order (out_of self.new) result }
         ensures others { self.new ≡ record self.old { sent = self.new.sent } }
         ensures law { IsLink (Fits J.SameTask J.Answers) (HasReadyJob J.done J.CanPoll) self.new }
     {
@@ -160,11 +160,11 @@ impl<J: Task> OutEnd<J> for PlainLink<J> {
     }
 
     fn collect(&mut self) -> Option<(u64, Outcome<J, J::Out>)>
-        ensures redeemed { self.new.redeemed ≡ self.old.redeemed }
+        ensures credited { self.new.credited ≡ self.old.credited }
         ensures collects { Collects (out_of self.old) (out_of self.new) result }
-        ensures sound_out { SoundOut (out_of self.new) self.new.redeemed }
+        ensures sound_out { SoundOut (out_of self.new) self.new.credited }
         ensures named { AreOf (Fits J.SameTask J.Answers) self.new.base self.new.sent self.new.given }
-        ensures earned { OnSome result (self.new.redeemed < self.new.got) }
+        ensures earned { OnSome result (self.new.credited < self.new.got) }
         ensures next { result ≡ slice_get self.old.given self.old.got }
         ensures others { self.new ≡ record self.old { got = self.new.got } }
         ensures law { IsLink (Fits J.SameTask J.Answers) (HasReadyJob J.done J.CanPoll) self.new }
@@ -179,24 +179,24 @@ impl<J: Task> OutEnd<J> for PlainLink<J> {
     }
 
     fn credit(&mut self)
-        requires { self.old.redeemed < self.old.got }
-        ensures redeemed { self.new ≡ record self.old { redeemed = self.old.redeemed + 1 } }
+        requires { self.old.credited < self.old.got }
+        ensures credited { self.new ≡ record self.old { credited = self.old.credited + 1 } }
         ensures law { IsLink (Fits J.SameTask J.Answers) (HasReadyJob J.done J.CanPoll) self.new }
     {
-        self.redeemed += 1;
+        self.credited += 1;
     }
 
     fn outstanding(&self) -> u64
-        ensures value { result ≡ length self.now.sent - self.now.redeemed }
-        ensures sound_out { SoundOut (out_of self.now) self.now.redeemed }
+        ensures value { result ≡ length self.now.sent - self.now.credited }
+        ensures sound_out { SoundOut (out_of self.now) self.now.credited }
         ensures law { IsLink (Fits J.SameTask J.Answers) (HasReadyJob J.done J.CanPoll) self.now }
     {
-        self.count - self.redeemed
+        self.count - self.credited
     }
 }
 
 impl<J: Task> InEnd<J> for PlainLink<J> {
-    ghost link = { kept_by_receiver };
+    ghost untouched = { kept_by_receiver };
 
     ghost inward = { inward_of };
 
@@ -239,6 +239,7 @@ impl<J: Task> InEnd<J> for PlainLink<J> {
 
     fn shut(&mut self) -> u64
         ensures shuts { Shuts (inward_of self.old) (inward_of self.new) result }
+        ensures sound_in { SoundIn (inward_of self.new) }
         ensures others { self.new ≡ record self.old { shut = self.new.shut } }
         ensures law { IsLink (Fits J.SameTask J.Answers) (HasReadyJob J.done J.CanPoll) self.new }
     {

@@ -26,19 +26,19 @@ pub AreOf-seen : {J T : Type 0} (fits : Order J → Outcome J T → Type 0) (old
     → AreOf fits new.out.base new.out.sent new.out.seen
 AreOf-seen fits old new got sees now = subst (λ (v : Known _ _). AreOf fits v.out.base v.out.sent new.out.seen) (sym now) sees.named
 
-module _ {J T : Type 0} (table board : TableId) (me : Place J T) (base capacity count collected redeemed next_order next_outcome : ℕ)
-    (is : IsOut table board me base capacity count collected redeemed next_order next_outcome) where
+module _ {J T : Type 0} (table board : TableId) (me : Place J T) (base capacity count collected credited next_order next_outcome : ℕ)
+    (is : IsOut table board me base capacity count collected credited next_order next_outcome) where
   -- after an outcome was got
   pub IsOut-got : (fits : Order J → Outcome J T → Type 0) (table' : TableId) (new : Place J T) (outcome : ℕ × Outcome J T) (next : ℕ) → table' ≡ table → IsSender new
       → SeesOutcomes fits me.0.out new.0.out.seen → new.0 ≡ with_got me.0 new.0.out.seen (me.0.out.got + 1) → slice_get new.0.out.seen me.0.out.got ≡ Some outcome
-      → Follows capacity next_outcome next → IsOut table' board new base capacity count (collected + 1) redeemed next_order next
+      → Follows capacity next_outcome next → IsOut table' board new base capacity count (collected + 1) credited next_order next
   IsOut-got fits table' new outcome next same seat sees now there follows =
       let within : me.0.out.got < length new.0.out.seen = slice_get_within new.0.out.seen me.0.out.got outcome there in
       let few : length new.0.out.seen ≤ length me.0.out.sent = sees.few in
-      let room : length me.0.out.sent ≤ redeemed + me.0.out.capacity = is.sound.room in
-      let credits : redeemed ≤ me.0.out.got = is.sound.credits in
+      let room : length me.0.out.sent ≤ credited + me.0.out.capacity = is.sound.room in
+      let credits : credited ≤ me.0.out.got = is.sound.credits in
       let capacity_is : me.0.out.capacity ≡ capacity = is.capacity_is in
-      let sound : SoundOut (record me.0.out { seen = new.0.out.seen; got = me.0.out.got + 1 }) redeemed = record {
+      let sound : SoundOut (record me.0.out { seen = new.0.out.seen; got = me.0.out.got + 1 }) credited = record {
         numbered = is.sound.numbered;
         room = room;
         credits = omega arith;
@@ -55,7 +55,7 @@ module _ {J T : Type 0} (table board : TableId) (me : Place J T) (base capacity 
         collected_is = ap (λ (v : Known J T). v.out.got) now ∙ ap (λ (n : ℕ). n + 1) is.collected_is;
         next_order_is = is.next_order_is;
         next_outcome_is = follows collected (omega arith) is.next_outcome_is;
-        sound = subst (λ (v : Known J T). SoundOut v.out redeemed) (sym now) sound;
+        sound = subst (λ (v : Known J T). SoundOut v.out credited) (sym now) sound;
       }
 
 module _ {J T : Type 0} (table board : TableId) (me : Place J T) (from to base capacity taken given gate last next_order next_outcome : ℕ)

@@ -36,7 +36,7 @@ module _ {J T : Type 0} (link : Whole J T) (out : Outward J T) (k : KnowsOut lin
     gate = k.gate;
   }
 
-  KnowsOut-got : link.got + 1 ≤ length link.given → KnowsOut (record link { got = link.got + 1; redeemed = link.redeemed + 1 }) (record out { seen = link.given; got = out.got + 1 })
+  KnowsOut-got : link.got + 1 ≤ length link.given → KnowsOut (record link { got = link.got + 1; credited = link.credited + 1 }) (record out { seen = link.given; got = out.got + 1 })
   KnowsOut-got within = record {
     knows = ap (λ (o : Outward J T). record o { seen = link.given; got = o.got + 1; closed = out.closed }) k.knows;
     sees = StartsWith-self link.given;
@@ -45,7 +45,7 @@ module _ {J T : Type 0} (link : Whole J T) (out : Outward J T) (k : KnowsOut lin
   }
 
 -- the receiver needs to know nothing of an outcome that is got
-KnowsInward-got : {J T : Type 0} (link : Whole J T) (inward : Inward J T) → KnowsInward link inward → KnowsInward (record link { got = link.got + 1; redeemed = link.redeemed + 1 }) inward
+KnowsInward-got : {J T : Type 0} (link : Whole J T) (inward : Inward J T) → KnowsInward link inward → KnowsInward (record link { got = link.got + 1; credited = link.credited + 1 }) inward
 KnowsInward-got link inward k = record { knows = k.knows; sees = k.sees; taken_seen = k.taken_seen; final = k.final }
 
 module _ {J T : Type 0} (fits : Order J → Outcome J T → Type 0) (ready : Order J → Type 0) (terms : Terms) (slots seat : ℕ) (me : Place J T) (s : State (Slot J T) (Known J T)) (r : Rule fits ready terms s)
@@ -84,7 +84,7 @@ module _ {J T : Type 0} (fits : Order J → Outcome J T → Type 0) (ready : Ord
       let capacity : out.capacity ≡ r.link.capacity = ap (λ (o : Outward J T). o.capacity) k.knows in
       let more : r.link.got < length r.link.given = omega arith in
       let collected : IsLink fits ready (record r.link { got = r.link.got + 1 }) = IsLink-collect r.law more in
-      let later : Whole J T = record r.link { got = r.link.got + 1; redeemed = r.link.redeemed + 1 } in (
+      let later : Whole J T = record r.link { got = r.link.got + 1; credited = r.link.credited + 1 } in (
         with_got me.0 r.link.given (out.got + 1),
         chain (takes (outcome_slot r.link.capacity r.link.got) (outcome_at r.link.given r.link.got)) (takes (order_slot r.link.capacity r.link.got) Empty),
         (outcome-there fits ready r.link r.law r.credits s.homes r.slots more, emptied-there fits ready r.link r.law r.credits s.homes r.slots more),

@@ -11,7 +11,7 @@ use Rattle.rt_ring.specs.Slots.{Homes, AreInPlace, order_slot, outcome_slot, ord
 use Rattle.rt_ring.specs.Slots.{Empty}
 use Rattle.rt_ring.proofs.Windows.{order-laps, outcome-laps, order-not_outcome, AreHome-outside, AreHome-within, orders-stay, outcomes-stay}
 
-module _ {J T : Type 0} (fits : Order J → Outcome J T → Type 0) (ready : Order J → Type 0) (link : Whole J T) (law : IsLink fits ready link) (credits : link.redeemed ≡ link.got)
+module _ {J T : Type 0} (fits : Order J → Outcome J T → Type 0) (ready : Order J → Type 0) (link : Whole J T) (law : IsLink fits ready link) (credits : link.credited ≡ link.got)
     (homes : Homes J T) (p : AreInPlace link homes) where
   abbrev n : ℕ
   n = link.capacity
@@ -42,7 +42,7 @@ module _ {J T : Type 0} (fits : Order J → Outcome J T → Type 0) (ready : Ord
     pub emptied-there : get_elem? without_outcome (order_slot n link.got) ≡ some (some Empty)
     emptied-there = set_else homes (outcome_slot n link.got) (order_slot n link.got) none (order-not_outcome n link.got link.got slots-got) ∙ p.emptied link.got (omega arith) more
 
-    pub AreInPlace-got : AreInPlace (record link { got = link.got + 1; redeemed = link.redeemed + 1 }) without_pair
+    pub AreInPlace-got : AreInPlace (record link { got = link.got + 1; credited = link.credited + 1 }) without_pair
     AreInPlace-got =
         let nearer = law.given_taken in let nearest = law.taken_sent in record {
           count = length-set without_outcome (order_slot n link.got) none ∙ (length-set homes (outcome_slot n link.got) none ∙ p.count);

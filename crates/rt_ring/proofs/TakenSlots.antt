@@ -11,7 +11,7 @@ use Rattle.rt_ring.specs.Slots.{Homes, AreInPlace, order_slot, outcome_slot, ord
 use Rattle.rt_ring.specs.Slots.{Empty}
 use Rattle.rt_ring.proofs.Windows.{order-laps, outcome-laps, order-not_outcome, AreHome-outside, AreHome-within, orders-stay, outcomes-stay}
 
-module _ {J T : Type 0} (fits : Order J → Outcome J T → Type 0) (ready : Order J → Type 0) (link : Whole J T) (law : IsLink fits ready link) (credits : link.redeemed ≡ link.got)
+module _ {J T : Type 0} (fits : Order J → Outcome J T → Type 0) (ready : Order J → Type 0) (link : Whole J T) (law : IsLink fits ready link) (credits : link.credited ≡ link.got)
     (homes : Homes J T) (p : AreInPlace link homes) where
   abbrev n : ℕ
   n = link.capacity

@@ -12,7 +12,7 @@ name_of table = table.words ∷ table.slots ∷ table.views_name ∷ table.atom 
 
 module _ {J T : Type 0} where
   -- a sender's end has the sender's seat at its table, and its numbers are those that the seat knows
-  pub record IsOut (seat_table table : TableId) (me : Place J T) (base capacity count collected redeemed next_order next_outcome : ℕ) : Type 0 where
+  pub record IsOut (seat_table table : TableId) (me : Place J T) (base capacity count collected credited next_order next_outcome : ℕ) : Type 0 where
     pub at_table : seat_table ≡ table
     pub words : table.words ≡ 2
     pub seat : IsSender me
@@ -23,7 +23,7 @@ module _ {J T : Type 0} where
     pub collected_is : me.0.out.got ≡ collected
     pub next_order_is : next_order ≡ place_of capacity count
     pub next_outcome_is : next_outcome ≡ place_of capacity collected
-    pub sound : SoundOut me.0.out redeemed
+    pub sound : SoundOut me.0.out credited
 
   -- a receiver's end has the receiver's seat at its table, and its numbers are those that the seat knows
   pub record IsInward (seat_table table : TableId) (me : Place J T) (from to base capacity taken given gate last next_order next_outcome : ℕ) : Type 0 where

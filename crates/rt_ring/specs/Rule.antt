@@ -26,13 +26,13 @@ module _ {J T : Type 0} where
   terms_of link = record { from = link.from; to = link.to; base = link.base; capacity = link.capacity }
 
   -- There is a link that keeps the law of links. The words count it, the slots hold it, and each seat knows its part of it; one seat is the
-  -- sender's and one the receiver's. What was got counts as redeemed here: a credit takes no step, so no other seat can see it.
+  -- sender's and one the receiver's. What was got counts as credited here: a credit takes no step, so no other seat can see it.
   pub record IsRing (fits : Order J → Outcome J T → Type 0) (ready : Order J → Type 0) (terms : Terms) (state : State (Slot J T) (Known J T)) : Type 0 where
     pub link : Whole J T
     pub sender : ℕ
     pub receiver : ℕ
     pub law : IsLink fits ready link
-    pub credits : link.redeemed ≡ link.got
+    pub credits : link.credited ≡ link.got
     pub terms_are : terms_of link ≡ terms
     pub words : state.words ≡ words_of link
     pub slots : AreInPlace link state.homes

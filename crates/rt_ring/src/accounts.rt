@@ -2,7 +2,7 @@
 
 ghost use Rattle.std.specs.Prelude.{◌≡◌, length, take};
 ghost use Rattle.rt_link.specs.Calls.{final_of};
-ghost use Rattle.rt_link.specs.Ends.{AreOf, Joined};
+ghost use Rattle.rt_link.specs.Ends.{AreOf, Joined, SoundIn, SoundOut};
 ghost use Rattle.rt_link.specs.Fits.{Fits};
 
 use crate::board::ACCEPT;
@@ -29,7 +29,9 @@ pub struct Accounts {
 
 /// Ends a link. The orders and outcomes that are still in its slots are dropped.
 pub fn reunite<J: Task>(out: RingOut<J>, inward: RingIn<J>) -> Accounts
-    requires { ⟦<RingIn<J> as InEnd<J>>⟧.link inward ≡ ⟦<RingOut<J> as OutEnd<J>>⟧.link out }
+    requires { inward.link ≡ out.link }
+    ensures sound_out { SoundOut out.out out.credited }
+    ensures sound_in { SoundIn inward.inward }
     ensures joined { Joined (⟦<RingOut<J> as OutEnd<J>>⟧.out out) (⟦<RingIn<J> as InEnd<J>>⟧.inward inward) }
     ensures outcomes { AreOf (Fits J.SameTask J.Answers) (⟦<RingOut<J> as OutEnd<J>>⟧.out out).base (take (⟦<RingIn<J> as InEnd<J>>⟧.inward inward).taken (⟦<RingOut<J> as OutEnd<J>>⟧.out out).sent) (⟦<RingIn<J> as InEnd<J>>⟧.inward inward).given }
     ensures accepted { result.accepted ≡ length (⟦<RingOut<J> as OutEnd<J>>⟧.out out).sent }
@@ -45,7 +47,7 @@ pub fn reunite<J: Task>(out: RingOut<J>, inward: RingIn<J>) -> Accounts
         capacity: _,
         count,
         collected,
-        redeemed: _,
+        credited: _,
         next_order: _,
         next_outcome: _,
     } = out;

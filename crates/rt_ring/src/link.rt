@@ -44,9 +44,9 @@ impl RingLink {
         capacity: u16,
     ) -> Result<(RingOut<J>, RingIn<J>), OpenError>
         ensures out { IfOk result (λ ends. ⟦<RingOut<J> as OutEnd<J>>⟧.out ends.0 ≡ out_of (fresh from to capacity 0)) }
-        ensures redeemed { IfOk result (λ ends. ⟦<RingOut<J> as OutEnd<J>>⟧.redeemed ends.0 ≡ 0) }
+        ensures credited { IfOk result (λ ends. ⟦<RingOut<J> as OutEnd<J>>⟧.credited ends.0 ≡ 0) }
         ensures inward { IfOk result (λ ends. ⟦<RingIn<J> as InEnd<J>>⟧.inward ends.1 ≡ inward_of (fresh from to capacity 0)) }
-        ensures link { IfOk result (λ ends. ⟦<RingIn<J> as InEnd<J>>⟧.link ends.1 ≡ ⟦<RingOut<J> as OutEnd<J>>⟧.link ends.0) }
+        ensures link { IfOk result (λ ends. ends.1.link ≡ ends.0.link) }
     {
         Self::open_after(alloc, from, to, capacity, 0)
     }
@@ -65,9 +65,9 @@ impl RingLink {
     ) -> Result<(RingOut<J>, RingIn<J>), OpenError>
         requires { accepted < 2 ^ 63 }
         ensures out { IfOk result (λ ends. ⟦<RingOut<J> as OutEnd<J>>⟧.out ends.0 ≡ out_of (fresh from to capacity accepted)) }
-        ensures redeemed { IfOk result (λ ends. ⟦<RingOut<J> as OutEnd<J>>⟧.redeemed ends.0 ≡ 0) }
+        ensures credited { IfOk result (λ ends. ⟦<RingOut<J> as OutEnd<J>>⟧.credited ends.0 ≡ 0) }
         ensures inward { IfOk result (λ ends. ⟦<RingIn<J> as InEnd<J>>⟧.inward ends.1 ≡ inward_of (fresh from to capacity accepted)) }
-        ensures link { IfOk result (λ ends. ⟦<RingIn<J> as InEnd<J>>⟧.link ends.1 ≡ ⟦<RingOut<J> as OutEnd<J>>⟧.link ends.0) }
+        ensures link { IfOk result (λ ends. ends.1.link ≡ ends.0.link) }
     {
         let terms = Terms {
             from,
@@ -92,7 +92,7 @@ impl RingLink {
             capacity,
             count: 0,
             collected: 0,
-            redeemed: 0,
+            credited: 0,
             next_order: 0,
             next_outcome: 0,
         };

@@ -61,7 +61,7 @@ impl<J: Task> Model for RingIn<J> {
 }
 
 impl<J: Task> InEnd<J> for RingIn<J> {
-    ghost link = { λ s. s.link };
+    ghost untouched = { λ s. s.link };
 
     ghost inward = { λ s. s.inward };
 

@@ -21,7 +21,7 @@ pub struct Sending<J, T> {
     pub link: LinkedList<u64>,
     pub out: Outward<J, T>,
     /// How many credits were given back.
-    pub redeemed: u64,
+    pub credited: u64,
 }
 
 /// The end that sends orders and collects their outcomes. It may go to any thread.
@@ -37,7 +37,7 @@ pub struct RingOut<J: Task> {
     pub(crate) count: u64,
     /// How many outcomes were collected.
     pub(crate) collected: u64,
-    pub(crate) redeemed: u64,
+    pub(crate) credited: u64,
     /// The place of the next order.
     pub(crate) next_order: u64,
     /// The place of the next outcome.
@@ -52,26 +52,26 @@ impl<J: Task> Model for RingOut<J> {
 
     ghost use Rattle.rt_ring.specs.Ends.{IsOut, name_of};
 
-    ghost view = { λ s. record { link = name_of s.seat.table_id; out = s.seat.me.0.out; redeemed = s.redeemed } };
+    ghost view = { λ s. record { link = name_of s.seat.table_id; out = s.seat.me.0.out; credited = s.credited } };
 
-    ghost invariant = { λ s. IsOut s.seat.table_id (arc_value s.board).shared.table_id s.seat.me s.base s.capacity s.count s.collected s.redeemed s.next_order s.next_outcome };
+    ghost invariant = { λ s. IsOut s.seat.table_id (arc_value s.board).shared.table_id s.seat.me s.base s.capacity s.count s.collected s.credited s.next_order s.next_outcome };
 }
 
 impl<J: Task> OutEnd<J> for RingOut<J> {
-    ghost link = { λ s. s.link };
+    ghost untouched = { λ s. s.link };
 
     ghost out = { λ s. s.out };
 
-    ghost redeemed = { λ s. s.redeemed };
+    ghost credited = { λ s. s.credited };
 
     fn send(&mut self, order: Order<J>) -> Result<u64, SendError<J>>
         requires ready { HasReadyJob J.done J.CanPoll order }
         ensures link { self.new.link ≡ self.old.link }
-        ensures redeemed { self.new.redeemed ≡ self.old.redeemed }
-        ensures sends { Sends self.old.out self.old.redeemed order self.new.out result }
+        ensures credited { self.new.credited ≡ self.old.credited }
+        ensures sends { Sends self.old.out self.old.credited order self.new.out result }
     {
         let last = self.base + self.count;
-        let full = self.count - self.redeemed == self.capacity;
+        let full = self.count - self.credited == self.capacity;
         if full || last == LAST_NUMBER {
             if !is_open(&self.board, &mut self.seat, last) {
                 return Err(SendError::Closed(order, last));
@@ -102,10 +102,10 @@ impl<J: Task> OutEnd<J> for RingOut<J> {
     }
 
     fn credit(&mut self) {
-        self.redeemed += 1;
+        self.credited += 1;
     }
 
     fn outstanding(&self) -> u64 {
-        self.count - self.redeemed
+        self.count - self.credited
     }
 }

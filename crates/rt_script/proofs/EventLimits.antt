@@ -1,5 +1,5 @@
 -- The events that a script's lines tell: their actors exist, and their jobs have made no poll.
-use Rattle.std.proofs.Common.{◌≡◌, ℕ, ◌-◌, ◌≤◌, ◌<◌, List, [], ◌∷◌, length, Some, Ok, refl, arith, ◌==◌}
+use Rattle.std.proofs.Common.{◌≡◌, ℕ, ◌-◌, ◌≤◌, ◌<◌, List, [], ◌∷◌, length, Some, Ok, refl, arith}
 use Rattle.rt_jobs.specs.declared.poll.Poll.{Poll}
 use Rattle.rt_jobs.specs.Scripts.{Script}
 use Rattle.rt_script.specs.declared.line.Line.{Line}

@@ -2,4 +2,5 @@ pub mod EventLimits
 pub mod LimitLemmas
 pub mod PollLemmas
 pub mod ReaderLemmas
+pub mod SubmitLemmas
 pub mod TextLemmas

@@ -1,30 +1,14 @@
 -- How the polls of a job are read one after another.
-use Rattle.std.proofs.Common.{suc, ◌≡◌, ◌≤◌, ◌+◌, ℕ, ◌++◌, List, [], ◌∷◌, length, Result, Ok, Err, refl, ap, sym, ◌∙◌, append_assoc, arith, cond, true, false, Bool, eqb}
+use Rattle.std.proofs.Common.{◌≡◌, ◌≤◌, ◌+◌, ℕ, ◌++◌, List, [], ◌∷◌, length, length-append, Result, Ok, Err, OnErr, refl, ap, sym, ◌∙◌, append_assoc, arith, true, false, Bool}
 use Rattle.rt_jobs.specs.declared.poll.Poll.{Poll}
 use Rattle.rt_jobs.specs.declared.poll.Poll.TheVariants.{Yield, Done}
-use Rattle.rt_jobs.specs.Scripts.{EndsDone, IsScript}
+use Rattle.rt_jobs.specs.Scripts.{Script}
+use Rattle.rt_jobs.specs.Filling.{with_yield, with_last}
+use Rattle.rt_jobs.proofs.FillLemmas.{with_yield-end, with_last-end}
 use Rattle.rt_text.specs.declared.fault.Cause.{Cause}
-use Rattle.rt_text.specs.declared.fault.Cause.TheVariants.{BadWord}
 use Rattle.rt_words.specs.Fields.{both, made, is_misspelled, worse}
-use Rattle.rt_script.specs.Polls.{yield_field, done_field, polls_field}
 use Rattle.rt_words.specs.Words.{first, others}
-use Rattle.rt_words.proofs.FieldLemmas.{made_ok, both_ok}
-
-abbrev pub joined : Result (List Poll) Cause → Result (List Poll) Cause → Result (List Poll) Cause
-joined some rest = made (λ p. p.0 ++ p.1) (both some rest)
-
-abbrev pub pushed : Result (List Poll) Cause → Result Poll Cause → Result (List Poll) Cause
-pushed some poll = made (λ p. p.0 ++ p.1 ∷ []) (both some poll)
-
-abbrev pub consed : Result Poll Cause → Result (List Poll) Cause → Result (List Poll) Cause
-consed poll rest = made (λ p. p.0 ∷ p.1) (both poll rest)
-
-abbrev pub alone : Result Poll Cause → Result (List Poll) Cause
-alone poll = made (λ p. p ∷ []) poll
-
-pub joined_none : (rest : Result (List Poll) Cause) → joined (Ok []) rest ≡ rest
-joined_none (Ok polls) = refl
-joined_none (Err flaw) = refl
+use Rattle.rt_script.specs.Polls.{yield_field, done_field, polls_field, fresh_job, IsPartOf}
 
 -- of three causes the same one is told, whichever two are compared first
 worse_assoc : (a b c : Cause) → worse (worse a b) c ≡ worse a (worse b c)
@@ -35,30 +19,12 @@ worse_assoc a b c = of_test (is_misspelled c) refl
     of_test true e = simp e
     of_test false e = simp e
 
--- a poll that was pushed before the others are joined
-pub joined_pushed : (some : Result (List Poll) Cause) (poll : Result Poll Cause) (rest : Result (List Poll) Cause) → joined (pushed some poll) rest ≡ joined some (consed poll rest)
-joined_pushed (Ok a) (Ok b) (Ok c) = ap Ok (append_assoc a (b ∷ []) c)
-joined_pushed (Ok a) (Ok b) (Err f) = refl
-joined_pushed (Ok a) (Err f) (Ok c) = refl
-joined_pushed (Ok a) (Err f) (Err g) = refl
-joined_pushed (Err f) (Ok b) (Ok c) = refl
-joined_pushed (Err f) (Ok b) (Err g) = refl
-joined_pushed (Err f) (Err g) (Ok c) = refl
-joined_pushed (Err f) (Err g) (Err h) = ap Err (worse_assoc f g h)
-
--- the last poll
-pub joined_alone : (some : Result (List Poll) Cause) (poll : Result Poll Cause) → joined some (alone poll) ≡ pushed some poll
-joined_alone (Ok a) (Ok b) = refl
-joined_alone (Ok a) (Err f) = refl
-joined_alone (Err f) (Ok b) = refl
-joined_alone (Err f) (Err g) = refl
-
-pub polls_field_more : (ws : List (List ℕ)) → 2 ≤ length ws → polls_field ws ≡ consed (yield_field (first ws)) (polls_field (others ws))
+pub polls_field_more : (ws : List (List ℕ)) → 2 ≤ length ws → polls_field ws ≡ made (λ p. p.0 ∷ p.1) (both (yield_field (first ws)) (polls_field (others ws)))
 polls_field_more [] h = absurd (omega arith)
 polls_field_more (w ∷ []) h = absurd (omega arith)
 polls_field_more (w ∷ v ∷ ws) h = refl
 
-pub polls_field_last : (ws : List (List ℕ)) → length ws ≡ 1 → polls_field ws ≡ alone (done_field (first ws))
+pub polls_field_last : (ws : List (List ℕ)) → length ws ≡ 1 → polls_field ws ≡ made (λ poll. poll ∷ []) (done_field (first ws))
 polls_field_last [] h = absurd (omega arith)
 polls_field_last (w ∷ []) h = refl
 polls_field_last (w ∷ v ∷ ws) h = absurd (omega arith)
@@ -67,69 +33,118 @@ pub length-others : (ws : List (List ℕ)) → 1 ≤ length ws → length (other
 length-others [] h = absurd (omega arith)
 length-others (w ∷ ws) h = omega arith
 
+-- what comes of a job whose first polls are these, or that has this flaw so far, and of the words that are left
+abbrev pub part_of : List Poll → Result (Unit {0}) Cause → Result (List Poll) Cause → Result (List Poll) Cause
+part_of early found rest = made (λ p. early ++ p.1) (both found rest)
+
+abbrev pub consed : Result Poll Cause → Result (List Poll) Cause → Result (List Poll) Cause
+consed poll rest = made (λ p. p.0 ∷ p.1) (both poll rest)
+
+abbrev pub stepped : Result (Unit {0}) Cause → Result ℕ Cause → Result (Unit {0}) Cause
+stepped found told = made (λ _. tt) (both found told)
+
+-- whichever two are joined first
+pushed : (early : List Poll) (u v : Unit {0}) (told : ℕ) (rest : Result (List Poll) Cause) → part_of (early ++ Yield told ∷ []) (Ok u) rest ≡ part_of early (Ok v) (consed (Ok (Yield told)) rest)
+pushed early u v told (Ok polls) = ap Ok (append_assoc early (Yield told ∷ []) polls)
+pushed early u v told (Err cause) = refl
+
+new_flaw : (early : List Poll) (u : Unit {0}) (cause : Cause) (rest : Result (List Poll) Cause) → part_of early (Err cause) rest ≡ part_of early (Ok u) (consed (Err cause) rest)
+new_flaw early u cause (Ok polls) = refl
+new_flaw early u cause (Err other) = refl
+
+old_flaw : (early : List Poll) (cause : Cause) (poll : Poll) (rest : Result (List Poll) Cause) → part_of early (Err cause) rest ≡ part_of early (Err cause) (consed (Ok poll) rest)
+old_flaw early cause poll (Ok polls) = refl
+old_flaw early cause poll (Err other) = refl
+
+two_flaws : (early : List Poll) (one two : Cause) (rest : Result (List Poll) Cause) → part_of early (Err (worse one two)) rest ≡ part_of early (Err one) (consed (Err two) rest)
+two_flaws early one two (Ok polls) = refl
+two_flaws early one two (Err other) = ap Err (worse_assoc one two other)
+
+-- where a step of the reader leaves the polls
+record Left (early : List Poll) (found : Result (Unit {0}) Cause) (poll : Result Poll Cause) (next : Result (Unit {0}) Cause) (new : List Poll) : Type 0 where
+  more : List Poll
+  polls : new ≡ more ++ Done 0 0 ∷ []
+  longer : length more ≤ length early + 1
+  same : (rest : Result (List Poll) Cause) → part_of more next rest ≡ part_of early found (consed poll rest)
+
+left_of : (early : List Poll) (found : Result (Unit {0}) Cause) (told : Result ℕ Cause) (old new : List Poll) → old ≡ early ++ Done 0 0 ∷ [] →
+    made (λ _. new) (stepped found told) ≡ made (λ p. with_yield p.1 old) (both found told) → OnErr (stepped found told) (new ≡ old) → Left early found (made Yield told) (stepped found told) new
+left_of early (Ok u) (Ok told) old new is polls kept =
+    let longer : new ≡ with_yield told old = cc in
+    record {
+      more = early ++ Yield told ∷ [];
+      polls = longer ∙ ap (with_yield told) is ∙ with_yield-end early (Done 0 0) told ∙ sym (append_assoc early (Yield told ∷ []) (Done 0 0 ∷ []));
+      longer = omega (arith, length-append early (Yield told ∷ []));
+      same = λ rest. pushed early _ u told rest;
+    }
+left_of early (Ok u) (Err cause) old new is polls kept = record { more = early; polls = kept ∙ is; longer = omega arith; same = λ rest. new_flaw early u cause rest }
+left_of early (Err cause) (Ok told) old new is polls kept = record { more = early; polls = kept ∙ is; longer = omega arith; same = λ rest. old_flaw early cause (Yield told) rest }
+left_of early (Err one) (Err two) old new is polls kept = record { more = early; polls = kept ∙ is; longer = omega arith; same = λ rest. two_flaws early one two rest }
+
 -- one turn of the loop that reads the polls that yield
-pub joined_more : (some next : Result (List Poll) Cause) (poll : Result Poll Cause) (ws rest : List (List ℕ)) (word : List ℕ) (all : Result (List Poll) Cause) → next ≡ pushed some poll → poll ≡ yield_field word → word ≡ first ws → rest ≡ others ws → 2 ≤ length ws → joined some (polls_field ws) ≡ all → joined next (polls_field rest) ≡ all
-joined_more some next poll ws rest word all next_is poll_is word_is rest_is more same =
-    let here : joined (pushed some (yield_field (first ws))) (polls_field (others ws)) ≡ joined some (polls_field ws) = joined_pushed some (yield_field (first ws)) (polls_field (others ws)) ∙ ap (λ r. joined some r) (sym (polls_field_more ws more)) in
-    rw (next_is, poll_is, word_is, rest_is) (here ∙ same)
+pub part_more : (all : Result (List Poll) Cause) (found next : Result (Unit {0}) Cause) (told : Result ℕ Cause) (old new : Script) (ws rest : List (List ℕ)) (word : List ℕ) →
+    IsPartOf all found old ws → next ≡ stepped found told → made (λ _. new.polls) next ≡ made (λ p. with_yield p.1 old.polls) (both found told) →
+    OnErr next (new.polls ≡ old.polls) → new.polled ≡ 0 → made Yield told ≡ yield_field word → word ≡ first ws → rest ≡ others ws → 2 ≤ length ws → IsPartOf all next new rest
+part_more all found next told old new ws rest word part next_is polls kept fresh told_is word_is rest_is more =
+    let one_less = length-others ws (omega arith) in
+    let shorter = ap length rest_is in
+    let few = part.few in
+    let left = left_of part.early found told old.polls new.polls part.polls (rw next_is at polls) (rw next_is at kept) in
+    let longer = left.longer in
+    record {
+      early = left.more;
+      polls = left.polls;
+      fresh = fresh;
+      few = omega arith;
+      same =
+          ap (λ n. part_of left.more n (polls_field rest)) next_is
+          ∙ left.same (polls_field rest)
+          ∙ ap (λ poll. part_of part.early found (consed poll (polls_field rest))) (told_is ∙ ap yield_field word_is)
+          ∙ ap (λ others. part_of part.early found (consed (yield_field (first ws)) (polls_field others))) rest_is
+          ∙ ap (part_of part.early found) (sym (polls_field_more ws more))
+          ∙ part.same;
+    }
 
--- and the last one
-pub joined_last : (some all : Result (List Poll) Cause) (poll : Result Poll Cause) (ws : List (List ℕ)) (word : List ℕ) (whole : Result (List Poll) Cause) → all ≡ pushed some poll → poll ≡ done_field word → word ≡ first ws → length ws ≡ 1 → joined some (polls_field ws) ≡ whole → all ≡ whole
-joined_last some all poll ws word whole all_is poll_is word_is one same =
-    all_is ∙ ap (λ p. pushed some p) (poll_is ∙ ap done_field word_is) ∙ sym (joined_alone some (done_field (first ws)))
-    ∙ ap (λ rest. joined some rest) (sym (polls_field_last ws one)) ∙ same
+-- the last poll
+ended : (early : List Poll) (found : Result (Unit {0}) Cause) (parts : Result (ℕ × ℕ) Cause) →
+    made (λ p. with_last (Done (p.1).0 (p.1).1) (early ++ Done 0 0 ∷ [])) (both found parts) ≡ part_of early found (made (λ poll. poll ∷ []) (made (λ p. Done p.0 p.1) parts))
+ended early (Ok u) (Ok parts) = ap Ok (with_last-end early (Done 0 0) (Done parts.0 parts.1))
+ended early (Ok u) (Err cause) = refl
+ended early (Err cause) (Ok parts) = refl
+ended early (Err one) (Err two) = refl
 
--- a job's polls are as many as its words
-pub length-polls_field : (ws : List (List ℕ)) (polls : List Poll) → polls_field ws ≡ Ok polls → length polls ≡ length ws
-length-polls_field [] polls read = cc
-length-polls_field (w ∷ []) polls read = let m = made_ok _ _ _ read in rw m.2 refl
-length-polls_field (w ∷ v ∷ ws) polls read =
-    let m = made_ok _ _ _ read in
-    let rest = length-polls_field (v ∷ ws) (m.0).1 (both_ok _ _ _ m.1).1 in
-    rw m.2 (ap suc rest)
+fresh_is : (job : Script) (polls : List Poll) → job.polled ≡ 0 → job.polls ≡ polls → job ≡ fresh_job polls
+fresh_is job polls fresh is = ap (λ all. record { polls = all; polled = job.polled }) is ∙ ap (λ made. record { polls = polls; polled = made }) fresh
 
-IsDone : Poll → Type 0
-IsDone (Yield told) = ⊥
-IsDone (Done told value) = Unit {0}
+fresh_made : (result : Result (Unit {0}) Cause) (job : Script) (whole : Result (List Poll) Cause) → job.polled ≡ 0 → made (λ _. job.polls) result ≡ whole → made (λ _. job) result ≡ made fresh_job whole
+fresh_made (Ok u) job (Ok whole) fresh e = let same : job.polls ≡ whole = cc in ap Ok (fresh_is job whole fresh same)
+fresh_made (Ok u) job (Err cause) fresh e = cc
+fresh_made (Err cause) job (Ok whole) fresh e = cc
+fresh_made (Err cause) job (Err other) fresh e = cc
 
--- the last poll is done
-done_of : (is_done : Bool) (read : Result (ℕ × ℕ) Cause) (poll : Poll) → cond is_done (made (λ p. Done p.0 p.1) read) (Err BadWord) ≡ Ok poll → IsDone poll
-unfolding IsDone
-done_of true read poll e = let m = made_ok _ _ _ e in rw m.2 tt
-done_of false read poll e = cc
+pub part_last : (all : Result (List Poll) Cause) (found result : Result (Unit {0}) Cause) (parts : Result (ℕ × ℕ) Cause) (old new : Script) (ws : List (List ℕ)) (word : List ℕ) →
+    IsPartOf all found old ws → made (λ _. new.polls) result ≡ made (λ p. with_last (Done (p.1).0 (p.1).1) old.polls) (both found parts) → new.polled ≡ 0 →
+    made (λ p. Done p.0 p.1) parts ≡ done_field word → word ≡ first ws → length ws ≡ 1 → made (λ _. new) result ≡ made fresh_job all
+part_last all found result parts old new ws word part polls fresh parts_is word_is one =
+    fresh_made result new all fresh (
+    polls
+    ∙ ap (λ before. made (λ p. with_last (Done (p.1).0 (p.1).1) before) (both found parts)) part.polls
+    ∙ ended part.early found parts
+    ∙ ap (λ poll. part_of part.early found (made (λ last. last ∷ []) poll)) (parts_is ∙ ap done_field word_is)
+    ∙ ap (part_of part.early found) (sym (polls_field_last ws one))
+    ∙ part.same
+    )
 
-done_field_ok : (word : List ℕ) (poll : Poll) → done_field word ≡ Ok poll → IsDone poll
-done_field_ok [] poll e = cc
-done_field_ok (letter ∷ rest) poll e = done_of (eqb letter 100) _ poll e
+-- before the first word
+joined_none : (u : Unit {0}) (rest : Result (List Poll) Cause) → part_of [] (Ok u) rest ≡ rest
+joined_none u (Ok polls) = refl
+joined_none u (Err cause) = refl
 
--- and those before it aren't
-yield_of : (is_yield : Bool) (read : Result ℕ Cause) (poll : Poll) → cond is_yield (made Yield read) (Err BadWord) ≡ Ok poll → (told : ℕ) × (poll ≡ Yield told)
-yield_of true read poll e = let m = made_ok _ _ _ e in (m.0, m.2)
-yield_of false read poll e = cc
-
-yield_field_ok : (word : List ℕ) (poll : Poll) → yield_field word ≡ Ok poll → (told : ℕ) × (poll ≡ Yield told)
-yield_field_ok [] poll e = cc
-yield_field_ok (letter ∷ rest) poll e = yield_of (eqb letter 121) _ poll e
-
-EndsDone-alone : (poll : Poll) → IsDone poll → EndsDone (poll ∷ [])
-unfolding IsDone
-EndsDone-alone (Yield told) h = elim h [ ]
-EndsDone-alone (Done told value) h = refl
-
--- exactly the last poll of a job is done
-pub EndsDone-polls_field : (ws : List (List ℕ)) (polls : List Poll) → polls_field ws ≡ Ok polls → EndsDone polls
-EndsDone-polls_field [] polls read = cc
-EndsDone-polls_field (w ∷ []) polls read =
-    let m = made_ok _ _ _ read in rw m.2 (EndsDone-alone m.0 (done_field_ok w m.0 m.1))
-EndsDone-polls_field (w ∷ v ∷ ws) polls read =
-    let m = made_ok _ _ _ read in
-    let b = both_ok _ _ _ m.1 in
-    let y = yield_field_ok w (m.0).0 b.0 in
-    rw (m.2, y.1) (EndsDone-polls_field (v ∷ ws) (m.0).1 b.1)
-
--- so what is read is a script job's list of polls
-pub IsScript-polls_field : (ws : List (List ℕ)) (polls : List Poll) → polls_field ws ≡ Ok polls → length ws ≤ 64 → IsScript polls
-IsScript-polls_field ws polls read short = record {
-  ends = EndsDone-polls_field ws polls read;
-  short = rw (length-polls_field ws polls read) short;
+pub part_none : (u : Unit {0}) (ws : List (List ℕ)) (job : Script) → job ≡ fresh_job (Done 0 0 ∷ []) → length ws ≤ 64 → IsPartOf (polls_field ws) (Ok u) job ws
+part_none u ws job is few = record {
+  early = [];
+  polls = ap (λ j. j.polls) is;
+  fresh = ap (λ j. j.polled) is;
+  few = omega arith;
+  same = joined_none u (polls_field ws);
 }

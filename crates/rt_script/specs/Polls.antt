@@ -1,5 +1,5 @@
 -- The polls of a script's job, as words spell them.
-use Rattle.std.specs.Prelude.{ℕ, ◌==◌, List, [], ◌∷◌, Result, Ok, Err, if◌then◌else◌}
+use Rattle.std.specs.Prelude.{◌≡◌, ℕ, ◌+◌, ◌≤◌, ◌==◌, List, [], ◌∷◌, ◌++◌, length, Result, Err, if◌then◌else◌}
 use Rattle.std.specs.List.{before_first, after_first}
 use Rattle.rt_jobs.specs.declared.poll.Poll.{Poll}
 use Rattle.rt_jobs.specs.declared.poll.Poll.TheVariants.{Yield, Done}
@@ -32,3 +32,12 @@ fresh_job polls = record { polls = polls; polled = 0 }
 
 abbrev pub job_field : List (List ℕ) → Result Script Cause
 job_field ws = made fresh_job (polls_field ws)
+
+-- the first words of a job are read: it has their polls and then one of no time and no answer, or this is what is wrong with them;
+-- with the words that are left, all of it comes to this
+pub record IsPartOf (all : Result (List Poll) Cause) (found : Result (Unit {0}) Cause) (job : Script) (left : List (List ℕ)) : Type 0 where
+  pub early : List Poll
+  pub polls : job.polls ≡ early ++ Done 0 0 ∷ []
+  pub fresh : job.polled ≡ 0
+  pub few : length early + length left ≤ 64
+  pub same : made (λ p. early ++ p.1) (both found (polls_field left)) ≡ all

@@ -8,8 +8,9 @@ ghost use Rattle.rt_script.specs.Lines as spec;
 
 use crate::event::ScriptEvent;
 use crate::keyword::{Keyword, keyword_of};
-use crate::polls::job_field;
+use crate::polls::read_job;
 use rt_ids::{ActorNo, CoreNo, Order};
+use rt_jobs::ScriptJob;
 use rt_shares::Shares;
 use rt_text::Cause;
 use rt_words::field::{
@@ -134,9 +135,15 @@ fn submit_line(cores: u8, fields: &mut Words<'_>, polls: usize) -> Result<Line, 
 {
     let link = link_fields(cores, fields);
     let queue = queue_field(fields.next_word());
-    let job = job_field(fields, polls);
-    let ((from, to), (queue, job)) = both(link, both(queue, job))?;
-    Ok(Line::Step(ScriptEvent::Send(from, to, Order::Job(queue, job))))
+    let mut job = ScriptJob::done(0, 0);
+    let found = read_job(fields, polls, &mut job);
+    match both(link, both(queue, found)) {
+        Ok(((from, to), (queue, ()))) => {
+            let order = Order::Job(queue, job);
+            Ok(Line::Step(ScriptEvent::Send(from, to, order)))
+        }
+        Err(cause) => Err(cause),
+    }
 }
 
 fn create_line(cores: u8, fields: &mut Words<'_>) -> Result<Line, Cause>

@@ -1,74 +1,79 @@
 //! The polls of a script's job.
 
-ghost use Rattle.std.specs.Prelude.{ℕ, ◌+◌, ◌≡◌, ◌≤◌, ◌<◌, ◌++◌, ◌∷◌, [], length, IfOk};
-ghost use Rattle.arrayvec.specs.ArrayVec.{array_vec_len};
+ghost use Rattle.std.specs.Prelude.{◌+◌, ◌≡◌, ◌≤◌, ◌<◌, ◌∷◌, [], length, OnErr};
+ghost use Rattle.rt_jobs.specs.declared.poll.Poll.TheVariants.{Yield, Done};
+ghost use Rattle.rt_jobs.specs.Filling.{with_yield, with_last};
 ghost use Rattle.rt_words.specs.Fields.{both, made};
 ghost use Rattle.rt_script.specs.Polls as spec;
 
-use arrayvec::ArrayVec;
-use rt_jobs::{MOST_POLLS, Poll, ScriptJob};
+use rt_jobs::ScriptJob;
 use rt_text::Cause;
 use rt_words::Words;
 use rt_words::field::{both, count_field};
 use rt_words::words::first_place;
 
-/// Polls of one job, in order.
-type Polls = ArrayVec<Poll, MOST_POLLS>;
-
-/// The job that the next words write, so many of them, each a poll.
-pub fn job_field(words: &mut Words<'_>, count: usize) -> Result<ScriptJob, Cause>
+/// Reads the polls that the next words write, so many of them, into a job that has one poll of no time and no answer.
+pub fn read_job(words: &mut Words<'_>, count: usize, job: &mut ScriptJob) -> Result<(), Cause>
     requires some { 1 ≤ count }
     requires most { count ≤ 64 }
     requires left { length words.old ≡ count }
-    ensures { result ≡ spec.job_field words.old }
+    requires blank { job.old ≡ spec.fresh_job (Done 0 0 ∷ []) }
+    ensures { made (λ _. job.new) result ≡ spec.job_field words.old }
 {
-    let polls = read_polls(words, count)?;
-    match ScriptJob::try_new(polls.as_slice()) {
-        Some(job) => Ok(job),
-        None => Err(Cause::BadWord),
-    }
-}
-
-/// The polls that the next words write, so many of them.
-fn read_polls(words: &mut Words<'_>, count: usize) -> Result<Polls, Cause>
-    requires some { 1 ≤ count }
-    requires most { count ≤ 64 }
-    requires left { length words.old ≡ count }
-    ensures { made (λ polls. polls.items) result ≡ spec.polls_field words.old }
-{
-    let mut polls = Ok(Polls::new());
+    let mut found = Ok(());
     for _i in 1..count {
-        polls = with_poll(polls, yield_field(words.next_word()));
+        found = add_poll(job, found, yield_time(words.next_word()));
     }
-    with_poll(polls, done_field(words.next_word()))
+    end_job(job, found, done_parts(words.next_word()))
 }
 
-/// The polls and one more, or the worse of what is wrong with them.
-fn with_poll(polls: Result<Polls, Cause>, poll: Result<Poll, Cause>) -> Result<Polls, Cause>
-    requires { IfOk polls (λ some. array_vec_len some < 64) }
-    ensures longer { (n : ℕ) → IfOk polls (λ some. array_vec_len some < n)
-        → IfOk result (λ all. array_vec_len all < n + 1) }
-    ensures polls { made (λ all. all.items) result
-        ≡ made (λ p. p.0 ++ p.1 ∷ []) (both (made (λ some. some.items) polls) poll) }
+/// One more poll that yields, or the worse of what is wrong with it and with those before it.
+fn add_poll(
+    job: &mut ScriptJob,
+    found: Result<(), Cause>,
+    told: Result<u64, Cause>,
+) -> Result<(), Cause>
+    requires few { length job.old.polls < 64 }
+    requires fresh { job.old.polled ≡ 0 }
+    ensures fresh { job.new.polled ≡ 0 }
+    ensures found { result ≡ made (λ _. tt) (both found told) }
+    ensures polls { made (λ _. job.new.polls) result ≡ made (λ p. with_yield p.1 job.old.polls) (both found told) }
+    ensures err { OnErr result (job.new.polls ≡ job.old.polls) }
 {
-    let (mut polls, poll) = both(polls, poll)?;
-    polls.push(poll);
-    Ok(polls)
+    let (_, told) = both(found, told)?;
+    job.add_yield(told);
+    Ok(())
 }
 
-/// `yT`, a poll that yields and tells T.
-fn yield_field(word: &[u8]) -> Result<Poll, Cause>
-    ensures { result ≡ spec.yield_field word.now }
+/// The last poll, or the worse of what is wrong with it and with those before it.
+fn end_job(
+    job: &mut ScriptJob,
+    found: Result<(), Cause>,
+    parts: Result<(u64, u64), Cause>,
+) -> Result<(), Cause>
+    requires { job.old.polled ≡ 0 }
+    ensures fresh { job.new.polled ≡ 0 }
+    ensures polls { made (λ _. job.new.polls) result
+        ≡ made (λ p. with_last (Done (p.1).0 (p.1).1) job.old.polls) (both found parts) }
+{
+    let (_, (told, value)) = both(found, parts)?;
+    job.set_last(told, value);
+    Ok(())
+}
+
+/// `yT`, a poll that yields: the time T that it tells.
+fn yield_time(word: &[u8]) -> Result<u64, Cause>
+    ensures { made Yield result ≡ spec.yield_field word.now }
 {
     match word {
-        [b'y', rest @ ..] => Ok(Poll::Yield(count_field(rest)?)),
+        [b'y', rest @ ..] => count_field(rest),
         _ => Err(Cause::BadWord),
     }
 }
 
-/// `dT=V`, a poll that is done with V and tells T.
-fn done_field(word: &[u8]) -> Result<Poll, Cause>
-    ensures { result ≡ spec.done_field word.now }
+/// `dT=V`, a poll that is done: the time T that it tells, and its answer V.
+fn done_parts(word: &[u8]) -> Result<(u64, u64), Cause>
+    ensures { made (λ p. Done p.0 p.1) result ≡ spec.done_field word.now }
 {
     let [b'd', rest @ ..] = word else {
         return Err(Cause::BadWord);
@@ -80,6 +85,5 @@ fn done_field(word: &[u8]) -> Result<Poll, Cause>
     } else {
         b""
     };
-    let (told, answer) = both(told, count_field(answer))?;
-    Ok(Poll::Done(told, answer))
+    both(told, count_field(answer))
 }

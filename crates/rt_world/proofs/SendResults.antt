@@ -41,7 +41,7 @@ module _ {J T : Type 0} (same : J → J → Type 0) (made : J → ℕ) (polls : 
   link = link_at sender core old.links
 
   abbrev Answers : Result ℕ (SendError J) → Type 0
-  Answers result = Sends (out_of link) link.redeemed order (out_of (link_at sender core links)) result
+  Answers result = Sends (out_of link) link.credited order (out_of (link_at sender core links)) result
 
   is_between : IsLinkBetween sender core old.cap link (accepted_orders core (notes_at sender old.journals)) (delivered_names sender (notes_at core old.journals))
   is_between = world.between sender core there core_there

@@ -62,7 +62,7 @@ module _ {J T : Type 0} where
     pub base : link.base ≡ 0
     pub capacity : link.capacity ≡ cap
     pub open_gate : link.shut ≡ false
-    pub nothing_redeemed : link.redeemed ≡ 0
+    pub nothing_redeemed : link.credited ≡ 0
     pub all_accepted : accepted ≡ numbered_orders sender core 0 link.sent
     pub all_taken : link.taken ≡ length delivered
     pub in_order : delivered ≡ take link.taken (map (λ order. order.0) accepted)

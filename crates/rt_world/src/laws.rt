@@ -1,4 +1,4 @@
-//! Laws over the definitions alone.
+//! Laws over the definitions.
 
 ghost use Rattle.std.specs.Prelude.{ℕ};
 ghost use Rattle.rt_world.specs.Creations.{RunOfJobsIsDetermined};

@@ -66,7 +66,7 @@ impl<J: Task> Links<J> {
         requires core { to < length (row_of from self.old) }
         requires ready { HasReadyJob J.done J.CanPoll order }
         ensures changes { ChangesLink self.old self.new from to (record (link_at from to self.old) { sent = (link_at from to self.new).sent }) }
-        ensures sends { Sends (out_of (link_at from to self.old)) (link_at from to self.old).redeemed order (out_of (link_at from to self.new)) result }
+        ensures sends { Sends (out_of (link_at from to self.old)) (link_at from to self.old).credited order (out_of (link_at from to self.new)) result }
         ensures law { IsLink (Fits J.SameTask J.Answers) (HasReadyJob J.done J.CanPoll) (link_at from to self.new) }
     {
         let row = &mut self.rows[from.0 as usize];

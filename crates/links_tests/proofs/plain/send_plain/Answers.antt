@@ -8,10 +8,10 @@ use Rattle.rt_link.specs.Whole.{out_of, kept_by_sender}
 use Rattle.rt_link.proofs.Framed.{Sends-refused}
 use Rattle.links_tests.proofs.plain.send_plain.Goals as goal
 
-refused : {J T : Type 0} (old new : Whole J T) (order : Order J) (result : Result ℕ (SendError J)) → new.redeemed ≡ old.redeemed → kept_by_sender new ≡ kept_by_sender old
-    → Sends (out_of old) old.redeemed order (out_of new) result → OnErr result (new ≡ old)
+refused : {J T : Type 0} (old new : Whole J T) (order : Order J) (result : Result ℕ (SendError J)) → new.credited ≡ old.credited → kept_by_sender new ≡ kept_by_sender old
+    → Sends (out_of old) old.credited order (out_of new) result → OnErr result (new ≡ old)
 refused old new order (Ok number) credits kept sends = tt
 refused old new order (Err error) credits kept sends = Sends-refused old new credits kept order error sends
 
 pub returns : goal.returns
-returns c = refused c.args.link.now c.send_through.new.link c.args.order c.send_through.result c.send_through.ensures.redeemed c.send_through.ensures.link c.send_through.ensures.sends
+returns c = refused c.args.link.now c.send_through.new.link c.args.order c.send_through.result c.send_through.ensures.credited c.send_through.ensures.untouched c.send_through.ensures.sends

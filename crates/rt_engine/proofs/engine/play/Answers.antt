@@ -29,6 +29,8 @@ returns-in-Ok-clause-ok g c =
         empty = c.in_ok-model.model;
         fresh = c.in_ok-model.ensures.ok;
         end = c.print_events.new.model;
+        lists = c.complete.ensures;
+        sound = c.sound.ensures;
         all = subst (λ world. PrintsAll c.args.script.events.items world c.print_events.new.model writes.text) made writes.prints;
       },
       all_written _ _ _ _ _ _ _ _ _ writes c.in_ok-page.ensures.bytes c.in_ok-print_page.ensures.ok c.flush.ensures,

@@ -22,6 +22,6 @@ returns g c =
     } in
     rw (← c.self.view_is, c.from.view_is) record {
       changes = ChangesLink-sent write c.send.ensures.others;
-      sends = at_link write (λ old new. Sends (out_of old) old.redeemed c.args.order (out_of new) c.send.result) c.send.ensures.sends;
+      sends = at_link write (λ old new. Sends (out_of old) old.credited c.args.order (out_of new) c.send.result) c.send.ensures.sends;
       law = at_link write (λ old new. IsLink (Fits g.J.Task.SameTask g.J.Task.Answers) (HasReadyJob g.J.Task.done g.J.Task.CanPoll) new) c.send.ensures.law;
     }

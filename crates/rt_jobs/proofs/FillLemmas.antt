@@ -1,0 +1,32 @@
+-- The polls of a script job that are written one after another.
+use Rattle.std.proofs.Common.{◌≡◌, ℕ, List, [], ◌∷◌, ◌++◌, refl, ap}
+use Rattle.rt_jobs.specs.declared.poll.Poll.{Poll}
+use Rattle.rt_jobs.specs.declared.poll.Poll.TheVariants as poll
+use Rattle.rt_jobs.specs.declared.poll.Yielding.{Yielding}
+use Rattle.rt_jobs.specs.Scripts.{script_polls, yielding_poll}
+use Rattle.rt_jobs.specs.Filling.{with_yield, with_last}
+
+-- one more poll that yields is one more that is kept
+pub with_yield-kept : (yields : List Yielding) (time told value : ℕ) →
+    with_yield time (script_polls yields told value) ≡ script_polls (yields ++ record { told = time } ∷ []) told value
+with_yield-kept [] time told value = refl
+with_yield-kept (first ∷ []) time told value = refl
+with_yield-kept (first ∷ next ∷ rest) time told value = ap (λ polls. yielding_poll first ∷ polls) (with_yield-kept (next ∷ rest) time told value)
+
+-- the last poll is kept by itself
+pub with_last-kept : (yields : List Yielding) (time answer told value : ℕ) →
+    with_last (poll.Done time answer) (script_polls yields told value) ≡ script_polls yields time answer
+with_last-kept [] time answer told value = refl
+with_last-kept (first ∷ []) time answer told value = refl
+with_last-kept (first ∷ next ∷ rest) time answer told value = ap (λ polls. yielding_poll first ∷ polls) (with_last-kept (next ∷ rest) time answer told value)
+
+-- the same, where the last poll is in sight
+pub with_yield-end : (early : List Poll) (last : Poll) (time : ℕ) → with_yield time (early ++ last ∷ []) ≡ early ++ poll.Yield time ∷ last ∷ []
+with_yield-end [] last time = refl
+with_yield-end (first ∷ []) last time = refl
+with_yield-end (first ∷ next ∷ rest) last time = ap (λ polls. first ∷ polls) (with_yield-end (next ∷ rest) last time)
+
+pub with_last-end : (early : List Poll) (last other : Poll) → with_last other (early ++ last ∷ []) ≡ early ++ other ∷ []
+with_last-end [] last other = refl
+with_last-end (first ∷ []) last other = refl
+with_last-end (first ∷ next ∷ rest) last other = ap (λ polls. first ∷ polls) (with_last-end (next ∷ rest) last other)

@@ -1,0 +1,16 @@
+-- A script job whose polls are written one after another.
+use Rattle.std.specs.Prelude.{ℕ, List, [], ◌∷◌}
+use Rattle.rt_jobs.specs.declared.poll.Poll.{Poll}
+use Rattle.rt_jobs.specs.declared.poll.Poll.TheVariants as poll
+
+-- one more poll that yields, before the last one
+abbrev pub with_yield : ℕ → List Poll → List Poll
+with_yield told [] = []
+with_yield told (last ∷ []) = poll.Yield told ∷ last ∷ []
+with_yield told (first ∷ next ∷ rest) = first ∷ with_yield told (next ∷ rest)
+
+-- another last poll
+abbrev pub with_last : Poll → List Poll → List Poll
+with_last other [] = []
+with_last other (last ∷ []) = other ∷ []
+with_last other (first ∷ next ∷ rest) = first ∷ with_last other (next ∷ rest)
