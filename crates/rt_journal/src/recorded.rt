@@ -81,7 +81,7 @@ impl<J: Task<Out = u64>, A: Allocator + Clone> Recorded<J, A> {
         ensures outs { KeepsOuts J self.old.core.core self.old.cap self.old.journal.notes self.new.journal.notes }
         ensures seat { IsSameSeat self.old self.new }
         ensures sound { IsRecorded J.SameTask J.made J.Polls self.new }
-        ensures link { I.link end.new ≡ I.link end.old }
+        ensures untouched { I.untouched end.new ≡ I.untouched end.old }
     {
         let _cap = self.cap;
         match end.take() {
