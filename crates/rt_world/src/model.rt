@@ -90,11 +90,10 @@ impl<J: Task<Out = u64>, A: Allocator + Clone> World<J, A> {
         self.cores
     }
 
-    /// The notes of one actor, and how many there may be.
+    /// The notes of one actor.
     pub fn journal(&self, actor: ActorNo) -> &Journal<u64>
         requires { actor ≤ self.now.cores }
-        ensures notes { result.now.notes ≡ journal_at actor self.now }
-        ensures room { result.now.room ≡ self.now.room }
+        ensures { result.now.notes ≡ journal_at actor self.now }
     {
         &self.journals[actor.0 as usize]
     }
