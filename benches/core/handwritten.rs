@@ -8,6 +8,7 @@ const DELIVERIES: u64 = 1_000;
 const ROOM: usize = 2048;
 const NOTES: usize = 3072;
 
+#[allow(dead_code)]
 #[derive(Clone, Copy)]
 struct JobId {
     from: u8,

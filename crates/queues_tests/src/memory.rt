@@ -34,7 +34,7 @@ fn each_serves(core: &mut Core<ScriptJob, &LocalHeap>) -> bool {
         && picks(core, &[(FIRST, 5), (SECOND, 5), (THIRD, 5)])
 }
 
-/// Whether the core opens in a heap of this size. Where it does, it needs no more memory.
+/// None if the core doesn't open in this heap. If it does: whether it serves and needs no more memory.
 fn serves_in(heap: &LocalHeap) -> Option<bool> {
     let mut core = three_queues(heap)?;
     let used = heap.used();

@@ -30,7 +30,7 @@ impl<A: Allocator> Slip<A> {
     ///
     /// # Errors
     ///
-    /// Where the allocator has no room for the node.
+    /// If the allocator has no room for the node.
     pub fn try_new(alloc: A, queue: QueueNo) -> Result<Self, AllocError>
         ensures { IfOk result (λ slip. slip ≡ queue) }
     {

@@ -1,15 +1,15 @@
 -- The journals of a world at rest are sound together.
-use Rattle.std.proofs.Common.{◌≡◌, ℕ, [], ◌∷◌, ◌++◌, refl, sym, ◌∙◌, ap, subst, drop}
+use Rattle.std.proofs.Common.{◌≡◌, ℕ, [], ◌∷◌, ◌++◌, refl, sym, ◌∙◌, ap, subst, drop, ◌≤◌}
 use Rattle.std.specs.Prelude.{map, Option}
-use Rattle.std.proofs.lemmas.List.{take-append-drop}
-use Rattle.rt_ids.specs.Terms.{Terms}
+use Rattle.std.proofs.lemmas.List.{length-map, take-append-drop}
+use Rattle.rt_ids.specs.Terms.{Terms, terms_of}
 use Rattle.rt_ids.specs.declared.note.Note.{Note}
 use Rattle.rt_ids.specs.declared.note.Note.TheVariants as writes
 use Rattle.rt_ids.specs.declared.order.Order.{Order}
 use Rattle.rt_ids.specs.declared.order.Outcome.{Outcome}
 use Rattle.rt_ids.specs.Assembly.{Assembly, journal_of, IsPrefix}
 use Rattle.rt_ids.specs.Filters.{accepted_orders, delivered_names, collected_outcomes, given_outcomes}
-use Rattle.rt_ids.specs.Joining.{DeliversAsSent, LinksAgree}
+use Rattle.rt_ids.specs.Joining.{AreJoined, DeliversAsSent, LinksAgree}
 use Rattle.rt_ids.specs.Journal.{Journal, EachNote}
 use Rattle.rt_ids.specs.Lawful.{IsLawful, MayStand, MayFollow}
 use Rattle.rt_ids.specs.Sound.{IsSound}
@@ -51,5 +51,12 @@ module _ {J T : Type 0} (same : J → J → Type 0) (made : J → ℕ) (polls : 
     as_sent = λ actor there. subst (EachNote (DeliversAsSent assembly)) (sym (journal_of-world parts actor)) (world.as_sent actor there);
   }
 
+  lawful : (actor : ℕ) → actor ≤ parts.cores → IsLawful (terms_of actor assembly) (journal_of actor assembly)
+  lawful actor there = subst (IsLawful (terms_in actor parts)) (sym (journal_of-world parts actor)) (world.lawful actor there)
+
   pub world_sound : IsSound assembly
-  world_sound = joining_is_sound assembly (λ actor there. subst (IsLawful (terms_in actor parts)) (sym (journal_of-world parts actor)) (world.lawful actor there)) links_agree
+  world_sound = joining_is_sound assembly lawful links_agree
+
+  -- there is one for each actor, each is lawful, and the links between them agree
+  pub world_joined : AreJoined assembly
+  world_joined = record { journals = length-map _ _ ∙ world.all_there.journals_are; lawful = lawful; links = links_agree }

@@ -1,6 +1,7 @@
 //! The cores of one executor as one value, moved by events.
 
-ghost use Rattle.std.specs.Prelude.{◌≡◌, ◌+◌, ◌≤◌, length};
+ghost use Rattle.std.specs.Prelude.{◌≡◌, ◌≤◌};
+ghost use Rattle.rt_ids.specs.Joining.{AreJoined};
 ghost use Rattle.rt_ids.specs.Sound.{IsSound};
 ghost use Rattle.rt_world.specs.State.{journal_at, assembly_of};
 
@@ -77,7 +78,7 @@ impl<J: Task<Out = u64>, A: Allocator + Clone> World<J, A> {
     fn into_assembly(self) -> Assembly
         ensures value { result ≡ assembly_of self }
         ensures sound { IsSound result }
-        ensures journals { length result.journals ≡ result.cores + 1 }
+        ensures joined { AreJoined result }
     {
         Assembly::of(self.cores, self.cap, self.journals)
     }

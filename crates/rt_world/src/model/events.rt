@@ -1,6 +1,7 @@
 //! Events, one at a time and in a list.
 
-ghost use Rattle.std.specs.Prelude.{◌≡◌, ◌↔◌, ◌+◌, ◌≤◌, length, All, IsTrue};
+ghost use Rattle.std.specs.Prelude.{◌≡◌, ◌↔◌, ◌≤◌, All, IsTrue};
+ghost use Rattle.rt_ids.specs.Joining.{AreJoined};
 ghost use Rattle.rt_ids.specs.Sound.{IsSound};
 ghost use Rattle.rt_jobs.specs.Ready.{HasReadyJob};
 ghost use Rattle.rt_world.specs.State.{IsNearlyFull};
@@ -67,7 +68,7 @@ impl<J: Job + Task<Out = u64>, A: Allocator + Clone> World<J, A> {
         requires ready { All (HasReadyEvent (HasReadyJob J.done J.CanPoll)) events.items }
         ensures run { RunsTo J.made J.Polls J.Answers events.items self result }
         ensures sound { IsSound result }
-        ensures journals { length result.journals ≡ result.cores + 1 }
+        ensures joined { AreJoined result }
     {
         let mut world = self;
         for event in events {

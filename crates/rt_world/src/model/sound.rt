@@ -1,5 +1,6 @@
 //! What holds of each world, between any two of its events.
 
+ghost use Rattle.rt_ids.specs.Joining.{AreJoined};
 ghost use Rattle.rt_ids.specs.Sound.{IsSound};
 ghost use Rattle.rt_world.specs.Opening.{HasAllLists};
 ghost use Rattle.rt_world.specs.State.{assembly_of};
@@ -14,6 +15,13 @@ impl<J: Task<Out = u64>, A: Allocator + Clone> World<J, A> {
         ensures { IsSound (assembly_of self.now) }
     {
         // To look inside is to know the world's invariant.
+        let _cores = self.cores;
+    }
+
+    /// There is a journal for each actor, each is lawful, and each delivery is what the order under its name calls for.
+    pub fn joined(&self)
+        ensures { AreJoined (assembly_of self.now) }
+    {
         let _cores = self.cores;
     }
 

@@ -47,77 +47,8 @@ invariant_of-self g c =
       subst (λ count. HasOwnSlips count inside.slips.cap inside.slips.items) (sym (length-set lines c.args.queue rest)) c.self.invariant.1,
     )
 
-pub returns-clause-head : goal.returns-clause-head
-returns-clause-head g c =
-    let inside = c.self.inside in
-    let lines = inside.lines.items in
-    let line = c.index-line.result.now in
-    let front = c.remove-front.result in
-    let rest : Line = record { head = front.next; tail = line.tail; count = line.count - 1; shares = line.shares } in
-    let exists = exists-view inside.room inside.jobs lines (ap queues_alone c.self.view_is) c.requires.exists in
-    let here = line_read lines c.queue.inside.0 c.args.queue line (omega (arith, exists, c.queue.view_is)) c.index-line.ensures c.queue.view_is in
-    let leaves_line : Leaves inside.jobs line front c.remove-front.new.self rest = record {
-      some = some-count line.count c.if-line-eq0.false;
-      first = c.remove-front.ensures.value;
-      updates = c.remove-front.ensures.updates;
-      len = c.remove-front.ensures.len;
-      capacity = c.remove-front.ensures.capacity;
-      head = refl;
-      tail = refl;
-      count = refl;
-      shares = refl;
-    } in
-    let leaves = subst (λ (l : Line). Leaves inside.jobs l front c.remove-front.new.self rest) (sym here) leaves_line in
-    rw (← c.self.view_is, c.queue.view_is) (waiting_of-left c.args.queue front rest c.self.invariant.0 leaves exists)
-
-pub returns-clause-rest : goal.returns-clause-rest
-returns-clause-rest g c =
-    let inside = c.self.inside in
-    let lines = inside.lines.items in
-    let line = c.index-line.result.now in
-    let front = c.remove-front.result in
-    let rest : Line = record { head = front.next; tail = line.tail; count = line.count - 1; shares = line.shares } in
-    let exists = exists-view inside.room inside.jobs lines (ap queues_alone c.self.view_is) c.requires.exists in
-    let here = line_read lines c.queue.inside.0 c.args.queue line (omega (arith, exists, c.queue.view_is)) c.index-line.ensures c.queue.view_is in
-    let leaves_line : Leaves inside.jobs line front c.remove-front.new.self rest = record {
-      some = some-count line.count c.if-line-eq0.false;
-      first = c.remove-front.ensures.value;
-      updates = c.remove-front.ensures.updates;
-      len = c.remove-front.ensures.len;
-      capacity = c.remove-front.ensures.capacity;
-      head = refl;
-      tail = refl;
-      count = refl;
-      shares = refl;
-    } in
-    let leaves = subst (λ (l : Line). Leaves inside.jobs l front c.remove-front.new.self rest) (sym here) leaves_line in
-    rw (← c.self.view_is, c.queue.view_is) (record { queues = ChangesLine-left c.args.queue front rest c.self.invariant.0 leaves exists; slips = refl })
-
-pub returns-clause-one_less : goal.returns-clause-one_less
-returns-clause-one_less g c =
-    let inside = c.self.inside in
-    let lines = inside.lines.items in
-    let line = c.index-line.result.now in
-    let front = c.remove-front.result in
-    let rest : Line = record { head = front.next; tail = line.tail; count = line.count - 1; shares = line.shares } in
-    let exists = exists-view inside.room inside.jobs lines (ap queues_alone c.self.view_is) c.requires.exists in
-    let here = line_read lines c.queue.inside.0 c.args.queue line (omega (arith, exists, c.queue.view_is)) c.index-line.ensures c.queue.view_is in
-    let leaves_line : Leaves inside.jobs line front c.remove-front.new.self rest = record {
-      some = some-count line.count c.if-line-eq0.false;
-      first = c.remove-front.ensures.value;
-      updates = c.remove-front.ensures.updates;
-      len = c.remove-front.ensures.len;
-      capacity = c.remove-front.ensures.capacity;
-      head = refl;
-      tail = refl;
-      count = refl;
-      shares = refl;
-    } in
-    let leaves = subst (λ (l : Line). Leaves inside.jobs l front c.remove-front.new.self rest) (sym here) leaves_line in
-    rw (← c.self.view_is, c.queue.view_is) (held_count-left c.args.queue front rest c.self.invariant.0 leaves exists)
-
-pub returns-clause-room : goal.returns-clause-room
-returns-clause-room g c =
+pub returns : goal.returns
+returns g c =
     let inside = c.self.inside in
     let lines = inside.lines.items in
     let line = c.index-line.result.now in
@@ -138,30 +69,15 @@ returns-clause-room g c =
     } in
     let leaves = subst (λ (l : Line). Leaves inside.jobs l front c.remove-front.new.self rest) (sym here) leaves_line in
     let fewer = held_count-left c.args.queue front rest c.self.invariant.0 leaves exists in
-    rw c.queue.view_is (omega (arith, fewer, held_count-view c.self.invariant.0, c.self.invariant.0.within_room))
-
-pub returns-clause-limits : goal.returns-clause-limits
-returns-clause-limits g c =
-    let inside = c.self.inside in
-    let lines = inside.lines.items in
-    let line = c.index-line.result.now in
-    let front = c.remove-front.result in
-    let rest : Line = record { head = front.next; tail = line.tail; count = line.count - 1; shares = line.shares } in
-    let exists = exists-view inside.room inside.jobs lines (ap queues_alone c.self.view_is) c.requires.exists in
-    let here = line_read lines c.queue.inside.0 c.args.queue line (omega (arith, exists, c.queue.view_is)) c.index-line.ensures c.queue.view_is in
-    let leaves_line : Leaves inside.jobs line front c.remove-front.new.self rest = record {
-      some = some-count line.count c.if-line-eq0.false;
-      first = c.remove-front.ensures.value;
-      updates = c.remove-front.ensures.updates;
-      len = c.remove-front.ensures.len;
-      capacity = c.remove-front.ensures.capacity;
-      head = refl;
-      tail = refl;
-      count = refl;
-      shares = refl;
-    } in
-    let leaves = subst (λ (l : Line). Leaves inside.jobs l front c.remove-front.new.self rest) (sym here) leaves_line in
-    rw c.queue.view_is (IsWithinLimits-view (IsKept-left c.args.queue front rest c.self.invariant.0 leaves exists))
+    rw (← c.self.view_is, c.queue.view_is) (record {
+      empty = tt;
+      unchanged = tt;
+      head = waiting_of-left c.args.queue front rest c.self.invariant.0 leaves exists;
+      rest = record { queues = ChangesLine-left c.args.queue front rest c.self.invariant.0 leaves exists; slips = refl };
+      one_less = fewer;
+      room = omega (arith, fewer, held_count-view c.self.invariant.0, c.self.invariant.0.within_room);
+      limits = IsWithinLimits-view (IsKept-left c.args.queue front rest c.self.invariant.0 leaves exists);
+    })
 
 pub index-line-requires : goal.index-line-requires
 index-line-requires g c =

@@ -32,5 +32,5 @@ returns-clause-run g c =
 pub returns-clause-sound : goal.returns-clause-sound
 returns-clause-sound g c = c.into_assembly.ensures.sound
 
-pub returns-clause-journals : goal.returns-clause-journals
-returns-clause-journals g c = c.into_assembly.ensures.journals
+pub returns-clause-joined : goal.returns-clause-joined
+returns-clause-joined g c = c.into_assembly.ensures.joined

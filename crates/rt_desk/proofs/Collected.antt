@@ -1,0 +1,77 @@
+-- A lane after a collection, as the call tells of its end.
+use Rattle.std.proofs.Common.{◌≡◌, ◌⊎◌, ℕ, ◌+◌, ◌<◌, length, Option, Some, None, refl, sym, ap, subst, ◌∙◌, arith}
+use Rattle.std.specs.Prelude.{List, slice_get, IfSome, IfNone}
+use Rattle.rt_ids.specs.declared.order.Order.{Order}
+use Rattle.rt_ids.specs.declared.order.Outcome.{Outcome}
+use Rattle.rt_link.specs.declared.ends.Outward.{Outward}
+use Rattle.rt_link.specs.Calls.{Collects}
+use Rattle.rt_link.specs.Ends.{AreOf, SoundOut}
+use Rattle.rt_desk.specs.Held.{at, Removes}
+use Rattle.rt_desk.specs.Lanes.{Lane, IsLaneOf}
+use Rattle.rt_desk.specs.Steps.{Becomes}
+use Rattle.rt_desk.specs.declared.entry.Entry.{Entry}
+use Rattle.rt_desk.specs.declared.entry.Entry.TheVariants.{Pending, Detached, Collected}
+use Rattle.rt_desk.proofs.Collections.{IsLaneOf-seen, IsLaneOf-kept, IsLaneOf-dropped, IsLaneOf-redeemed, IsLaneOf-detached, next_not_none, next_not_collected}
+
+-- what was taken out is what stood there
+pub pulled : {V : Type 0} (held new : List (ℕ × V)) (number : ℕ) (before : V) (result : Option V) → IfNone result (at held number ≡ None)
+    → IfSome result (λ value. Removes held new number value) → at held number ≡ Some before → Removes held new number before
+pulled held new number before None none removes there = absurd (let e : at held number ≡ None = none in cc)
+pulled held new number before (Some value) none removes there = let same : value ≡ before = let e : at held number ≡ Some value = removes.was in cc in subst (Removes held new number) same removes
+
+module _ {J T : Type 0} (fits : Order J → Outcome J T → Type 0) (lane : Lane J T) (out later : Outward J T) (credited after : ℕ) (l : IsLaneOf fits lane out credited)
+    (same : after ≡ credited) (sound : SoundOut later after) (named : AreOf fits later.base later.sent later.seen) where
+  -- nothing was found
+  pub IsLaneOf-none : Collects out later None → IsLaneOf fits lane later after
+  IsLaneOf-none collects =
+      let sound' : SoundOut (record out { seen = later.seen }) credited = subst (λ k. SoundOut (record out { seen = later.seen }) k) same (subst (λ o. SoundOut o after) collects.0 sound) in
+      let named' : AreOf fits out.base out.sent later.seen = subst (λ o. AreOf fits o.base o.sent later.seen) collects.0 named in
+      subst (λ o. IsLaneOf fits lane o after) (sym collects.0)
+      (subst (λ k. IsLaneOf fits lane (record out { seen = later.seen }) k) (sym same) (IsLaneOf-seen fits lane out credited l later.seen collects.1 named' sound'))
+
+  module _ (number : ℕ) (outcome : Outcome J T) (collects : Collects out later (Some (number, outcome))) where
+    abbrev shown : Outward J T
+    shown = record out { seen = later.seen; got = out.got + 1 }
+
+    sound-shown : SoundOut shown credited
+    sound-shown = subst (λ k. SoundOut shown k) same (subst (λ o. SoundOut o after) collects.0 sound)
+
+    named-shown : AreOf fits out.base out.sent later.seen
+    named-shown = subst (λ o. AreOf fits o.base o.sent later.seen) collects.0 named
+
+    -- the number waits
+    pub not_none : ¬ (at lane.entries number ≡ None)
+    not_none = next_not_none fits lane out credited l later.seen collects.1 named-shown number outcome collects.2
+
+    pub not_collected : (other : Outcome J T) → ¬ (at lane.entries number ≡ Some (Collected other))
+    not_collected other = next_not_collected fits lane out credited l later.seen collects.1 named-shown number outcome collects.2 other
+
+    -- an outcome is kept
+    pub IsLaneOf-collected : (new : Lane J T) → Becomes lane.entries new.entries number Pending (Collected outcome)
+        → new.room ≡ lane.room → new.count ≡ lane.count → new.last ≡ lane.last → IsLaneOf fits new later after
+    IsLaneOf-collected new becomes room count last =
+        subst (λ o. IsLaneOf fits new o after) (sym collects.0)
+        (subst (λ k. IsLaneOf fits new shown k) (sym same)
+        (IsLaneOf-kept fits lane out credited l later.seen collects.1 named-shown number outcome collects.2 sound-shown new becomes room count last))
+
+    -- an outcome is dropped, and its place is free
+    pub IsLaneOf-let_go : (new : Lane J T) (last_out : Outward J T) (last_credited : ℕ) → Removes lane.entries new.entries number Detached
+        → after < later.got → last_out ≡ later → last_credited ≡ after + 1
+        → new.room ≡ lane.room → new.count ≡ lane.count → new.last ≡ lane.last → IsLaneOf fits new last_out last_credited
+    IsLaneOf-let_go new last_out last_credited removes earned out_is credited_is room count last =
+        let got : later.got ≡ out.got + 1 = ap (λ (o : Outward J T). o.got) collects.0 in
+        let one_more : last_credited ≡ credited + 1 = credited_is ∙ ap (λ k. k + 1) same in
+        subst (λ o. IsLaneOf fits new o last_credited) (sym (out_is ∙ collects.0))
+        (subst (λ k. IsLaneOf fits new shown k) (sym one_more)
+        (IsLaneOf-dropped fits lane out credited l later.seen collects.1 named-shown number outcome collects.2 sound-shown (omega arith) new removes room count last))
+
+-- A lane after a redemption or a detachment, as the call tells of its end.
+module _ {J T : Type 0} (fits : Order J → Outcome J T → Type 0) (lane new : Lane J T) (out later : Outward J T) (credited after : ℕ) (l : IsLaneOf fits lane out credited)
+    (number : ℕ) (room : new.room ≡ lane.room) (count : new.count ≡ lane.count) (last : new.last ≡ lane.last) where
+  pub IsLaneOf-gone : (outcome : Outcome J T) → Removes lane.entries new.entries number (Collected outcome) → later ≡ out → after ≡ credited + 1 → IsLaneOf fits new later after
+  IsLaneOf-gone outcome removes same one_more =
+      subst (λ o. IsLaneOf fits new o after) (sym same)
+      (subst (λ k. IsLaneOf fits new out k) (sym one_more) (IsLaneOf-redeemed fits lane out credited l new number outcome removes room count last))
+
+  pub IsLaneOf-waits_for_none : Becomes lane.entries new.entries number Pending Detached → IsLaneOf fits new out credited
+  IsLaneOf-waits_for_none becomes = IsLaneOf-detached fits lane out credited l new number becomes room count last

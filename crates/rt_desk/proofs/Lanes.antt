@@ -1,0 +1,134 @@
+-- What a lane knows of its numbers, and that a send keeps it.
+use Rattle.std.proofs.Common.{◌≡◌, ◌≢◌, ◌⊎◌, inl, inr, ℕ, ◌+◌, ◌-◌, ◌^◌, ◌<◌, ◌≤◌, Bool, true, false, List, [], ◌∷◌, ◌++◌, length, length-append, Option, Some, None, Ok, Err, refl, sym, ap, subst, ◌∙◌, arith}
+use Rattle.std.specs.Prelude.{slice_get, IfSome}
+use Rattle.std.proofs.lemmas.Bool.Decides.{eqb_tells}
+use Rattle.rt_ids.specs.declared.order.Order.{Order}
+use Rattle.rt_ids.specs.declared.order.Outcome.{Outcome}
+use Rattle.rt_ids.specs.declared.order.SendError.{SendError}
+use Rattle.rt_ids.specs.declared.order.SendError.TheVariants.{Closed, Full, Spent, NoCore}
+use Rattle.rt_link.specs.declared.ends.Outward.{Outward}
+use Rattle.rt_link.specs.Calls.{Sends}
+use Rattle.rt_link.specs.Ends.{AreOf, SoundOut}
+use Rattle.rt_link.proofs.EndFacts.{SoundOut-Sends, SoundOut-credit}
+use Rattle.rt_link.proofs.Numbers.{AreOf-starts}
+use Rattle.rt_desk.specs.Held.{one, at, tally, count_of, Adds, Removes}
+use Rattle.rt_desk.specs.Lanes.{Lane, is_collected, IsSent, IsGot, IsAwaited, FitsSent, Stands, IsLaneOf, IsUnused, fresh_lane, IsGiven}
+use Rattle.rt_desk.specs.declared.entry.Entry.{Entry}
+use Rattle.rt_desk.specs.declared.entry.Entry.TheVariants.{Pending, Detached, Collected}
+
+-- an option is nothing or something
+pub option_cases : {A : Type 0} (option : Option A) → (option ≡ None) ⊎ ((a : A) × (option ≡ Some a))
+option_cases None = inl refl
+option_cases (Some a) = inr (a, refl)
+
+module _ {J T : Type 0} where
+  pub Stands-sent : (out : Outward J T) (number : ℕ) (entry : Entry J T) → Stands out number entry → IsSent out number
+  Stands-sent out number Pending stands = stands.0
+  Stands-sent out number Detached stands = stands.0
+  Stands-sent out number (Collected outcome) stands = stands.0
+
+  -- more orders sent change nothing of a number
+  Stands-longer : (out : Outward J T) (orders : List (Order J)) (number : ℕ) (entry : Entry J T) → length out.sent ≤ length orders
+      → Stands out number entry → Stands (record out { sent = orders }) number entry
+  Stands-longer out orders number Pending more stands = let low : out.base < number = stands.0.0 in let high : number ≤ out.base + length out.sent = stands.0.1 in ((low, omega arith), stands.1)
+  Stands-longer out orders number Detached more stands = let low : out.base < number = stands.0.0 in let high : number ≤ out.base + length out.sent = stands.0.1 in ((low, omega arith), stands.1)
+  Stands-longer out orders number (Collected outcome) more stands =
+      let low : out.base < number = stands.0.0 in let high : number ≤ out.base + length out.sent = stands.0.1 in
+      ((low, omega arith), record { place = stands.1.place; got = stands.1.got; is = stands.1.is })
+
+module _ {J T : Type 0} (fits : Order J → Outcome J T → Type 0) where
+  -- the next number has no entry
+  pub next_absent : (lane : Lane J T) (out : Outward J T) (credited number : ℕ) → IsLaneOf fits lane out credited
+      → number ≡ out.base + length out.sent + 1 → at lane.entries number ≡ None
+  next_absent lane out credited number l next =
+      elim (option_cases (at lane.entries number)) [
+        | inl none ↦ none
+        | inr some ↦ let sent : IsSent out number = Stands-sent out number some.0 (l.standing number some.0 some.1) in let high : number ≤ out.base + length out.sent = sent.1 in absurd (omega arith)
+      ]
+
+  -- a send that is accepted
+  pub IsLaneOf-sent : (lane new : Lane J T) (out later : Outward J T) (credited : ℕ) (order : Order J) (number : ℕ) → IsLaneOf fits lane out credited
+      → Sends out credited order later (Ok number) → Adds lane.entries new.entries number Pending
+      → new.room ≡ lane.room → new.count ≡ lane.count + 1 → new.last ≡ number → IsLaneOf fits new later credited
+  IsLaneOf-sent lane new out later credited order number l sends adds room count last =
+      let longer : length (out.sent ++ order ∷ []) ≡ length out.sent + 1 = length-append out.sent (order ∷ []) in
+      let next : number ≡ out.base + length out.sent + 1 = sends.2 in
+      subst (λ o. IsLaneOf fits new o credited) (sym sends.4) record {
+        room = room ∙ l.room;
+        count = omega (arith, l.count);
+        last = λ _. omega (arith, l.count);
+        sound = subst (λ o. SoundOut o credited) sends.4 (SoundOut-Sends out later credited order (Ok number) l.sound sends);
+        named = AreOf-starts fits out.base out.sent (out.sent ++ order ∷ []) out.seen (order ∷ [], refl) l.named;
+        standing = λ n. λ entry. λ there. elim (eqb_tells n number) [
+          | inl same ↦
+              let is : n ≡ number = same.1 in
+              let entry_is : Pending ≡ entry = let e : at new.entries n ≡ Some Pending = ap (at new.entries) is ∙ adds.here in cc in
+              subst (Stands (record out { sent = out.sent ++ order ∷ [] }) n) entry_is (
+                (omega arith, omega arith),
+                λ i. λ found. λ low. λ found_is. λ equal.
+                    let named = l.named.0 i found found_is in let high : found.0 ≤ out.base + length out.sent = named.2 in absurd (omega arith),
+              )
+          | inr other ↦ Stands-longer out (out.sent ++ order ∷ []) n entry (omega arith) (l.standing n entry (sym (adds.others n other.1) ∙ there))
+        ];
+        gone = λ n. λ sent. λ none. elim (eqb_tells n number) [
+          | inl same ↦ absurd (let e : at new.entries n ≡ Some Pending = ap (at new.entries) same.1 ∙ adds.here in cc)
+          | inr other ↦
+              let low : out.base < n = sent.0 in let high : n ≤ out.base + length (out.sent ++ order ∷ []) = sent.1 in let apart : n ≢ number = other.1 in
+              let had = l.gone n (low, omega arith) (sym (adds.others n other.1) ∙ none) in
+              (had.0, record { place = had.1.place; got = had.1.got; is = had.1.is })
+        ];
+        outstanding = omega (arith, l.outstanding, adds.tallies (λ value. true));
+        kept = omega (arith, l.kept, adds.tallies is_collected);
+      }
+
+  -- the same, as the call tells of its end
+  pub IsLaneOf-accepted : (lane new : Lane J T) (out later : Outward J T) (credited after : ℕ) (order : Order J) (number : ℕ) → IsLaneOf fits lane out credited → after ≡ credited
+      → Sends out credited order later (Ok number) → Adds lane.entries new.entries number Pending
+      → new.room ≡ lane.room → new.count ≡ lane.count + 1 → new.last ≡ number → IsLaneOf fits new later after
+  IsLaneOf-accepted lane new out later credited after order number l same sends adds room count last =
+      subst (λ k. IsLaneOf fits new later k) (sym same) (IsLaneOf-sent lane new out later credited order number l sends adds room count last)
+
+  -- a send that is refused
+  pub IsLaneOf-refused : (lane : Lane J T) (out later : Outward J T) (credited : ℕ) (order : Order J) (error : SendError J) → IsLaneOf fits lane out credited
+      → Sends out credited order later (Err error) → IsLaneOf fits lane later credited
+  IsLaneOf-refused lane out later credited order (Closed back final) l sends =
+      subst (λ o. IsLaneOf fits lane o credited) (sym sends.2) record {
+        room = l.room;
+        count = l.count;
+        last = l.last;
+        sound = subst (λ o. SoundOut o credited) sends.2 (SoundOut-Sends out later credited order (Err (Closed back final)) l.sound sends);
+        named = l.named;
+        standing = λ n. λ entry. λ there. Stands-closed n entry (l.standing n entry there);
+        gone = λ n. λ sent. λ none. let had = l.gone n sent none in (had.0, record { place = had.1.place; got = had.1.got; is = had.1.is });
+        outstanding = l.outstanding;
+        kept = l.kept;
+      }
+    where
+      Stands-closed : (n : ℕ) (entry : Entry J T) → Stands out n entry → Stands (record out { closed = true }) n entry
+      Stands-closed n Pending stands = stands
+      Stands-closed n Detached stands = stands
+      Stands-closed n (Collected outcome) stands = (stands.0, record { place = stands.1.place; got = stands.1.got; is = stands.1.is })
+  IsLaneOf-refused lane out later credited order (Full back) l sends = subst (λ o. IsLaneOf fits lane o credited) (sym sends.3) l
+  IsLaneOf-refused lane out later credited order (Spent back) l sends = subst (λ o. IsLaneOf fits lane o credited) (sym sends.4) l
+  IsLaneOf-refused lane out later credited order (NoCore back) l sends = absurd sends
+
+  -- a lane just opened, beside an end on which nothing was done
+  pub IsLaneOf-fresh : (capacity : ℕ) (out : Outward J T) (credited : ℕ) → IsUnused capacity out credited → IsLaneOf fits (fresh_lane capacity) out credited
+  IsLaneOf-fresh capacity out credited unused =
+      let none_sent : length out.sent ≡ 0 = ap length unused.1 in
+      let none_got : out.got ≡ 0 = unused.3 in
+      let none_credited : credited ≡ 0 = unused.4 in
+      record {
+        room = sym unused.0;
+        count = sym none_sent;
+        last = λ some. absurd (omega arith);
+        sound = unused.5;
+        named = subst (AreOf fits out.base out.sent) (sym unused.2) ((λ i. λ x. λ is. absurd (nothing_there i x is)), (λ i. λ j. λ x. λ y. λ is. absurd (nothing_there i x is)));
+        standing = λ n. λ entry. λ there. absurd cc;
+        gone = λ n. λ sent. λ none. let low : out.base < n = sent.0 in let high : n ≤ out.base + length out.sent = sent.1 in absurd (omega arith);
+        outstanding = omega arith;
+        kept = omega arith;
+      }
+    where
+      nothing_there : (i : ℕ) (x : ℕ × Outcome J T) → slice_get {X = ℕ × Outcome J T} [] i ≡ Some x → ⊥
+      nothing_there i x is = cc

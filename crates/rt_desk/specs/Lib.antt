@@ -1,0 +1,6 @@
+pub mod Held
+pub mod Nodes
+pub mod Shelves
+pub mod Lanes
+pub mod Steps
+pub mod Desks

@@ -1,0 +1,21 @@
+-- What a node holds with what is below it.
+use Rattle.std.specs.Prelude.{◌≡◌, ℕ, List, []}
+use Rattle.rt_desk.specs.Held.{held_below, IsNodeSound}
+use Rattle.rt_desk.specs.declared.trie.Link.{Link}
+use Rattle.rt_desk.specs.declared.trie.Link.TheVariants.{Empty, Top}
+use Rattle.rt_desk.specs.declared.trie.Node.{Node}
+
+module _ {V : Type 0} where
+  -- what a tree holds
+  abbrev pub held : Link V → List (ℕ × V)
+  held Empty = []
+  held (Top node) = held_below node.value.rest node.value.value node.value.even node.value.odd
+
+  -- the same of a tree
+  abbrev pub IsTrie : Link V → Type 0
+  IsTrie Empty = Unit {0}
+  IsTrie (Top node) = IsNodeSound node.value.rest node.value.even node.value.odd
+
+  -- a node with nothing below
+  abbrev pub IsLoose : Node V → Type 0
+  IsLoose node = (node.even ≡ []) × (node.odd ≡ [])

@@ -1,0 +1,69 @@
+-- What each call does to a lane.
+use Rattle.std.specs.Prelude.{◌≡◌, ◌⊎◌, ℕ, ◌+◌, List, Option, Some, None, Result, Ok, Err, slice_get}
+use Rattle.rt_ids.specs.declared.order.Outcome.{Outcome}
+use Rattle.rt_ids.specs.declared.order.SendError.{SendError}
+use Rattle.rt_ids.specs.declared.names.JobId.{JobId}
+use Rattle.rt_ids.specs.declared.names.TicketError.{TicketError}
+use Rattle.rt_ids.specs.declared.names.TicketError.TheVariants as refusal
+use Rattle.rt_link.specs.declared.ends.Outward.{Outward}
+use Rattle.rt_desk.specs.Held.{at, Adds, Removes}
+use Rattle.rt_desk.specs.Lanes.{Lane, IsGiven, IsGone}
+use Rattle.rt_desk.specs.declared.entry.Standing.{Standing}
+use Rattle.rt_desk.specs.declared.entry.Standing.TheVariants as standing
+use Rattle.rt_desk.specs.declared.entry.Entry.{Entry}
+use Rattle.rt_desk.specs.declared.entry.Entry.TheVariants.{Pending, Detached, Collected}
+
+-- the number that a submission was given, or why it was refused
+abbrev pub numbered : {J : Type 0} → Result JobId (SendError J) → Result ℕ (SendError J)
+numbered (Ok name) = Ok name.number
+numbered (Err error) = Err error
+
+module _ {J T : Type 0} where
+  -- the entry of a number became another
+  pub record Becomes (old new : List (ℕ × Entry J T)) (number : ℕ) (before after : Entry J T) : Type 0 where
+    pub between : List (ℕ × Entry J T)
+    pub removes : Removes old between number before
+    pub adds : Adds between new number after
+
+  -- Where a submission waits for its outcome, the outcome is kept; where it is detached, the outcome is dropped and the place of the link is free.
+  abbrev pub Keeps : List (ℕ × Entry J T) → List (ℕ × Entry J T) → ℕ → Outcome J T → ℕ → ℕ → Type 0
+  Keeps old new number outcome credited later =
+      (Becomes old new number Pending (Collected outcome) × (later ≡ credited)) ⊎ (Removes old new number Detached × (later ≡ credited + 1))
+
+  -- One outcome was collected: the next that the link shows, under its number.
+  pub record CollectsOne (old new : Lane J T) (out later : Outward J T) (credited after : ℕ) : Type 0 where
+    pub number : ℕ
+    pub outcome : Outcome J T
+    pub next : slice_get later.seen out.got ≡ Some (number, outcome)
+    pub got : later.got ≡ out.got + 1
+    pub keeps : Keeps old.entries new.entries number outcome credited after
+    pub rest : new ≡ record old { entries = new.entries }
+
+  -- why a ticket is refused
+  abbrev pub Refuses : Lane J T → ℕ → TicketError → Type 0
+  Refuses lane number refusal.Unknown = ¬ IsGiven lane number
+  Refuses lane number refusal.Gone = IsGiven lane number × IsGone lane number
+  Refuses lane number refusal.Pending = IsGiven lane number × (at lane.entries number ≡ Some Pending)
+
+  -- a redemption gives the outcome and frees a place of the link, or is refused
+  abbrev pub Redeems : Lane J T → Lane J T → ℕ → ℕ → ℕ → Result (Outcome J T) TicketError → Type 0
+  Redeems old new number credited later (Ok outcome) =
+      Removes old.entries new.entries number (Collected outcome) × (new ≡ record old { entries = new.entries }) × (later ≡ credited + 1)
+  Redeems old new number credited later (Err error) = Refuses old number error × (new ≡ old) × (later ≡ credited)
+
+  -- nobody will redeem the number: what is collected is dropped and frees a place of the link, what isn't collected will be dropped; or it is refused
+  abbrev pub Detaches : Lane J T → Lane J T → ℕ → ℕ → ℕ → Result (Unit {0}) TicketError → Type 0
+  Detaches old new number credited later (Ok done) =
+      (new ≡ record old { entries = new.entries })
+      × ((Becomes old.entries new.entries number Pending Detached × (later ≡ credited))
+      ⊎ ((outcome : Outcome J T) × Removes old.entries new.entries number (Collected outcome) × (later ≡ credited + 1)))
+  Detaches old new number credited later (Err refusal.Pending) = ⊥
+  Detaches old new number credited later (Err refusal.Unknown) = Refuses old number refusal.Unknown × (new ≡ old) × (later ≡ credited)
+  Detaches old new number credited later (Err refusal.Gone) = Refuses old number refusal.Gone × (new ≡ old) × (later ≡ credited)
+
+-- what is told of an entry is what stands there
+abbrev pub StandsAs : {J T : Type 0} → Standing → Option (Entry J T) → Type 0
+StandsAs standing.Nothing entry = entry ≡ None
+StandsAs standing.Pending entry = entry ≡ Some Pending
+StandsAs standing.Detached entry = entry ≡ Some Detached
+StandsAs {J} {T} standing.Collected entry = (outcome : Outcome J T) × (entry ≡ Some (Collected outcome))

@@ -1,0 +1,202 @@
+//! The submissions of one actor to one core.
+
+ghost use Rattle.std.specs.Prelude.{◌≡◌, ◌+◌, ◌<◌, ◌≤◌, ℕ, ◌↔◌, true, false, length, None, Some, slice_get, IfOk, IfErr, IfSome, IfNone, IsTrue, OnErr};
+ghost use Rattle.rt_jobs.specs.Ready.{HasReadyJob};
+ghost use Rattle.rt_link.specs.Calls.{Sends, Collects};
+ghost use Rattle.rt_link.specs.Fits.{Fits};
+ghost use Rattle.rt_desk.specs.Held.{at, count_of, Adds};
+ghost use Rattle.rt_desk.specs.Lanes.{fresh_lane, IsGiven, IsLaneOf, IsGot, FitsSent};
+ghost use Rattle.rt_desk.specs.Steps.{CollectsOne, Redeems, Detaches, StandsAs};
+ghost use Rattle.rt_desk.specs.declared.entry.Entry.TheVariants.{Pending};
+
+use crate::entry::{Entry, Standing};
+use crate::shelf::Shelf;
+use rt_ids::{Order, Outcome, SendError, TicketError};
+use rt_jobs::Task;
+use rt_link::OutEnd;
+use std::alloc::{AllocError, Global};
+use std::marker::Model;
+
+/// The submissions of one actor to one core.
+#[derive(Drop)]
+pub struct Lane<J: Task> {
+    shelf: Shelf<J, J::Out>,
+    /// How many numbers were given.
+    count: u64,
+    /// The last of them, or 0.
+    last: u64,
+}
+
+impl<J: Task> Model for Lane<J> {
+    ghost use Rattle.rt_desk.specs.Lanes.{Lane};
+
+    ghost Value = { Lane J J.Out };
+
+    ghost view = { λ l. record { entries = l.shelf.entries; room = l.shelf.room; count = l.count; last = l.last } };
+
+    ghost use Rattle.std.specs.Prelude.{◌≤◌};
+
+    ghost invariant = { λ l. l.count ≤ l.last };
+}
+
+impl<J: Task> Lane<J> {
+    pub(crate) fn open(alloc: Global, room: u16) -> Result<Self, AllocError>
+        ensures { IfOk result (λ lane. lane ≡ fresh_lane room) }
+    {
+        Ok(Lane {
+            shelf: Shelf::open(alloc, room)?,
+            count: 0,
+            last: 0,
+        })
+    }
+
+    /// Sends an order, whose number is outstanding from then on.
+    pub(crate) fn submit<O: OutEnd<J>>(
+        &mut self,
+        end: &mut O,
+        order: Order<J>,
+    ) -> Result<u64, SendError<J>>
+        requires lane { IsLaneOf (Fits J.SameTask J.Answers) self.old (O.out end.old) (O.credited end.old) }
+        requires ready { HasReadyJob J.done J.CanPoll order }
+        ensures lane { IsLaneOf (Fits J.SameTask J.Answers) self.new (O.out end.new) (O.credited end.new) }
+        ensures untouched { O.untouched end.new ≡ O.untouched end.old }
+        ensures credited { O.credited end.new ≡ O.credited end.old }
+        ensures sends { Sends (O.out end.old) (O.credited end.old) order (O.out end.new) result }
+        ensures accepted { IfOk result (λ number. Adds self.old.entries self.new.entries number Pending) }
+        ensures refused { OnErr result (self.new ≡ self.old) }
+    {
+        let number = end.send(order)?;
+        self.shelf.put(number, Entry::Pending);
+        self.count += 1;
+        self.last = number;
+        Ok(number)
+    }
+
+    /// Collects one outcome, if the link shows one. Whether it did.
+    pub(crate) fn collect_one<O: OutEnd<J>>(&mut self, end: &mut O) -> bool
+        requires { IsLaneOf (Fits J.SameTask J.Answers) self.old (O.out end.old) (O.credited end.old) }
+        ensures lane { IsLaneOf (Fits J.SameTask J.Answers) self.new (O.out end.new) (O.credited end.new) }
+        ensures untouched { O.untouched end.new ≡ O.untouched end.old }
+        ensures sent { (O.out end.new).sent ≡ (O.out end.old).sent }
+        ensures all { result ≡ false → length (O.out end.new).seen ≡ (O.out end.old).got }
+        ensures none { result ≡ false → (self.new ≡ self.old) × (O.credited end.new ≡ O.credited end.old) × ((O.out end.new).got ≡ (O.out end.old).got) }
+        ensures one { result ≡ true → CollectsOne self.old self.new (O.out end.old) (O.out end.new) (O.credited end.old) (O.credited end.new) }
+    {
+        let Some((number, outcome)) = end.collect() else {
+            return false;
+        };
+        let Some(entry) = self.shelf.pull(number) else {
+            unreachable!()
+        };
+        match entry {
+            Entry::Pending => self.shelf.put(number, Entry::Collected(outcome)),
+            Entry::Detached => {
+                drop(outcome);
+                end.credit();
+            }
+            Entry::Collected(_) => unreachable!(),
+        }
+        true
+    }
+
+    /// Collects all outcomes that the link shows. How many there were.
+    pub(crate) fn collect<O: OutEnd<J>>(&mut self, end: &mut O) -> usize
+        requires { IsLaneOf (Fits J.SameTask J.Answers) self.old (O.out end.old) (O.credited end.old) }
+        ensures lane { IsLaneOf (Fits J.SameTask J.Answers) self.new (O.out end.new) (O.credited end.new) }
+        ensures untouched { O.untouched end.new ≡ O.untouched end.old }
+        ensures sent { (O.out end.new).sent ≡ (O.out end.old).sent }
+        ensures all { length (O.out end.new).seen ≡ (O.out end.new).got }
+        ensures count { result + (O.out end.old).got ≡ (O.out end.new).got }
+    {
+        let mut count = 0;
+        while self.collect_one(end) {
+            count += 1;
+        }
+        count
+    }
+
+    /// How many submissions are outstanding.
+    pub(crate) fn outstanding<O: OutEnd<J>>(&self, end: &O) -> u64
+        requires { IsLaneOf (Fits J.SameTask J.Answers) self.now (O.out end.now) (O.credited end.now) }
+        ensures { result ≡ count_of self.now.entries }
+    {
+        end.outstanding()
+    }
+
+    fn is_given(&self, number: u64) -> bool
+        ensures { IsTrue result ↔ IsGiven self.now number }
+    {
+        self.last - self.count < number && number <= self.last
+    }
+
+    fn standing(&self, number: u64) -> Standing
+        ensures { StandsAs result (at self.now.entries number) }
+    {
+        match self.shelf.get(number) {
+            None => Standing::Nothing,
+            Some(Entry::Pending) => Standing::Pending,
+            Some(Entry::Detached) => Standing::Detached,
+            Some(Entry::Collected(_)) => Standing::Collected,
+        }
+    }
+
+    /// The outcome of a number, which is gone from then on.
+    pub(crate) fn redeem<O: OutEnd<J>>(
+        &mut self,
+        end: &mut O,
+        number: u64,
+    ) -> Result<Outcome<J, J::Out>, TicketError>
+        requires { IsLaneOf (Fits J.SameTask J.Answers) self.old (O.out end.old) (O.credited end.old) }
+        ensures lane { IsLaneOf (Fits J.SameTask J.Answers) self.new (O.out end.new) (O.credited end.new) }
+        ensures untouched { O.untouched end.new ≡ O.untouched end.old }
+        ensures out { O.out end.new ≡ O.out end.old }
+        ensures redeems { Redeems self.old self.new number (O.credited end.old) (O.credited end.new) result }
+        ensures given { IfOk result (λ outcome. IsGot (O.out end.old) number outcome) }
+        ensures fits { IfOk result (λ outcome. FitsSent (Fits J.SameTask J.Answers) (O.out end.old) number outcome) }
+    {
+        if !self.is_given(number) {
+            return Err(TicketError::Unknown);
+        }
+        match self.standing(number) {
+            Standing::Nothing | Standing::Detached => Err(TicketError::Gone),
+            Standing::Pending => Err(TicketError::Pending),
+            Standing::Collected => {
+                let Some(Entry::Collected(outcome)) = self.shelf.pull(number) else {
+                    unreachable!()
+                };
+                end.credit();
+                Ok(outcome)
+            }
+        }
+    }
+
+    /// Nobody will ask for the outcome of a number.
+    pub(crate) fn detach<O: OutEnd<J>>(
+        &mut self,
+        end: &mut O,
+        number: u64,
+    ) -> Result<(), TicketError>
+        requires { IsLaneOf (Fits J.SameTask J.Answers) self.old (O.out end.old) (O.credited end.old) }
+        ensures lane { IsLaneOf (Fits J.SameTask J.Answers) self.new (O.out end.new) (O.credited end.new) }
+        ensures untouched { O.untouched end.new ≡ O.untouched end.old }
+        ensures out { O.out end.new ≡ O.out end.old }
+        ensures detaches { Detaches self.old self.new number (O.credited end.old) (O.credited end.new) result }
+    {
+        if !self.is_given(number) {
+            return Err(TicketError::Unknown);
+        }
+        match self.standing(number) {
+            Standing::Nothing | Standing::Detached => Err(TicketError::Gone),
+            Standing::Pending => {
+                drop(self.shelf.pull(number));
+                self.shelf.put(number, Entry::Detached);
+                Ok(())
+            }
+            Standing::Collected => {
+                drop(self.shelf.pull(number));
+                end.credit();
+                Ok(())
+            }
+        }
+    }
+}

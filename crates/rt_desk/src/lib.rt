@@ -1,0 +1,8 @@
+//! One actor's view of its submissions.
+#![tactic(auto)]
+
+pub mod desk;
+pub mod entry;
+pub mod lane;
+mod shelf;
+mod trie;
