@@ -56,7 +56,7 @@ impl Task for Number {
 /// The sender of all links here.
 pub const FROM: ActorNo = ActorNo(2);
 
-/// Their receiver.
+/// The receiver of all links without a desk.
 pub const TO: CoreNo = CoreNo(1);
 
 /// What a call at an end of a link came to.
@@ -177,9 +177,9 @@ fn answer(order: Order<Number>) -> Outcome<Number, u64>
     }
 }
 
-/// The number of a name, if it is one of these links.
+/// The number of a name, if it is of the sender of these links.
 fn number_of(name: JobId) -> Told {
-    if name.from == FROM && name.to == TO {
+    if name.from == FROM {
         Told::Taken(name.number)
     } else {
         Told::Nothing

@@ -13,7 +13,7 @@ use Rattle.rt_world.specs.Determined.{WasRefused}
 use Rattle.rt_world.specs.ScriptRuns.{script_made, ScriptPolls, ScriptAnswers, IsScriptRun}
 use Rattle.rt_world.proofs.KeptLists.{happens_keep}
 use Rattle.rt_world.proofs.DeterminedOpenings.{fresh_once}
-use Rattle.rt_world.proofs.DeterminedRefusals.{refused-happens}
+use Rattle.rt_world.proofs.DeterminedRefusals.{refused-happens, was_refused}
 use Rattle.rt_world.proofs.DeterminedRuns.{happens_once}
 use Rattle.rt_world.proofs.DeterminedScripts.{scripts_owe_one}
 use Rattle.rt_world.proofs.NoRefusals.{plain_unbegun, run_plain}
@@ -40,7 +40,7 @@ module _ (event : ScriptEvent) (old new other : ScriptWorld) (text other_text : 
 
   prints_once : HasAllLists old → ((new ≡ other) × (text ≡ other_text)) ⊎ (WasRefused new.journals ⊎ WasRefused other.journals)
   prints_once lists =
-      ⊎_elim (λ same. inl (same.0, same_text same)) inr
+      ⊎_elim (λ same. inl (same.0, same_text same)) (λ refused. inr (⊎_elim (λ told. inl (was_refused told)) (λ told. inr (was_refused told)) refused))
       (happens_once script_made ScriptPolls ScriptAnswers scripts_owe_one (event_of event) old new other first.answer second.answer lists first.occurs second.occurs)
 
 refused-prints : (events : List ScriptEvent) (old new : ScriptWorld) (text : List ℕ) → PrintsAll events old new text → WasRefused old.journals → WasRefused new.journals

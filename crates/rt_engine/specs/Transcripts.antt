@@ -8,6 +8,7 @@ use Rattle.rt_world.specs.declared.event.Event.{Event}
 use Rattle.rt_script.specs.declared.event.ScriptEvent.{ScriptEvent}
 use Rattle.rt_world.specs.declared.event.Reply.{Reply}
 use Rattle.rt_world.specs.declared.event.Reply.TheVariants as reply
+use Rattle.rt_ids.specs.Joining.{AreJoined}
 use Rattle.rt_ids.specs.Sound.{IsSound}
 use Rattle.rt_world.specs.State.{WorldView, journal_at, noted, assembly_of}
 use Rattle.rt_world.specs.Sends.{actor_of}
@@ -77,7 +78,7 @@ with_queues (queue ∷ queues) world = with_queues queues (with_queue queue worl
 abbrev pub script_room : ℕ → ℕ → ℕ
 script_room cores cap = 32768 + 3 * cores * cap + 4
 
--- what is printed of a whole script; behind it stands a journal for each actor, and they are sound together
+-- what is printed of a whole script; behind it stands a journal for each actor, lawful and joined, and they are sound together
 pub record IsOutput (script : Drafted) (output : List ℕ) : Type 0 where
   pub cores : ℕ
   pub cap : ℕ
@@ -87,4 +88,5 @@ pub record IsOutput (script : Drafted) (output : List ℕ) : Type 0 where
   pub end : ScriptWorld
   pub all : PrintsAll script.events (with_queues script.queues empty) end output
   pub lists : HasAllLists end
+  pub joined : AreJoined (assembly_of end)
   pub sound : IsSound (assembly_of end)

@@ -64,6 +64,7 @@ fn play<W: Write>(alloc: Global, script: Script, sink: &mut W) -> Result<(), Eng
     let mut page = String::with_capacity(alloc, FULL_PAGE + LONGEST_PRINT)?;
     print_events(&mut model, events, &mut page, sink)?;
     model.complete();
+    model.joined();
     model.sound();
     print_page(&mut page, sink)?;
     match flush(sink) {

@@ -20,7 +20,7 @@ use std::io::Write;
 /// A world of script jobs.
 pub(crate) type Model = World<ScriptJob, Global>;
 
-/// So much is printed at once.
+/// A page of this many bytes is full, and is written.
 pub(crate) const FULL_PAGE: usize = 16384;
 
 /// More than the lines of one event, which fill the page a little above that: four notes of at most 128 bytes.

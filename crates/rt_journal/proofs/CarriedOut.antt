@@ -27,24 +27,18 @@ use Rattle.rt_core.specs.Deliveries.{Enters, Creates, Weighs, CountsAlone, count
 use Rattle.rt_core.specs.Deliveries.{Delivers as CarriesOut}
 use Rattle.rt_core.specs.declared.delivery.Delivered.{Delivered}
 use Rattle.rt_core.specs.declared.delivery.Delivered.TheVariants.{Took, Back, Answered}
-use Rattle.rt_ids.specs.Orders.{without_job}
+use Rattle.rt_ids.specs.Orders.{IsSpelledOrder, without_job}
 use Rattle.rt_journal.specs.Polls.{polls_made}
 use Rattle.rt_journal.specs.Deliveries.{IsDelivery, entry_note}
 use Rattle.rt_journal.specs.Agreement.{IsKept}
 use Rattle.rt_ids.specs.Joining.{DeliversAs}
+pub use Rattle.rt_journal.specs.Ends.{KeepsLists}
 use Rattle.rt_journal.specs.Recorded.{RecordedView, terms_at, sum_upto, delivered_count, given_count}
 use Rattle.rt_journal.proofs.Kept.{open_core}
 use Rattle.rt_journal.proofs.KeptDeliveries.{kept-took, refusal-exists, refusal-missing}
 use Rattle.rt_journal.proofs.KeptAnswers.{kept-back, kept-answered}
 use Rattle.rt_journal.proofs.KeptCommands.{kept-created, kept-weighed}
 use Rattle.rt_journal.proofs.Sums.{sum_upto-at_most_one}
-
--- the lists that a journal tells of its links, but for what was delivered, stay as they were or grow at their end
-pub record KeepsLists {T : Type 0} (old new : Journal T) : Type 0 where
-  pub accepted : (core : ℕ) → accepted_orders core new ≡ accepted_orders core old
-  pub outstanding : (core : ℕ) → outstanding_count core new ≡ outstanding_count core old
-  pub collected : (core : ℕ) → collected_outcomes core new ≡ collected_outcomes core old
-  pub given : (sender : ℕ) → IsPrefix (given_outcomes sender old) (given_outcomes sender new)
 
 -- a job that came is the one of this order
 abbrev pub IsOf : {J : Type 0} → JobId → Order J → ℕ → JobId × Bool × J → Type 0
@@ -173,9 +167,9 @@ module _ {J T : Type 0} (old : RecordedView J T) (name : JobId)
             (λ from. length-with_last_if (given_outcomes from journal) _ (name.from == from)) old.core.cores
 
     -- a command is answered, and nothing else is done
-    pub answers_alone : (order : Order J) (answer : Answer) → ((queue : ℕ) (job : J) → order ≡ Job queue job → ⊥) → IsAnswer (without_job order) answer journal → has_effect answer ≡ false →
+    pub answers_alone : (order : Order J) (answer : Answer) → IsAnswer (without_job order) answer journal → has_effect answer ≡ false →
         IsDelivery name order journal (writes.Answered name answer ∷ []) → IsCarriedOut old name order core (writes.Answered name answer ∷ [])
-    answers_alone order answer command right plain delivery = record {
+    answers_alone order answer right plain delivery = record {
       kept = kept-answered (terms_at old) old.core core name journal kept next sender counts (without_job order) answer right plain;
       number = ap (λ core. core.core) counts;
       cores = ap (λ core. core.cores) counts;
@@ -250,3 +244,43 @@ module _ {J T : Type 0} (old : RecordedView J T) (name : JobId)
       inside =
           ap (λ out. held_count core.queues + number_if (is_some out)) (ap (λ core. core.out) weighs.rest)
           ∙ ap (λ held. held + number_if (is_some old.core.out)) weighs.shares.same_held
+
+  -- a creation that is refused, by why
+  full_answer : queue_count old.core.queues ≡ 256 → (weight : ℕ) → IsAnswer (Create weight) answers.TooMany journal
+  full_answer count weight = rw (open_core (terms_at old) journal kept.notes, le-leb 255 (created_count journal) (omega (arith, count, kept.agrees.last))) refl
+
+  memory_answer : queue_count old.core.queues < 256 → (weight : ℕ) → IsAnswer (Create weight) answers.NoMemory journal
+  memory_answer count weight = rw (open_core (terms_at old) journal kept.notes, lt-leb 255 (created_count journal) (omega (arith, count, kept.agrees.last))) (inl refl)
+
+  missing_answer : (queue weight : ℕ) → queue_count old.core.queues ≤ queue → IsAnswer (SetShares queue weight) answers.NoQueue journal
+  missing_answer queue weight missing = rw (lt-leb queue (created_count journal) (omega (arith, missing, kept.agrees.last))) refl
+
+  abbrev Done : Order J → List (Note T) → Type 0
+  Done order written = IsCarriedOut old name order core (reverse written)
+
+  -- whatever the core does with the order
+  pub carries_out : (order : Order J) → IsSpelledOrder (without_job order) → (delivered : Delivered J) (written : List (Note T)) →
+      CarriesOut old.core name order delivered core written → IsCarriedOut old name order core (reverse written)
+  carries_out (Job queue job) spelled Took written does = subst (Done (Job queue job)) (sym does.1) (enters_queue queue job does.0)
+  carries_out (Job queue job) spelled (Back reason back) written does =
+      subst (Done (Job queue job)) (sym (does.4 ∙ ap (λ reason. writes.Back name reason ∷ []) does.1)) (goes_back does.3 queue job does.0)
+  carries_out (Job queue job) spelled (Answered answer) written does = absurd does
+  carries_out (Create weight) spelled Took written does = absurd does
+  carries_out (Create weight) spelled (Back reason back) written does = absurd does
+  carries_out (Create weight) spelled (Answered (answers.Created queue)) written does =
+      subst (Done (Create weight)) (sym does.3) (creates_queue queue weight spelled does.0 does.1 does.2)
+  carries_out (Create weight) spelled (Answered answers.TooMany) written does =
+      let right = full_answer does.0 weight in
+      subst (Done (Create weight)) (sym does.2) (answers_alone does.1 (Create weight) answers.TooMany right refl (answers.TooMany, right, refl))
+  carries_out (Create weight) spelled (Answered answers.NoMemory) written does =
+      let right = memory_answer does.0 weight in
+      subst (Done (Create weight)) (sym does.2) (answers_alone does.1 (Create weight) answers.NoMemory right refl (answers.NoMemory, right, refl))
+  carries_out (Create weight) spelled (Answered _) written does = absurd does
+  carries_out (SetShares queue weight) spelled Took written does = absurd does
+  carries_out (SetShares queue weight) spelled (Back reason back) written does = absurd does
+  carries_out (SetShares queue weight) spelled (Answered answers.SharesSet) written does =
+      subst (Done (SetShares queue weight)) (sym does.2) (sets_shares queue weight spelled.1 does.0 does.1)
+  carries_out (SetShares queue weight) spelled (Answered answers.NoQueue) written does =
+      let right = missing_answer queue weight does.0 in
+      subst (Done (SetShares queue weight)) (sym does.2) (answers_alone does.1 (SetShares queue weight) answers.NoQueue right refl (answers.NoQueue, right, refl))
+  carries_out (SetShares queue weight) spelled (Answered _) written does = absurd does

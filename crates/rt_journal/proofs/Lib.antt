@@ -14,4 +14,6 @@ pub mod TakenOrders
 pub mod CarriedOut
 pub mod EndsKept
 pub mod Received
+pub mod DeliveredEnds
 pub mod Quiet
+pub mod Opened

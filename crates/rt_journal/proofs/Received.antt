@@ -1,9 +1,9 @@
 -- A core beside its journal stays recorded as an order is delivered to it, and the ends of its links stay beside it.
 use Rattle.std.proofs.Common.{◌≡◌, ℕ, suc, ◌+◌, ◌*◌, ◌<◌, ◌≤◌, Bool, true, false, List, [], ◌∷◌, ◌++◌, length, refl, sym, ◌∙◌, ap, subst, ◌⊎◌, ⊎_elim, arith, get_or, zero-add}
-use Rattle.std.specs.Prelude.{◌==◌, Option, Some, None, All, slice_get}
+use Rattle.std.specs.Prelude.{◌==◌, Option, Some, None, All, slice_get, reverse}
 use Rattle.std.specs.Option.{option_map}
 use Rattle.std.proofs.lemmas.Bool.{eq-eqb, ne_eqb, cases_eq}
-use Rattle.std.proofs.lemmas.List.{length-append, length-map}
+use Rattle.std.proofs.lemmas.List.{length-append, length-reverse}
 use Rattle.std.proofs.lemmas.List.Elements.{All-append}
 use Rattle.rt_ids.specs.declared.names.JobId.{JobId}
 use Rattle.rt_ids.specs.declared.note.Note.{Note}
@@ -18,20 +18,23 @@ use Rattle.rt_ids.specs.Work.{number_if}
 use Rattle.rt_jobs.specs.declared.job.Step.{Step}
 use Rattle.rt_jobs.specs.Steps.{IsSameTask}
 use Rattle.rt_taskqueue.specs.Queues.{waiting_of}
-use Rattle.rt_core.specs.State.{CoreView, JobOut, inside_count}
+use Rattle.rt_core.specs.State.{CoreView, JobOut, inside_count, delivered_of}
+use Rattle.rt_core.specs.Deliveries.{Delivers as CarriesOut}
+use Rattle.rt_core.specs.declared.delivery.Delivered.{Delivered}
 use Rattle.rt_link.specs.declared.ends.Inward.{Inward}
 use Rattle.rt_link.specs.Ends.{StartsWith, SoundIn}
 use Rattle.rt_link.specs.Calls.{Takes}
-use Rattle.rt_ids.specs.Orders.{without_job}
+use Rattle.rt_ids.specs.Lawful.{IsNextDelivered}
+use Rattle.rt_ids.specs.Orders.{IsSpelledOrder, without_job}
 use Rattle.rt_journal.specs.Polls.{polls_made}
 use Rattle.rt_journal.specs.Agreement.{IsKept}
 use Rattle.rt_journal.specs.Recorded.{RecordedView, terms_at, IsRecorded, IsHeld, IsTaken, HasTask, OwesAfter, order_taken, note_taken, sum_upto, delivered_count, given_count}
 use Rattle.rt_journal.specs.Ends.{IsInOf, KeepsIn, IsSameSeat, named_outcomes}
-use Rattle.rt_journal.specs.Steps.{IsNextIn}
+use Rattle.rt_journal.specs.Steps.{IsNextIn, Receives}
 use Rattle.rt_journal.proofs.PollsMade.{polls_made-fresh}
 use Rattle.rt_journal.proofs.Sums.{sum_upto-one_more, sum_upto-room}
 use Rattle.rt_journal.proofs.TakenOrders.{order_taken-longer, order_taken-last, order_taken-parts, note_taken-stays, as_sent-stays}
-use Rattle.rt_journal.proofs.CarriedOut.{IsCarriedOut, IsOf}
+use Rattle.rt_journal.proofs.CarriedOut.{IsCarriedOut, IsOf, carries_out}
 use Rattle.rt_journal.proofs.EndsKept.{keeps_in, prefix-along, slice_get-seen}
 
 module _ {J T : Type 0} {same : J → J → Type 0} {made : J → ℕ} {polls : J → ℕ → Step T → Option ℕ → Type 0} where
@@ -149,72 +152,6 @@ module _ {J T : Type 0} {same : J → J → Type 0} {made : J → ℕ} {polls : 
     out = λ job at. task_stays (stays job.name) (done.polls job.name) (recorded.out job (sym done.out ∙ at));
   }
 
-  -- the ends of other senders stay
-  pub others_keep : (sender : ℕ) → (sender ≡ name.from → ⊥) → KeepsIn sender old received
-  others_keep sender other =
-      keeps_in old received same_seat sender (done.lists.given sender)
-      (let none : number_if (name.from == sender) ≡ 0 = ap number_if (ne_eqb name.from sender (λ one. other (sym one))) in omega (arith, done.delivered sender, none))
-      (λ which order from at. ⊎_elim (λ was. was) (λ last. absurd (other (sym from ∙ ap (λ id. id.from) last.0))) (order_taken-parts envelope old.took which order at))
-
-  -- the end of this sender has one more taken
-  pub here_keeps : (before after : Inward J T) → IsInOf name.from old before → Takes before after (Some envelope) → IsInOf name.from received after
-  here_keeps before after is takes = record {
-    known = rw done.cores next.sender;
-    from = ap (λ end. end.from) takes.0 ∙ is.from;
-    to = ap (λ end. end.to) takes.0 ∙ (is.to ∙ sym done.number);
-    base = ap (λ end. end.base) takes.0 ∙ is.base;
-    capacity = ap (λ end. end.capacity) takes.0 ∙ is.capacity;
-    open_gate = ap (λ end. end.shut) takes.0 ∙ is.open_gate;
-    taken = counted_here ∙ (ap (λ count. count + 1) is.taken ∙ sym (ap (λ end. end.taken) takes.0));
-    given = subst (λ number. IsPrefix (named_outcomes name.from number after.given) (given_outcomes name.from longer)) (sym done.number)
-        (subst (λ given. IsPrefix (named_outcomes name.from old.core.core given) (given_outcomes name.from longer)) (sym (ap (λ end. end.given) takes.0)) (prefix-along _ _ _ is.given (done.lists.given name.from)));
-    orders = λ which order from at. ⊎_elim (was which order from) (last which order) (order_taken-parts envelope old.took which order at);
-  }
-    where
-      was : (which : JobId) (order : Order J) → which.from ≡ name.from → order_taken old.took which ≡ Some order →
-          (place : ℕ) × (which ≡ record { from = name.from; to = core.core; number = place + 1 }) × (slice_get after.seen place ≡ Some order)
-      was which order from at =
-          let found = is.orders which order from at in
-          (found.0, found.1 ∙ ap (λ number. record { from = name.from; to = number; number = found.0 + 1 }) (sym done.number), slice_get-seen after.seen before.seen takes.1.0 found.0 order found.2)
-
-      last : (which : JobId) (order : Order J) → (which ≡ name) × (envelope.order ≡ order) →
-          (place : ℕ) × (which ≡ record { from = name.from; to = core.core; number = place + 1 }) × (slice_get after.seen place ≡ Some order)
-      last which order at = (
-        before.taken,
-        at.0 ∙ (ap (λ to. record { from = name.from; to = to; number = name.number }) (next.receiver ∙ sym done.number)
-            ∙ ap (λ number. record { from = name.from; to = core.core; number = number }) (next.next ∙ ap (λ count. count + 1) is.taken)),
-        takes.3 ∙ ap Some at.1,
-      )
-
-length-named : {J T : Type 0} (sender core : ℕ) (outcomes : List (ℕ × Outcome J T)) → length (named_outcomes sender core outcomes) ≡ length outcomes
-length-named sender core [] = refl
-length-named sender core (outcome ∷ rest) = ap suc (length-named sender core rest)
-
--- an end that shows one more has its name next, and a place for it
-pub next_in : {J T : Type 0} (view : RecordedView J T) (before after : Inward J T) (envelope : Envelope J) → IsInOf before.from view before →
-    Takes before after (Some envelope) → SoundIn after → IsNextIn view envelope.name
-next_in view before after envelope is takes sound = record {
-  sender = rw takes.2 is.known;
-  receiver = ap (λ name. name.to) takes.2 ∙ is.to;
-  next = ap (λ name. name.number) takes.2 ∙ number;
-  in_range = let one_more : after.taken ≡ before.taken + 1 = ap (λ end. end.taken) takes.0 in let same_base : after.base ≡ before.base = ap (λ end. end.base) takes.0 in omega (arith, ap (λ name. name.number) takes.2, sound.numbered, sound.behind, one_more, same_base);
-  place = subst (λ from. delivered_count view.journal.notes from < given_count view.journal.notes from + view.cap) (sym (ap (λ name. name.from) takes.2)) left;
-}
-  where
-    number : before.base + before.taken + 1 ≡ delivered_count view.journal.notes envelope.name.from + 1
-    number = subst (λ from. before.base + before.taken + 1 ≡ delivered_count view.journal.notes from + 1) (sym (ap (λ name. name.from) takes.2)) (omega (arith, is.base, is.taken))
-
-    left : delivered_count view.journal.notes before.from < given_count view.journal.notes before.from + view.cap
-    left =
-        let told = is.given in
-        let told_more : length (named_outcomes before.from view.core.core before.given) ≤ given_count view.journal.notes before.from =
-        omega (arith, ap length told.1, length-append (named_outcomes before.from view.core.core before.given) told.0) in
-        let counted : length (named_outcomes before.from view.core.core before.given) ≡ length before.given = length-named before.from view.core.core before.given in
-        let same_given : length after.given ≡ length before.given = ap (λ end. length end.given) takes.0 in
-        let same_capacity : after.capacity ≡ before.capacity = ap (λ end. end.capacity) takes.0 in
-        let one_more : after.taken ≡ before.taken + 1 = ap (λ end. end.taken) takes.0 in
-        omega (arith, is.taken, is.capacity, sound.room, sound.behind, told_more, same_given, same_capacity, one_more, counted)
-
 -- a core has room for what is delivered next
 pub room_in : {J T : Type 0} {same : J → J → Type 0} {made : J → ℕ} {polls : J → ℕ → Step T → Option ℕ → Type 0} (view : RecordedView J T) (name : JobId) →
     IsRecorded same made polls view → IsNextIn view name → inside_count view.core < view.core.queues.room
@@ -222,3 +159,33 @@ room_in view name recorded next =
     let left : sum_upto (delivered_count view.journal.notes) view.core.cores < sum_upto (given_count view.journal.notes) view.core.cores + (view.core.cores + 1) * view.cap =
     sum_upto-room (delivered_count view.journal.notes) (given_count view.journal.notes) view.cap name.from view.core.cores next.sender recorded.held.each next.place in
     omega (arith, left, recorded.held.inside, recorded.room)
+
+module _ {J T : Type 0} {same : J → J → Type 0} {made : J → ℕ} {polls : J → ℕ → Step T → Option ℕ → Type 0} (old : RecordedView J T) (name : JobId)
+    (recorded : IsRecorded same made polls old) (next : IsNextIn old name) where
+  pub next_delivered : IsNextDelivered (terms_at old) name old.journal.notes
+  next_delivered = record { sender = next.sender; receiver = next.receiver; next = next.next; in_range = next.in_range }
+
+  -- the core counts as its journal does
+  pub next_for_core : name.number ≡ delivered_of name.from old.core + 1
+  next_for_core = let counted = recorded.kept.agrees.delivered name.from next.sender in omega (arith, next.next, counted)
+
+-- what a call that received an order knows of its parts
+module _ {J T : Type 0} {same : J → J → Type 0} {made : J → ℕ} {polls : J → ℕ → Step T → Option ℕ → Type 0} (is_same : IsSameTask same)
+    (old : RecordedView J T) (recorded : IsRecorded same made polls old) (envelope : Envelope J) (next : IsNextIn old envelope.name)
+    (spelled : IsSpelledOrder (without_job envelope.order)) (core : CoreView J) (delivered : Delivered J) (written : List (Note T))
+    (does : CarriesOut old.core envelope.name envelope.order delivered core written) where
+  pub done : IsCarriedOut old envelope.name envelope.order core (reverse written)
+  done = carries_out old envelope.name recorded.kept (next_delivered old envelope.name recorded next) next.sender core envelope.order spelled delivered written does
+
+  pub few : length written ≤ 2
+  few = omega (arith, done.few, length-reverse written)
+
+  module _ (new : RecordedView J T) (is : new ≡ record { cap = old.cap; core = core; journal = record old.journal { notes = reverse written ++ old.journal.notes }; took = old.took ++ envelope ∷ [] }) where
+    pub sound_now : IsRecorded same made polls new
+    sound_now = subst (IsRecorded same made polls) (sym is) (recorded_now is_same old recorded envelope core (reverse written) done next)
+
+    pub seat_now : IsSameSeat old new
+    seat_now = subst (IsSameSeat old) (sym is) (same_seat is_same old recorded envelope core (reverse written) done next)
+
+    pub receives_now : Receives old envelope new
+    receives_now = subst (Receives old envelope) (sym is) (record { notes = reverse written; delivery = done.delivery; journal = refl; took = refl; out = done.out; lists = done.lists; delivered = done.delivered })

@@ -1,5 +1,5 @@
 -- What the calls of a core beside its journal do.
-use Rattle.std.specs.Prelude.{◌≡◌, ℕ, ◌+◌, ◌-◌, ◌^◌, ◌<◌, ◌≤◌, ◌≢◌, Option, Some, None, unwrap_or, Bool, true, false, List, [], ◌∷◌, ◌++◌, length, Result, Ok, Err}
+use Rattle.std.specs.Prelude.{◌≡◌, ◌==◌, ℕ, ◌+◌, ◌*◌, ◌-◌, ◌^◌, ◌<◌, ◌≤◌, ◌≢◌, Option, Some, None, unwrap_or, Bool, true, false, List, [], ◌∷◌, ◌++◌, length, Result, Ok, Err}
 use Rattle.rt_ids.specs.declared.names.JobId.{JobId}
 use Rattle.rt_ids.specs.declared.note.Note.{Note}
 use Rattle.rt_ids.specs.declared.note.Note.TheVariants as writes
@@ -7,7 +7,7 @@ use Rattle.rt_ids.specs.declared.order.Envelope.{Envelope}
 use Rattle.rt_ids.specs.declared.order.Order.TheVariants.{Job}
 use Rattle.rt_ids.specs.Journal.{Journal, is_told}
 use Rattle.rt_ids.specs.Filters.{name_started}
-use Rattle.rt_ids.specs.Work.{has_work}
+use Rattle.rt_ids.specs.Work.{has_work, number_if}
 use Rattle.rt_ids.specs.Lines.{line}
 use Rattle.rt_ids.specs.Picks.{IsRightPick, turns}
 use Rattle.rt_ids.specs.Commands.{created_count, return_reason}
@@ -15,15 +15,18 @@ use Rattle.rt_jobs.specs.declared.job.Step.{Step}
 use Rattle.rt_jobs.specs.Steps.{AfterPoll, IfDone}
 use Rattle.rt_taskqueue.specs.declared.queues.CreateError.{CreateError}
 use Rattle.rt_taskqueue.specs.declared.queues.CreateError.TheVariants.{TooMany, Memory}
-use Rattle.rt_core.specs.State.{JobOut}
+use Rattle.rt_core.specs.State.{JobOut, opened}
 use Rattle.rt_core.specs.declared.turn.Turn.{Turn}
 use Rattle.rt_core.specs.declared.turn.Turn.TheVariants.{Start, Resume, Idle}
 use Rattle.rt_core.specs.declared.turn.PickError.{PickError}
 use Rattle.rt_core.specs.declared.turn.PickError.TheVariants.{Busy, Spent}
+use Rattle.rt_link.specs.declared.ends.Inward.{Inward}
+use Rattle.rt_link.specs.Calls.{Takes}
 use Rattle.rt_journal.specs.Journals.{JournalView}
 use Rattle.rt_journal.specs.Polls.{polls_made, poll_note, settle_note}
 use Rattle.rt_journal.specs.Deliveries.{IsDelivery}
 use Rattle.rt_journal.specs.Recorded.{RecordedView, order_taken, delivered_count, given_count}
+use Rattle.rt_journal.specs.Ends.{KeepsLists}
 
 module _ {T : Type 0} where
   -- the journal is longer by these notes, the newest first
@@ -31,6 +34,15 @@ module _ {T : Type 0} where
   with_notes notes journal = record journal { notes = notes ++ journal.notes }
 
 module _ {J T : Type 0} where
+  -- a core of this number that was just opened, beside a journal of this room
+  abbrev pub opened_beside : ℕ → ℕ → ℕ → ℕ → RecordedView J T
+  opened_beside core cores cap room = record {
+    cap = cap;
+    core = opened core cores ((cores + 1) * cap) 0;
+    journal = record { notes = []; room = room };
+    took = [];
+  }
+
   -- the name is the next of its sender, who is there and waits for fewer outcomes than it may
   pub record IsNextIn (view : RecordedView J T) (name : JobId) : Type 0 where
     pub sender : name.from ≤ view.core.cores
@@ -46,6 +58,14 @@ module _ {J T : Type 0} where
     pub journal : new.journal ≡ with_notes notes old.journal
     pub took : new.took ≡ old.took ++ envelope ∷ []
     pub out : new.core.out ≡ old.core.out
+    pub lists : KeepsLists old.journal.notes new.journal.notes
+    pub delivered : (sender : ℕ) →
+        delivered_count new.journal.notes sender ≡ delivered_count old.journal.notes sender + number_if (envelope.name.from == sender)
+
+  -- what a delivery from this end does: the next order is received, or nothing is there
+  abbrev pub Delivers : RecordedView J T → Inward J T → RecordedView J T → Inward J T → Bool → Type 0
+  Delivers old before new after true = (envelope : Envelope J) × Takes before after (Some envelope) × Receives old envelope new
+  Delivers old before new after false = Takes before after None × (new ≡ old)
 
   -- a queue is made under the next number; a core that has 256 queues says so, else there was no memory
   abbrev pub CreatesQueue : ℕ → RecordedView J T → Result ℕ CreateError → RecordedView J T → Type 0

@@ -13,7 +13,7 @@ use rt_text::steady::read_some;
 use std::alloc::Global;
 use std::io::Read;
 
-/// So much is read at once, if it is there.
+/// The most bytes that are read at once.
 const CHUNK: usize = 8192;
 
 /// The script that the source tells, read and judged to its end.

@@ -5,7 +5,7 @@ ghost use Rattle.std.specs.Io.KnownBytes.{Keeps, Appends, Consumes, IsAtEnd};
 
 use std::io::{ErrorKind, Read, Write};
 
-/// So many calls that are interrupted, one after another, are a fault.
+/// This many interruptions in a row are a fault.
 const MOST_INTERRUPTIONS: u32 = 1000;
 
 /// A device failed.

@@ -18,7 +18,7 @@ use Rattle.rt_world.specs.declared.event.Reply.{Reply}
 use Rattle.rt_world.specs.declared.event.Reply.TheVariants as reply
 use Rattle.rt_world.specs.State.{WorldView, journal_at, sent_at, noted}
 use Rattle.rt_world.specs.Deliveries.{with_effect, IsAnswered, IsDelivery, next_place, Delivers}
-use Rattle.rt_world.specs.Determined.{tells_refusal, WasRefused}
+use Rattle.rt_world.specs.Determined.{tells_refusal, WasRefusedSince}
 use Rattle.rt_world.proofs.DeterminedRefusals.{tells-added}
 
 -- a creation has one answer, unless one of two says that there was no memory
@@ -65,16 +65,19 @@ module _ {J T : Type 0} (core sender : ℕ) (old : WorldView J T) (there : core 
   name = record { from = sender; to = core; number = next_place sender core old + 1 }
 
   -- notes that tell a refusal stand in the journal of their core
-  refused_here : (notes : List (Note T)) (new : WorldView J T) → new ≡ noted core notes old → tells_refusal notes ≡ true → WasRefused new.journals
-  refused_here notes new is told =
-      subst (λ world. WasRefused world.journals) (sym is)
-      (core, ap tells_refusal (get_or-set_same old.journals core (notes ++ journal_at core old) [] there) ∙ tells-added notes (journal_at core old) told)
+  refused_here : (notes : List (Note T)) (new : WorldView J T) → new ≡ noted core notes old → tells_refusal notes ≡ true → WasRefusedSince old.journals new.journals
+  refused_here notes new is told = record {
+    core = core;
+    notes = notes;
+    since = ap (journal_at core) is ∙ get_or-set_same old.journals core (notes ++ journal_at core old) [] there;
+    told = told;
+  }
 
   some≢none : {A : Type 0} (found : Option A) (item : A) → found ≡ Some item → found ≡ None → ⊥
   some≢none found item is none = cc
 
   pub delivers_once : (new other : WorldView J T) (answer other_answer : Reply J) → Delivers core sender old new answer → Delivers core sender old other other_answer →
-      ((new ≡ other) × (answer ≡ other_answer)) ⊎ (WasRefused new.journals ⊎ WasRefused other.journals)
+      ((new ≡ other) × (answer ≡ other_answer)) ⊎ (WasRefusedSince old.journals new.journals ⊎ WasRefusedSince old.journals other.journals)
   delivers_once new other reply.Noted reply.Noted first second =
       ⊎_elim (λ same. inl (first.4 ∙ (ap (λ notes. noted core notes old) same ∙ sym second.4), refl))
       (λ refused. inr (⊎_elim (λ told. inl (refused_here first.2 new first.4 told)) (λ told. inr (refused_here second.2 other second.4 told)) refused))

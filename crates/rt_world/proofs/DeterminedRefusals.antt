@@ -1,5 +1,5 @@
 -- What a journal told of a refusal, each longer one tells.
-use Rattle.std.proofs.Common.{◌≡◌, ℕ, Bool, true, false, List, [], ◌∷◌, ◌++◌, length, refl, sym, ◌∙◌, ap, subst, ⊎_elim, get_or, set}
+use Rattle.std.proofs.Common.{append_assoc, ◌≡◌, ℕ, Bool, true, false, List, [], ◌∷◌, ◌++◌, length, refl, sym, ◌∙◌, ap, subst, ⊎_elim, get_or, set}
 use Rattle.std.specs.Prelude.{Option, ◌||◌}
 use Rattle.std.proofs.Math.Bool.{or-true}
 use Rattle.std.proofs.lemmas.Bool.{cases_eq, cases_lt}
@@ -9,9 +9,9 @@ use Rattle.rt_ids.specs.Journal.{Journal}
 use Rattle.rt_jobs.specs.declared.job.Step.{Step}
 use Rattle.rt_world.specs.declared.event.Event.{Event}
 use Rattle.rt_world.specs.declared.event.Reply.{Reply}
-use Rattle.rt_world.specs.State.{WorldView}
+use Rattle.rt_world.specs.State.{WorldView, journal_at}
 use Rattle.rt_world.specs.Runs.{Happens}
-use Rattle.rt_world.specs.Determined.{is_refusal, tells_refusal, WasRefused, IsToldRun}
+use Rattle.rt_world.specs.Determined.{is_refusal, tells_refusal, WasRefused, WasRefusedSince, IsToldRun}
 use Rattle.rt_world.proofs.KeptLists.{is_longer}
 
 module _ {T : Type 0} where
@@ -49,6 +49,54 @@ module _ {T : Type 0} (journals : List (Journal T)) (actor : ℕ) (notes : List 
   refused-set : WasRefused journals → WasRefused now
   refused-set refused = (refused.0, told_at refused.0 refused.1)
 
+-- each journal has its old notes behind what it got
+abbrev pub Extends : {T : Type 0} → List (Journal T) → List (Journal T) → Type 0
+Extends {T} old new = (core : ℕ) → (notes : Journal T) × (get_or new core [] ≡ notes ++ get_or old core [])
+
+module _ {T : Type 0} {old middle new : List (Journal T)} where
+  -- what was told since an earlier time, or by an earlier time, was told since then
+  pub refused-earlier : Extends old middle → WasRefusedSince middle new → WasRefusedSince old new
+  refused-earlier longer refused =
+      let before = longer refused.core in
+      record {
+        core = refused.core;
+        notes = refused.notes ++ before.0;
+        since = refused.since ∙ (ap (λ rest. refused.notes ++ rest) before.1 ∙ sym (append_assoc refused.notes before.0 (get_or old refused.core [])));
+        told = tells-added refused.notes before.0 refused.told;
+      }
+
+  pub refused-later : Extends middle new → WasRefusedSince old middle → WasRefusedSince old new
+  refused-later longer refused =
+      let later = longer refused.core in
+      record {
+        core = refused.core;
+        notes = later.0 ++ refused.notes;
+        since = later.1 ∙ (ap (λ rest. later.0 ++ rest) refused.since ∙ sym (append_assoc later.0 refused.notes (get_or old refused.core [])));
+        told = tells-longer later.0 refused.notes refused.told;
+      }
+
+-- what was told since any time was told
+pub was_refused : {T : Type 0} {old new : List (Journal T)} → WasRefusedSince old new → WasRefused new
+was_refused {T} {old} refused = (refused.core, ap tells_refusal refused.since ∙ tells-added refused.notes (get_or old refused.core []) refused.told)
+
+-- a journal that got some notes has its old ones behind them
+extends-set : {T : Type 0} (journals : List (Journal T)) (actor : ℕ) (notes : List (Note T)) → Extends journals (set journals actor (notes ++ get_or journals actor []))
+extends-set journals actor notes core =
+    ⊎_elim
+    (
+    λ here.
+    ⊎_elim
+    (
+    λ within. (
+      notes,
+      ap (λ at. get_or (set journals actor (notes ++ get_or journals actor [])) at []) here
+          ∙ (get_or-set_same journals actor (notes ++ get_or journals actor []) [] within ∙ ap (λ at. notes ++ get_or journals at []) (sym here)),
+    )
+    )
+    (λ past. ([], ap (λ all. get_or all core []) (set_past journals actor (notes ++ get_or journals actor []) past))) (cases_lt actor (length journals))
+    )
+    (λ other. ([], get_or-set_other journals actor core (notes ++ get_or journals actor []) [] other)) (cases_eq core actor)
+
 module _ {J T : Type 0} (made : J → ℕ) (polls : J → ℕ → Step T → Option ℕ → Type 0) (answers : J → T → Type 0) where
   -- each event keeps what was told
   pub refused-happens : (event : Event J) (old new : WorldView J T) (answer : Reply J) → Happens made polls answers event old new answer → WasRefused old.journals → WasRefused new.journals
@@ -62,3 +110,20 @@ module _ {J T : Type 0} (made : J → ℕ) (polls : J → ℕ → Step T → Opt
   refused-run [] old new replies run refused = subst (λ world. WasRefused world.journals) (sym run.0) refused
   refused-run (event ∷ events) old new replies run refused =
       refused-run events run.0 new run.2 run.4 (refused-happens event old run.0 run.1 run.3 refused)
+
+  pub extends-happens : (event : Event J) (old new : WorldView J T) (answer : Reply J) → Happens made polls answers event old new answer → Extends old.journals new.journals
+  extends-happens event old new answer happens =
+      ⊎_elim (λ same core. ([], ap (journal_at core) same))
+      (
+      λ longer core.
+      let more = extends-set old.journals longer.actor longer.notes core in
+      (more.0, ap (journal_at core) longer.is ∙ more.1)
+      )
+      (is_longer made polls answers event old new answer happens)
+
+  pub extends-run : (events : List (Event J)) (old new : WorldView J T) (replies : List (Reply J)) → IsToldRun made polls answers events old new replies → Extends old.journals new.journals
+  extends-run [] old new replies run core = ([], ap (journal_at core) run.0)
+  extends-run (event ∷ events) old new replies run core =
+      let first = extends-happens event old run.0 run.1 run.3 core in
+      let later = extends-run events run.0 new run.2 run.4 core in
+      (later.0 ++ first.0, later.1 ∙ (ap (λ rest. later.0 ++ rest) first.1 ∙ sym (append_assoc later.0 first.0 (journal_at core old))))

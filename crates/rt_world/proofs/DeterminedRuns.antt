@@ -10,9 +10,9 @@ use Rattle.rt_world.specs.State.{WorldView, IsNearlyFull, assembly_of}
 use Rattle.rt_world.specs.Sends.{actor_of, AreThere}
 use Rattle.rt_world.specs.Runs.{Steps, Happens, IsRun}
 use Rattle.rt_world.specs.Opening.{HasAllLists}
-use Rattle.rt_world.specs.Determined.{WasRefused, OwesOne, IsToldRun, RunIsDetermined, AssemblyIsDetermined}
+use Rattle.rt_world.specs.Determined.{WasRefusedSince, OwesOne, IsToldRun, RunIsDetermined, AssemblyIsDetermined}
 use Rattle.rt_world.proofs.KeptLists.{happens_keep}
-use Rattle.rt_world.proofs.DeterminedRefusals.{refused-run}
+use Rattle.rt_world.proofs.DeterminedRefusals.{Extends, refused-earlier, refused-later, extends-happens, extends-run}
 use Rattle.rt_world.proofs.DeterminedSends.{sends_once}
 use Rattle.rt_world.proofs.DeterminedDeliveries.{delivers_once}
 use Rattle.rt_world.proofs.DeterminedTurns.{turns_once}
@@ -48,7 +48,7 @@ module _ {J T : Type 0} (made : J → ℕ) (polls : J → ℕ → Step T → Opt
   module _ (owes : OwesOne polls) where
     steps_once : (event : Event J) (old new other : WorldView J T) (answer other_answer : Reply J) → HasAllLists old → AreThere old.cores event →
         Steps made polls answers event old new answer → Steps made polls answers event old other other_answer →
-        ((new ≡ other) × (answer ≡ other_answer)) ⊎ (WasRefused new.journals ⊎ WasRefused other.journals)
+        ((new ≡ other) × (answer ≡ other_answer)) ⊎ (WasRefusedSince old.journals new.journals ⊎ WasRefusedSince old.journals other.journals)
     steps_once (Send sender core order) old new other answer other_answer lists there first second = inl (sends_once sender core order old new other answer other_answer first second)
     steps_once (Deliver core sender) old new other answer other_answer lists there first second =
         delivers_once core sender old (omega (arith, there.0, lists.journals_are)) new other answer other_answer first second
@@ -57,7 +57,7 @@ module _ {J T : Type 0} (made : J → ℕ) (polls : J → ℕ → Step T → Opt
     module _ (event : Event J) (old new other : WorldView J T) (answer other_answer : Reply J) (lists : HasAllLists old) where
       one : IsNoActor event old new answer ⊎ (IsNoRoom event old new answer ⊎ IsStep event old new answer) →
           IsNoActor event old other other_answer ⊎ (IsNoRoom event old other other_answer ⊎ IsStep event old other other_answer) →
-          ((new ≡ other) × (answer ≡ other_answer)) ⊎ (WasRefused new.journals ⊎ WasRefused other.journals)
+          ((new ≡ other) × (answer ≡ other_answer)) ⊎ (WasRefusedSince old.journals new.journals ⊎ WasRefusedSince old.journals other.journals)
       one (inl a) (inl b) = inl (a.same ∙ sym b.same, a.told ∙ sym b.told)
       one (inl a) (inr (inl b)) = absurd (a.not_there b.there)
       one (inl a) (inr (inr b)) = absurd (a.not_there b.there)
@@ -69,7 +69,7 @@ module _ {J T : Type 0} (made : J → ℕ) (polls : J → ℕ → Step T → Opt
       one (inr (inr a)) (inr (inr b)) = steps_once event old new other answer other_answer lists a.there a.step b.step
 
       pub happens_once : Happens made polls answers event old new answer → Happens made polls answers event old other other_answer →
-          ((new ≡ other) × (answer ≡ other_answer)) ⊎ (WasRefused new.journals ⊎ WasRefused other.journals)
+          ((new ≡ other) × (answer ≡ other_answer)) ⊎ (WasRefusedSince old.journals new.journals ⊎ WasRefusedSince old.journals other.journals)
       happens_once first second = one (sorted event old new answer first) (sorted event old other other_answer second)
 
     pub run_once : RunIsDetermined made polls answers
@@ -78,7 +78,8 @@ module _ {J T : Type 0} (made : J → ℕ) (polls : J → ℕ → Step T → Opt
         ⊎_elim
         (
         λ same.
-        ⊎_elim (λ rest. inl (rest.0, run.5 ∙ (ap (λ answer. answer ∷ run.2) same.1 ∙ (ap (λ rest. other_run.1 ∷ rest) rest.1 ∙ sym other_run.5)))) inr
+        ⊎_elim (λ rest. inl (rest.0, run.5 ∙ (ap (λ answer. answer ∷ run.2) same.1 ∙ (ap (λ rest. other_run.1 ∷ rest) rest.1 ∙ sym other_run.5))))
+        (λ refused. inr (⊎_elim (λ told. inl (refused-earlier first_longer told)) (λ told. inr (refused-earlier first_longer told)) refused))
         (
         run_once events run.0 new other run.2 other_run.2 (happens_keep made polls answers event old run.0 run.1 run.3 lists) run.4
         (subst (λ world. IsToldRun made polls answers events world other other_run.2) (sym same.0) other_run.4)
@@ -86,10 +87,13 @@ module _ {J T : Type 0} (made : J → ℕ) (polls : J → ℕ → Step T → Opt
         )
         (
         λ refused.
-        inr (⊎_elim (λ told. inl (refused-run made polls answers events run.0 new run.2 run.4 told))
-        (λ told. inr (refused-run made polls answers events other_run.0 other other_run.2 other_run.4 told)) refused)
+        inr (⊎_elim (λ told. inl (refused-later (extends-run made polls answers events run.0 new run.2 run.4) told))
+        (λ told. inr (refused-later (extends-run made polls answers events other_run.0 other other_run.2 other_run.4) told)) refused)
         )
         (happens_once event old run.0 other_run.0 run.1 other_run.1 lists run.3 other_run.3)
+      where
+        first_longer : Extends old.journals run.0.journals
+        first_longer = extends-happens made polls answers event old run.0 run.1 run.3
 
     -- what the actors of a run are told
     replies_of : (events : List (Event J)) (old new : WorldView J T) → IsRun made polls answers events old new → (replies : List (Reply J)) × IsToldRun made polls answers events old new replies
@@ -103,5 +107,9 @@ module _ {J T : Type 0} (made : J → ℕ) (polls : J → ℕ → Step T → Opt
         let told = replies_of events old run.0 run.1 in
         let other_told = replies_of events old other_run.0 other_run.1 in
         ⊎_elim (λ same. inl (run.2 ∙ (ap assembly_of same.0 ∙ sym other_run.2)))
-        (λ refused. inr (⊎_elim (λ at. inl (subst (λ assembly. WasRefused assembly.journals) (sym run.2) at)) (λ at. inr (subst (λ assembly. WasRefused assembly.journals) (sym other_run.2) at)) refused))
+        (
+        λ refused.
+        inr (⊎_elim (λ at. inl (subst (λ assembly. WasRefusedSince old.journals assembly.journals) (sym run.2) at))
+        (λ at. inr (subst (λ assembly. WasRefusedSince old.journals assembly.journals) (sym other_run.2) at)) refused)
+        )
         (run_once events old run.0 other_run.0 told.0 other_told.0 lists told.1 other_told.1)

@@ -31,6 +31,7 @@ use Rattle.rt_world.specs.Opening.{IsUnbegun}
 use Rattle.rt_world.specs.Determined.{is_refusal, tells_refusal, WasRefused, IsToldRun}
 use Rattle.rt_world.specs.Creations.{IsNoCreation, OrdersNoQueue, OrderNoQueues, RunOfJobsIsDetermined}
 use Rattle.rt_world.proofs.KeptLists.{turn_notes}
+use Rattle.rt_world.proofs.DeterminedRefusals.{was_refused}
 use Rattle.rt_world.proofs.DeterminedRuns.{run_once}
 
 -- after one place of a list was set, each place has the new item or what it had
@@ -195,5 +196,9 @@ module _ {J T : Type 0} (made : J → ℕ) (polls : J → ℕ → Step T → Opt
   jobs_once owes events old new other replies others unbegun none run other_run =
       let plain = plain_unbegun old unbegun in
       ⊎_elim (λ same. same)
-      (λ refused. absurd (⊎_elim (run_plain events none old new replies run plain).told (run_plain events none old other others other_run plain).told refused))
+      (
+      λ refused.
+      absurd (⊎_elim (λ told. (run_plain events none old new replies run plain).told (was_refused told))
+      (λ told. (run_plain events none old other others other_run plain).told (was_refused told)) refused)
+      )
       (run_once made polls answers owes events old new other replies others unbegun.lists run other_run)

@@ -1,5 +1,5 @@
 -- One world and the same events have one result, unless a core had no memory for a queue.
-use Rattle.std.specs.Prelude.{◌≡◌, ◌⊎◌, ℕ, Bool, true, false, ◌||◌, Option, slice_index_or, List, [], ◌∷◌, IsTrue}
+use Rattle.std.specs.Prelude.{◌≡◌, ◌⊎◌, ℕ, Bool, true, false, ◌||◌, Option, slice_index_or, List, [], ◌∷◌, ◌++◌, IsTrue}
 use Rattle.rt_ids.specs.declared.note.Note.{Note}
 use Rattle.rt_ids.specs.declared.note.Note.TheVariants.{Answered}
 use Rattle.rt_ids.specs.declared.order.Answer.TheVariants.{NoMemory}
@@ -27,6 +27,13 @@ module _ {T : Type 0} where
   abbrev pub WasRefused : List (Journal T) → Type 0
   WasRefused journals = (core : ℕ) × IsTrue (tells_refusal (slice_index_or journals core []))
 
+  -- the notes that a core's journal got since then tell it
+  pub record WasRefusedSince (old new : List (Journal T)) : Type 0 where
+    pub core : ℕ
+    pub notes : Journal T
+    pub since : slice_index_or new core [] ≡ notes ++ slice_index_or old core []
+    pub told : IsTrue (tells_refusal notes)
+
 module _ {J T : Type 0} (polls : J → ℕ → Step T → Option ℕ → Type 0) where
   -- each poll of a job owes one step, and one time
   pub record OwesOne : Type 0 where
@@ -46,14 +53,14 @@ module _ {J T : Type 0} (made : J → ℕ) (polls : J → ℕ → Step T → Opt
   RunIsDetermined =
       (events : List (Event J)) (old new other : WorldView J T) (replies others : List (Reply J)) → HasAllLists old →
       IsToldRun events old new replies → IsToldRun events old other others →
-      ((new ≡ other) × (replies ≡ others)) ⊎ (WasRefused new.journals ⊎ WasRefused other.journals)
+      ((new ≡ other) × (replies ≡ others)) ⊎ (WasRefusedSince old.journals new.journals ⊎ WasRefusedSince old.journals other.journals)
 
   -- and so their journals are the same
   abbrev pub AssemblyIsDetermined : Type 0
   AssemblyIsDetermined =
       (events : List (Event J)) (old : WorldView J T) (assembly other : Assembly T) → HasAllLists old →
       RunsTo made polls answers events old assembly → RunsTo made polls answers events old other →
-      (assembly ≡ other) ⊎ (WasRefused assembly.journals ⊎ WasRefused other.journals)
+      (assembly ≡ other) ⊎ (WasRefusedSince old.journals assembly.journals ⊎ WasRefusedSince old.journals other.journals)
 
 -- two fresh worlds of the same numbers are one
 abbrev pub OpeningIsDetermined : Type 0 → Type 0 → Type 0

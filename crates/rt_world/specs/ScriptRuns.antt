@@ -6,7 +6,7 @@ use Rattle.rt_world.specs.declared.event.Event.{Event}
 use Rattle.rt_world.specs.declared.event.Reply.{Reply}
 use Rattle.rt_world.specs.State.{WorldView}
 use Rattle.rt_world.specs.Opening.{HasAllLists}
-use Rattle.rt_world.specs.Determined.{WasRefused, IsToldRun}
+use Rattle.rt_world.specs.Determined.{WasRefusedSince, IsToldRun}
 
 -- the words of a script job: the polls that it made, what a poll owes, and what may answer it
 abbrev pub script_made : Script → ℕ
@@ -27,4 +27,4 @@ abbrev pub ScriptRunIsDetermined : Type 0
 ScriptRunIsDetermined =
     (events : List (Event Script)) (old new other : WorldView Script ℕ) (replies others : List (Reply Script)) → HasAllLists old →
     IsScriptRun events old new replies → IsScriptRun events old other others →
-    ((new ≡ other) × (replies ≡ others)) ⊎ (WasRefused new.journals ⊎ WasRefused other.journals)
+    ((new ≡ other) × (replies ≡ others)) ⊎ (WasRefusedSince old.journals new.journals ⊎ WasRefusedSince old.journals other.journals)

@@ -30,6 +30,7 @@ returns-in-Ok-clause-ok g c =
         fresh = c.in_ok-model.ensures.ok;
         end = c.print_events.new.model;
         lists = c.complete.ensures;
+        joined = c.joined.ensures;
         sound = c.sound.ensures;
         all = subst (λ world. PrintsAll c.args.script.events.items world c.print_events.new.model writes.text) made writes.prints;
       },

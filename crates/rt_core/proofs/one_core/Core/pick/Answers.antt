@@ -74,8 +74,7 @@ pub returns-then-started-clause-picks : goal.returns-then-started-clause-picks
 returns-then-started-clause-picks g c =
     let key = c.take_out-started.result.0 in
     let name = c.take_out-started.result.1 in
-    let taken = c.take_out-started.ensures.takes in
-    (
+    let taken = c.take_out-started.ensures.takes in (
       subst (λ (started : Bool). TakesOut c.args.self.now name key.queue started c.take_out-started.result.3 c.take_out-started.new.self) c.if-started.true taken,
       c.two_notes.ensures ∙ ap (λ (vr : ℕ). notes.Pick key.queue vr ∷ notes.Resume name ∷ []) c.take_out-started.ensures.at,
     )
@@ -90,8 +89,7 @@ pub returns-else-started-clause-picks : goal.returns-else-started-clause-picks
 returns-else-started-clause-picks g c =
     let key = c.take_out-started.result.0 in
     let name = c.take_out-started.result.1 in
-    let taken = c.take_out-started.ensures.takes in
-    (
+    let taken = c.take_out-started.ensures.takes in (
       subst (λ (started : Bool). TakesOut c.args.self.now name key.queue started c.take_out-started.result.3 c.take_out-started.new.self) c.if-started.false taken,
       c.two_notes-else-started.ensures ∙ ap (λ (vr : ℕ). notes.Pick key.queue vr ∷ notes.Start name ∷ []) c.take_out-started.ensures.at,
     )

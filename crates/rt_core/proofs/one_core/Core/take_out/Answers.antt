@@ -10,7 +10,7 @@ use Rattle.rt_core.specs.State.{CoreView, JobOut}
 use Rattle.rt_core.specs.Inside.{core_view, job_out, KeepsSlips, unsettled_count, FitsTurns}
 use Rattle.rt_core.proofs.Charging.{tally_read}
 use Rattle.rt_core.proofs.Counting.{IsCounted-picks}
-use Rattle.rt_core.proofs.Fits.{picked_fits, tally_fits}
+use Rattle.rt_core.proofs.Fits.{picked_fits, tally_fits, IsBounded-from_turns}
 use Rattle.rt_core.proofs.Parts.{IsPollable-changed}
 use Rattle.rt_core.proofs.Picking.{exists_if_waiting, first_runtime, first_waits, first_is_next, IsListed-picks, IsWithinTurns-picks}
 use Rattle.rt_core.proofs.SlipsKept.{KeepsSlips-same, KeepsSlips-taken, slip_out}
@@ -112,3 +112,29 @@ returns-clause-ready g c =
     let line = c.in-Some-pop_front.ensures.head in
     let all = subst (λ waiting. All (λ one. IsReady g.J.Task.done g.J.Task.CanPoll one.2) waiting) line (c.self.invariant.pollable.at c.in-Some.key.queue) in
     All-head (λ one. IsReady g.J.Task.done g.J.Task.CanPoll one.2) (c.in-Some-pop_front.name, c.in-Some-pop_front.started, c.in-Some-pop_front.job) (waiting_of c.in-Some.key.queue (queues_alone c.pop_front.new.self)) all
+
+pub returns-clause-bounded : goal.returns-clause-bounded
+returns-clause-bounded g c =
+    let inside = c.self.inside in
+    let core = c.self.invariant in
+    let key = c.in-Some.key in
+    let name = c.in-Some-pop_front.name in
+    let old = core_view inside.core inside.cores (queues_alone inside.queues) inside.tallies.items inside.floor inside.turns (job_out inside.out) inside.delivered.items in
+    let free : job_out inside.out ≡ None = subst (λ (view : CoreView g.row.J.Denot). view.out ≡ None) (sym c.self.view_is) c.requires.free in
+    let later = c.take_least.new.self.keys in
+    let are = c.in-Some.ensures.least in
+    let out : JobOut g.row.J.Denot = record { name = name; queue = key.queue; job = c.of-as_it_was.result.value } in
+    let exists = exists_if_waiting (queues_alone inside.queues) key.queue (first_waits old inside.ready.keys key later are core.listed free) in
+    let within : key.queue < length inside.tallies.items = omega (arith, core.counted.tallies, exists) in
+    let there : c.place.result < length inside.tallies.items = omega (arith, c.place.ensures) in
+    let none : unsettled_count old ≡ 0 = ap (λ (held : Option (JobOut g.row.J.Denot)). number_if (is_some held)) free in
+    let was = c.index_mut.result.now in
+    let tally : Tally = record { runtime = was.runtime; selected = was.selected + 1; time = was.time; finished = was.finished } in
+    let before : FitsTurns inside.turns 0 was =
+    subst (FitsTurns inside.turns 0) (sym c.index_mut.ensures.value) (subst (λ polls. FitsTurns inside.turns polls (slice_index_or inside.tallies.items c.place.result was)) none (core.turns.tallies c.place.result was there)) in
+    let low : key.vr ≤ inside.turns * 2 ^ 50 =
+    let fits = (tally_fits old key.queue core.turns).runtime in
+    let is = first_runtime old inside.ready.keys key later are core.listed in
+    omega arith in
+    let view = core_view inside.core inside.cores (queues_alone inside.queues) (slice_set inside.tallies.items c.place.result tally) c.max-self-inside.result (inside.turns + 1) (Some out) inside.delivered.items in
+    IsBounded-from_turns view (IsWithinTurns-picks old view out c.place.result key.vr tally free refl refl c.max-self-inside.ensures low refl (picked_fits inside.turns was before) core.turns)

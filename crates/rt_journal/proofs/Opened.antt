@@ -1,0 +1,67 @@
+-- A core that was just opened, beside a journal without a note.
+use Rattle.std.proofs.Common.{◌≡◌, ℕ, zero, suc, ◌+◌, ◌*◌, ◌<◌, ◌≤◌, [], refl, sym, ap, subst, arith}
+use Rattle.std.specs.Prelude.{Option, Some, None, All}
+use Rattle.std.proofs.lemmas.List.{length-replicate, get_or-replicate}
+use Rattle.std.proofs.lemmas.List.Elements.{All-nil}
+use Rattle.rt_ids.specs.declared.order.Order.{Order}
+use Rattle.rt_jobs.specs.declared.job.Step.{Step}
+use Rattle.rt_taskqueue.specs.Queues.{waiting_of, shares_of}
+use Rattle.rt_core.specs.State.{CoreView, JobOut, runtime_of, opened}
+use Rattle.rt_journal.specs.Agreement.{Agrees, AreMarked, names_of}
+use Rattle.rt_journal.specs.Recorded.{RecordedView, IsRecorded, HasTask, sum_upto, delivered_count, given_count}
+use Rattle.rt_journal.specs.Steps.{opened_beside}
+
+none≢some : {A : Type 0} (item : A) → None ≡ Some item → ⊥
+none≢some item same = cc
+
+module _ (J : Type 0) (core cores cap : ℕ) where
+  abbrev new_core : CoreView J
+  new_core = opened core cores ((cores + 1) * cap) 0
+
+  pub no_line : (queue : ℕ) → waiting_of queue new_core.queues ≡ []
+  no_line zero = refl
+  no_line (suc zero) = refl
+  no_line (suc (suc queue)) = refl
+
+  no_runtime : (queue : ℕ) → runtime_of queue new_core ≡ 0
+  no_runtime zero = refl
+  no_runtime (suc zero) = refl
+  no_runtime (suc (suc queue)) = refl
+
+  first_shares : (queue : ℕ) → queue < 1 → shares_of queue new_core.queues ≡ 1000
+  first_shares zero first = refl
+  first_shares (suc queue) past = absurd (omega (arith, past))
+
+  -- it agrees with a journal without a note
+  pub agrees-opened : (T : Type 0) → Agrees {J = J} {T = T} new_core []
+  agrees-opened T = record {
+    tallied = refl;
+    senders = length-replicate (cores + 1) 0;
+    last = refl;
+    lines = λ queue. ap names_of (no_line queue);
+    marks = λ queue. subst (AreMarked {J = J} {T = T} []) (sym (no_line queue)) (All-nil _);
+    runtimes = no_runtime;
+    weights = first_shares;
+    the_floor = refl;
+    turns = refl;
+    out = refl;
+    out_exists = λ out none. absurd (none≢some out none);
+    delivered = λ sender known. get_or-replicate (cores + 1) sender 0 0 (omega (arith, known));
+  }
+
+no_sum : (T : Type 0) (last : ℕ) → sum_upto (given_count {T = T} []) last ≡ 0
+no_sum T zero = refl
+no_sum T (suc last) = let rest : sum_upto (given_count {T = T} []) last ≡ 0 = no_sum T last in omega (arith, rest)
+
+-- a core that was just opened is recorded in a journal without a note
+pub recorded-opened : {J T : Type 0} (same : J → J → Type 0) (made : J → ℕ) (polls : J → ℕ → Step T → Option ℕ → Type 0) (core cores cap room : ℕ) → core < cores →
+    IsRecorded same made polls (opened_beside {J = J} {T = T} core cores cap room)
+recorded-opened {J} {T} same made polls core cores cap room there = record {
+  kept = record { is_core = there; agrees = agrees-opened J core cores cap T; notes = tt; no_pick = refl; no_answer = refl };
+  room = refl;
+  held = record { each = λ sender known. omega arith; inside = omega (arith, no_sum T cores) };
+  taken = λ name order at. absurd (none≢some order at);
+  as_sent = tt;
+  waiting = λ queue. subst (All (λ entry. HasTask same made polls [] [] queue entry.0 entry.2)) (sym (no_line J core cores cap queue)) (All-nil _);
+  out = λ job at. absurd (none≢some job at);
+}

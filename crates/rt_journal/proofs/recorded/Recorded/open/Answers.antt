@@ -1,0 +1,14 @@
+use Rattle.std.proofs.Common.{sym, subst}
+use Rattle.rt_journal.specs.Recorded.{IsRecorded}
+use Rattle.rt_journal.proofs.Opened.{recorded-opened}
+use Rattle.rt_journal.proofs.recorded.Recorded.open.Goals as goal
+
+pub invariant_of-result : goal.invariant_of-result
+invariant_of-result g c =
+    rw (c.in_ok-core.ensures, c.in_ok-journal.ensures, c.new.ensures)
+    (recorded-opened g.J.Task.SameTask g.J.Task.made g.J.Task.Polls c.args.core c.args.cores c.args.cap c.args.room c.requires)
+
+pub returns-clause-sound : goal.returns-clause-sound
+returns-clause-sound g c =
+    rw (c.in_ok-core.ensures, c.in_ok-journal.ensures, c.new.ensures)
+    (recorded-opened g.J.Task.SameTask g.J.Task.made g.J.Task.Polls c.args.core c.args.cores c.args.cap c.args.room c.requires)
