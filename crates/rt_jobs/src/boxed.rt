@@ -61,7 +61,7 @@ impl<B: Drop, C: Drop, M: Meaning> Drop for BoxedJob<B, C, M> {
 }
 
 impl<B, C, M: Meaning> BoxedJob<B, C, M> {
-    /// A job that polls the body. Where the key isn't the body's own, it yields for ever.
+    /// A job that polls the body. When the key isn't the body's own, it yields for ever.
     pub fn polled(key: M::Key, body: B) -> Self
         ensures key { result.key ≡ key }
         ensures body { result.body ≡ Polled (Some body) }
@@ -72,7 +72,7 @@ impl<B, C, M: Meaning> BoxedJob<B, C, M> {
         }
     }
 
-    /// A job that makes the call at its first poll. Where the key isn't the call's own, it yields for ever.
+    /// A job that makes the call at its first poll. When the key isn't the call's own, it yields for ever.
     pub fn once(key: M::Key, call: C) -> Self
         ensures key { result.key ≡ key }
         ensures body { result.body ≡ Once (Some call) }

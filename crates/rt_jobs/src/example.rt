@@ -83,7 +83,7 @@ impl Job for Work {
     }
 }
 
-/// Polls a job until it is done, at most so often. Where it isn't done by then, it comes back and can be polled on.
+/// Polls a job until it is done, at most so often. If it isn't done by then, it comes back and can be polled on.
 pub fn drive<J: Job>(job: J, most: u32) -> Result<J::Out, J>
     requires open { J.done job ≡ false }
     requires ready { J.CanPoll job }

@@ -46,7 +46,7 @@ pub trait Task: Drop {
     fn is_done(&self) -> bool
         ensures { result ≡ done self.now };
 
-    /// The nanoseconds that its last poll states of itself. Where it states none, whoever polls tells the time.
+    /// The nanoseconds that its last poll states of itself. When it states none, whoever polls tells the time.
     fn told(&self) -> Option<u64>
         ensures { result ≡ says self.now };
 

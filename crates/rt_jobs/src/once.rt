@@ -6,7 +6,7 @@ use crate::job::{Job, Step, Task};
 
 /// A job that makes its call at its first poll, and is done. It tells no time of its own.
 ///
-/// It serves functions that are generic over the job. Where a type is to be named at it, as a link of such jobs, take `OnceOf`, or `AnyJob` with `OnceBox`.
+/// It serves functions that are generic over the job. If a type is to be named at it, as a link of such jobs, take `OnceOf`, or `AnyJob` with `OnceBox`.
 #[derive(Drop)]
 pub struct Once<F> {
     call: Option<F>,
