@@ -1,4 +1,4 @@
--- Where a number is found in a tree: at the top, or on the side of its last digit.
+-- A number is found in a tree at the top, or on the side of its last digit.
 use Rattle.std.proofs.Common.{◌≡◌, ◌≢◌, ℕ, ◌+◌, ◌*◌, ◌<◌, ◌/◌, ◌%◌, List, [], ◌∷◌, ◌++◌, Bool, true, false, Option, Some, None, inl, inr, refl, sym, ap, ◌∙◌, arith}
 use Rattle.std.specs.Prelude.{map, eqb}
 use Rattle.std.proofs.lemmas.Bool.{eq-eqb}

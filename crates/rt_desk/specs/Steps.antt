@@ -25,7 +25,7 @@ module _ {J T : Type 0} where
     pub removes : Removes old between number before
     pub adds : Adds between new number after
 
-  -- Where a submission waits for its outcome, the outcome is kept; where it is detached, the outcome is dropped and the place of the link is free.
+  -- The outcome of a submission that waits for it is kept; of one that is detached it is dropped, and the place of the link is free.
   abbrev pub Keeps : List (ℕ × Entry J T) → List (ℕ × Entry J T) → ℕ → Outcome J T → ℕ → ℕ → Type 0
   Keeps old new number outcome credited later =
       (Becomes old new number Pending (Collected outcome) × (later ≡ credited)) ⊎ (Removes old new number Detached × (later ≡ credited + 1))

@@ -42,7 +42,7 @@ module _ {J T : Type 0} where
     pub out_exists : (job : JobOut J) → core.out ≡ Some job → job.queue < queue_count core.queues
     pub delivered : (sender : ℕ) → sender ≤ core.cores → delivered_of sender core ≡ length (delivered_names sender journal)
 
--- the journal is one of notes that may stand where they stand, with no step half done but for a poll, and the core agrees with it
+-- the journal is one of notes that may stand where they stand, with no step half done except a poll, and the core agrees with it
 pub record IsKept {J T : Type 0} (terms : Terms) (core : CoreView J) (journal : Journal T) : Type 0 where
   pub is_core : terms.actor < terms.cores
   pub agrees : Agrees core journal

@@ -29,7 +29,7 @@ name_of sender core number = record { from = sender; to = core; number = number 
 abbrev pub named_outcomes : {J T : Type 0} → ℕ → ℕ → List (ℕ × Outcome J T) → Outcomes T
 named_outcomes sender core outcomes = map (λ outcome. (name_of sender core outcome.0, outcome_note outcome.1)) outcomes
 
--- the lists that a journal tells of its links, but for what was delivered, stay as they were or grow at their end
+-- the lists that a journal tells of its links, except what was delivered, stay as they were or grow at their end
 pub record KeepsLists {T : Type 0} (old new : Journal T) : Type 0 where
   pub accepted : (core : ℕ) → accepted_orders core new ≡ accepted_orders core old
   pub outstanding : (core : ℕ) → outstanding_count core new ≡ outstanding_count core old

@@ -45,8 +45,8 @@ impl<J: Drop, T: Drop> Slot<J, T> {
 
     /// Fetches the slot's cache line for writing, by an exchange of a word that says nothing.
     ///
-    /// Who takes a value out reads its slot and then empties it. Where the end waited for that value, the line would come to be
-    /// read, and its other owner be asked once more before it may be written: both would be on the way of the trip. Where
+    /// Who takes a value out reads its slot and then empties it. If the end waited for that value, the line would come to be
+    /// read, and its other owner be asked once more before it may be written: both would be on the way of the trip. If
     /// more values wait, an end reads ahead from slot to slot, which an exchange would stop: so it is for a lone value.
     #[inline]
     fn claim_line(&mut self)

@@ -1,4 +1,4 @@
--- Where no queue is ordered, no refusal is told.
+-- If no queue is ordered, no refusal is told.
 use Rattle.std.proofs.Common.{◌≡◌, ℕ, zero, suc, ◌+◌, Bool, true, false, cond, List, [], ◌∷◌, ◌++◌, length, refl, sym, ◌∙◌, ap, subst, ◌⊎◌, inl, inr, ⊎_elim, get_or, set}
 use Rattle.std.specs.Prelude.{◌||◌, Option, Some, None, slice_get, nat_le, unwrap_or}
 use Rattle.std.proofs.lemmas.Bool.{cases_eq, cases_lt, true≢false}
