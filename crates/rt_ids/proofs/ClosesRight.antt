@@ -49,12 +49,12 @@ keeping_core true (Some mode) core enters = cc
 keeping_core false mode core enters = cc
 
 -- a closing that changes anything is the only one in mode `Return`
-closes_once : {T : Type 0} (now : Option Mode) (mode : Mode) → IsTrue (closes now mode) → or_else (return_told {T = T} (CoreClosed mode)) (only_return now) ≡ only_return (Some mode)
-closes_once None Finish changes = refl
-closes_once None Return changes = refl
-closes_once (Some Finish) Return changes = refl
-closes_once (Some Finish) Finish changes = cc
-closes_once (Some Return) mode changes = cc
+closes_once : (T : Type 0) (now : Option Mode) (mode : Mode) → IsTrue (closes now mode) → or_else (return_told {T = T} (CoreClosed mode)) (only_return now) ≡ only_return (Some mode)
+closes_once T None Finish changes = refl
+closes_once T None Return changes = refl
+closes_once T (Some Finish) Return changes = refl
+closes_once T (Some Finish) Finish changes = cc
+closes_once T (Some Return) mode changes = cc
 
 -- only an open core answers a creation by a queue
 creates_open : {T : Type 0} (order : Order (Unit {0})) (queue : ℕ) (before : Journal T) → IsAnswer order (answers.Created queue) before → core_mode before ≡ None
@@ -84,7 +84,7 @@ module _ {T : Type 0} (terms : Terms) where
     where
       by_note : (note : Note T) → MayFollow terms note before → latest_told return_told before ≡ only_return (core_mode before) →
           latest_told return_told (note ∷ before) ≡ only_return (core_mode (note ∷ before))
-      by_note (CoreClosed mode) law was = rw was (closes_once (core_mode before) mode law)
+      by_note (CoreClosed mode) law was = rw was (closes_once T (core_mode before) mode law)
       by_note _ law was = was
 
   -- a queue is created where the core is open

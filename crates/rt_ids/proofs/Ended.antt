@@ -1,5 +1,5 @@
 -- What was delivered entered, went back or was answered; and what entered waits in its line, is out, or has ended.
-use Rattle.std.proofs.Common.{◌≡◌, ℕ, ◌⊎◌, inl, inr, Bool, true, false, [], ◌∷◌, ◌++◌, refl, sym, ◌∙◌, ap, subst, cond}
+use Rattle.std.proofs.Common.{◌≡◌, ℕ, ◌⊎◌, inl, inr, Bool, true, false, List, [], ◌∷◌, ◌++◌, refl, sym, ◌∙◌, ap, subst, cond}
 use Rattle.std.specs.Prelude.{◌==◌, ◌||◌, Option, Some, None, is_some}
 use Rattle.std.proofs.lemmas.Bool.{or_cases, or_left, or_right, eq-eqb, true≢false}
 use Rattle.rt_ids.specs.declared.names.JobId.{JobId}
@@ -10,13 +10,10 @@ use Rattle.rt_ids.specs.Assembly.{Assembly, is_command, order_of, IsAcceptedJob,
 use Rattle.rt_ids.specs.Clauses.{OutcomesRight, name_answered}
 use Rattle.rt_ids.specs.Filters.{delivered_names, name_delivered, name_ended}
 use Rattle.rt_ids.specs.Journal.{Journal, EachNote, is_told, or_else, with_last}
-use Rattle.rt_ids.specs.Lawful.{MayFollow, MayStand}
-use Rattle.rt_ids.specs.Lines.{line, jobs_out, name_joining, name_leaving, name_polled, name_settled, names_but_for}
+use Rattle.rt_ids.specs.Lines.{line, jobs_out, name_joining, name_leaving, name_polled, name_settled, names_but, names_but_for}
 use Rattle.rt_ids.specs.Names.{same_name, is_name, is_number}
-use Rattle.rt_ids.specs.Terms.{Terms}
 use Rattle.rt_ids.specs.Work.{queue_of, queue_entered}
-use Rattle.rt_ids.proofs.Known.{known_of, queue_stays, first_in_line}
-use Rattle.rt_ids.proofs.NameLemmas.{among, one_name, same_as_itself, among-with_last}
+use Rattle.rt_ids.proofs.NameLemmas.{among, one_name, same_as_itself, among-with_last, among-stays, among-comes, among-kept}
 
 -- a job waits in the line of its queue, is out, or has ended
 abbrev pub IsSomewhere : {T : Type 0} → JobId → ℕ → Journal T → Type 0
@@ -94,12 +91,82 @@ answered_command {T} assembly name (note ∷ before) notes told =
 pub not_both : {T : Type 0} (assembly : Assembly T) (name : JobId) → IsAcceptedJob name assembly → IsAcceptedCommand name assembly → ⊥
 not_both assembly name job command = true≢false (sym command ∙ ap is_command job.1)
 
-module _ {T : Type 0} (terms : Terms) (before : Journal T) (notes : EachNote (MayStand terms) before) where
-  -- who is in a line stays, or is polled, or ends
-  leaving_line : (name : JobId) (note : Note T) → is_name name (name_leaving note) ≡ true →
-      (among name (jobs_out (note ∷ before)) ≡ true) ⊎ (is_told name_ended name (note ∷ before) ≡ true)
-  leaving_line name (Start other) goes = inl ?
-  leaving_line name (Resume other) goes = inl ?
-  leaving_line name (Returned other reason) goes = inr (or_left _ _ goes)
-  leaving_line name (Done other time value) goes = inr (or_left _ _ goes)
-  leaving_line name _ goes = cc
+-- who leaves a line is out or has ended
+leaves_line : {T : Type 0} (name : JobId) (note : Note T) (before : Journal T) → is_name name (name_leaving note) ≡ true →
+    (among name (jobs_out (note ∷ before)) ≡ true) ⊎ (is_told name_ended name (note ∷ before) ≡ true)
+leaves_line name (Start other) before goes = inl (rw (one_name name other goes) (among-comes other (names_but other (jobs_out before))))
+leaves_line name (Resume other) before goes = inl (rw (one_name name other goes) (among-comes other (names_but other (jobs_out before))))
+leaves_line name (Returned other reason) before goes = inr (or_left (same_name name other) (is_told name_ended name before) goes)
+leaves_line name (Done other time value) before goes = inr (or_left (same_name name other) (is_told name_ended name before) goes)
+leaves_line name _ before goes = cc
+
+-- who is settled is in its line or has ended, and who is polled is out
+settled_somewhere : {T : Type 0} (name : JobId) (queue : ℕ) (note : Note T) (before : Journal T) → queue_of name before ≡ Some queue →
+    is_name name (or_else (name_settled note) (name_polled note)) ≡ true → IsSomewhere name queue (note ∷ before)
+settled_somewhere name queue (Yield other time) before its now =
+    inl
+    (
+    let one : name ≡ other = one_name name other now in
+    let same : queue_of other before ≡ Some queue = rw one at its in
+    rw (same, eq-eqb queue queue refl, one) (among-comes other (line queue before))
+    )
+settled_somewhere name queue (Done other time value) before its now = inr (inr (or_left (same_name name other) (is_told name_ended name before) now))
+settled_somewhere name queue (Start other) before its now = inr (inl (rw (one_name name other now) (among-comes other (names_but other (jobs_out before)))))
+settled_somewhere name queue (Resume other) before its now = inr (inl (rw (one_name name other now) (among-comes other (names_but other (jobs_out before)))))
+settled_somewhere name queue _ before its now = cc
+
+-- who doesn't go stays
+kept_but_for : (name : JobId) (gone : Option JobId) (names : List JobId) → among name names ≡ true → is_name name gone ≡ false → among name (names_but_for gone names) ≡ true
+kept_but_for name None names there stays = there
+kept_but_for name (Some gone) names there stays = among-kept name gone names there stays
+
+-- who was somewhere still is
+somewhere-stays : {T : Type 0} (name : JobId) (queue : ℕ) (note : Note T) (before : Journal T) → queue_of name before ≡ Some queue →
+    IsSomewhere name queue before → IsSomewhere name queue (note ∷ before)
+somewhere-stays name queue note before its (inl waits) = by_test (is_name name (name_leaving note)) refl
+  where
+    by_test : (test : Bool) → is_name name (name_leaving note) ≡ test → IsSomewhere name queue (note ∷ before)
+    by_test true goes = inr (leaves_line name note before goes)
+    by_test false stays =
+        inl
+        (
+        among-stays name (names_but_for (name_leaving note) (line queue before)) (name_joining queue note before)
+        (kept_but_for name (name_leaving note) (line queue before) waits stays)
+        )
+somewhere-stays name queue note before its (inr (inl outside)) = by_test (is_name name (or_else (name_settled note) (name_polled note))) refl
+  where
+    by_test : (test : Bool) → is_name name (or_else (name_settled note) (name_polled note)) ≡ test → IsSomewhere name queue (note ∷ before)
+    by_test true now = settled_somewhere name queue note before its now
+    by_test false stays =
+        inr
+        (
+        inl
+        (
+        among-stays name (names_but_for (or_else (name_settled note) (name_polled note)) (jobs_out before)) (name_polled note)
+        (kept_but_for name (or_else (name_settled note) (name_polled note)) (jobs_out before) outside stays)
+        )
+        )
+somewhere-stays name queue note before its (inr (inr ended)) = inr (inr (or_right (is_name name (name_ended note)) (is_told name_ended name before) ended))
+
+-- who enters comes to the line of its queue
+joins_line : {T : Type 0} (name : JobId) (queue : ℕ) (note : Note T) (before : Journal T) → queue_entered name note ≡ Some queue → name_joining queue note before ≡ Some name
+joins_line name queue (Took other into) before enters = by_test (same_name name other) refl enters
+  where
+    by_test : (test : Bool) → same_name name other ≡ test → cond test (Some into) None ≡ Some queue → cond (queue == into) (Some other) None ≡ Some name
+    by_test false same enters = cc
+    by_test true same enters =
+        let one : queue ≡ into = cc in
+        rw (eq-eqb queue into one) (ap Some (sym (one_name name other same)))
+joins_line name queue _ before enters = cc
+
+-- who entered a queue waits in its line, is out, or has ended
+pub entered_somewhere : {T : Type 0} (name : JobId) (queue : ℕ) (journal : Journal T) → queue_of name journal ≡ Some queue → IsSomewhere name queue journal
+entered_somewhere name queue [] entered = cc
+entered_somewhere {T} name queue (note ∷ before) entered = by_entered (queue_entered name note) refl entered (entered_somewhere name queue before)
+  where
+    by_entered : (into : Option ℕ) → queue_entered name note ≡ into → or_else into (queue_of name before) ≡ Some queue →
+        (queue_of name before ≡ Some queue → IsSomewhere name queue before) → IsSomewhere name queue (note ∷ before)
+    by_entered None now was rest = somewhere-stays name queue note before was (rest was)
+    by_entered (Some into) now is rest =
+        let joins : name_joining queue note before ≡ Some name = joins_line name queue note before (now ∙ is) in
+        inl (rw joins (among-comes name (names_but_for (name_leaving note) (line queue before))))

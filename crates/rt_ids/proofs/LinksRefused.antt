@@ -46,4 +46,6 @@ links_refused = record {
   answer = λ agree. let sent = (agree.as_sent 0 (omega arith)).1.0 in not_shares sent.0 sent.1 sent.2;
   refusal = λ agree. let sent = (agree.as_sent 0 (omega arith)).0 in not_denied sent.0 sent.1 sent.2;
   effect = λ agree. let sent = (agree.as_sent 0 (omega arith)).0 refl in not_600 sent.0 sent.1 sent.2;
+  count = λ agree. let count : 0 ≡ 1 = agree.gates 1 0 (omega arith) (omega arith) 0 refl in omega arith;
+  outcome = λ agree. let given = (agree.collections 1 0 (omega arith) (omega arith)).1 in ?;
 }

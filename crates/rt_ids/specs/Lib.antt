@@ -32,6 +32,8 @@ pub mod BadPicks
 pub mod PicksRefused
 pub mod BadSteps
 pub mod StepsRefused
+pub mod BadCollects
+pub mod BadClosings
 pub mod BadLinks
 pub mod GoodJournals
 pub mod Lag
