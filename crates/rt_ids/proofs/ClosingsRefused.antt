@@ -1,18 +1,9 @@
 -- Each bad closing breaks the law of its note.
 use Rattle.std.proofs.Common.{◌≡◌, ℕ, ◌<◌, ◌≤◌, refl, sym, ◌∙◌, arith}
 use Rattle.std.specs.Prelude.{Some, ◌^◌}
-use Rattle.std.proofs.lemmas.Option.{same_Some}
-use Rattle.rt_ids.specs.declared.names.JobId.{JobId}
-use Rattle.rt_ids.specs.BadClosings.{ClosingsAreRefused}
-use Rattle.rt_ids.specs.Clauses.{queue_just_picked}
-use Rattle.rt_ids.specs.Journal.{Journal}
-use Rattle.rt_ids.specs.Lawful.{IsTurnOf}
+use Rattle.rt_ids.specs.BadClosings.{creation_answered, ClosingsAreRefused}
 use Rattle.rt_ids.proofs.ClosesRight.{created_open}
 use Rattle.rt_ids.specs.BadJournals.{core_terms}
-
--- the queue of a turn is the one that was picked
-its_queue : (name : JobId) (queue : ℕ) (before : Journal ℕ) → IsTurnOf name queue before → queue_just_picked before ≡ Some 0 → queue ≡ 0
-its_queue name queue before turn picked = sym (same_Some 0 queue (sym picked ∙ turn.picked))
 
 pub closings_refused : ClosingsAreRefused
 closings_refused = record {
@@ -29,6 +20,6 @@ closings_refused = record {
   beyond = λ law. let in_range : 2 ^ 63 < 2 ^ 63 = law.0.may_follow.in_range in omega arith;
   counted = λ law. let gate : 1 ≤ 0 = law.0.may_follow.0.gate in omega arith;
   entered = λ law. let enters = law.0.may_follow.1 in cc;
-  polled = λ law. let same = its_queue _ law.0.may_follow.0 _ law.0.may_follow.1 refl in let keeps = rw same at law.0.may_follow.2 in cc;
-  created = λ law. let open_core = created_open core_terms 1 500 _ law.1 law.0.effect in cc;
+  polled = λ law. let keeps = law.0.may_follow.2 in cc;
+  created = λ law. let open_core = created_open core_terms 1 500 creation_answered law.1 law.0.effect in cc;
 }

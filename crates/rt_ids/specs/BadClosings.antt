@@ -64,9 +64,13 @@ taken_by_returning = notes.Took (submission 1) 0 ∷ notes.CoreClosed Return ∷
 abbrev pub polled_by_returning : Journal ℕ
 polled_by_returning = notes.Start (submission 1) ∷ notes.Pick 0 0 ∷ notes.CoreClosed Return ∷ notes.Took (submission 1) 0 ∷ []
 
--- a closed core creates a queue
+-- a closed core answers a creation by a queue
+abbrev pub creation_answered : Journal ℕ
+creation_answered = notes.Answered (submission 1) (answers.Created 1) ∷ notes.CoreClosed Finish ∷ []
+
+-- and creates it
 abbrev pub created_when_closed : Journal ℕ
-created_when_closed = notes.Created 1 500 ∷ notes.Answered (submission 1) (answers.Created 1) ∷ notes.CoreClosed Finish ∷ []
+created_when_closed = notes.Created 1 500 ∷ creation_answered
 
 -- none of them may stand
 pub record ClosingsAreRefused : Type 0 where
