@@ -1,18 +1,18 @@
 -- Where a core is drained among joined journals, all that was accepted for it has ended.
-use Rattle.std.proofs.Common.{◌≡◌, ℕ, ◌+◌, ◌<◌, ◌≤◌, inl, inr, Bool, true, false, List, [], ◌∷◌, ◌++◌, length, refl, sym, ◌∙◌, ap, subst, arith, append-nil}
-use Rattle.std.specs.Prelude.{Option, Some, None, nat_le, slice_get, unwrap_or, is_some}
+use Rattle.std.proofs.Common.{◌≡◌, ℕ, ◌<◌, ◌≤◌, inl, inr, Bool, true, false, List, [], ◌∷◌, ◌++◌, length, refl, sym, ◌∙◌, ap, subst, arith, append-nil}
+use Rattle.std.specs.Prelude.{Option, Some, None, nat_le, slice_get, is_some}
 use Rattle.std.proofs.lemmas.Bool.{leb-true, leb-false, true≢false}
 use Rattle.std.proofs.lemmas.List.{length-map, length-append}
-use Rattle.std.proofs.lemmas.Option.{slice_get_past, same_Some}
+use Rattle.std.proofs.lemmas.Option.{slice_get_past}
 use Rattle.rt_ids.specs.declared.names.JobId.{JobId}
 use Rattle.rt_ids.specs.declared.order.Order.{Order}
-use Rattle.rt_ids.specs.Assembly.{Assembly, IsPrefix, journal_of, names_of, order_of, first_under, is_command, IsAcceptedJob, IsAcceptedCommand}
-use Rattle.rt_ids.specs.Clauses.{OutcomesRight, StandsInOrder, name_answered}
-use Rattle.rt_ids.specs.Closing.{IsDrained, final_count}
+use Rattle.rt_ids.specs.Assembly.{Assembly, IsPrefix, journal_of, names_of, order_of, is_command, IsAcceptedJob, IsAcceptedCommand}
+use Rattle.rt_ids.specs.Clauses.{OutcomesRight, StandsInOrder}
+use Rattle.rt_ids.specs.Closing.{IsDrained}
 use Rattle.rt_ids.specs.Filters.{accepted_orders, delivered_names, name_ended}
 use Rattle.rt_ids.specs.Journal.{EachNote, is_told}
 use Rattle.rt_ids.specs.Joining.{AreJoined}
-use Rattle.rt_ids.specs.Lines.{line, jobs_out}
+use Rattle.rt_ids.specs.Lines.{line}
 use Rattle.rt_ids.specs.Sound.{AllEnded}
 use Rattle.rt_ids.specs.Terms.{terms_of}
 use Rattle.rt_ids.specs.Work.{queue_of}

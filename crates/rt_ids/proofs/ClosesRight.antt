@@ -1,11 +1,9 @@
 -- Closes: in a lawful journal nothing enters after a close, and each gate is shut once, at the count that its sender tells.
-use Rattle.std.proofs.Common.{◌≡◌, ℕ, ◌+◌, ◌≤◌, Bool, true, false, [], ◌∷◌, refl, sym, ◌∙◌, length, cond, arith}
+use Rattle.std.proofs.Common.{◌≡◌, ℕ, ◌+◌, ◌≤◌, Bool, true, false, [], ◌∷◌, refl, ◌∙◌, length, cond}
 use Rattle.std.specs.Prelude.{Option, Some, None, nat_le, ◌==◌, IsTrue}
 use Rattle.std.proofs.lemmas.Bool.{eq-eqb, eqb-true}
-use Rattle.std.proofs.lemmas.Option.{same_Some}
 use Rattle.rt_ids.specs.declared.note.Note.{Note}
-use Rattle.rt_ids.specs.declared.note.Note.TheVariants.{Answered, QueueClosed, CoreClosed, Shut, Took, Created}
-use Rattle.rt_ids.specs.declared.order.Answer.{Answer}
+use Rattle.rt_ids.specs.declared.note.Note.TheVariants.{Answered, CoreClosed, Shut, Took, Created}
 use Rattle.rt_ids.specs.declared.order.Answer.TheVariants as answers
 use Rattle.rt_ids.specs.declared.order.Mode.{Mode}
 use Rattle.rt_ids.specs.declared.order.Mode.TheVariants.{Finish, Return}
@@ -15,7 +13,7 @@ use Rattle.rt_ids.specs.declared.order.Reason.{Reason}
 use Rattle.rt_ids.specs.declared.order.Reason.TheVariants as why
 use Rattle.rt_ids.specs.Assembly.{Assembly, journal_of}
 use Rattle.rt_ids.specs.Clauses.{RespectsCloses, return_told}
-use Rattle.rt_ids.specs.Closing.{closes, queue_mode, core_mode, final_count, count_told}
+use Rattle.rt_ids.specs.Closing.{closes, queue_mode, core_mode, final_count}
 use Rattle.rt_ids.specs.Commands.{refusal, created_count, reason_if_closed, reason_if_returning, IsAnswer, IsCreationAnswer, effect_awaited, has_effect, IsEffectDue, IsOpening}
 use Rattle.rt_ids.specs.Filters.{accepted_orders}
 use Rattle.rt_ids.specs.Journal.{Journal, EachNote, latest_told, or_else}

@@ -1,6 +1,6 @@
 -- Each bad closing breaks the law of its note.
-use Rattle.std.proofs.Common.{◌≡◌, ℕ, ◌<◌, ◌≤◌, refl, sym, ◌∙◌, arith}
-use Rattle.std.specs.Prelude.{Some, ◌^◌}
+use Rattle.std.proofs.Common.{◌<◌, ◌≤◌, arith}
+use Rattle.std.specs.Prelude.{◌^◌}
 use Rattle.rt_ids.specs.BadClosings.{creation_answered, ClosingsAreRefused}
 use Rattle.rt_ids.proofs.ClosesRight.{created_open}
 use Rattle.rt_ids.specs.BadJournals.{core_terms}

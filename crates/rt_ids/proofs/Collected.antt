@@ -1,6 +1,6 @@
 -- What an actor collects and redeems is under names that it sent.
-use Rattle.std.proofs.Common.{◌≡◌, ℕ, ◌<◌, ◌≤◌, inl, inr, Bool, true, false, [], ◌∷◌, ◌++◌, refl, sym, ◌∙◌, ap, subst, arith, cond}
-use Rattle.std.specs.Prelude.{◌==◌, ◌||◌, Option, Some, None}
+use Rattle.std.proofs.Common.{◌≡◌, ◌≤◌, inl, inr, Bool, true, false, [], ◌∷◌, refl, sym, ◌∙◌, subst, arith, cond}
+use Rattle.std.specs.Prelude.{◌==◌, Some, None}
 use Rattle.std.proofs.lemmas.Bool.{or_parts}
 use Rattle.rt_ids.specs.declared.names.JobId.{JobId}
 use Rattle.rt_ids.specs.declared.note.Note.{Note}
@@ -15,7 +15,7 @@ use Rattle.rt_ids.specs.Assembly.{first_under}
 use Rattle.rt_ids.specs.Filters.{accepted_orders, collected_outcomes, outcome_collected, order_sent}
 use Rattle.rt_ids.specs.Journal.{Journal, EachNote, with_last, is_told}
 use Rattle.rt_ids.specs.Lawful.{MayFollow, MayStand, IsNextSent}
-use Rattle.rt_ids.specs.Names.{same_name, is_name}
+use Rattle.rt_ids.specs.Names.{is_name}
 use Rattle.rt_ids.specs.Outcomes.{FitsOrder, AnswersCreation, AnswersShares, IsSpelledAnswer, IsSpelledOutcome}
 use Rattle.rt_ids.specs.Outstanding.{name_collected}
 use Rattle.rt_ids.specs.Spelled.{IsOwn}

@@ -1,17 +1,16 @@
 -- What was delivered entered, went back or was answered; and what entered waits in its line, is out, or has ended.
-use Rattle.std.proofs.Common.{◌≡◌, ℕ, ◌⊎◌, inl, inr, Bool, true, false, List, [], ◌∷◌, ◌++◌, refl, sym, ◌∙◌, ap, subst, cond}
-use Rattle.std.specs.Prelude.{◌==◌, ◌||◌, Option, Some, None, is_some}
+use Rattle.std.proofs.Common.{◌≡◌, ℕ, ◌⊎◌, inl, inr, Bool, true, false, List, [], ◌∷◌, refl, sym, ◌∙◌, ap, subst, cond}
+use Rattle.std.specs.Prelude.{◌==◌, Option, Some, None, is_some}
 use Rattle.std.proofs.lemmas.Bool.{or_cases, or_left, or_right, eq-eqb, true≢false}
 use Rattle.rt_ids.specs.declared.names.JobId.{JobId}
 use Rattle.rt_ids.specs.declared.note.Note.{Note}
 use Rattle.rt_ids.specs.declared.note.Note.TheVariants.{Took, Back, Answered, Start, Resume, Yield, Done, Returned}
-use Rattle.rt_ids.specs.declared.order.Order.TheVariants.{Job}
-use Rattle.rt_ids.specs.Assembly.{Assembly, is_command, order_of, IsAcceptedJob, IsAcceptedCommand}
+use Rattle.rt_ids.specs.Assembly.{Assembly, is_command, IsAcceptedJob, IsAcceptedCommand}
 use Rattle.rt_ids.specs.Clauses.{OutcomesRight, name_answered}
 use Rattle.rt_ids.specs.Filters.{delivered_names, name_delivered, name_ended}
-use Rattle.rt_ids.specs.Journal.{Journal, EachNote, is_told, or_else, with_last}
+use Rattle.rt_ids.specs.Journal.{Journal, EachNote, is_told, or_else}
 use Rattle.rt_ids.specs.Lines.{line, jobs_out, name_joining, name_leaving, name_polled, name_settled, names_but, names_but_for}
-use Rattle.rt_ids.specs.Names.{same_name, is_name, is_number}
+use Rattle.rt_ids.specs.Names.{same_name, is_name}
 use Rattle.rt_ids.specs.Work.{queue_of, queue_entered}
 use Rattle.rt_ids.proofs.NameLemmas.{among, one_name, same_as_itself, among-with_last, among-stays, among-comes, among-kept}
 

@@ -1,5 +1,5 @@
 -- In a sound assembly a drained core has ended each accepted job once, and answered each accepted command once.
-use Rattle.std.proofs.Common.{◌≡◌, ℕ, ◌+◌, ◌<◌, Bool, true, false, [], ◌∷◌, refl, sym, ◌∙◌, ap, subst, arith}
+use Rattle.std.proofs.Common.{◌≡◌, ℕ, ◌+◌, ◌<◌, Bool, true, false, [], ◌∷◌, refl, sym, ap, subst, arith}
 use Rattle.std.specs.Prelude.{◌||◌, Option}
 use Rattle.std.proofs.lemmas.Bool.{or_parts, true≢false}
 use Rattle.rt_ids.specs.declared.names.JobId.{JobId}

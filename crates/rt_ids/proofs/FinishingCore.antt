@@ -1,11 +1,11 @@
 -- A core that closes in mode `Finish` runs its job on, and is drained: its journals are lawful and joined.
-use Rattle.std.proofs.Common.{◌≡◌, ℕ, zero, suc, ◌<◌, ◌≤◌, inr, Bool, true, false, [], ◌∷◌, length, refl, sym, ◌∙◌, arith, eqb-true}
-use Rattle.std.specs.Prelude.{◌==◌, Option, Some, None}
+use Rattle.std.proofs.Common.{◌≡◌, ℕ, zero, suc, ◌<◌, ◌≤◌, inr, Bool, true, false, [], length, refl, sym, ◌∙◌, arith, eqb-true}
+use Rattle.std.specs.Prelude.{◌==◌, Some}
 use Rattle.std.proofs.lemmas.Bool.{true≢false}
 use Rattle.std.proofs.lemmas.Option.{same_Some}
 use Rattle.rt_ids.specs.declared.order.Order.TheVariants.{Job}
 use Rattle.rt_ids.specs.Assembly.{journal_of, IsPrefix, names_of}
-use Rattle.rt_ids.specs.BadJournals.{submission, core_terms, outside_terms, both_taken}
+use Rattle.rt_ids.specs.BadJournals.{core_terms, outside_terms}
 use Rattle.rt_ids.specs.Closing.{final_count}
 use Rattle.rt_ids.specs.Filters.{accepted_orders, delivered_names, collected_outcomes, given_outcomes}
 use Rattle.rt_ids.specs.GoodJournals.{closing, going_on, ended, served, drained_core, IsServed}

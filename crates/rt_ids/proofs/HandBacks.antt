@@ -1,20 +1,20 @@
 -- After a close in mode `Return` a queue, and a core, is picked at most as often as jobs were inside, and is empty after that many.
-use Rattle.std.proofs.Common.{◌≡◌, ℕ, zero, suc, ◌+◌, ◌-◌, ◌<◌, ◌≤◌, ◌⊎◌, inl, inr, Bool, true, false, [], ◌∷◌, ◌++◌, length, refl, sym, ◌∙◌, ap, subst, arith, cond}
-use Rattle.std.specs.Prelude.{◌==◌, Option, Some, None, is_some, nat_lt}
+use Rattle.std.proofs.Common.{◌≡◌, ℕ, zero, suc, ◌+◌, ◌-◌, ◌<◌, ◌≤◌, inl, inr, Bool, true, false, [], ◌∷◌, ◌++◌, refl, sym, ◌∙◌, ap, subst, arith}
+use Rattle.std.specs.Prelude.{◌==◌, Option, Some, None, is_some}
 use Rattle.std.proofs.lemmas.Bool.{eqb-true, eqb-false, ltb-true, le-ltb, cases_lt, true≢false, false_from_ne_true}
 use Rattle.rt_ids.specs.declared.names.JobId.{JobId}
 use Rattle.rt_ids.specs.declared.note.Note.{Note}
 use Rattle.rt_ids.specs.declared.note.Note.TheVariants.{Pick, Start, Resume, Returned}
 use Rattle.rt_ids.specs.declared.order.Mode.TheVariants.{Return}
-use Rattle.rt_ids.specs.Closing.{queue_mode, core_mode}
+use Rattle.rt_ids.specs.Closing.{core_mode}
 use Rattle.rt_ids.specs.Commands.{created_count, return_reason}
 use Rattle.rt_ids.specs.HandBacks.{jobs_inside, jobs_below, queue_picked, picks_of, QueueHandsBack, QueueEmpties, CoreEmpties, ClosingHandsBack}
 use Rattle.rt_ids.specs.Journal.{Journal, EachNote}
 use Rattle.rt_ids.specs.Lawful.{MayFollow, MayStand, IsTurnOf}
 use Rattle.rt_ids.specs.Names.{is_number}
-use Rattle.rt_ids.specs.Picks.{queue_just_picked, takes_turn, turns, pick_count}
+use Rattle.rt_ids.specs.Picks.{queue_just_picked, turns, pick_count}
 use Rattle.rt_ids.specs.Terms.{Terms}
-use Rattle.rt_ids.specs.Work.{has_work, entered_count, left_count, queue_of, queue_joined, queue_left, number_if}
+use Rattle.rt_ids.specs.Work.{has_work, entered_count, left_count, queue_joined, number_if}
 use Rattle.rt_ids.proofs.Known.{known_of, first_in_line}
 use Rattle.rt_ids.proofs.Returning.{IsReturning, has_reason, core_stays_returning, returning-stays, joins_nobody, hands_back, entered_there, created_count-returning}
 use Rattle.rt_ids.proofs.WorkOfLines.{work_of_line}

@@ -1,5 +1,5 @@
 -- A queue that hands back, because it is closed or its core is: nobody enters it, and each pick of it is followed by a hand-back.
-use Rattle.std.proofs.Common.{◌≡◌, ℕ, ◌+◌, ◌<◌, ◌≤◌, ◌⊎◌, inl, inr, Bool, true, false, [], ◌∷◌, ◌++◌, length, refl, sym, ◌∙◌, ap, subst, arith, cond}
+use Rattle.std.proofs.Common.{◌≡◌, ℕ, ◌+◌, ◌<◌, ◌≤◌, ◌⊎◌, inl, inr, Bool, true, false, [], ◌∷◌, refl, sym, ◌∙◌, arith, cond}
 use Rattle.std.specs.Prelude.{◌==◌, Option, Some, None, is_some, nat_le, IsTrue}
 use Rattle.std.proofs.lemmas.Bool.{eqb-true, leb-true, true≢false}
 use Rattle.rt_ids.specs.declared.note.Note.{Note}
@@ -8,13 +8,13 @@ use Rattle.rt_ids.specs.declared.order.Mode.{Mode}
 use Rattle.rt_ids.specs.declared.order.Mode.TheVariants.{Finish, Return}
 use Rattle.rt_ids.specs.declared.order.Reason.{Reason}
 use Rattle.rt_ids.specs.declared.order.Reason.TheVariants as why
-use Rattle.rt_ids.specs.Closing.{closes, queue_mode, core_mode, mode_told}
+use Rattle.rt_ids.specs.Closing.{closes, queue_mode, core_mode}
 use Rattle.rt_ids.specs.Commands.{created_count, refusal, return_reason, queue_created, reason_if_closed, reason_if_returning}
 use Rattle.rt_ids.specs.HandBacks.{is_hand_back}
-use Rattle.rt_ids.specs.Journal.{Journal, EachNote, list_told, or_else, with_last}
+use Rattle.rt_ids.specs.Journal.{Journal, EachNote, list_told, or_else}
 use Rattle.rt_ids.specs.Lawful.{MayFollow, MayStand, IsTurnOf}
 use Rattle.rt_ids.specs.Names.{is_number}
-use Rattle.rt_ids.specs.Picks.{queue_just_picked, takes_turn}
+use Rattle.rt_ids.specs.Picks.{queue_just_picked}
 use Rattle.rt_ids.specs.Terms.{Terms}
 use Rattle.rt_ids.specs.Work.{entered_count, queue_joined, number_if}
 use Rattle.rt_ids.proofs.ClosesRight.{created_open}

@@ -1,6 +1,6 @@
 -- A core that closes in mode `Return` hands back what is inside, and is drained: its journals are lawful and joined.
-use Rattle.std.proofs.Common.{◌≡◌, ℕ, zero, suc, ◌<◌, ◌≤◌, inr, Bool, true, false, [], ◌∷◌, length, refl, sym, ◌∙◌, arith, eqb-true}
-use Rattle.std.specs.Prelude.{◌==◌, Option, Some, None}
+use Rattle.std.proofs.Common.{◌≡◌, ℕ, zero, suc, ◌<◌, ◌≤◌, Bool, true, false, [], ◌∷◌, length, refl, sym, ◌∙◌, arith}
+use Rattle.std.specs.Prelude.{◌==◌, Some}
 use Rattle.std.proofs.lemmas.Bool.{true≢false}
 use Rattle.std.proofs.lemmas.Option.{same_Some}
 use Rattle.rt_ids.specs.declared.order.Order.TheVariants.{Job}
@@ -8,14 +8,11 @@ use Rattle.rt_ids.specs.Assembly.{journal_of, IsPrefix, names_of}
 use Rattle.rt_ids.specs.BadJournals.{submission, core_terms, outside_terms, both_taken}
 use Rattle.rt_ids.specs.Closing.{final_count}
 use Rattle.rt_ids.specs.Filters.{accepted_orders, delivered_names, collected_outcomes, given_outcomes}
-use Rattle.rt_ids.specs.GoodJournals.{polled_once, returning, one_returned, both_returned, detached_one, returning_core, IsServed}
+use Rattle.rt_ids.specs.GoodJournals.{returning, one_returned, both_returned, detached_one, returning_core, IsServed}
 use Rattle.rt_ids.specs.Joining.{AreJoined, DeliversAsSent}
-use Rattle.rt_ids.specs.Journal.{Journal, EachNote}
-use Rattle.rt_ids.specs.Keys.{KeyAtMost}
+use Rattle.rt_ids.specs.Journal.{EachNote}
 use Rattle.rt_ids.specs.Lawful.{IsLawful}
-use Rattle.rt_ids.specs.Lines.{jobs_out}
 use Rattle.rt_ids.specs.Picks.{IsRightPick}
-use Rattle.rt_ids.specs.Runtimes.{virtual_runtime}
 use Rattle.rt_ids.specs.Terms.{terms_of}
 use Rattle.rt_ids.specs.Work.{has_work}
 use Rattle.rt_ids.proofs.Joining.{joining_is_sound}

@@ -1,11 +1,11 @@
 -- What stands first under a name, where a list grows at its end.
-use Rattle.std.proofs.Common.{◌≡◌, ◌⊎◌, inl, inr, Bool, true, false, List, [], ◌∷◌, ◌++◌, refl, sym, ap, subst, cond}
+use Rattle.std.proofs.Common.{◌≡◌, ◌⊎◌, inl, inr, Bool, true, false, List, [], ◌∷◌, ◌++◌, refl, subst, cond}
 use Rattle.std.specs.Prelude.{◌||◌, Option, Some, None}
 use Rattle.rt_ids.specs.declared.names.JobId.{JobId}
 use Rattle.rt_ids.specs.Assembly.{IsPrefix, names_of, first_under}
 use Rattle.rt_ids.specs.Journal.{with_last}
 use Rattle.rt_ids.specs.Names.{same_name}
-use Rattle.rt_ids.proofs.NameLemmas.{among, one_name, same_as_itself}
+use Rattle.rt_ids.proofs.NameLemmas.{among}
 
 module _ {A : Type 0} (name : JobId) where
   -- what stands first stays first

@@ -1,5 +1,5 @@
 -- What a queue and a core still do after they closed in mode `Return`.
-use Rattle.std.specs.Prelude.{◌≡◌, ℕ, ◌+◌, ◌-◌, ◌≤◌, Bool, true, false, Option, Some, None, is_some, IsTrue, [], ◌∷◌, ◌++◌, zero, suc}
+use Rattle.std.specs.Prelude.{◌≡◌, ℕ, ◌+◌, ◌-◌, ◌≤◌, Bool, true, false, Option, Some, None, IsTrue, [], ◌∷◌, ◌++◌, zero, suc}
 use Rattle.rt_ids.specs.declared.note.Note.{Note}
 use Rattle.rt_ids.specs.declared.note.Note.TheVariants.{Pick, Returned}
 use Rattle.rt_ids.specs.declared.order.Mode.TheVariants.{Return}
