@@ -1,0 +1,3 @@
+pub mod DraftLemmas
+pub mod TextLemmas
+pub mod ReaderLemmas
