@@ -89,6 +89,7 @@ module _ {J T : Type 0} (old : RecordedView J T) (name : JobId)
     outstanding = λ core. refl;
     collected = λ core. refl;
     given = λ sender. ([], append-nil (given_outcomes sender journal));
+    gates = λ sender. refl;
   }
 
   -- a job enters its queue
@@ -147,7 +148,7 @@ module _ {J T : Type 0} (old : RecordedView J T) (name : JobId)
       cores = ap (λ core. core.cores) counts;
       room = ap (λ core. core.queues.room) counts;
       out = ap (λ core. core.out) counts;
-      lists = record { accepted = λ core. refl; outstanding = λ core. refl; collected = λ core. refl; given = λ from. prefix-with_last (given_outcomes from journal) _ };
+      lists = record { accepted = λ core. refl; outstanding = λ core. refl; collected = λ core. refl; given = λ from. prefix-with_last (given_outcomes from journal) _; gates = λ from. refl };
       delivered = counted_one;
       held = omega (arith, ap inside_count counts, given_more);
       polls = λ which. no_polls which journal;
@@ -175,7 +176,7 @@ module _ {J T : Type 0} (old : RecordedView J T) (name : JobId)
       cores = ap (λ core. core.cores) counts;
       room = ap (λ core. core.queues.room) counts;
       out = ap (λ core. core.out) counts;
-      lists = record { accepted = λ core. refl; outstanding = λ core. refl; collected = λ core. refl; given = λ from. prefix-with_last (given_outcomes from journal) _ };
+      lists = record { accepted = λ core. refl; outstanding = λ core. refl; collected = λ core. refl; given = λ from. prefix-with_last (given_outcomes from journal) _; gates = λ from. refl };
       delivered = counted_one;
       held = omega (arith, ap inside_count counts, answered_more answer);
       polls = λ which. no_polls which journal;
@@ -196,7 +197,7 @@ module _ {J T : Type 0} (old : RecordedView J T) (name : JobId)
     cores = ap (λ core. core.cores) creates.rest;
     room = creates.added.same_room;
     out = ap (λ core. core.out) creates.rest;
-    lists = record { accepted = λ core. refl; outstanding = λ core. refl; collected = λ core. refl; given = λ from. prefix-with_last (given_outcomes from journal) _ };
+    lists = record { accepted = λ core. refl; outstanding = λ core. refl; collected = λ core. refl; given = λ from. prefix-with_last (given_outcomes from journal) _; gates = λ from. refl };
     delivered = counted_one;
     held = omega (arith, inside, answered_more (answers.Created queue));
     polls = λ which. no_polls_twice which journal;
@@ -225,7 +226,7 @@ module _ {J T : Type 0} (old : RecordedView J T) (name : JobId)
     cores = ap (λ core. core.cores) weighs.rest;
     room = weighs.shares.same_room;
     out = ap (λ core. core.out) weighs.rest;
-    lists = record { accepted = λ core. refl; outstanding = λ core. refl; collected = λ core. refl; given = λ from. prefix-with_last (given_outcomes from journal) _ };
+    lists = record { accepted = λ core. refl; outstanding = λ core. refl; collected = λ core. refl; given = λ from. prefix-with_last (given_outcomes from journal) _; gates = λ from. refl };
     delivered = counted_one;
     held = omega (arith, inside, answered_more answers.SharesSet);
     polls = λ which. no_polls_twice which journal;

@@ -28,6 +28,7 @@ use Rattle.rt_ids.specs.Lawful.{IsNextDelivered}
 use Rattle.rt_ids.specs.Orders.{IsSpelledOrder, without_job}
 use Rattle.rt_journal.specs.Polls.{polls_made}
 use Rattle.rt_journal.specs.Agreement.{IsKept}
+use Rattle.rt_journal.specs.Submissions.{IsWritten}
 use Rattle.rt_journal.specs.Recorded.{RecordedView, terms_at, IsRecorded, IsHeld, IsTaken, HasTask, OwesAfter, order_taken, note_taken, sum_upto, delivered_count, given_count}
 use Rattle.rt_journal.specs.Ends.{IsInOf, KeepsIn, IsSameSeat, named_outcomes}
 use Rattle.rt_journal.specs.Steps.{IsNextIn, Receives}
@@ -179,6 +180,9 @@ module _ {J T : Type 0} {same : J → J → Type 0} {made : J → ℕ} {polls : 
 
   pub few : length written ≤ 2
   few = omega (arith, done.few, length-reverse written)
+
+  pub written_now : IsWritten (terms_at old) (reverse written ++ old.journal.notes)
+  written_now = record { notes = done.kept.notes; no_pick = done.kept.no_pick; no_answer = done.kept.no_answer; collects_nothing = done.kept.collects_nothing }
 
   module _ (new : RecordedView J T) (is : new ≡ record { cap = old.cap; core = core; journal = record old.journal { notes = reverse written ++ old.journal.notes }; took = old.took ++ envelope ∷ [] }) where
     pub sound_now : IsRecorded same made polls new
