@@ -1,40 +1,22 @@
 -- The ends of links stay beside a core and its journal as an order is delivered.
-use Rattle.std.proofs.Common.{◌≡◌, ℕ, suc, ◌+◌, ◌*◌, ◌<◌, ◌≤◌, Bool, true, false, List, [], ◌∷◌, ◌++◌, length, refl, sym, ◌∙◌, ap, subst, ◌⊎◌, ⊎_elim, arith, get_or, zero-add}
-use Rattle.std.specs.Prelude.{◌==◌, Option, Some, None, All, slice_get, reverse}
-use Rattle.std.specs.Option.{option_map}
-use Rattle.std.proofs.lemmas.Bool.{eq-eqb, ne_eqb, cases_eq}
+use Rattle.std.proofs.Common.{◌≡◌, ℕ, suc, ◌+◌, ◌<◌, ◌≤◌, List, [], ◌∷◌, length, refl, sym, ◌∙◌, ap, subst, ◌⊎◌, ⊎_elim, arith}
+use Rattle.std.specs.Prelude.{◌==◌, Some, None, slice_get}
+use Rattle.std.proofs.lemmas.Bool.{eq-eqb, ne_eqb}
 use Rattle.std.proofs.lemmas.List.{length-append}
-use Rattle.std.proofs.lemmas.List.Elements.{All-append}
 use Rattle.rt_ids.specs.declared.names.JobId.{JobId}
-use Rattle.rt_ids.specs.declared.note.Note.{Note}
 use Rattle.rt_ids.specs.declared.order.Envelope.{Envelope}
 use Rattle.rt_ids.specs.declared.order.Order.{Order}
-use Rattle.rt_ids.specs.declared.order.Order.TheVariants.{Job}
 use Rattle.rt_ids.specs.declared.order.Outcome.{Outcome}
-use Rattle.rt_ids.specs.Journal.{Journal, EachNote}
 use Rattle.rt_ids.specs.Assembly.{IsPrefix}
 use Rattle.rt_ids.specs.Filters.{given_outcomes}
 use Rattle.rt_ids.specs.Work.{number_if}
-use Rattle.rt_jobs.specs.declared.job.Step.{Step}
-use Rattle.rt_jobs.specs.Steps.{IsSameTask}
-use Rattle.rt_taskqueue.specs.Queues.{waiting_of}
-use Rattle.rt_core.specs.State.{CoreView, JobOut, inside_count, delivered_of}
-use Rattle.rt_core.specs.Deliveries.{Delivers as CarriesOut}
-use Rattle.rt_core.specs.declared.delivery.Delivered.{Delivered}
 use Rattle.rt_link.specs.declared.ends.Inward.{Inward}
-use Rattle.rt_link.specs.Ends.{StartsWith, SoundIn}
+use Rattle.rt_link.specs.Ends.{SoundIn}
 use Rattle.rt_link.specs.Calls.{Takes}
-use Rattle.rt_ids.specs.Lawful.{IsNextDelivered}
-use Rattle.rt_ids.specs.Orders.{IsSpelledOrder, without_job}
-use Rattle.rt_journal.specs.Polls.{polls_made}
-use Rattle.rt_journal.specs.Agreement.{IsKept}
-use Rattle.rt_journal.specs.Recorded.{RecordedView, desk_of, terms_at, IsRecorded, IsHeld, IsTaken, HasTask, OwesAfter, order_taken, note_taken, sum_upto, delivered_count, given_count}
+use Rattle.rt_journal.specs.Recorded.{RecordedView, desk_of, order_taken, delivered_count, given_count}
 use Rattle.rt_journal.specs.Ends.{IsInOf, KeepsIn, IsSameSeat, named_outcomes}
 use Rattle.rt_journal.specs.Steps.{IsNextIn, Receives}
-use Rattle.rt_journal.proofs.PollsMade.{polls_made-fresh}
-use Rattle.rt_journal.proofs.Sums.{sum_upto-one_more, sum_upto-room}
-use Rattle.rt_journal.proofs.TakenOrders.{order_taken-longer, order_taken-last, order_taken-parts, note_taken-stays, as_sent-stays}
-use Rattle.rt_journal.proofs.CarriedOut.{IsCarriedOut, IsOf, carries_out}
+use Rattle.rt_journal.proofs.TakenOrders.{order_taken-parts}
 use Rattle.rt_journal.proofs.EndsKept.{keeps_in, prefix-along, slice_get-seen}
 use Rattle.rt_journal.specs.Ends.{KeepsOuts}
 use Rattle.rt_journal.proofs.EndsKept.{keeps_outs, sees_more_in, final_of-more}

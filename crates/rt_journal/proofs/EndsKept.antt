@@ -5,9 +5,7 @@ use Rattle.std.proofs.lemmas.List.{length-append, take-append-le}
 use Rattle.rt_ids.specs.declared.names.JobId.{JobId}
 use Rattle.rt_ids.specs.declared.order.Order.{Order}
 use Rattle.rt_ids.specs.Assembly.{IsPrefix}
-use Rattle.rt_ids.specs.Journal.{Journal}
-use Rattle.rt_ids.specs.Filters.{accepted_orders, collected_outcomes, delivered_names, given_outcomes}
-use Rattle.rt_ids.specs.Outstanding.{outstanding_count}
+use Rattle.rt_ids.specs.Filters.{given_outcomes}
 use Rattle.rt_link.specs.declared.ends.Inward.{Inward}
 use Rattle.rt_ids.specs.Closing.{final_count}
 use Rattle.rt_link.specs.declared.ends.Outward.{Outward}

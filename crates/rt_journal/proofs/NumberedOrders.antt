@@ -1,7 +1,11 @@
 -- Lists by place, and the numbered orders of a link.
-use Rattle.std.proofs.Common.{◌≡◌, ℕ, zero, suc, ◌+◌, ◌≤◌, List, [], ◌∷◌, ◌++◌, length, refl, ◌∙◌, ap, arith, get_or, take}
+use Rattle.std.proofs.Common.{◌≡◌, ℕ, zero, suc, ◌+◌, ◌≤◌, Bool, true, false, List, [], ◌∷◌, ◌++◌, length, refl, ◌∙◌, ap, subst, arith, get_or, take, cond}
 use Rattle.std.specs.Prelude.{Some, slice_get, map}
+use Rattle.rt_ids.specs.declared.names.JobId.{JobId}
 use Rattle.rt_ids.specs.declared.order.Order.{Order}
+use Rattle.rt_ids.specs.Assembly.{first_under}
+use Rattle.rt_ids.specs.Names.{same_name}
+use Rattle.rt_ids.proofs.NameLemmas.{one_name, same_as_itself}
 use Rattle.rt_ids.specs.Orders.{without_job}
 use Rattle.rt_journal.specs.Orders.{numbered_orders}
 

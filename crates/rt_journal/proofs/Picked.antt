@@ -1,6 +1,6 @@
 -- A core beside its journal picks: the right pick takes a job out, or the core says why there is none.
-use Rattle.std.proofs.Common.{◌≡◌, ℕ, ◌+◌, ◌*◌, ◌-◌, ◌^◌, ◌<◌, ◌≤◌, Bool, true, false, List, [], ◌∷◌, ◌++◌, length, reverse, refl, sym, ◌∙◌, ap, subst, arith, add-zero}
-use Rattle.std.specs.Prelude.{◌==◌, Option, Some, None, All, is_some, Result, Ok, Err}
+use Rattle.std.proofs.Common.{◌≡◌, ℕ, ◌+◌, ◌<◌, ◌≤◌, Bool, true, false, List, [], ◌∷◌, ◌++◌, length, reverse, refl, sym, ◌∙◌, ap, subst, arith, add-zero}
+use Rattle.std.specs.Prelude.{◌==◌, Option, None, All, is_some, Result, Ok, Err}
 use Rattle.std.proofs.lemmas.Bool.{eqb-true, eqb-false}
 use Rattle.std.proofs.lemmas.Option.{same_Some}
 use Rattle.std.proofs.lemmas.List.Elements.{All-head, All-tail}
@@ -9,7 +9,7 @@ use Rattle.rt_ids.specs.declared.names.JobId.{JobId}
 use Rattle.rt_ids.specs.declared.note.Note.{Note}
 use Rattle.rt_ids.specs.declared.note.Note.TheVariants.{Pick}
 use Rattle.rt_ids.specs.Journal.{Journal}
-use Rattle.rt_ids.specs.Lines.{line, jobs_out}
+use Rattle.rt_ids.specs.Lines.{line}
 use Rattle.rt_ids.specs.Picks.{turns, pick_count}
 use Rattle.rt_ids.specs.Work.{has_work, number_if}
 use Rattle.rt_ids.proofs.WorkOfLines.{no_work, work_of_line}
@@ -19,7 +19,7 @@ use Rattle.rt_core.specs.declared.turn.Turn.{Turn}
 use Rattle.rt_core.specs.declared.turn.Turn.TheVariants.{Start, Resume, Idle}
 use Rattle.rt_core.specs.declared.turn.PickError.{PickError}
 use Rattle.rt_core.specs.declared.turn.PickError.TheVariants.{Busy, Spent}
-use Rattle.rt_core.specs.State.{CoreView, JobOut, runtime_of, inside_count}
+use Rattle.rt_core.specs.State.{CoreView, runtime_of, inside_count}
 use Rattle.rt_core.specs.Turns.{TakesOut}
 use Rattle.rt_core.specs.Turns.{Picks as CorePicks}
 use Rattle.rt_journal.specs.Agreement.{IsJobOut, names_of}

@@ -1,6 +1,6 @@
 -- A core beside its journal creates a queue before anything else is done.
-use Rattle.std.proofs.Common.{◌≡◌, ℕ, ◌+◌, ◌<◌, ◌≤◌, List, [], ◌∷◌, ◌++◌, length, reverse, refl, sym, ◌∙◌, ap, subst, arith, add-zero}
-use Rattle.std.specs.Prelude.{Option, Some, None, All, is_some, Result, Ok, Err}
+use Rattle.std.proofs.Common.{◌≡◌, ℕ, ◌+◌, ◌≤◌, List, [], ◌∷◌, length, reverse, refl, sym, ◌∙◌, ap, subst, arith, add-zero}
+use Rattle.std.specs.Prelude.{Option, All, is_some, Result, Ok, Err}
 use Rattle.rt_shares.specs.Charge.{InRange}
 use Rattle.rt_ids.specs.declared.names.JobId.{JobId}
 use Rattle.rt_ids.specs.declared.note.Note.{Note}
@@ -9,14 +9,14 @@ use Rattle.rt_ids.specs.Journal.{Journal}
 use Rattle.rt_ids.specs.Commands.{created_count, IsOpening}
 use Rattle.rt_ids.specs.Work.{number_if}
 use Rattle.rt_jobs.specs.declared.job.Step.{Step}
-use Rattle.rt_taskqueue.specs.Queues.{queue_count, waiting_of, held_count}
+use Rattle.rt_taskqueue.specs.Queues.{queue_count, held_count}
 use Rattle.rt_taskqueue.specs.declared.queues.CreateError.{CreateError}
 use Rattle.rt_taskqueue.specs.declared.queues.CreateError.TheVariants.{TooMany, Memory}
-use Rattle.rt_core.specs.State.{CoreView, JobOut, inside_count}
+use Rattle.rt_core.specs.State.{CoreView, inside_count}
 use Rattle.rt_core.specs.Deliveries.{Creates}
 use Rattle.rt_core.specs.Deliveries.{CreatesQueue as CoreCreates}
 use Rattle.rt_journal.specs.Polls.{polls_made}
-use Rattle.rt_journal.specs.Recorded.{RecordedView, terms_at, IsRecorded, HasTask, sum_upto, given_count}
+use Rattle.rt_journal.specs.Recorded.{RecordedView, terms_at, IsRecorded, HasTask}
 use Rattle.rt_journal.specs.Steps.{CreatesQueue, with_notes}
 use Rattle.rt_journal.proofs.Kept.{IsKept, plainly_stands}
 use Rattle.rt_journal.proofs.KeptCommands.{agrees-created}

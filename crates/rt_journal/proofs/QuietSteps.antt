@@ -1,10 +1,8 @@
 -- A core beside its journal makes a step by which nothing is delivered and nothing sent: it stays recorded, and the ends of its links stay beside it.
-use Rattle.std.proofs.Common.{◌≡◌, ℕ, ◌+◌, ◌*◌, ◌≤◌, List, [], ◌∷◌, ◌++◌, refl, sym, ◌∙◌, ap, subst, arith}
+use Rattle.std.proofs.Common.{◌≡◌, ℕ, ◌+◌, ◌*◌, ◌≤◌, List, [], ◌++◌, refl, sym, ◌∙◌, ap, subst, arith}
 use Rattle.std.specs.Prelude.{Option, Some, All}
 use Rattle.std.proofs.lemmas.List.{append-nil}
-use Rattle.rt_ids.specs.declared.names.JobId.{JobId}
 use Rattle.rt_ids.specs.declared.note.Note.{Note}
-use Rattle.rt_ids.specs.declared.order.Order.{Order}
 use Rattle.rt_ids.specs.Journal.{Journal, EachNote}
 use Rattle.rt_ids.specs.Filters.{given_outcomes}
 use Rattle.rt_ids.specs.Joining.{DeliversAs}
@@ -13,7 +11,7 @@ use Rattle.rt_taskqueue.specs.Queues.{waiting_of}
 use Rattle.rt_core.specs.State.{CoreView, JobOut, inside_count}
 use Rattle.rt_journal.specs.Agreement.{IsKept}
 use Rattle.rt_journal.specs.Submissions.{IsWritten}
-use Rattle.rt_journal.specs.Recorded.{RecordedView, terms_at, desk_of, IsRecorded, IsHeld, HasTask, note_taken, order_taken, sum_upto, delivered_count, given_count}
+use Rattle.rt_journal.specs.Recorded.{RecordedView, terms_at, desk_of, IsRecorded, IsHeld, HasTask, note_taken, sum_upto, given_count}
 use Rattle.rt_journal.specs.Ends.{KeepsIn, KeepsOuts, IsSameSeat}
 use Rattle.rt_journal.specs.Steps.{with_notes}
 use Rattle.rt_journal.proofs.EndsKept.{keeps_outs}

@@ -14,9 +14,9 @@ use Rattle.rt_ids.specs.Orders.{without_job}
 use Rattle.rt_jobs.specs.declared.job.Step.{Step}
 use Rattle.rt_core.specs.State.{CoreView}
 use Rattle.rt_journal.specs.Polls.{polls_made}
-use Rattle.rt_journal.specs.Submissions.{DeskView, IsWritten, Submits, terms_of_desk, desk_with}
+use Rattle.rt_journal.specs.Submissions.{DeskView, IsWritten, Submits, terms_of_desk}
 use Rattle.rt_journal.specs.Recorded.{RecordedView, IsRecorded, HasTask, desk_of, terms_at}
-use Rattle.rt_journal.specs.Ends.{KeepsIn, IsSameSeat}
+use Rattle.rt_journal.specs.Ends.{KeepsIn}
 use Rattle.rt_journal.specs.Steps.{with_notes}
 use Rattle.rt_journal.proofs.Kept.{IsKept, stays_calm, calm_sent, SameJobs}
 use Rattle.rt_journal.proofs.EndsKept.{keeps_in}

@@ -1,16 +1,15 @@
 -- A core beside its journal settles the poll of the job that is out.
-use Rattle.std.proofs.Common.{◌≡◌, ℕ, zero, suc, ◌+◌, ◌*◌, ◌<◌, ◌≤◌, Bool, true, false, List, [], ◌∷◌, ◌++◌, length, reverse, refl, sym, ◌∙◌, ap, subst, arith, add-zero, get_or}
+use Rattle.std.proofs.Common.{◌≡◌, ℕ, zero, suc, ◌+◌, ◌<◌, ◌≤◌, Bool, true, false, List, [], ◌∷◌, ◌++◌, length, reverse, refl, sym, ◌∙◌, ap, subst, arith, add-zero, get_or}
 use Rattle.std.specs.Prelude.{◌==◌, Option, Some, None, All, is_some, unwrap_or}
 use Rattle.std.proofs.lemmas.Bool.{eqb-true, eqb-false, false_from_ne_true, or_parts}
 use Rattle.std.proofs.lemmas.List.{length-append}
 use Rattle.std.proofs.lemmas.List.Elements.{All-append, All-cons, All-nil}
-use Rattle.std.proofs.lemmas.Option.{same_Some}
 use Rattle.rt_ids.specs.declared.names.JobId.{JobId}
 use Rattle.rt_ids.specs.declared.note.Note.{Note}
 use Rattle.rt_ids.specs.declared.note.Note.TheVariants as writes
 use Rattle.rt_ids.specs.Names.{same_name, is_name}
 use Rattle.rt_ids.specs.Journal.{Journal}
-use Rattle.rt_ids.specs.Lines.{line, jobs_out, name_settled}
+use Rattle.rt_ids.specs.Lines.{jobs_out, name_settled}
 use Rattle.rt_ids.specs.Work.{number_if}
 use Rattle.rt_ids.proofs.JobsOut.{alone_out}
 use Rattle.rt_ids.proofs.LineDistinct.{apart_of}

@@ -1,6 +1,6 @@
 -- Actors that are recorded each by itself are joined, where the ends of their links are.
-use Rattle.std.proofs.Common.{◌≡◌, ℕ, ◌+◌, ◌<◌, ◌≤◌, Bool, true, false, List, [], ◌∷◌, ◌++◌, length, refl, sym, ◌∙◌, ap, subst, ◌⊎◌, ⊎_elim, arith}
-use Rattle.std.specs.Prelude.{Option, Some, None, map, take, drop, slice_get}
+use Rattle.std.proofs.Common.{◌≡◌, ℕ, ◌+◌, ◌<◌, ◌≤◌, Bool, true, false, List, [], ◌∷◌, length, refl, sym, ◌∙◌, ap, subst, ⊎_elim, arith}
+use Rattle.std.specs.Prelude.{Option, Some, None, take, drop, slice_get}
 use Rattle.std.specs.Option.{option_map}
 use Rattle.std.proofs.lemmas.Bool.{cases_lt}
 use Rattle.std.proofs.lemmas.List.{length-append, map-append, take-append-drop}
@@ -22,12 +22,12 @@ use Rattle.rt_ids.specs.Orders.{without_job}
 use Rattle.rt_jobs.specs.declared.job.Step.{Step}
 use Rattle.rt_link.specs.declared.ends.Outward.{Outward}
 use Rattle.rt_link.specs.declared.ends.Inward.{Inward}
-use Rattle.rt_link.specs.Ends.{StartsWith, Joined}
+use Rattle.rt_link.specs.Ends.{Joined}
 use Rattle.rt_link.specs.Calls.{final_of}
 use Rattle.rt_journal.specs.Agreement.{IsJobOut}
 use Rattle.rt_journal.specs.Orders.{numbered_orders}
-use Rattle.rt_journal.specs.Submissions.{DeskView, IsWritten, terms_of_desk}
-use Rattle.rt_journal.specs.Recorded.{RecordedView, IsRecorded, desk_of, terms_at, note_taken, order_taken}
+use Rattle.rt_journal.specs.Submissions.{DeskView, terms_of_desk}
+use Rattle.rt_journal.specs.Recorded.{RecordedView, terms_at, note_taken, order_taken}
 use Rattle.rt_journal.specs.Ends.{IsOutOf, IsInOf, name_of, named_outcomes}
 use Rattle.rt_journal.specs.Together.{AreTogether, IsAssemblyOf}
 use Rattle.rt_journal.proofs.DeliveredNames.{names_from, names_from-prefix, names_of-numbered, delivered_numbered}
@@ -172,7 +172,8 @@ module _ {J T : Type 0} {same : J → J → Type 0} {made : J → ℕ} {polls : 
           let known = (are.recorded d there).taken name order here in
           let from : name.from ≤ cores = omega (arith, known.sender, ap (λ desk. desk.cores) (sym (are.desks d there)), ap (λ terms. terms.cores) (are.actors d (omega (arith, there)))) in
           let found = (are.ins name.from d from there).orders name order refl here in
-          let its_name : name ≡ name_of name.from d (0 + found.0 + 1) = found.1 ∙ (λ i. name_of name.from (numbers d there i) (found.0 + 1)) in
+          let place_is : found.0 ≡ 0 + found.0 = omega arith in
+          let its_name : name ≡ name_of name.from d (0 + found.0 + 1) = found.1 ∙ (λ i. name_of name.from (numbers d there i) (place_is i + 1)) in
           let sent : slice_get (out name.from d).sent found.0 ≡ Some order = slice_get-seen (out name.from d).sent (inward name.from d).seen (are.joined name.from d from there).orders found.0 order found.2 in
           let to : name.to ≡ d = ap (λ id. id.to) its_name in
           ap (λ core. first_under name (accepted_orders core (journal_of name.from assembly))) to

@@ -1,5 +1,5 @@
 -- A core beside its journal and the orders that were delivered to it, as callers see them.
-use Rattle.std.specs.Prelude.{◌≡◌, ℕ, zero, suc, ◌+◌, ◌*◌, ◌≤◌, Bool, Option, Some, None, if◌then◌else◌, List, [], ◌∷◌, length, All}
+use Rattle.std.specs.Prelude.{◌≡◌, ℕ, zero, suc, ◌+◌, ◌*◌, ◌≤◌, Option, Some, None, if◌then◌else◌, List, [], ◌∷◌, length, All}
 use Rattle.std.specs.Option.{option_map}
 use Rattle.rt_ids.specs.declared.names.JobId.{JobId}
 use Rattle.rt_ids.specs.declared.order.Envelope.{Envelope}

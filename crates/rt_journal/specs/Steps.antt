@@ -1,42 +1,19 @@
 -- What the calls of a core beside its journal do.
-use Rattle.std.specs.Prelude.{◌≡◌, ◌==◌, ℕ, ◌+◌, ◌*◌, ◌-◌, ◌^◌, ◌<◌, ◌≤◌, ◌≢◌, Option, Some, None, unwrap_or, Bool, true, false, List, [], ◌∷◌, ◌++◌, length, Result, Ok, Err}
+use Rattle.std.specs.Prelude.{◌≡◌, ◌==◌, ℕ, ◌+◌, ◌*◌, ◌^◌, ◌<◌, ◌≤◌, Some, None, Bool, true, false, List, [], ◌∷◌, ◌++◌, Result, Ok, Err}
 use Rattle.rt_ids.specs.declared.names.JobId.{JobId}
 use Rattle.rt_ids.specs.declared.note.Note.{Note}
 use Rattle.rt_ids.specs.declared.note.Note.TheVariants as writes
 use Rattle.rt_ids.specs.declared.order.Envelope.{Envelope}
-use Rattle.rt_ids.specs.declared.order.Order.{Order}
-use Rattle.rt_ids.specs.declared.order.Order.TheVariants.{Job}
-use Rattle.rt_ids.specs.declared.order.SendError.{SendError}
-use Rattle.rt_ids.specs.declared.order.SendError.TheVariants.{Closed, Full, Spent, NoCore}
-use Rattle.rt_ids.specs.Journal.{Journal, is_told}
-use Rattle.rt_ids.specs.Filters.{name_started, accepted_orders}
-use Rattle.rt_ids.specs.Work.{has_work, number_if}
-use Rattle.rt_ids.specs.Lines.{line}
-use Rattle.rt_ids.specs.Picks.{IsRightPick, turns}
-use Rattle.rt_ids.specs.Commands.{created_count, return_reason}
-use Rattle.rt_ids.specs.Lawful.{IsNextSent}
-use Rattle.rt_ids.specs.Orders.{without_job}
-use Rattle.rt_ids.specs.Outstanding.{outstanding_count}
-use Rattle.rt_jobs.specs.declared.job.Step.{Step}
-use Rattle.rt_jobs.specs.declared.job.Step.TheVariants as step
-use Rattle.rt_jobs.specs.Steps.{AfterPoll, IfDone}
+use Rattle.rt_ids.specs.Work.{number_if}
+use Rattle.rt_ids.specs.Commands.{created_count}
 use Rattle.rt_taskqueue.specs.declared.queues.CreateError.{CreateError}
 use Rattle.rt_taskqueue.specs.declared.queues.CreateError.TheVariants.{TooMany, Memory}
-use Rattle.rt_core.specs.State.{JobOut, opened}
-use Rattle.rt_core.specs.declared.turn.Turn.{Turn}
-use Rattle.rt_core.specs.declared.turn.Turn.TheVariants.{Start, Resume, Idle}
-use Rattle.rt_core.specs.declared.turn.PickError.{PickError}
-use Rattle.rt_core.specs.declared.turn.PickError.TheVariants.{Busy}
-use Rattle.rt_core.specs.declared.turn.PickError.TheVariants as why
-use Rattle.rt_core.specs.declared.turn.Settled.{Settled}
-use Rattle.rt_core.specs.declared.turn.Settled.TheVariants.{Yielded, Finished}
+use Rattle.rt_core.specs.State.{opened}
 use Rattle.rt_link.specs.declared.ends.Inward.{Inward}
 use Rattle.rt_link.specs.Calls.{Takes}
 use Rattle.rt_notes.specs.Journals.{JournalView}
-use Rattle.rt_journal.specs.Polls.{polls_made, poll_note, settle_note}
 use Rattle.rt_journal.specs.Deliveries.{IsDelivery}
-use Rattle.rt_journal.specs.Recorded.{RecordedView, order_taken, delivered_count, given_count}
-use Rattle.rt_journal.specs.Submissions.{DeskView, terms_of_desk, desk_with}
+use Rattle.rt_journal.specs.Recorded.{RecordedView, delivered_count, given_count}
 use Rattle.rt_journal.specs.Ends.{KeepsLists}
 
 module _ {T : Type 0} where

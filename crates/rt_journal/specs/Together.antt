@@ -30,9 +30,9 @@ module _ {J T : Type 0} where
     pub count : length assembly.journals ≡ cores + 1
     pub each : (actor : ℕ) → actor ≤ cores → journal_of actor assembly ≡ (desk actor).journal.notes
 
--- actors that are recorded each by itself are joined, where the ends of their links are
-abbrev pub TogetherAreJoined : Type 1
-TogetherAreJoined =
-    (J T : Type 0) (same : J → J → Type 0) (made : J → ℕ) (polls : J → ℕ → Step T → Option ℕ → Type 0)
-    (cores cap : ℕ) (desk : ℕ → DeskView J T) (core : ℕ → RecordedView J T) (out : ℕ → ℕ → Outward J T) (credited : ℕ → ℕ → ℕ) (inward : ℕ → ℕ → Inward J T) (assembly : Assembly T) →
-    AreTogether same made polls cores cap desk core out credited inward → IsAssemblyOf cores cap desk assembly → AreJoined assembly
+module _ {J T : Type 0} (same : J → J → Type 0) (made : J → ℕ) (polls : J → ℕ → Step T → Option ℕ → Type 0) where
+  -- actors that are recorded each by itself are joined, where the ends of their links are
+  abbrev pub TogetherAreJoined : Type 0
+  TogetherAreJoined =
+      (cores cap : ℕ) (desk : ℕ → DeskView J T) (core : ℕ → RecordedView J T) (out : ℕ → ℕ → Outward J T) (credited : ℕ → ℕ → ℕ) (inward : ℕ → ℕ → Inward J T) (assembly : Assembly T) →
+      AreTogether same made polls cores cap desk core out credited inward → IsAssemblyOf cores cap desk assembly → AreJoined assembly

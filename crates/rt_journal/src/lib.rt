@@ -2,6 +2,7 @@
 #![tactic(auto)]
 
 pub mod desk;
+pub mod laws;
 pub mod recorded;
 
 pub use desk::RecordedDesk;

@@ -36,8 +36,8 @@ invariant_of-self g c =
     c.deliver-notes.ensures.delivers
     _ (λ i. record { cap = (said_is i).cap; core = c.deliver-notes.new.self; journal = (said_is i).journal; took = c.with-self-inside.ensures i }) in (
       sound_now g.met.J.Task.same_task (view_of c.self.inside.core c.self.inside.took.items c.self.inside.said) c.self.invariant.0 c.args.envelope next spelled c.deliver-notes.new.self c.deliver-notes.result.0 c.deliver-notes.result.1.items
-    c.deliver-notes.ensures.delivers
-    _ (λ i. record { cap = (said_is i).cap; core = c.deliver-notes.new.self; journal = (said_is i).journal; took = c.with-self-inside.ensures i }),
+          c.deliver-notes.ensures.delivers
+          _ (λ i. record { cap = (said_is i).cap; core = c.deliver-notes.new.self; journal = (said_is i).journal; took = c.with-self-inside.ensures i }),
       desk_is c.write.new.self c.deliver-notes.new.self c.self.inside.took.items (ap (λ desk. desk.actor) said_is ∙ (ap (λ desk. desk.actor) c.self.invariant.1 ∙ sym seat.number))
           (ap (λ desk. desk.cores) said_is ∙ (ap (λ desk. desk.cores) c.self.invariant.1 ∙ sym seat.cores)),
     )
