@@ -205,6 +205,10 @@ module _ {J T : Type 0} {same : J → J → Type 0} {made : J → ℕ} {polls : 
         let there : sender ≤ cores = omega (arith, known, is.cores_are) in
         let d_there : d < cores = omega (arith, d_known, is.cores_are) in
         rw (is.each d (omega (arith, d_there)), is.each sender there) (collection sender d there d_there);
+    gates = λ sender d known d_known count told.
+        let there : sender ≤ cores = omega (arith, known, is.cores_are) in
+        let d_there : d < cores = omega (arith, d_known, is.cores_are) in
+        gate sender d there d_there count (ap (final_count sender) (sym (is.each d (omega (arith, d_there)))) ∙ told) ∙ ap (λ notes. length (accepted_orders d notes)) (sym (is.each sender there));
     as_sent = λ actor known.
         let there : actor ≤ cores = omega (arith, known, is.cores_are) in
         rw (is.each actor there) (as_sent actor there);

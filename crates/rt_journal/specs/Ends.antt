@@ -1,14 +1,12 @@
 -- What an end of a link is to the journal of its actor.
 use Rattle.std.specs.Prelude.{◌≡◌, ℕ, ◌+◌, ◌<◌, ◌≤◌, Some, List, length, map, take, slice_get}
 use Rattle.rt_ids.specs.declared.names.JobId.{JobId}
-use Rattle.rt_ids.specs.declared.note.OutcomeNote.{OutcomeNote}
-use Rattle.rt_ids.specs.declared.note.OutcomeNote.TheVariants as note
 use Rattle.rt_ids.specs.declared.order.Order.{Order}
 use Rattle.rt_ids.specs.declared.order.Outcome.{Outcome}
-use Rattle.rt_ids.specs.declared.order.Outcome.TheVariants.{Finished, Returned, Answered}
 use Rattle.rt_ids.specs.Journal.{Journal}
 use Rattle.rt_ids.specs.Assembly.{IsPrefix}
 use Rattle.rt_ids.specs.Filters.{Outcomes, accepted_orders, delivered_names, given_outcomes, collected_outcomes}
+use Rattle.rt_ids.specs.Outcomes.{outcome_note}
 use Rattle.rt_ids.specs.Outstanding.{outstanding_count}
 use Rattle.rt_ids.specs.Closing.{final_count}
 use Rattle.rt_link.specs.declared.ends.Outward.{Outward}
@@ -18,12 +16,6 @@ use Rattle.rt_link.specs.Calls.{final_of}
 use Rattle.rt_journal.specs.Orders.{numbered_orders}
 use Rattle.rt_journal.specs.Submissions.{DeskView}
 use Rattle.rt_journal.specs.Recorded.{RecordedView, order_taken}
-
--- an outcome as a note tells it
-abbrev pub outcome_note : {J T : Type 0} → Outcome J T → OutcomeNote T
-outcome_note (Finished out) = note.Finished out
-outcome_note (Returned reason order) = note.Returned reason
-outcome_note (Answered answer) = note.Answered answer
 
 -- the name of a number of a link
 abbrev pub name_of : ℕ → ℕ → ℕ → JobId
