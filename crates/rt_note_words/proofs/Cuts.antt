@@ -1,5 +1,5 @@
 -- Texts that are cut at a sign.
-use Rattle.std.proofs.Common.{◌≡◌, ℕ, ◌+◌, ◌<◌, ◌≤◌, ◌==◌, not, Bool, true, false, cond, List, [], ◌∷◌, ◌++◌, length, get_or, take, drop, refl, sym, ap, ◌∙◌, arith, eqb, suc, length-drop}
+use Rattle.std.proofs.Common.{◌≡◌, ℕ, ◌+◌, ◌<◌, ◌≤◌, ◌==◌, not, Bool, true, false, cond, List, [], ◌∷◌, ◌++◌, length, get_or, take, drop, refl, ap, ◌∙◌, arith, suc, length-drop}
 use Rattle.std.specs.Prelude.{All}
 use Rattle.std.specs.List.{before_first, after_first, position_or_len, prefix_len}
 use Rattle.std.proofs.lemmas.Bool.Decides.{nat_tests}

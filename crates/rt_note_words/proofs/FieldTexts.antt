@@ -1,6 +1,5 @@
 -- A word says what it is the text of, and nothing else.
-use Rattle.std.proofs.Common.{◌≡◌, ℕ, ◌+◌, ◌-◌, ◌*◌, ◌^◌, ◌<◌, ◌≤◌, ◌==◌, Bool, true, false, cond, List, [], ◌∷◌, ◌++◌, length, Option, Some, None, inl, inr, refl, sym, ap, ◌∙◌, subst, arith, append_assoc, decimal, codes, length-append, eqb}
-use Rattle.std.specs.Prelude.{All}
+use Rattle.std.proofs.Common.{◌≡◌, ℕ, ◌-◌, ◌≤◌, ◌==◌, Bool, true, false, cond, List, [], ◌∷◌, ◌++◌, length, Option, Some, None, inl, inr, refl, sym, ap, ◌∙◌, subst, arith, append_assoc, decimal, codes, length-append}
 use Rattle.std.specs.List.{before_first, after_first}
 use Rattle.std.proofs.lemmas.Bool.Decides.{nat_tests}
 use Rattle.rt_ids.specs.declared.names.JobId.{JobId}
@@ -63,12 +62,13 @@ name_read cores word name some few is =
     let tail_is = cut_back 35 rest (omega (arith, ap length number.2)) in
     let tail : 1 ≤ length rest = omega (arith, ap length tail_is, length-append (before_first is_hash rest) (35 ∷ after_first is_hash rest)) in
     let name_is : record { from = one.0; to = two.0; number = three.0 } ≡ name = cc in
-    subst (λ (n : JobId). IsName cores n × (word ≡ name_text n)) name_is
-    (record { sender = from.1; receiver = omega (arith, to.1); positive = number.0; in_range = number.1 },
-    cut_back 62 word tail
-    ∙ ap (λ front. front ++ 62 ∷ rest) from.2
-    ∙ ap (λ behind. decimal one.0 ++ 62 ∷ behind) (tail_is ∙ ap (λ front. front ++ 35 ∷ after_first is_hash rest) to.2 ∙ ap (λ behind. decimal two.0 ++ 35 ∷ behind) number.2)
-    ∙ sym (name_joined (record { from = one.0; to = two.0; number = three.0 })))
+    subst (λ (n : JobId). IsName cores n × (word ≡ name_text n)) name_is (
+      record { sender = from.1; receiver = omega (arith, to.1); positive = number.0; in_range = number.1 },
+      cut_back 62 word tail
+          ∙ ap (λ front. front ++ 62 ∷ rest) from.2
+          ∙ ap (λ behind. decimal one.0 ++ 62 ∷ behind) (tail_is ∙ ap (λ front. front ++ 35 ∷ after_first is_hash rest) to.2 ∙ ap (λ behind. decimal two.0 ++ 35 ∷ behind) number.2)
+          ∙ sym (name_joined (record { from = one.0; to = two.0; number = three.0 })),
+    )
 
 pub name_text_read : (cores : ℕ) (name : JobId) → cores ≤ most_cores → IsName cores name → name_of cores (name_text name) ≡ Some name
 unfolding name_of

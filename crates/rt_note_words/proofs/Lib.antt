@@ -6,4 +6,5 @@ pub mod PhraseTexts
 pub mod NoteTexts
 pub mod NoteReads
 pub mod NoteTells
+pub mod JoinedTexts
 pub mod LineTexts

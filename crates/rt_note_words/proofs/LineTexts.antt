@@ -1,8 +1,6 @@
 -- A line and the note that it tells are one.
-use Rattle.std.proofs.Common.{◌≡◌, ℕ, ◌+◌, ◌^◌, ◌<◌, ◌≤◌, ◌==◌, not, Bool, true, false, ◌&&◌, List, [], ◌∷◌, ◌++◌, length, inl, inr, refl, sym, ap, ◌∙◌, subst, arith, append_assoc, decimal, codes, length-append}
+use Rattle.std.proofs.Common.{◌≡◌, ℕ, ◌^◌, ◌<◌, ◌≤◌, ◌==◌, not, Bool, true, false, ◌&&◌, List, [], ◌∷◌, ◌++◌, inl, refl, sym, ap, ◌∙◌, subst, arith, decimal, codes}
 use Rattle.std.specs.Prelude.{All}
-use Rattle.std.specs.List.{join_with_byte}
-use Rattle.std.proofs.lemmas.Bool.Decides.{nat_tests}
 use Rattle.std.proofs.lemmas.List.Elements.{All-nil, All-cons, All-append}
 use Rattle.std.proofs.lemmas.List.Splits.{slice_split_none, slice_split_at, join_with_byte-slice_split}
 use Rattle.rt_shares.specs.Charge.{InRange}
@@ -23,7 +21,7 @@ use Rattle.rt_ids.specs.Limits.{most_cores}
 use Rattle.rt_ids.specs.Orders.{IsSpelledOrder}
 use Rattle.rt_ids.specs.Spelled.{IsName, IsSpelledNote, IsSpelledAnswer, IsSpelledOutcome}
 use Rattle.rt_ids.specs.Terms.{Terms}
-use Rattle.rt_text.specs.Notes.{name_text, reason_text, mode_text, order_text, answer_text, outcome_text, note_text, note_line}
+use Rattle.rt_text.specs.Notes.{name_text, reason_text, mode_text}
 use Rattle.rt_words.specs.Words.{words}
 use Rattle.rt_note_words.specs.Laws.{LineTellsNote, NoteHasOneLine, HoldsTimes, HoldsOut}
 use Rattle.rt_note_words.proofs.Decimals.{no_sign}
@@ -32,135 +30,23 @@ use Rattle.rt_note_words.proofs.NoteReads.{note_read}
 use Rattle.rt_note_words.proofs.NoteTells.{note_tells}
 use Rattle.rt_note_words.proofs.NoteTexts.{note_words}
 use Rattle.rt_note_words.proofs.PhraseTexts.{order_words, answer_words, outcome_words}
-
-abbrev joined : List (List ℕ) → List ℕ
-joined ws = join_with_byte 32 ws
-
--- a word, a space and the rest
-spaced : (front rest : List ℕ) → (front ++ codes " ") ++ rest ≡ front ++ 32 ∷ rest
-spaced front rest = append_assoc front (codes " ") rest
-
-order_joined : (sent : Order (Unit {0})) → order_text sent ≡ joined (order_words sent)
-order_joined (order.Job queue task) = refl
-order_joined (order.Create weight) = refl
-order_joined (order.SetShares queue weight) = ap (λ text. codes "shares q" ++ text) (spaced (decimal queue) (decimal weight))
-
-answer_joined : (a : Answer) → answer_text a ≡ joined (answer_words a)
-answer_joined (answer.Created queue) = refl
-answer_joined answer.TooMany = refl
-answer_joined answer.NoMemory = refl
-answer_joined answer.CoreClosing = refl
-answer_joined answer.SharesSet = refl
-answer_joined answer.NoQueue = refl
-answer_joined answer.Closed = refl
-answer_joined answer.AlreadyClosed = refl
-
-answered_joined : (a : Answer) → codes "answered " ++ answer_text a ≡ joined (codes "answered" ∷ answer_words a)
-answered_joined (answer.Created queue) = refl
-answered_joined answer.TooMany = refl
-answered_joined answer.NoMemory = refl
-answered_joined answer.CoreClosing = refl
-answered_joined answer.SharesSet = refl
-answered_joined answer.NoQueue = refl
-answered_joined answer.Closed = refl
-answered_joined answer.AlreadyClosed = refl
-
-outcome_joined : (o : OutcomeNote ℕ) → outcome_text o ≡ joined (outcome_words o)
-outcome_joined (outcome.Finished out) = refl
-outcome_joined (outcome.Returned why) = refl
-outcome_joined (outcome.Answered told) = answered_joined told
-
--- words behind a name
-abbrev Some_words : List (List ℕ) → Type 0
-Some_words [] = ⊥
-Some_words (w ∷ ws) = Unit {0}
-
-behind : (name rest : List ℕ) (ws : List (List ℕ)) → Some_words ws → rest ≡ joined ws → (name ++ codes " ") ++ rest ≡ joined (name ∷ ws)
-behind name rest [] some e = absurd some
-behind name rest (w ∷ ws) some e = spaced name rest ∙ ap (λ text. name ++ 32 ∷ text) e
-
-order_some : (sent : Order (Unit {0})) → Some_words (order_words sent)
-order_some (order.Job queue task) = tt
-order_some (order.Create weight) = tt
-order_some (order.SetShares queue weight) = tt
-
-answer_some : (a : Answer) → Some_words (answer_words a)
-answer_some (answer.Created queue) = tt
-answer_some answer.TooMany = tt
-answer_some answer.NoMemory = tt
-answer_some answer.CoreClosing = tt
-answer_some answer.SharesSet = tt
-answer_some answer.NoQueue = tt
-answer_some answer.Closed = tt
-answer_some answer.AlreadyClosed = tt
-
-outcome_some : (o : OutcomeNote ℕ) → Some_words (outcome_words o)
-outcome_some (outcome.Finished out) = tt
-outcome_some (outcome.Returned why) = tt
-outcome_some (outcome.Answered told) = tt
-
-note_joined : (written : Note ℕ) → note_text written ≡ joined (note_words written)
-note_joined (note.Sent name sent) = ap (λ text. codes "sent " ++ text) (behind (name_text name) (order_text sent) (order_words sent) (order_some sent) (order_joined sent))
-note_joined (note.Took name queue) = ap (λ text. codes "took " ++ text) (append_assoc (name_text name) (codes " q") (decimal queue))
-note_joined (note.Back name why) = ap (λ text. codes "back " ++ text) (spaced (name_text name) (reason_text why))
-note_joined (note.Answered name told) = ap (λ text. codes "answered " ++ text) (behind (name_text name) (answer_text told) (answer_words told) (answer_some told) (answer_joined told))
-note_joined (note.Created queue weight) = ap (λ text. codes "queue q" ++ text) (spaced (decimal queue) (decimal weight))
-note_joined (note.SharesSet queue weight) = ap (λ text. codes "shares q" ++ text) (spaced (decimal queue) (decimal weight))
-note_joined (note.QueueClosed queue mode) = ap (λ text. codes "closed q" ++ text) (spaced (decimal queue) (mode_text mode))
-note_joined (note.CoreClosed mode) = refl
-note_joined (note.Pick queue runtime) = ap (λ text. codes "pick q" ++ text) (append_assoc (decimal queue) (codes " at ") (decimal runtime))
-note_joined (note.Start name) = refl
-note_joined (note.Resume name) = refl
-note_joined (note.Yield name time) = ap (λ text. codes "yield " ++ text) (spaced (name_text name) (decimal time))
-note_joined (note.Done name time value) = ap (λ text. codes "done " ++ text)
-    (append_assoc ((name_text name ++ codes " ") ++ decimal time) (codes " = ") (decimal value)
-    ∙ append_assoc (name_text name ++ codes " ") (decimal time) (codes " = " ++ decimal value)
-    ∙ spaced (name_text name) (decimal time ++ (codes " = " ++ decimal value)))
-note_joined (note.Returned name why) = ap (λ text. codes "returned " ++ text) (spaced (name_text name) (reason_text why))
-note_joined (note.Shut sender count) = ap (λ text. codes "shut " ++ text) (spaced (decimal sender) (decimal count))
-note_joined (note.Collected name told) = ap (λ text. codes "collected " ++ text) (behind (name_text name) (outcome_text told) (outcome_words told) (outcome_some told) (outcome_joined told))
-note_joined (note.Redeemed name told) = ap (λ text. codes "redeemed " ++ text) (behind (name_text name) (outcome_text told) (outcome_words told) (outcome_some told) (outcome_joined told))
-note_joined (note.Detached name) = refl
-
-note_some : (written : Note ℕ) → Some_words (note_words written)
-note_some (note.Sent name sent) = tt
-note_some (note.Took name queue) = tt
-note_some (note.Back name why) = tt
-note_some (note.Answered name told) = tt
-note_some (note.Created queue weight) = tt
-note_some (note.SharesSet queue weight) = tt
-note_some (note.QueueClosed queue mode) = tt
-note_some (note.CoreClosed mode) = tt
-note_some (note.Pick queue runtime) = tt
-note_some (note.Start name) = tt
-note_some (note.Resume name) = tt
-note_some (note.Yield name time) = tt
-note_some (note.Done name time value) = tt
-note_some (note.Returned name why) = tt
-note_some (note.Shut sender count) = tt
-note_some (note.Collected name told) = tt
-note_some (note.Redeemed name told) = tt
-note_some (note.Detached name) = tt
-
-line_joined : (actor : ℕ) (written : Note ℕ) → note_line actor written ≡ joined (decimal actor ∷ note_words written)
-line_joined actor written = behind (decimal actor) (note_text written) (note_words written) (note_some written) (note_joined written)
+use Rattle.rt_note_words.proofs.JoinedTexts.{joined, line_joined}
 
 -- no byte of a word parts it
 abbrev HasNoSpace : List ℕ → Type 0
 HasNoSpace word = All (λ byte. (byte == 32) ≡ false) word
 
-spaceless : List ℕ → Bool
+abbrev spaceless : List ℕ → Bool
 spaceless [] = true
 spaceless (byte ∷ bytes) = not (byte == 32) && spaceless bytes
 
+one_byte : (byte : ℕ) (bytes : List ℕ) (b : Bool) → (byte == 32) ≡ b → (not (byte == 32) && spaceless bytes) ≡ true → (spaceless bytes ≡ true → HasNoSpace bytes) → HasNoSpace (byte ∷ bytes)
+one_byte byte bytes true is all rest = let bad : false ≡ true = ap (λ b. not b && spaceless bytes) (sym is) ∙ all in cc
+one_byte byte bytes false is all rest = All-cons (λ byte. (byte == 32) ≡ false) byte bytes is (rest (ap (λ b. not b && spaceless bytes) (sym is) ∙ all))
+
 whole_word : (word : List ℕ) → spaceless word ≡ true → HasNoSpace word
-unfolding spaceless
 whole_word [] e = All-nil (λ byte. (byte == 32) ≡ false)
-whole_word (byte ∷ bytes) e = parted (byte == 32) refl e
-  where
-    parted : (b : Bool) → (byte == 32) ≡ b → (not (byte == 32) && spaceless bytes) ≡ true → HasNoSpace (byte ∷ bytes)
-    parted true is all = let bad : false ≡ true = ap (λ b. not b && spaceless bytes) (sym is) ∙ all in cc
-    parted false is all = All-cons (λ byte. (byte == 32) ≡ false) byte bytes is (whole_word bytes (ap (λ b. not b && spaceless bytes) (sym is) ∙ all))
+whole_word (byte ∷ bytes) e = one_byte byte bytes (byte == 32) refl e (whole_word bytes)
 
 -- the words of a line are those that were joined
 abbrev Are_words : List (List ℕ) → Type 0
@@ -255,15 +141,18 @@ note_whole terms (note.Detached name) few spelled times = (whole_word (codes "de
 pub line_tells : LineTellsNote
 line_tells terms written actor spelled times =
     let few = actor.1 in
-    let here = actor.2 in
-    (note_words written,
-    ap words (line_joined terms.actor written) ∙ words_joined (decimal terms.actor) (note_words written) (number_word terms.actor (omega arith), note_whole terms written few spelled times),
-    note_tells terms written few spelled times)
+    let here = actor.2 in (
+      note_words written,
+      ap words (line_joined terms.actor written) ∙ words_joined (decimal terms.actor) (note_words written) (number_word terms.actor (omega arith), note_whole terms written few spelled times),
+      note_tells terms written few spelled times,
+    )
 
 -- a line whose words are these
 pub one_line : NoteHasOneLine
 one_line terms written line actor told =
-    let read = note_read terms told.0 written actor.0 actor.1 told.2 in
-    (sym (join_with_byte-slice_split 32 line)
-    ∙ ap joined (told.1 ∙ ap (λ ws. decimal terms.actor ∷ ws) read.0)
-    ∙ sym (line_joined terms.actor written), read.1)
+    let read = note_read terms told.0 written actor.0 actor.1 told.2 in (
+      sym (join_with_byte-slice_split 32 line)
+          ∙ ap joined (told.1 ∙ ap (λ ws. decimal terms.actor ∷ ws) read.0)
+          ∙ sym (line_joined terms.actor written),
+      read.1,
+    )

@@ -1,32 +1,25 @@
 -- The note that words say is told by them alone.
-use Rattle.std.proofs.Common.{◌≡◌, ℕ, ◌+◌, ◌<◌, ◌≤◌, ◌==◌, Bool, true, false, cond, List, [], ◌∷◌, ◌++◌, length, Option, Some, None, refl, sym, ap, ◌∙◌, subst, arith, decimal, codes, ltb}
-use Rattle.std.specs.Option.{option_map}
+use Rattle.std.proofs.Common.{◌≡◌, ℕ, ◌<◌, ◌≤◌, ◌==◌, cond, List, [], ◌∷◌, Option, Some, None, refl, sym, ap, ◌∙◌, subst, arith, codes, ltb}
 use Rattle.std.proofs.lemmas.Bool.Decides.{nat_tests}
-use Rattle.rt_shares.specs.Charge.{InRange}
 use Rattle.rt_ids.specs.declared.names.JobId.{JobId}
 use Rattle.rt_ids.specs.declared.note.Note.{Note}
-use Rattle.rt_ids.specs.declared.note.Note.TheVariants as note
-use Rattle.rt_ids.specs.Limits.{most_cores, last_number}
-use Rattle.rt_ids.specs.Spelled.{IsName, IsOwn, IsReceived, IsSpelledNote}
+use Rattle.rt_ids.specs.Limits.{most_cores}
+use Rattle.rt_ids.specs.Spelled.{IsName, IsOwn, IsReceived}
 use Rattle.rt_ids.specs.Terms.{Terms}
-use Rattle.rt_text.specs.Notes.{name_text, mode_text, reason_text}
-use Rattle.rt_words.specs.Words.{first, others, second, third}
+use Rattle.rt_text.specs.Notes.{name_text}
+use Rattle.rt_words.specs.Words.{first, others}
 use Rattle.rt_note_words.specs.declared.kind.OwnKind.{OwnKind}
 use Rattle.rt_note_words.specs.declared.kind.OwnKind.TheVariants as own
 use Rattle.rt_note_words.specs.declared.kind.ReceivedKind.{ReceivedKind}
 use Rattle.rt_note_words.specs.declared.kind.ReceivedKind.TheVariants as received
 use Rattle.rt_note_words.specs.declared.kind.CoreKind.{CoreKind}
 use Rattle.rt_note_words.specs.declared.kind.CoreKind.TheVariants as inner
-use Rattle.rt_note_words.specs.Fields.{◌>>=◌, fixed, number_in, name_of, queue_of, mode_of, back_reason_of, return_reason_of, count_of, runtime_of}
+use Rattle.rt_note_words.specs.Fields.{name_of}
 use Rattle.rt_note_words.specs.Kinds.{own_kind_of, received_kind_of, core_kind_of}
-use Rattle.rt_note_words.specs.Phrases.{last, shares_phrase, order_of, answer_of, outcome_of}
-use Rattle.rt_note_words.specs.NoteWords.{own_rest, received_rest, core_rest, done_phrase, closed_phrase, pick_phrase, shut_phrase, own_name, received_name, own_note, received_note, core_note, if_kind, note_of}
-use Rattle.rt_note_words.proofs.Decimals.{number_in_read, number_in_text, number_in-none}
-use Rattle.rt_note_words.proofs.FieldTexts.{queue_word, queue_read, queue_text_read, queue_of-none, name_read, name_text_read, name_of-none, mode_read, mode_text_read, mode_of-none, back_reason_read, back_reason_text_read, back_reason_of-none, return_reason_read, return_reason_text_read, return_reason_of-none}
-use Rattle.rt_note_words.proofs.Options.{either, bind_some, map_some, last_some, chosen, told, fixed_some, led, alone}
-use Rattle.rt_note_words.proofs.PhraseTexts.{shares_words_read, shares_text_read, order_words, order_read, order_text_read, answer_words, answer_read, answer_text_read, outcome_words, outcome_read, outcome_text_read}
-
-use Rattle.rt_note_words.proofs.NoteTexts.{note_words, own_word, received_word, inner_word, WordsOf, own_rest_read, received_rest_read, core_rest_read}
+use Rattle.rt_note_words.specs.NoteWords.{own_rest, received_rest, core_rest, own_name, received_name, own_note, received_note, core_note, if_kind, note_of}
+use Rattle.rt_note_words.proofs.FieldTexts.{name_read, name_of-none}
+use Rattle.rt_note_words.proofs.Options.{either, bind_some, chosen, told, led}
+use Rattle.rt_note_words.proofs.NoteTexts.{own_word, received_word, inner_word, WordsOf, own_rest_read, received_rest_read, core_rest_read}
 
 -- the first word says the kind
 own_kind_read : (word : List ℕ) (kind : OwnKind) → own_kind_of word ≡ Some kind → word ≡ own_word kind
@@ -79,9 +72,9 @@ kept_name : (actor : ℕ) (end : JobId → ℕ) (read name : JobId) → cond (en
 kept_name actor end read name is =
     either (chosen (end read == actor) (Some read) None name is)
     (λ h.
-        let same : read ≡ name = cc in
-        let at : end read ≡ actor = grind (arith, nat_tests, h.0) in
-        (same, ap end (sym same) ∙ at))
+    let same : read ≡ name = cc in
+    let at : end read ≡ actor = grind (arith, nat_tests, h.0) in
+    (same, ap end (sym same) ∙ at))
     (λ h. cc)
 
 own_note_read : (terms : Terms) (kind : OwnKind) (ws : List (List ℕ)) (written : Note ℕ) → 1 ≤ terms.cores → terms.cores ≤ most_cores → own_note terms.actor terms.cores kind ws ≡ Some written → WordsOf terms (own_word kind ∷ ws) written

@@ -1,5 +1,5 @@
 -- The words of a note say it, where its actor may write it.
-use Rattle.std.proofs.Common.{◌≡◌, ℕ, ◌+◌, ◌<◌, ◌≤◌, ◌==◌, Bool, true, false, cond, List, [], ◌∷◌, Option, Some, None, refl, sym, ap, ◌∙◌, arith, decimal, codes, ltb}
+use Rattle.std.proofs.Common.{◌≡◌, ℕ, ◌<◌, ◌≤◌, ◌==◌, true, cond, List, ◌∷◌, Option, Some, None, refl, ap, ◌∙◌, arith, decimal, codes, ltb}
 use Rattle.std.specs.Option.{option_map}
 use Rattle.std.proofs.lemmas.Bool.Decides.{nat_tests}
 use Rattle.rt_ids.specs.declared.names.JobId.{JobId}
@@ -8,20 +8,19 @@ use Rattle.rt_ids.specs.declared.note.Note.TheVariants as note
 use Rattle.rt_ids.specs.Limits.{most_cores, last_number}
 use Rattle.rt_ids.specs.Spelled.{IsOwn, IsReceived, IsSpelledNote}
 use Rattle.rt_ids.specs.Terms.{Terms}
-use Rattle.rt_text.specs.Notes.{name_text, mode_text, reason_text}
-use Rattle.rt_words.specs.Words.{first, others}
+use Rattle.rt_text.specs.Notes.{name_text, mode_text}
 use Rattle.rt_note_words.specs.declared.kind.OwnKind.{OwnKind}
 use Rattle.rt_note_words.specs.declared.kind.OwnKind.TheVariants as own
 use Rattle.rt_note_words.specs.declared.kind.ReceivedKind.{ReceivedKind}
 use Rattle.rt_note_words.specs.declared.kind.ReceivedKind.TheVariants as received
 use Rattle.rt_note_words.specs.declared.kind.CoreKind.{CoreKind}
 use Rattle.rt_note_words.specs.declared.kind.CoreKind.TheVariants as inner
-use Rattle.rt_note_words.specs.Fields.{◌>>=◌, number_in, name_of, queue_of, mode_of, count_of}
+use Rattle.rt_note_words.specs.Fields.{◌>>=◌, number_in, mode_of, count_of}
 use Rattle.rt_note_words.specs.Kinds.{own_kind_of, received_kind_of, core_kind_of}
 use Rattle.rt_note_words.specs.Laws.{HoldsTimes}
-use Rattle.rt_note_words.specs.NoteWords.{own_rest, received_rest, core_rest, done_phrase, closed_phrase, pick_phrase, shut_phrase, own_name, received_name, own_note, received_note, core_note, if_kind, note_of}
+use Rattle.rt_note_words.specs.NoteWords.{own_rest, received_rest, core_rest, done_phrase, closed_phrase, pick_phrase, shut_phrase, own_note, received_note, core_note, if_kind, note_of}
 use Rattle.rt_note_words.proofs.Decimals.{number_in_text}
-use Rattle.rt_note_words.proofs.FieldTexts.{queue_word, queue_text_read, name_text_read, mode_text_read, back_reason_text_read, return_reason_text_read}
+use Rattle.rt_note_words.proofs.FieldTexts.{queue_text_read, name_text_read, mode_text_read, back_reason_text_read, return_reason_text_read}
 use Rattle.rt_note_words.proofs.NoteTexts.{note_words}
 use Rattle.rt_note_words.proofs.PhraseTexts.{shares_text_read, order_text_read, answer_text_read, outcome_text_read}
 

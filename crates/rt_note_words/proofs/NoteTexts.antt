@@ -1,13 +1,10 @@
 -- The words of a note's line say that note, and nothing else.
-use Rattle.std.proofs.Common.{◌≡◌, ℕ, ◌+◌, ◌<◌, ◌≤◌, ◌==◌, Bool, true, false, cond, List, [], ◌∷◌, ◌++◌, length, Option, Some, None, refl, sym, ap, ◌∙◌, subst, arith, decimal, codes, ltb}
-use Rattle.std.specs.Option.{option_map}
-use Rattle.std.proofs.lemmas.Bool.Decides.{nat_tests}
-use Rattle.rt_shares.specs.Charge.{InRange}
+use Rattle.std.proofs.Common.{◌≡◌, ℕ, ◌<◌, ◌≤◌, List, [], ◌∷◌, length, Some, ap, ◌∙◌, subst, arith, decimal, codes}
 use Rattle.rt_ids.specs.declared.names.JobId.{JobId}
 use Rattle.rt_ids.specs.declared.note.Note.{Note}
 use Rattle.rt_ids.specs.declared.note.Note.TheVariants as note
 use Rattle.rt_ids.specs.Limits.{most_cores, last_number}
-use Rattle.rt_ids.specs.Spelled.{IsName, IsOwn, IsReceived, IsSpelledNote}
+use Rattle.rt_ids.specs.Spelled.{IsOwn, IsReceived, IsSpelledNote}
 use Rattle.rt_ids.specs.Terms.{Terms}
 use Rattle.rt_text.specs.Notes.{name_text, mode_text, reason_text}
 use Rattle.rt_words.specs.Words.{first, others, second, third}
@@ -17,14 +14,13 @@ use Rattle.rt_note_words.specs.declared.kind.ReceivedKind.{ReceivedKind}
 use Rattle.rt_note_words.specs.declared.kind.ReceivedKind.TheVariants as received
 use Rattle.rt_note_words.specs.declared.kind.CoreKind.{CoreKind}
 use Rattle.rt_note_words.specs.declared.kind.CoreKind.TheVariants as inner
-use Rattle.rt_note_words.specs.Fields.{◌>>=◌, fixed, number_in, name_of, queue_of, mode_of, back_reason_of, return_reason_of, count_of, runtime_of}
-use Rattle.rt_note_words.specs.Kinds.{own_kind_of, received_kind_of, core_kind_of}
+use Rattle.rt_note_words.specs.Fields.{◌>>=◌, fixed, number_in, queue_of, mode_of, back_reason_of, return_reason_of, count_of, runtime_of}
 use Rattle.rt_note_words.specs.Phrases.{last, shares_phrase, order_of, answer_of, outcome_of}
-use Rattle.rt_note_words.specs.NoteWords.{own_rest, received_rest, core_rest, done_phrase, closed_phrase, pick_phrase, shut_phrase, own_name, received_name, own_note, received_note, core_note, if_kind, note_of}
-use Rattle.rt_note_words.proofs.Decimals.{number_in_read, number_in_text, number_in-none}
-use Rattle.rt_note_words.proofs.FieldTexts.{queue_word, queue_read, queue_text_read, queue_of-none, name_read, name_text_read, name_of-none, mode_read, mode_text_read, mode_of-none, back_reason_read, back_reason_text_read, back_reason_of-none, return_reason_read, return_reason_text_read, return_reason_of-none}
-use Rattle.rt_note_words.proofs.Options.{either, bind_some, map_some, last_some, chosen, told, fixed_some, led, alone}
-use Rattle.rt_note_words.proofs.PhraseTexts.{shares_words_read, shares_text_read, order_words, order_read, order_text_read, answer_words, answer_read, answer_text_read, outcome_words, outcome_read, outcome_text_read}
+use Rattle.rt_note_words.specs.NoteWords.{own_rest, received_rest, core_rest, done_phrase, closed_phrase, pick_phrase, shut_phrase}
+use Rattle.rt_note_words.proofs.Decimals.{number_in_read, number_in-none}
+use Rattle.rt_note_words.proofs.FieldTexts.{queue_word, queue_read, queue_of-none, mode_read, mode_of-none, back_reason_read, back_reason_of-none, return_reason_read, return_reason_of-none}
+use Rattle.rt_note_words.proofs.Options.{bind_some, map_some, last_some, told, fixed_some, led, alone}
+use Rattle.rt_note_words.proofs.PhraseTexts.{shares_words_read, order_words, order_read, answer_words, answer_read, outcome_words, outcome_read}
 
 -- the words of a note
 abbrev pub note_words : Note ℕ → List (List ℕ)
@@ -105,12 +101,14 @@ done_read terms name ws written mine is =
     let time = number_in_read 0 18446744073709551615 (first ws) one.0 (omega arith) one.1 in
     let value = number_in_read 0 18446744073709551615 (third ws) two.0 (omega arith) end.0 in
     let same : note.Done name one.0 two.0 ≡ written = cc in
-    subst (WordsOf terms (codes "done" ∷ name_text name ∷ ws)) same
-    (ap (λ r. codes "done" ∷ name_text name ∷ r) (
-        led count_of ws one.0 (number_in-none 0 18446744073709551615) one.1
-        ∙ ap (λ word. word ∷ others ws) time.2
-        ∙ ap (λ words. decimal one.0 ∷ words) (second_there (others ws) sign.0)
-        ∙ ap (λ words. decimal one.0 ∷ codes "=" ∷ words) (end.1 ∙ ap (λ word. word ∷ []) value.2)), mine)
+    subst (WordsOf terms (codes "done" ∷ name_text name ∷ ws)) same (
+      ap (λ r. codes "done" ∷ name_text name ∷ r) (
+          led count_of ws one.0 (number_in-none 0 18446744073709551615) one.1
+          ∙ ap (λ word. word ∷ others ws) time.2
+          ∙ ap (λ words. decimal one.0 ∷ words) (second_there (others ws) sign.0)
+          ∙ ap (λ words. decimal one.0 ∷ codes "=" ∷ words) (end.1 ∙ ap (λ word. word ∷ []) value.2)),
+      mine,
+    )
   where
     second_there : (rest : List (List ℕ)) → first rest ≡ codes "=" → rest ≡ codes "=" ∷ others rest
     second_there [] e = absurd (omega (arith, ap length e))
@@ -161,11 +159,13 @@ closed_read terms ws written core is =
     let end = alone mode_of (others ws) two.0 mode_of-none two.1 in
     let queue = queue_read (first ws) one.0 one.1 in
     let same : note.QueueClosed one.0 two.0 ≡ written = cc in
-    subst (WordsOf terms (codes "closed" ∷ ws)) same
-    (ap (λ r. codes "closed" ∷ r) (
-        led queue_of ws one.0 queue_of-none one.1
-        ∙ ap (λ word. word ∷ others ws) queue.1
-        ∙ ap (λ words. queue_word one.0 ∷ words) (end.1 ∙ ap (λ word. word ∷ []) (mode_read (second ws) two.0 end.0))), (core, omega (arith, queue.0)))
+    subst (WordsOf terms (codes "closed" ∷ ws)) same (
+      ap (λ r. codes "closed" ∷ r) (
+          led queue_of ws one.0 queue_of-none one.1
+          ∙ ap (λ word. word ∷ others ws) queue.1
+          ∙ ap (λ words. queue_word one.0 ∷ words) (end.1 ∙ ap (λ word. word ∷ []) (mode_read (second ws) two.0 end.0))),
+      (core, omega (arith, queue.0)),
+    )
 
 second_is : (text : List ℕ) (rest : List (List ℕ)) → 1 ≤ length text → first rest ≡ text → rest ≡ text ∷ others rest
 second_is text [] some e = absurd (omega (arith, ap length e))
@@ -182,12 +182,14 @@ pick_read terms ws written core is =
     let queue = queue_read (first ws) one.0 one.1 in
     let runtime = number_in_read 0 340282366920938463463374607431768211455 (third ws) two.0 (omega arith) end.0 in
     let same : note.Pick one.0 two.0 ≡ written = cc in
-    subst (WordsOf terms (codes "pick" ∷ ws)) same
-    (ap (λ r. codes "pick" ∷ r) (
-        led queue_of ws one.0 queue_of-none one.1
-        ∙ ap (λ word. word ∷ others ws) queue.1
-        ∙ ap (λ words. queue_word one.0 ∷ words) (second_is (codes "at") (others ws) (omega arith) sign.0)
-        ∙ ap (λ words. queue_word one.0 ∷ codes "at" ∷ words) (end.1 ∙ ap (λ word. word ∷ []) runtime.2)), (core, omega (arith, queue.0), omega (arith, runtime.1)))
+    subst (WordsOf terms (codes "pick" ∷ ws)) same (
+      ap (λ r. codes "pick" ∷ r) (
+          led queue_of ws one.0 queue_of-none one.1
+          ∙ ap (λ word. word ∷ others ws) queue.1
+          ∙ ap (λ words. queue_word one.0 ∷ words) (second_is (codes "at") (others ws) (omega arith) sign.0)
+          ∙ ap (λ words. queue_word one.0 ∷ codes "at" ∷ words) (end.1 ∙ ap (λ word. word ∷ []) runtime.2)),
+      (core, omega (arith, queue.0), omega (arith, runtime.1)),
+    )
 
 shut_read : (terms : Terms) (ws : List (List ℕ)) (written : Note ℕ) → terms.actor < terms.cores → terms.cores ≤ most_cores → shut_phrase terms.cores ws ≡ Some written → WordsOf terms (codes "shut" ∷ ws) written
 unfolding shut_phrase
@@ -198,11 +200,13 @@ shut_read terms ws written core few is =
     let sender = number_in_read 0 terms.cores (first ws) one.0 (omega arith) one.1 in
     let count = number_in_read 0 last_number (second ws) two.0 (omega arith) end.0 in
     let same : note.Shut one.0 two.0 ≡ written = cc in
-    subst (WordsOf terms (codes "shut" ∷ ws)) same
-    (ap (λ r. codes "shut" ∷ r) (
-        led (number_in 0 terms.cores) ws one.0 (number_in-none 0 terms.cores) one.1
-        ∙ ap (λ word. word ∷ others ws) sender.2
-        ∙ ap (λ words. decimal one.0 ∷ words) (end.1 ∙ ap (λ word. word ∷ []) count.2)), (core, sender.1, count.1))
+    subst (WordsOf terms (codes "shut" ∷ ws)) same (
+      ap (λ r. codes "shut" ∷ r) (
+          led (number_in 0 terms.cores) ws one.0 (number_in-none 0 terms.cores) one.1
+          ∙ ap (λ word. word ∷ others ws) sender.2
+          ∙ ap (λ words. decimal one.0 ∷ words) (end.1 ∙ ap (λ word. word ∷ []) count.2)),
+      (core, sender.1, count.1),
+    )
 
 pub core_rest_read : (terms : Terms) (kind : CoreKind) (ws : List (List ℕ)) (written : Note ℕ) → terms.actor < terms.cores → terms.cores ≤ most_cores → core_rest kind terms.cores ws ≡ Some written → WordsOf terms (inner_word kind ∷ ws) written
 unfolding core_rest
@@ -221,4 +225,3 @@ core_rest_read terms inner.CoreClosed ws written core few is =
     subst (WordsOf terms (codes "coreclosed" ∷ ws)) one.2 (ap (λ r. codes "coreclosed" ∷ r) (end.1 ∙ ap (λ word. word ∷ []) (mode_read (first ws) one.0 end.0)), core)
 core_rest_read terms inner.Pick ws written core few is = pick_read terms ws written core is
 core_rest_read terms inner.Shut ws written core few is = shut_read terms ws written core few is
-

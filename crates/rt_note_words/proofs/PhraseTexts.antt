@@ -1,6 +1,5 @@
 -- The last words of a note say what they are the words of, and nothing else.
-use Rattle.std.proofs.Common.{◌≡◌, ℕ, ◌+◌, ◌<◌, ◌≤◌, Bool, true, false, cond, List, [], ◌∷◌, ◌++◌, length, Option, Some, None, refl, sym, ap, ◌∙◌, subst, arith, append_assoc, decimal, codes}
-use Rattle.std.specs.Prelude.{if◌then◌else◌}
+use Rattle.std.proofs.Common.{◌≡◌, ℕ, ◌≤◌, true, List, [], ◌∷◌, Option, Some, None, refl, ap, ◌∙◌, subst, arith, decimal, codes}
 use Rattle.std.specs.Option.{option_map}
 use Rattle.std.specs.Str.{bytes_eq}
 use Rattle.rt_shares.specs.Charge.{InRange}
@@ -12,14 +11,14 @@ use Rattle.rt_ids.specs.declared.order.Order.{Order}
 use Rattle.rt_ids.specs.declared.order.Order.TheVariants as order
 use Rattle.rt_ids.specs.Orders.{IsSpelledOrder}
 use Rattle.rt_ids.specs.Spelled.{IsSpelledAnswer, IsSpelledOutcome}
-use Rattle.rt_text.specs.Notes.{answer_text, reason_text}
-use Rattle.rt_words.specs.Words.{first, others, second, third}
-use Rattle.rt_note_words.specs.Fields.{◌>>=◌, number_in, queue_of, weight_of, count_of, reason_of, back_reason_of, return_reason_of}
+use Rattle.rt_text.specs.Notes.{reason_text}
+use Rattle.rt_words.specs.Words.{first, others, second}
+use Rattle.rt_note_words.specs.Fields.{◌>>=◌, queue_of, weight_of, count_of, reason_of, back_reason_of, return_reason_of}
 use Rattle.rt_note_words.specs.Phrases.{last, shares_phrase, order_of, plain_answer_of, answer_of, outcome_of}
 use Rattle.rt_note_words.specs.Laws.{HoldsOut}
 use Rattle.rt_note_words.proofs.Decimals.{number_in_read, number_in_text, number_in-none}
 use Rattle.rt_note_words.proofs.FieldTexts.{queue_word, queue_read, queue_text_read, queue_of-none, reason_read, reason_text_read}
-use Rattle.rt_note_words.proofs.Options.{either, bind_some, map_some, last_some, chosen, told, led, alone, keyed}
+use Rattle.rt_note_words.proofs.Options.{either, bind_some, map_some, chosen, told, led, alone, keyed}
 
 -- `qQ w`
 pub shares_words_read : (ws : List (List ℕ)) (queue weight : ℕ) → shares_phrase ws ≡ Some (queue, weight) → (ws ≡ queue_word queue ∷ decimal weight ∷ []) × (queue ≤ 255) × InRange weight
@@ -32,12 +31,13 @@ shares_words_read ws queue weight is =
     let same_weight : two.0 ≡ weight = ap (λ (p : ℕ × ℕ). p.1) pair in
     let read = queue_read (first ws) one.0 one.1 in
     let rest = alone weight_of (others ws) two.0 (number_in-none 1 10000) two.1 in
-    let number = number_in_read 1 10000 (second ws) two.0 (omega arith) rest.0 in
-    (led queue_of ws one.0 queue_of-none one.1
-    ∙ ap (λ word. word ∷ others ws) (read.1 ∙ ap queue_word same_queue)
-    ∙ ap (λ words. queue_word queue ∷ words) (rest.1 ∙ ap (λ word. word ∷ []) (number.2 ∙ ap decimal same_weight)),
-    omega (arith, read.0),
-    record { positive = omega (arith, number.0); bounded = omega (arith, number.1) })
+    let number = number_in_read 1 10000 (second ws) two.0 (omega arith) rest.0 in (
+      led queue_of ws one.0 queue_of-none one.1
+          ∙ ap (λ word. word ∷ others ws) (read.1 ∙ ap queue_word same_queue)
+          ∙ ap (λ words. queue_word queue ∷ words) (rest.1 ∙ ap (λ word. word ∷ []) (number.2 ∙ ap decimal same_weight)),
+      omega (arith, read.0),
+      record { positive = omega (arith, number.0); bounded = omega (arith, number.1) },
+    )
 
 pub shares_text_read : (queue weight : ℕ) → queue ≤ 255 → InRange weight → shares_phrase (queue_word queue ∷ decimal weight ∷ []) ≡ Some (queue, weight)
 unfolding shares_phrase
@@ -132,9 +132,9 @@ unfolding answer_of
 answer_read ws a is =
     either (chosen (bytes_eq (first ws) (codes "created")) _ _ a is) (λ h. created_read ws a h.0 h.1)
     (λ h.
-        let rest = alone plain_answer_of ws a plain_answer_of-none h.1 in
-        let read = plain_read (first ws) a rest.0 in
-        (rest.1 ∙ read.0, read.1))
+    let rest = alone plain_answer_of ws a plain_answer_of-none h.1 in
+    let read = plain_read (first ws) a rest.0 in
+    (rest.1 ∙ read.0, read.1))
 
 pub answer_text_read : (a : Answer) → IsSpelledAnswer a → answer_of (answer_words a) ≡ Some a
 unfolding answer_of plain_answer_of

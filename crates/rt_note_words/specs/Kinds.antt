@@ -1,5 +1,5 @@
 -- The first words of notes, by who writes them and of what.
-use Rattle.std.specs.Prelude.{List, ℕ, codes, Option, Some, None}
+use Rattle.std.specs.Prelude.{List, ℕ, codes, Option, None}
 use Rattle.rt_note_words.specs.declared.kind.OwnKind.{OwnKind}
 use Rattle.rt_note_words.specs.declared.kind.OwnKind.TheVariants as own
 use Rattle.rt_note_words.specs.declared.kind.ReceivedKind.{ReceivedKind}

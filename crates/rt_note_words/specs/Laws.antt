@@ -1,5 +1,5 @@
 -- A line and the note that it tells are one.
-use Rattle.std.specs.Prelude.{◌≡◌, ℕ, ◌^◌, ◌<◌, ◌≤◌, List, ◌∷◌, [], Some, decimal}
+use Rattle.std.specs.Prelude.{◌≡◌, ℕ, ◌^◌, ◌<◌, ◌≤◌, List, ◌∷◌, Some, decimal}
 use Rattle.rt_ids.specs.declared.note.Note.{Note}
 use Rattle.rt_ids.specs.declared.note.Note.TheVariants.{Yield, Done, Collected, Redeemed}
 use Rattle.rt_ids.specs.declared.note.OutcomeNote.{OutcomeNote}
@@ -8,7 +8,7 @@ use Rattle.rt_ids.specs.Limits.{most_cores}
 use Rattle.rt_ids.specs.Spelled.{IsSpelledNote}
 use Rattle.rt_ids.specs.Terms.{Terms}
 use Rattle.rt_text.specs.Notes.{note_line}
-use Rattle.rt_words.specs.Words.{words, others}
+use Rattle.rt_words.specs.Words.{words}
 use Rattle.rt_note_words.specs.NoteWords.{note_of}
 
 abbrev pub HoldsOut : OutcomeNote ℕ → Type 0

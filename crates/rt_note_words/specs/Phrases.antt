@@ -8,7 +8,7 @@ use Rattle.rt_ids.specs.declared.order.Answer.{Answer}
 use Rattle.rt_ids.specs.declared.order.Answer.TheVariants as answer
 use Rattle.rt_ids.specs.declared.order.Order.{Order}
 use Rattle.rt_ids.specs.declared.order.Order.TheVariants as order
-use Rattle.rt_words.specs.Words.{first, others, second, third}
+use Rattle.rt_words.specs.Words.{first, others, second}
 use Rattle.rt_note_words.specs.Fields.{or_else, queue_of, weight_of, count_of, reason_of, ◌>>=◌}
 
 -- what was read, if no word is left

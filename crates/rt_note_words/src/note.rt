@@ -41,7 +41,11 @@ fn own_name(word: &[u8], actor: u8, cores: u8) -> Option<JobId>
     ensures { result ≡ spec.own_name actor cores word.now }
 {
     let name = name_of(word, cores)?;
-    if name.from.0 == actor { Some(name) } else { None }
+    if name.from.0 == actor {
+        Some(name)
+    } else {
+        None
+    }
 }
 
 /// A name that this actor received.

@@ -51,7 +51,7 @@ note_taken draft new (Some note) is =
     (λ h. let room : length draft.notes < most_notes = grind (arith, nat_tests, h.0) in (note, refl, room, cc))
     (λ h. cc)
 
-actor_taken : (draft new : Drafted) (ws : List (List ℕ)) (read : Option ℕ) → with_actor draft ws read ≡ Ok new → (actor : ℕ) × (read ≡ Some actor) × (with_note (raised_to actor draft) (note_of actor draft.cores ws) ≡ Ok new)
+pub actor_taken : (draft new : Drafted) (ws : List (List ℕ)) (read : Option ℕ) → with_actor draft ws read ≡ Ok new → (actor : ℕ) × (read ≡ Some actor) × (with_note (raised_to actor draft) (note_of actor draft.cores ws) ≡ Ok new)
 actor_taken draft new ws None is = cc
 actor_taken draft new ws (Some actor) is = (actor, refl, is)
 
@@ -64,7 +64,7 @@ left_after : (draft new : Drafted) (ws : List (List ℕ)) (actor count : ℕ) �
 left_after draft new ws actor count at taken =
     let one = note_taken (raised count draft) new (note_of actor draft.cores ws) taken in
     let kept = raised_is count draft in
-    let behind = record { part = (raised count draft).part; cores = (raised count draft).cores; cap = (raised count draft).cap; earlier = (raised count draft).earlier; notes = one.0 ∷ (raised count draft).notes } in
+    let behind : Drafted = record { part = (raised count draft).part; cores = (raised count draft).cores; cap = (raised count draft).cap; earlier = (raised count draft).earlier; notes = one.0 ∷ (raised count draft).notes } in
     let longer : suc (length (raised count draft).notes) ≡ length (raised count draft).notes + 1 = omega arith in
     (one.2,
     ap lines_left one.3 ∙ left_in behind part.Notes (kept.part ∙ at)
@@ -89,7 +89,7 @@ fewer_form : (draft new : Drafted) (line : List ℕ) → draft.part ≡ part.For
 fewer_form draft new line at taken =
     either (chosen_ok (bytes_eq line (codes "journal 1")) _ _ new taken)
     (λ h.
-        let next = record { part = part.Size; cores = draft.cores; cap = draft.cap; earlier = draft.earlier; notes = draft.notes } in
+        let next : Drafted = record { part = part.Size; cores = draft.cores; cap = draft.cap; earlier = draft.earlier; notes = draft.notes } in
         let is : next ≡ new = cc in
         let before = left_in draft part.Form at in
         let after = ap lines_left (sym is) in
@@ -99,7 +99,7 @@ fewer_form draft new line at taken =
 fewer_size : (draft new : Drafted) (size : Option (ℕ × ℕ)) → draft.part ≡ part.Size → with_size draft size ≡ Ok new → lines_left new + 1 ≤ lines_left draft
 fewer_size draft new None at taken = cc
 fewer_size draft new (Some size) at taken =
-    let next = record { part = part.Notes; cores = size.0; cap = size.1; earlier = draft.earlier; notes = draft.notes } in
+    let next : Drafted = record { part = part.Notes; cores = size.0; cap = size.1; earlier = draft.earlier; notes = draft.notes } in
     let is : next ≡ new = cc in
     let before = left_in draft part.Size at in
     let after = ap lines_left (sym is) in
@@ -109,7 +109,7 @@ fewer_line : (draft new : Drafted) (line : List ℕ) → draft.part ≡ part.Not
 fewer_line draft new line at is taken =
     either (chosen_ok (bytes_eq line (codes "end")) _ _ new taken)
     (λ h.
-        let next = record { part = part.After; cores = draft.cores; cap = draft.cap; earlier = draft.earlier; notes = draft.notes } in
+        let next : Drafted = record { part = part.After; cores = draft.cores; cap = draft.cap; earlier = draft.earlier; notes = draft.notes } in
         let same : next ≡ new = cc in
         let few = is.few in
         let actors = is.actors in

@@ -1,5 +1,5 @@
 -- The journals of a text as far as its lines are judged.
-use Rattle.std.specs.Prelude.{ℕ, ◌+◌, ◌-◌, ◌*◌, ◌≤◌, ◌++◌, ◌∷◌, [], zero, suc, List, codes, length, Option, Some, None, Result, Ok, Err, nat_lt, if◌then◌else◌}
+use Rattle.std.specs.Prelude.{◌≡◌, ℕ, ◌+◌, ◌-◌, ◌*◌, ◌≤◌, ◌++◌, ◌∷◌, [], zero, suc, List, codes, length, Option, Some, None, Result, Ok, Err, nat_lt, if◌then◌else◌}
 use Rattle.std.specs.Str.{bytes_eq}
 use Rattle.rt_ids.specs.declared.note.Note.{Note}
 use Rattle.rt_ids.specs.Assembly.{Assembly}
@@ -111,8 +111,16 @@ lines_left_of part.After draft = 0
 abbrev pub lines_left : Drafted → ℕ
 lines_left draft = lines_left_of draft.part draft
 
+-- before a line tells how many cores there are, one is counted
+abbrev pub IsAloneIn : Part → ℕ → Type 0
+IsAloneIn part.Form cores = cores ≡ 1
+IsAloneIn part.Size cores = cores ≡ 1
+IsAloneIn part.Notes cores = Unit {0}
+IsAloneIn part.After cores = Unit {0}
+
 -- a draft keeps within the limits
 pub record IsDraft (draft : Drafted) : Type 0 where
+  pub alone : IsAloneIn draft.part draft.cores
   pub some : 1 ≤ draft.cores
   pub few : draft.cores ≤ 16
   pub actors : length draft.earlier ≤ draft.cores

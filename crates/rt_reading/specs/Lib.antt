@@ -3,3 +3,4 @@ pub mod Drafts
 pub mod Feeds
 pub mod JournalTexts
 pub mod Telling
+pub mod Laws

@@ -1,7 +1,7 @@
 //! The journals of a text as far as its lines are judged.
 
 ghost use Rattle.std.specs.Prelude.{◌≡◌, ◌≤◌, ◌<◌, ◌+◌, Ok, Err, IfOk, IfErr, IfSome, OnOk, length};
-ghost use Rattle.rt_ids.specs.declared.note.Note.{Note};
+ghost use Rattle.rt_ids.specs.declared.order.Order.{Order};
 ghost use Rattle.rt_words.specs.Words.{words};
 ghost use Rattle.rt_reading.specs.Drafts as spec;
 ghost use Rattle.rt_reading.specs.Faults.{IfFaulty};
@@ -106,6 +106,7 @@ impl Draft {
     }
 
     fn take_form(&mut self, number: u32, line: &[u8]) -> Result<(), ReadError>
+        requires { self.old.part ≡ Part.Form }
         ensures ok { OnOk result (spec.with_form self.old line.now ≡ Ok self.new) }
         ensures faulty { IfErr result (IfFaulty (λ fault.
             (fault.0 ≡ number) × (spec.with_form self.old line.now ≡ Err fault.1))) }
@@ -121,6 +122,7 @@ impl Draft {
     }
 
     fn take_size(&mut self, number: u32, line: &[u8]) -> Result<(), ReadError>
+        requires { self.old.part ≡ Part.Size }
         ensures ok { OnOk result (spec.with_size self.old (spec.size_of (words line.now)) ≡ Ok self.new) }
         ensures faulty { IfErr result (IfFaulty (λ fault.
             (fault.0 ≡ number) × (spec.with_size self.old (spec.size_of (words line.now)) ≡ Err fault.1))) }
@@ -153,8 +155,9 @@ impl Draft {
         match number_in(fields.next_word(), first, u64::from(self.cores)) {
             Some(actor) => {
                 let actor = actor as u8;
-                let note = note_of(&mut fields, actor, self.cores);
-                self.take_note(number, actor, note)
+                self.raise_to(actor)?;
+                let cores = self.cores;
+                self.take_note(number, note_of(&mut fields, actor, cores))
             }
             None => Err(ReadError::Text {
                 line: number,
@@ -163,34 +166,26 @@ impl Draft {
         }
     }
 
-    /// Takes what was read of a note of this actor.
-    fn take_note(
-        &mut self,
-        number: u32,
-        actor: u8,
-        note: Option<Note<u64>>,
-    ) -> Result<(), ReadError>
-        requires later { length self.old.earlier ≤ actor }
-        requires there { actor ≤ self.old.cores }
-        ensures ok { OnOk result (spec.with_note (spec.raised_to actor self.old) note ≡ Ok self.new) }
+    /// Takes what was read of a note of the actor.
+    fn take_note(&mut self, number: u32, note: Option<Note<u64>>) -> Result<(), ReadError>
+        ensures ok { OnOk result (spec.with_note self.old note ≡ Ok self.new) }
         ensures faulty { IfErr result (IfFaulty (λ fault.
-            (fault.0 ≡ number) × (spec.with_note (spec.raised_to actor self.old) note ≡ Err fault.1))) }
+            (fault.0 ≡ number) × (spec.with_note self.old note ≡ Err fault.1))) }
     {
-        let Some(note) = note else {
-            return Err(ReadError::Text {
-                line: number,
-                cause: JournalCause::Note,
-            });
+        let cause = match note {
+            None => JournalCause::Note,
+            Some(note) => {
+                if self.notes.len() < MOST_NOTES {
+                    self.notes.push(note)?;
+                    return Ok(());
+                }
+                JournalCause::TooMany
+            }
         };
-        self.raise_to(actor)?;
-        if self.notes.len() >= MOST_NOTES {
-            return Err(ReadError::Text {
-                line: number,
-                cause: JournalCause::TooMany,
-            });
-        }
-        self.notes.push(note)?;
-        Ok(())
+        Err(ReadError::Text {
+            line: number,
+            cause,
+        })
     }
 
     /// Goes on to this actor. The journals of those before it are whole.
@@ -221,7 +216,8 @@ impl Draft {
         ensures ok { IfOk result (λ assembly. assembly ≡ spec.assembly_of self) }
         ensures faulty { IfErr result (IfFaulty (λ fault. ⊥)) }
     {
-        self.raise_to(self.cores)?;
+        let end = self.cores;
+        self.raise_to(end)?;
         let Draft {
             part: _,
             cores,

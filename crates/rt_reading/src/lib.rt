@@ -3,6 +3,7 @@
 
 pub mod draft;
 pub mod fault;
+pub mod laws;
 pub mod reader;
 pub mod source;
 

@@ -4,7 +4,7 @@ ghost use Rattle.std.specs.Prelude.{ℕ, List, [], ◌∷◌, ◌++◌, ◌+◌,
 ghost use Rattle.rt_reading.specs.JournalTexts as spec;
 ghost use Rattle.rt_reading.specs.Faults.{IfFaulty};
 ghost use Rattle.rt_reading.specs.Feeds.{HasNoFeed};
-ghost use Rattle.rt_reading.specs.Drafts.{Drafted, too_long, assembly_of, lines_left};
+ghost use Rattle.rt_reading.specs.Drafts.{Drafted, judged, too_long, assembly_of, lines_left};
 
 use crate::draft::{Draft, Part};
 use crate::fault::{JournalCause, ReadError};
@@ -93,7 +93,7 @@ impl JournalReader {
         ensures short { length self.old.line ≤ 128 }
         ensures faulty { IfErr result (IfFaulty (spec.IsRefused self.old)) }
     {
-        self.draft.take(self.number, self.line.as_slice())?;
+        judge(&mut self.draft, self.number, self.line.as_slice())?;
         self.line.clear();
         self.number += 1;
         Ok(())
@@ -152,4 +152,14 @@ impl JournalReader {
         } = self;
         draft.finish()
     }
+}
+
+/// Judges a line that isn't too long, by its number from 1.
+fn judge(draft: &mut Draft, number: u32, line: &[u8]) -> Result<(), ReadError>
+    requires { length line.now ≤ 128 }
+    ensures ok { OnOk result (judged draft.old line.now ≡ Ok draft.new) }
+    ensures fewer { OnOk result (lines_left draft.new + 1 ≤ lines_left draft.old) }
+    ensures faulty { IfErr result (IfFaulty (λ fault. (fault.0 ≡ number) × (judged draft.old line.now ≡ Err fault.1))) }
+{
+    draft.take(number, line)
 }

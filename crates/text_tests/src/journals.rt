@@ -4,30 +4,35 @@ use rt_ids::{ActorNo, CoreNo, JobId, Note, Order, QueueNo};
 use rt_notes::{Assembly, Journal};
 use std::alloc::{AllocError, Global};
 
-/// The submission of this number from core 0 to itself.
-pub(crate) const fn job(number: u64) -> JobId {
-    JobId {
-        from: ActorNo(0),
-        to: CoreNo(0),
-        number,
-    }
-}
+/// The first submission from core 0 to itself.
+pub(crate) const FIRST: JobId = JobId {
+    from: ActorNo(0),
+    to: CoreNo(0),
+    number: 1,
+};
+
+/// The second one.
+pub(crate) const SECOND: JobId = JobId {
+    from: ActorNo(0),
+    to: CoreNo(0),
+    number: 2,
+};
 
 /// Two jobs of one queue take turns.
 pub(crate) const TURNS: [Note<u64>; 13] = [
-    Note::Sent(job(1), Order::Job(QueueNo(0), ())),
-    Note::Sent(job(2), Order::Job(QueueNo(0), ())),
-    Note::Took(job(1), QueueNo(0)),
-    Note::Took(job(2), QueueNo(0)),
+    Note::Sent(FIRST, Order::Job(QueueNo(0), ())),
+    Note::Sent(SECOND, Order::Job(QueueNo(0), ())),
+    Note::Took(FIRST, QueueNo(0)),
+    Note::Took(SECOND, QueueNo(0)),
     Note::Pick(QueueNo(0), 0),
-    Note::Start(job(1)),
-    Note::Yield(job(1), 10),
+    Note::Start(FIRST),
+    Note::Yield(FIRST, 10),
     Note::Pick(QueueNo(0), 10),
-    Note::Start(job(2)),
-    Note::Done(job(2), 10, 2),
+    Note::Start(SECOND),
+    Note::Done(SECOND, 10, 2),
     Note::Pick(QueueNo(0), 20),
-    Note::Resume(job(1)),
-    Note::Done(job(1), 10, 1),
+    Note::Resume(FIRST),
+    Note::Done(FIRST, 10, 1),
 ];
 
 /// Their text.

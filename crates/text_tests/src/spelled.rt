@@ -1,6 +1,6 @@
 //! Notes that their actor may write, and notes that it may not.
 
-use crate::journals::{TURNS, job, one_core, two_actors};
+use crate::journals::{FIRST, TURNS, journal_of, one_core, two_actors};
 use rt_ids::{
     ActorNo, Answer, CoreNo, JobId, Mode, Note, Order, OutcomeNote, QueueNo, Reason,
 };
@@ -50,8 +50,16 @@ const NOTES: [(Note<u64>, [bool; 3]); 15] = [
 
 /// Names of one core that no link has.
 const STRANGERS: [JobId; 4] = [
-    job(0),
-    job(1 << 63),
+    JobId {
+        from: ActorNo(0),
+        to: CoreNo(0),
+        number: 0,
+    },
+    JobId {
+        from: ActorNo(0),
+        to: CoreNo(0),
+        number: 9223372036854775808,
+    },
     JobId {
         from: ActorNo(2),
         to: CoreNo(0),
@@ -98,7 +106,7 @@ fn a_name_is_one_of_a_link(rt: HostRuntime) -> Result<(), Fail> {
 
 /// Whether journals of no notes are spelled under these numbers.
 fn are_numbers(alloc: Global, cap: u16) -> Result<bool, Fail> {
-    let journals = vec![in alloc; crate::journals::journal_of(alloc, &[])?, crate::journals::journal_of(alloc, &[])?]?;
+    let journals = vec![in alloc; journal_of(alloc, &[])?, journal_of(alloc, &[])?]?;
     Ok(is_spelled(&Assembly::of(1, cap, journals)))
 }
 
@@ -112,7 +120,7 @@ fn a_link_holds_1_to_1024(rt: HostRuntime) -> Result<(), Fail> {
 
 #[test]
 fn the_last_actor_is_looked_at(rt: HostRuntime) -> Result<(), Fail> {
-    let journals = two_actors(rt.alloc(), &[], &[Note::Start(job(1))])?;
+    let journals = two_actors(rt.alloc(), &[], &[Note::Start(FIRST)])?;
     assert!(rt; !is_spelled(&journals));
     Ok(())
 }
