@@ -84,11 +84,10 @@ fn may_write(actor: u8, note: Note<u64>) -> bool {
 #[test]
 fn each_actor_writes_its_own_notes(rt: HostRuntime) {
     let mut all = true;
-    for (note, [first, second, outside]) in NOTES {
-        all = all
-            && may_write(0, note) == first
-            && may_write(1, note) == second
-            && may_write(2, note) == outside;
+    for (note, actors) in NOTES {
+        all = may_write(0, note) == actors[0] && all;
+        all = may_write(1, note) == actors[1] && all;
+        all = may_write(2, note) == actors[2] && all;
     }
     assert!(rt; all);
 }
