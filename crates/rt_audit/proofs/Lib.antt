@@ -1,1 +1,2 @@
 pub mod FirstUnder
+pub mod LinkTables

@@ -9,6 +9,6 @@ use Rattle.rt_tables.specs.Names.{Entries}
 use Rattle.rt_audit.specs.Links.{KnowsOrders}
 
 -- the jobs are known, and each start was right
-pub record StartsSoFar (orders : List (Entries (Order (Unit {0})))) (jobs : JobsView) (before : Journal ℕ) : Type 0 where
-  pub jobs : KnowsJobs jobs before
+pub record StartsSoFar (orders : List (Entries (Order (Unit {0})))) (table : JobsView) (before : Journal ℕ) : Type 0 where
+  pub jobs : KnowsJobs table before
   pub right : (assembly : Assembly ℕ) → KnowsOrders orders assembly → EachNote (StartsRight assembly) before

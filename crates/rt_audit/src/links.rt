@@ -1,7 +1,7 @@
 //! What was accepted and given under each name, journal by journal.
 
 ghost use Rattle.std.specs.Prelude.{◌≡◌, ℕ, ◌≤◌, IfOk, IsTrue};
-ghost use Rattle.rt_ids.specs.Assembly.{Assembly, IsAcceptedJob, IsAcceptedCommand};
+ghost use Rattle.rt_ids.specs.Assembly.{Assembly as AllJournals, IsAcceptedJob, IsAcceptedCommand};
 ghost use Rattle.rt_audit.specs.Links.{KnowsOrders, KnowsOutcomes, KnowsOrdersOf, KnowsOutcomesOf, under};
 
 use rt_ids::{ActorNo, JobId, Note, Order, OutcomeNote};
@@ -39,9 +39,11 @@ pub(crate) fn orders_sent(alloc: Global, assembly: &Assembly) -> Result<Vec<Name
     ensures { IfOk result (λ orders. KnowsOrders orders.items assembly.now) }
 {
     let mut orders = Vec::new(alloc);
-    for actor in 0..assembly.cores() + 1 {
+    let outside = assembly.cores();
+    for actor in 0..outside {
         orders.push(orders_of(alloc, assembly.journal(ActorNo(actor)))?)?;
     }
+    orders.push(orders_of(alloc, assembly.journal(ActorNo(outside)))?)?;
     Ok(orders)
 }
 
@@ -78,7 +80,7 @@ pub(crate) fn outcome_under(outcomes: &[NameTable<OutcomeNote<u64>>], name: &Job
 
 /// Whether a job was sent under this name.
 pub(crate) fn is_accepted_job(orders: &[NameTable<Order<()>>], name: &JobId) -> bool
-    ensures { (assembly : Assembly ℕ) → KnowsOrders orders.now assembly → IsTrue result → IsAcceptedJob name.now assembly }
+    ensures { (assembly : AllJournals ℕ) → KnowsOrders orders.now assembly → IsTrue result → IsAcceptedJob name.now assembly }
 {
     match order_under(orders, name) {
         Some(Order::Job(_, _)) => true,
@@ -88,7 +90,7 @@ pub(crate) fn is_accepted_job(orders: &[NameTable<Order<()>>], name: &JobId) -> 
 
 /// Whether a command was sent under this name.
 pub(crate) fn is_accepted_command(orders: &[NameTable<Order<()>>], name: &JobId) -> bool
-    ensures { (assembly : Assembly ℕ) → KnowsOrders orders.now assembly → IsTrue result → IsAcceptedCommand name.now assembly }
+    ensures { (assembly : AllJournals ℕ) → KnowsOrders orders.now assembly → IsTrue result → IsAcceptedCommand name.now assembly }
 {
     match order_under(orders, name) {
         None | Some(Order::Job(_, _)) => false,

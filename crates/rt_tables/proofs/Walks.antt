@@ -7,6 +7,20 @@ use Rattle.std.proofs.lemmas.Option.{slice_get_cases}
 use Rattle.rt_ids.specs.declared.note.Note.{Note}
 use Rattle.rt_ids.specs.Journal.{Journal, at_place}
 
+module _ {A : Type 0} where
+  -- what a list with one more at its end has at a place
+  pub slice_get-seam : (items : List A) (last note : A) (place : ℕ) → slice_get (items ++ last ∷ []) place ≡ Some note →
+      ((place < length items) × (slice_get items place ≡ Some note)) ⊎ ((place ≡ length items) × (last ≡ note))
+  slice_get-seam [] last note zero at = inr (refl, cc)
+  slice_get-seam [] last note (suc place) at = cc
+  slice_get-seam (first ∷ items) last note zero at = inl (omega arith, at)
+  slice_get-seam (first ∷ items) last note (suc place) at = one_further (slice_get-seam items last note place at)
+    where
+      one_further : ((place < length items) × (slice_get items place ≡ Some note)) ⊎ ((place ≡ length items) × (last ≡ note)) →
+          ((suc place < suc (length items)) × (slice_get items place ≡ Some note)) ⊎ ((suc place ≡ suc (length items)) × (last ≡ note))
+      one_further (inl found) = inl (omega (arith, found.0), found.1)
+      one_further (inr found) = inr (ap suc found.0, found.1)
+
 module _ {T : Type 0} where
   -- nothing was read before the first note
   pub at_start : (journal : Journal T) → at_place 0 journal ≡ []
@@ -20,18 +34,6 @@ module _ {T : Type 0} where
   within_rest note rest place within =
       let less : suc (length rest) - place ≡ suc (length rest - place) = omega arith in
       ap (λ count. drop count (note ∷ rest)) less
-
-  slice_get-seam : (items : List (Note T)) (last note : Note T) (place : ℕ) → slice_get (items ++ last ∷ []) place ≡ Some note →
-      ((place < length items) × (slice_get items place ≡ Some note)) ⊎ ((place ≡ length items) × (last ≡ note))
-  slice_get-seam [] last note zero at = inr (refl, cc)
-  slice_get-seam [] last note (suc place) at = cc
-  slice_get-seam (first ∷ items) last note zero at = inl (omega arith, at)
-  slice_get-seam (first ∷ items) last note (suc place) at = one_further (slice_get-seam items last note place at)
-    where
-      one_further : ((place < length items) × (slice_get items place ≡ Some note)) ⊎ ((place ≡ length items) × (last ≡ note)) →
-          ((suc place < suc (length items)) × (slice_get items place ≡ Some note)) ⊎ ((suc place ≡ suc (length items)) × (last ≡ note))
-      one_further (inl found) = inl (omega (arith, found.0), found.1)
-      one_further (inr found) = inr (ap suc found.0, found.1)
 
   -- the next note is read
   pub at_next : (journal : Journal T) (place : ℕ) (note : Note T) → slice_get (reverse journal) place ≡ Some note →
