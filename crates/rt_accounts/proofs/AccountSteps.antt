@@ -1,16 +1,19 @@
 -- What an account says after one more note.
-use Rattle.std.proofs.Common.{◌≡◌, ℕ, ◌+◌, ◌-◌, ◌^◌, ◌<◌, ◌≤◌, min, max, Bool, true, false, ◌∷◌, [], length, refl, sym, ◌∙◌, ap, cond, subst, arith, zero, suc, get_or, replicate}
-use Rattle.std.specs.Prelude.{Option, Some, None, unwrap_or, ◌==◌, ◌&&◌, not, nat_lt}
-use Rattle.std.proofs.lemmas.Bool.{eq-eqb, ne_eqb}
+use Rattle.std.proofs.Common.{◌≡◌, ℕ, ◌+◌, ◌<◌, ◌≤◌, min, max, Bool, true, false, ◌∷◌, [], length, refl, sym, ◌∙◌, ap, cond, subst, arith, zero, suc, get_or, set, replicate, ◌⊎◌, inl, inr, get_or-set_other, get_or-set_same}
+use Rattle.std.specs.Prelude.{Option, Some, None, unwrap_or, ◌==◌, ◌&&◌, not}
+use Rattle.std.proofs.lemmas.Bool.{eq-eqb, ne_eqb, cases_eq}
+use Rattle.std.proofs.lemmas.List.{get_or_default}
 use Rattle.rt_shares.specs.Charge.{charge}
 use Rattle.rt_ids.specs.declared.names.JobId.{JobId}
 use Rattle.rt_ids.specs.declared.note.Note.{Note}
 use Rattle.rt_ids.specs.declared.note.Note.TheVariants.{Took, Created, SharesSet, Yield, Done, Returned}
 use Rattle.rt_ids.specs.Journal.{Journal}
 use Rattle.rt_ids.specs.Names.{is_number}
-use Rattle.rt_ids.specs.Runtimes.{shares, virtual_runtime, floor, charge_noted, place_noted, shares_told}
+use Rattle.rt_ids.specs.Runtimes.{shares, virtual_runtime, floor, runtime_picked, charge_noted, place_noted, shares_told}
 use Rattle.rt_ids.specs.Work.{queue_of, queue_joined, queue_left, entered_count, left_count, has_work, number_if}
 use Rattle.rt_accounts.specs.declared.accounts.Account.{Account}
+use Rattle.rt_accounts.specs.declared.accounts.Accounts.{Accounts}
+use Rattle.rt_accounts.specs.AllAccounts.{KnowsAccounts}
 use Rattle.rt_accounts.specs.Accounts.{KnowsAccount, account_after, queue_touched, greatest_runtime, greatest_count, has_jobs, fresh_account}
 
 number_if-within : (test : Bool) → number_if test ≤ 1
@@ -63,9 +66,9 @@ module _ {T : Type 0} where
   same_account queue account note before unshared unplaced uncharged unjoined unleft knows = record {
     shares = knows.shares ∙ sym (ap (λ told. unwrap_or told (shares queue before)) unshared);
     runtime =
-      knows.runtime ∙
-      ap (λ runtime. min runtime greatest_runtime)
-      (nothing_more (virtual_runtime queue before) (place_noted queue note before) (charge_noted queue note before) unplaced uncharged);
+        knows.runtime ∙
+        ap (λ runtime. min runtime greatest_runtime)
+        (nothing_more (virtual_runtime queue before) (place_noted queue note before) (charge_noted queue note before) unplaced uncharged);
     entered = knows.entered ∙ no_more (entered_count queue before) (is_number queue (queue_joined note)) unjoined;
     left = knows.left ∙ no_more (left_count queue before) (is_number queue (queue_left note before)) unleft;
   }
@@ -126,9 +129,9 @@ module _ {T : Type 0} where
     shared note weight told unplaced uncharged unjoined unleft = record {
       shares = sym (ap (λ told. unwrap_or told (shares queue before)) told);
       runtime =
-        knows.runtime ∙
-        ap (λ runtime. min runtime greatest_runtime)
-        (nothing_more (virtual_runtime queue before) (place_noted queue note before) (charge_noted queue note before) unplaced uncharged);
+          knows.runtime ∙
+          ap (λ runtime. min runtime greatest_runtime)
+          (nothing_more (virtual_runtime queue before) (place_noted queue note before) (charge_noted queue note before) unplaced uncharged);
       entered = knows.entered ∙ no_more (entered_count queue before) (is_number queue (queue_joined note)) unjoined;
       left = knows.left ∙ no_more (left_count queue before) (is_number queue (queue_left note before)) unleft;
     }
@@ -155,18 +158,18 @@ module _ {T : Type 0} where
       runtime = charged_right time (is_number queue (queue_of name before)) (is_this queue (queue_of name before) touched);
       entered = knows.entered ∙ no_more (entered_count queue before) false refl;
       left =
-        counted account.left (left_count queue before) (is_number queue (queue_of name before)) knows.left (left-within queue before)
-        (is_this queue (queue_of name before) touched);
+          counted account.left (left_count queue before) (is_number queue (queue_of name before)) knows.left (left-within queue before)
+          (is_this queue (queue_of name before) touched);
     }
     knows_touched (Returned name reason) touched = record {
       shares = knows.shares;
       runtime =
-        knows.runtime ∙
-        ap (λ runtime. min runtime greatest_runtime) (nothing_more (virtual_runtime queue before) 0 0 refl refl);
+          knows.runtime ∙
+          ap (λ runtime. min runtime greatest_runtime) (nothing_more (virtual_runtime queue before) 0 0 refl refl);
       entered = knows.entered ∙ no_more (entered_count queue before) false refl;
       left =
-        counted account.left (left_count queue before) (is_number queue (queue_of name before)) knows.left (left-within queue before)
-        (is_this queue (queue_of name before) touched);
+          counted account.left (left_count queue before) (is_number queue (queue_of name before)) knows.left (left-within queue before)
+          (is_this queue (queue_of name before) touched);
     }
     knows_touched _ touched = cc
 
@@ -177,11 +180,57 @@ fresh_knows queue = record { shares = refl; runtime = refl; entered = refl; left
 -- accounts that are all fresh say nothing
 pub all_fresh : {T : Type 0} (count queue : ℕ) (account : Account) → account ≡ fresh_account →
     KnowsAccount {T = T} queue (get_or (replicate count account) queue fresh_account) []
-all_fresh count queue account is =
-    subst (λ (one : Account). KnowsAccount queue one []) (sym (is_fresh count queue))
-    (fresh_knows queue)
+all_fresh {T} count queue account is =
+    subst (λ (one : Account). KnowsAccount {T = T} queue one []) (sym (is_fresh count queue))
+    (fresh_knows {T = T} queue)
   where
     is_fresh : (count queue : ℕ) → get_or (replicate count account) queue fresh_account ≡ fresh_account
     is_fresh zero queue = refl
     is_fresh (suc count) zero = is
     is_fresh (suc count) (suc queue) = is_fresh count queue
+
+module _ {T : Type 0} (accounts : Accounts) (note : Note T) (before : Journal T) (knows : KnowsAccounts accounts before) where
+  next_floor : max accounts.floor (runtime_picked note) ≡ floor (note ∷ before)
+  next_floor = ap (λ old. max old (runtime_picked note)) knows.floor
+
+  -- all accounts after a note of no queue
+  pub all_after_none : queue_touched note before ≡ None →
+      KnowsAccounts (record { queues = accounts.queues; floor = max accounts.floor (runtime_picked note) }) (note ∷ before)
+  all_after_none touched = record {
+    each = λ queue. knows_other queue (get_or accounts.queues queue fresh_account) note before (ap (is_number queue) touched) (knows.each queue);
+    floor = next_floor;
+  }
+
+  -- all accounts after a note of one queue
+  pub all_after_one : (index : ℕ) (account new : Account) → queue_touched note before ≡ Some index → index < length accounts.queues →
+      length before < greatest_count → accounts.floor ≤ greatest_runtime → account ≡ get_or accounts.queues index account →
+      new ≡ account_after {T = T} accounts.floor note account →
+      KnowsAccounts (record { queues = set accounts.queues index new; floor = max accounts.floor (runtime_picked note) }) (note ∷ before)
+  all_after_one index account new touched within short fits read is = record {
+    each = λ queue. by_queue queue (cases_eq queue index);
+    floor = next_floor;
+  }
+    where
+      same_account_read : account ≡ get_or accounts.queues index fresh_account
+      same_account_read = read ∙ get_or_default accounts.queues index account fresh_account within
+
+      new_is : new ≡ account_after {T = T} (floor before) note (get_or accounts.queues index fresh_account)
+      new_is = is ∙ (ap (λ old. account_after {T = T} old note account) knows.floor ∙ ap (account_after {T = T} (floor before) note) same_account_read)
+
+      by_queue : (queue : ℕ) → (queue ≡ index) ⊎ (queue ≡ index → ⊥) →
+          KnowsAccount queue (get_or (set accounts.queues index new) queue fresh_account) (note ∷ before)
+      by_queue queue (inl same) =
+          subst (λ (at : ℕ). KnowsAccount at (get_or (set accounts.queues index new) at fresh_account) (note ∷ before)) (sym same)
+          (
+          subst (λ (one : Account). KnowsAccount index one (note ∷ before)) (sym (get_or-set_same accounts.queues index new fresh_account within ∙ new_is))
+          (
+          knows_touched index (get_or accounts.queues index fresh_account) before short (subst (λ (old : ℕ). old ≤ greatest_runtime) knows.floor fits)
+          (knows.each index) note touched
+          )
+          )
+      by_queue queue (inr apart) =
+          subst (λ (one : Account). KnowsAccount queue one (note ∷ before)) (sym (get_or-set_other accounts.queues index queue new fresh_account apart))
+          (
+          knows_other queue (get_or accounts.queues queue fresh_account) note before (ap (is_number queue) touched ∙ ne_eqb queue index apart)
+          (knows.each queue)
+          )

@@ -8,7 +8,6 @@ ghost use Rattle.rt_accounts.specs.Accounts.{fresh_account, has_jobs, entering, 
 ghost use Rattle.rt_accounts.specs.AllAccounts.{KnowsAccounts};
 ghost use Rattle.rt_tables.specs.Jobs.{KnowsJobs};
 
-
 use rt_ids::{Note, QueueNo};
 use rt_shares::Shares;
 use rt_tables::Jobs;
@@ -113,6 +112,7 @@ fn runtime_picked(note: &Note<u64>) -> u128
 }
 
 /// Of the notes that were read: the account of each queue, and the floor.
+#[derive(Drop)]
 pub struct Accounts {
     pub queues: [Account; 256],
     pub floor: u128,

@@ -3,4 +3,4 @@
 
 pub mod accounts;
 
-pub use accounts::{Account, Accounts};
+pub use accounts::{Account, Accounts, queue_touched};

@@ -2,13 +2,12 @@
 use Rattle.std.proofs.Common.{◌≡◌, ℕ, ◌+◌, ◌<◌, ◌⊎◌, inl, inr, List, [], ◌∷◌, ◌++◌, length, refl, sym, ◌∙◌, subst, arith}
 use Rattle.std.specs.Prelude.{Option, Some, None, slice_get}
 use Rattle.std.proofs.lemmas.List.{length-append}
-use Rattle.rt_ids.specs.declared.names.JobId.{JobId}
 use Rattle.rt_ids.specs.declared.note.OutcomeNote.{OutcomeNote}
 use Rattle.rt_ids.specs.declared.order.Order.{Order}
 use Rattle.rt_ids.specs.Assembly.{Assembly, journal_of, order_of, outcome_of}
-use Rattle.rt_tables.specs.Names.{Entries, known}
+use Rattle.rt_tables.specs.Names.{Entries}
 use Rattle.rt_tables.proofs.Walks.{slice_get-seam}
-use Rattle.rt_audit.specs.Links.{known_in, under, AreOrdersOf, AreOutcomesOf, KnowsOrders, KnowsOutcomes, KnowsOrdersOf, KnowsOutcomesOf}
+use Rattle.rt_audit.specs.Links.{known_in, AreOrdersOf, AreOutcomesOf, KnowsOrders, KnowsOutcomes, KnowsOrdersOf, KnowsOutcomesOf}
 
 module _ {T : Type 0} (assembly : Assembly T) where
   pub next_orders : (tables : List (Entries (Order (Unit {0})))) (entries : Entries (Order (Unit {0}))) (count : ℕ) → AreOrdersOf tables assembly count →

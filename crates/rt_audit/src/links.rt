@@ -23,7 +23,10 @@ fn orders_of(alloc: Global, journal: &Journal<u64>) -> Result<NameTable<Order<()
 }
 
 /// The outcome that was first given under each name, in one journal.
-fn outcomes_of(alloc: Global, journal: &Journal<u64>) -> Result<NameTable<OutcomeNote<u64>>, AllocError>
+fn outcomes_of(
+    alloc: Global,
+    journal: &Journal<u64>,
+) -> Result<NameTable<OutcomeNote<u64>>, AllocError>
     ensures { IfOk result (λ outcomes. KnowsOutcomesOf outcomes journal.now.notes) }
 {
     let mut outcomes = NameTable::new(alloc);
@@ -35,7 +38,10 @@ fn outcomes_of(alloc: Global, journal: &Journal<u64>) -> Result<NameTable<Outcom
 }
 
 /// The orders that were sent, a table for each sender.
-pub(crate) fn orders_sent(alloc: Global, assembly: &Assembly) -> Result<Vec<NameTable<Order<()>>>, AllocError>
+pub(crate) fn orders_sent(
+    alloc: Global,
+    assembly: &Assembly,
+) -> Result<Vec<NameTable<Order<()>>>, AllocError>
     ensures { IfOk result (λ orders. KnowsOrders orders.items assembly.now) }
 {
     let mut orders = Vec::new(alloc);
@@ -48,7 +54,10 @@ pub(crate) fn orders_sent(alloc: Global, assembly: &Assembly) -> Result<Vec<Name
 }
 
 /// The outcomes that were given, a table for each core.
-pub(crate) fn outcomes_given(alloc: Global, assembly: &Assembly) -> Result<Vec<NameTable<OutcomeNote<u64>>>, AllocError>
+pub(crate) fn outcomes_given(
+    alloc: Global,
+    assembly: &Assembly,
+) -> Result<Vec<NameTable<OutcomeNote<u64>>>, AllocError>
     ensures { IfOk result (λ outcomes. KnowsOutcomes outcomes.items assembly.now) }
 {
     let mut outcomes = Vec::new(alloc);
@@ -69,7 +78,10 @@ pub(crate) fn order_under(orders: &[NameTable<Order<()>>], name: &JobId) -> Opti
 }
 
 /// The outcome that was given under this name.
-pub(crate) fn outcome_under(outcomes: &[NameTable<OutcomeNote<u64>>], name: &JobId) -> Option<OutcomeNote<u64>>
+pub(crate) fn outcome_under(
+    outcomes: &[NameTable<OutcomeNote<u64>>],
+    name: &JobId,
+) -> Option<OutcomeNote<u64>>
     ensures { result ≡ under outcomes.now name.now.to name.now }
 {
     match outcomes.get(name.to.0 as usize) {

@@ -94,7 +94,11 @@ fn may_end(orders: &[NameTable<Order<()>>], ends: &Ends, name: &JobId) -> bool
 }
 
 /// Whether this is the outcome that was given under the name.
-fn is_given(outcomes: &[NameTable<OutcomeNote<u64>>], name: &JobId, outcome: &OutcomeNote<u64>) -> bool
+fn is_given(
+    outcomes: &[NameTable<OutcomeNote<u64>>],
+    name: &JobId,
+    outcome: &OutcomeNote<u64>,
+) -> bool
     ensures { (assembly : Assembly ℕ) → KnowsOutcomes outcomes.now assembly → IsTrue result → outcome_of name.now assembly ≡ Some outcome.now }
 {
     match outcome_under(outcomes, name) {

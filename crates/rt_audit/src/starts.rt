@@ -32,7 +32,11 @@ fn starts_right(orders: &[NameTable<Order<()>>], jobs: &Jobs, note: &Note<u64>) 
 }
 
 /// The line of the first note that starts or resumes a job as it may not.
-pub(crate) fn starts_fault(alloc: Global, orders: &[NameTable<Order<()>>], journal: &Journal<u64>) -> Result<Option<usize>, AllocError>
+pub(crate) fn starts_fault(
+    alloc: Global,
+    orders: &[NameTable<Order<()>>],
+    journal: &Journal<u64>,
+) -> Result<Option<usize>, AllocError>
     ensures { IfOk result (λ line. line ≡ None → (assembly : Assembly ℕ) → KnowsOrders orders.now assembly → EachNote (StartsRight assembly) journal.now.notes) }
 {
     let mut jobs = Jobs::new(alloc);

@@ -1,5 +1,5 @@
 -- What a table of jobs knows after one more note.
-use Rattle.std.proofs.Common.{◌≡◌, ℕ, ◌∷◌, refl, ◌∙◌, ap}
+use Rattle.std.proofs.Common.{◌≡◌, ◌∷◌, refl, ◌∙◌, ap}
 use Rattle.std.specs.Prelude.{◌||◌}
 use Rattle.rt_ids.specs.declared.names.JobId.{JobId}
 use Rattle.rt_ids.specs.declared.note.Note.{Note}
@@ -7,7 +7,7 @@ use Rattle.rt_ids.specs.declared.note.Note.TheVariants.{Took}
 use Rattle.rt_ids.specs.Filters.{name_started, name_ended}
 use Rattle.rt_ids.specs.Journal.{Journal, or_else}
 use Rattle.rt_ids.specs.Names.{is_name}
-use Rattle.rt_ids.specs.Work.{queue_of, queue_entered}
+use Rattle.rt_ids.specs.Work.{queue_entered}
 use Rattle.rt_tables.specs.Jobs.{JobsView, KnowsJobs}
 use Rattle.rt_tables.specs.Names.{known, value_under, SetsEntry, AddsName}
 use Rattle.rt_tables.specs.Told.{queue_told}
@@ -22,9 +22,9 @@ module _ {T : Type 0} where
       KnowsJobs old before → KnowsJobs new (note ∷ before)
   knows_next old new note before queues started ended knows = record {
     queues =
-      λ name.
-      queues name ∙
-      (ap (λ entry. or_else entry (known old.queues name)) (queue_entered-told name note) ∙ ap (or_else (queue_entered name note)) (knows.queues name));
+        λ name.
+        queues name ∙
+        (ap (λ entry. or_else entry (known old.queues name)) (queue_entered-told name note) ∙ ap (or_else (queue_entered name note)) (knows.queues name));
     started = λ name. started name ∙ ap (λ has. is_name name (name_started note) || has) (knows.started name);
     ended = λ name. ended name ∙ ap (λ has. is_name name (name_ended note) || has) (knows.ended name);
   }

@@ -1,6 +1,6 @@
 -- A walk from the oldest note to the newest: what was read before a place is the journal at that place.
 use Rattle.std.proofs.Common.{◌≡◌, ℕ, zero, suc, ◌+◌, ◌-◌, ◌<◌, ◌≤◌, ◌⊎◌, inl, inr, List, [], ◌∷◌, ◌++◌, length, drop, refl, sym, ap, ◌∙◌, subst, arith, get_or}
-use Rattle.std.specs.Prelude.{Some, None, Option, reverse, slice_get}
+use Rattle.std.specs.Prelude.{Some, None, reverse, slice_get}
 use Rattle.std.proofs.Math.Seq.{drop-length}
 use Rattle.std.proofs.lemmas.List.{length-reverse, reverse-append}
 use Rattle.std.proofs.lemmas.Option.{slice_get_cases}

@@ -1,7 +1,7 @@
 use Rattle.std.proofs.Common.{◌≡◌, ℕ, ◌+◌, subst, ◌∙◌, ap, arith}
 use Rattle.rt_ids.specs.Assembly.{journal_of}
 use Rattle.rt_ids.specs.Journal.{Journal}
-use Rattle.rt_audit.specs.Links.{KnowsOrdersOf, KnowsOrders}
+use Rattle.rt_audit.specs.Links.{KnowsOrdersOf}
 use Rattle.rt_audit.proofs.LinkTables.{next_orders, all_orders}
 use Rattle.rt_audit.proofs.links.orders_sent.Goals as goal
 

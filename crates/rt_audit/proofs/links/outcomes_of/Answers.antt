@@ -1,4 +1,4 @@
-use Rattle.std.proofs.Common.{ℕ, refl, sym, subst, ◌∙◌, arith, ap}
+use Rattle.std.proofs.Common.{ℕ, refl, sym, subst, arith}
 use Rattle.rt_ids.specs.Journal.{Journal, at_place}
 use Rattle.rt_tables.proofs.Walks.{at_start, whole_walk}
 use Rattle.rt_audit.specs.Links.{KnowsOutcomesOf}

@@ -1,4 +1,4 @@
-use Rattle.std.proofs.Common.{◌≡◌, ℕ, [], sym, subst, arith}
+use Rattle.std.proofs.Common.{ℕ, sym, subst, arith}
 use Rattle.rt_ids.specs.Clauses.{OutcomesRight}
 use Rattle.rt_ids.specs.Journal.{Journal, EachNote}
 use Rattle.rt_tables.proofs.Walks.{at_start, whole_walk}
@@ -17,11 +17,10 @@ loop-place-preserved c =
     record {
       known = c.in_ok-add.ensures _ c.loop-place.invariant.known;
       right =
-        λ assembly orders outcomes.
-        (
-        c.outcomes_right.ensures assembly _ orders outcomes c.loop-place.invariant.known c.if-not-outcomes_right.false,
-        c.loop-place.invariant.right assembly orders outcomes,
-        );
+          λ assembly orders outcomes. (
+            c.outcomes_right.ensures assembly _ orders outcomes c.loop-place.invariant.known c.if-not-outcomes_right.false,
+            c.loop-place.invariant.right assembly orders outcomes,
+          );
     }
     )
 

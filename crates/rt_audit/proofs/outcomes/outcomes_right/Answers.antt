@@ -1,4 +1,4 @@
-use Rattle.std.proofs.Common.{◌≡◌, sym, ◌∙◌}
+use Rattle.std.proofs.Common.{sym, ◌∙◌}
 use Rattle.std.proofs.lemmas.Bool.{not-true}
 use Rattle.rt_audit.proofs.outcomes.outcomes_right.Goals as goal
 
@@ -21,10 +21,9 @@ returns-in-Returned c =
 pub returns-then-is_accepted_command : goal.returns-then-is_accepted_command
 returns-then-is_accepted_command c =
     λ assembly before orders outcomes knows yes.
-    rw c.in-Answered.is
-    (
-    c.is_accepted_command.ensures assembly orders c.if-is_accepted_command.true,
-    sym (knows.answered c.in-Answered.name) ∙ (sym c.has.ensures ∙ not-true c.has.result yes),
+    rw c.in-Answered.is (
+      c.is_accepted_command.ensures assembly orders c.if-is_accepted_command.true,
+      sym (knows.answered c.in-Answered.name) ∙ (sym c.has.ensures ∙ not-true c.has.result yes),
     )
 
 pub returns-then-may_redeem : goal.returns-then-may_redeem

@@ -1,7 +1,6 @@
-use Rattle.std.proofs.Common.{◌≡◌, ℕ, [], sym, subst, arith}
+use Rattle.std.proofs.Common.{ℕ, sym, subst, arith}
 use Rattle.rt_ids.specs.Clauses.{StartsRight}
 use Rattle.rt_ids.specs.Journal.{Journal, EachNote}
-use Rattle.rt_tables.specs.Jobs.{KnowsJobs}
 use Rattle.rt_tables.proofs.Walks.{at_start, whole_walk}
 use Rattle.rt_audit.specs.Starts.{StartsSoFar}
 use Rattle.rt_audit.proofs.starts.starts_fault.Goals as goal
@@ -18,11 +17,10 @@ loop-place-preserved c =
     record {
       jobs = c.in_ok-add.ensures _ c.loop-place.invariant.jobs;
       right =
-        λ assembly orders.
-        (
-        c.starts_right.ensures assembly _ orders c.loop-place.invariant.jobs c.if-not-starts_right.false,
-        c.loop-place.invariant.right assembly orders,
-        );
+          λ assembly orders. (
+            c.starts_right.ensures assembly _ orders c.loop-place.invariant.jobs c.if-not-starts_right.false,
+            c.loop-place.invariant.right assembly orders,
+          );
     }
     )
 

@@ -1,4 +1,4 @@
-use Rattle.std.proofs.Common.{◌≡◌, ℕ, [], refl, sym, subst, get_or}
+use Rattle.std.proofs.Common.{refl}
 use Rattle.rt_accounts.proofs.AccountSteps.{all_fresh}
 use Rattle.rt_accounts.proofs.accounts.Accounts.new.Goals as goal
 

@@ -1,5 +1,4 @@
-use Rattle.std.proofs.Common.{◌≡◌, ℕ, ◌∷◌, sym, subst}
-use Rattle.rt_ids.specs.Journal.{Journal}
+use Rattle.std.proofs.Common.{ℕ, sym, subst}
 use Rattle.rt_tables.specs.Jobs.{JobsView, KnowsJobs}
 use Rattle.rt_tables.proofs.ReadJobs.{knows_next}
 use Rattle.rt_tables.proofs.jobs.Jobs.add.Goals as goal
