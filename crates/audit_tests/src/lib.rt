@@ -4,4 +4,6 @@
 #[cfg(test)]
 mod accounts;
 #[cfg(test)]
+mod picks;
+#[cfg(test)]
 mod tables;
