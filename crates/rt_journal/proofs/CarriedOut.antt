@@ -15,10 +15,9 @@ use Rattle.rt_ids.specs.declared.order.Answer.{Answer}
 use Rattle.rt_ids.specs.declared.order.Answer.TheVariants as answers
 use Rattle.rt_ids.specs.Journal.{Journal, EachNote, with_last}
 use Rattle.rt_ids.specs.Assembly.{IsPrefix}
-use Rattle.rt_ids.specs.Filters.{accepted_orders, collected_outcomes, delivered_names, given_outcomes}
-use Rattle.rt_ids.specs.Outstanding.{outstanding_count}
+use Rattle.rt_ids.specs.Filters.{delivered_names, given_outcomes}
 use Rattle.rt_ids.specs.Work.{number_if}
-use Rattle.rt_ids.specs.Commands.{created_count, refusal, IsAnswer, has_effect, effect_note}
+use Rattle.rt_ids.specs.Commands.{created_count, refusal, IsAnswer, has_effect}
 use Rattle.rt_ids.specs.Lawful.{IsNextDelivered}
 use Rattle.rt_ids.proofs.Told.{length-with_last_if}
 use Rattle.rt_taskqueue.specs.Queues.{queue_count, waiting_of, held_count}
@@ -89,6 +88,7 @@ module _ {J T : Type 0} (old : RecordedView J T) (name : JobId)
     outstanding = λ core. refl;
     collected = λ core. refl;
     given = λ sender. ([], append-nil (given_outcomes sender journal));
+    gates = λ sender. refl;
   }
 
   -- a job enters its queue
@@ -115,7 +115,7 @@ module _ {J T : Type 0} (old : RecordedView J T) (name : JobId)
       inside = ap (λ out. held_count core.queues + number_if (is_some out)) (ap (λ core. core.out) enters.rest)
 
       accepted : refusal queue journal ≡ None
-      accepted = refusal-exists (terms_at old) journal kept.notes queue (omega (arith, enters.exists, kept.agrees.last))
+      accepted = refusal-exists journal kept.closes_nothing queue (omega (arith, enters.exists, kept.agrees.last))
 
       line_now : (other : ℕ) (test : Bool) → (other == queue) ≡ test → waiting_of other core.queues ≡ waiting_of other old.core.queues ++ cond test ((name, false, job) ∷ []) []
       line_now other true one =
@@ -147,7 +147,7 @@ module _ {J T : Type 0} (old : RecordedView J T) (name : JobId)
       cores = ap (λ core. core.cores) counts;
       room = ap (λ core. core.queues.room) counts;
       out = ap (λ core. core.out) counts;
-      lists = record { accepted = λ core. refl; outstanding = λ core. refl; collected = λ core. refl; given = λ from. prefix-with_last (given_outcomes from journal) _ };
+      lists = record { accepted = λ core. refl; outstanding = λ core. refl; collected = λ core. refl; given = λ from. prefix-with_last (given_outcomes from journal) _; gates = λ from. refl };
       delivered = counted_one;
       held = omega (arith, ap inside_count counts, given_more);
       polls = λ which. no_polls which journal;
@@ -160,7 +160,7 @@ module _ {J T : Type 0} (old : RecordedView J T) (name : JobId)
     }
       where
         refused : refusal queue journal ≡ Some why.NoQueue
-        refused = refusal-missing (terms_at old) journal kept.notes queue (omega (arith, missing, kept.agrees.last))
+        refused = refusal-missing journal queue (omega (arith, missing, kept.agrees.last))
 
         given_more : sum_upto (given_count (writes.Back name why.NoQueue ∷ journal)) old.core.cores ≤ sum_upto (given_count journal) old.core.cores + 1
         given_more = sum_upto-at_most_one (given_count journal) (given_count (writes.Back name why.NoQueue ∷ journal)) name.from
@@ -175,7 +175,7 @@ module _ {J T : Type 0} (old : RecordedView J T) (name : JobId)
       cores = ap (λ core. core.cores) counts;
       room = ap (λ core. core.queues.room) counts;
       out = ap (λ core. core.out) counts;
-      lists = record { accepted = λ core. refl; outstanding = λ core. refl; collected = λ core. refl; given = λ from. prefix-with_last (given_outcomes from journal) _ };
+      lists = record { accepted = λ core. refl; outstanding = λ core. refl; collected = λ core. refl; given = λ from. prefix-with_last (given_outcomes from journal) _; gates = λ from. refl };
       delivered = counted_one;
       held = omega (arith, ap inside_count counts, answered_more answer);
       polls = λ which. no_polls which journal;
@@ -196,7 +196,7 @@ module _ {J T : Type 0} (old : RecordedView J T) (name : JobId)
     cores = ap (λ core. core.cores) creates.rest;
     room = creates.added.same_room;
     out = ap (λ core. core.out) creates.rest;
-    lists = record { accepted = λ core. refl; outstanding = λ core. refl; collected = λ core. refl; given = λ from. prefix-with_last (given_outcomes from journal) _ };
+    lists = record { accepted = λ core. refl; outstanding = λ core. refl; collected = λ core. refl; given = λ from. prefix-with_last (given_outcomes from journal) _; gates = λ from. refl };
     delivered = counted_one;
     held = omega (arith, inside, answered_more (answers.Created queue));
     polls = λ which. no_polls_twice which journal;
@@ -225,7 +225,7 @@ module _ {J T : Type 0} (old : RecordedView J T) (name : JobId)
     cores = ap (λ core. core.cores) weighs.rest;
     room = weighs.shares.same_room;
     out = ap (λ core. core.out) weighs.rest;
-    lists = record { accepted = λ core. refl; outstanding = λ core. refl; collected = λ core. refl; given = λ from. prefix-with_last (given_outcomes from journal) _ };
+    lists = record { accepted = λ core. refl; outstanding = λ core. refl; collected = λ core. refl; given = λ from. prefix-with_last (given_outcomes from journal) _; gates = λ from. refl };
     delivered = counted_one;
     held = omega (arith, inside, answered_more answers.SharesSet);
     polls = λ which. no_polls_twice which journal;
@@ -247,10 +247,10 @@ module _ {J T : Type 0} (old : RecordedView J T) (name : JobId)
 
   -- a creation that is refused, by why
   full_answer : queue_count old.core.queues ≡ 256 → (weight : ℕ) → IsAnswer (Create weight) answers.TooMany journal
-  full_answer count weight = rw (open_core (terms_at old) journal kept.notes, le-leb 255 (created_count journal) (omega (arith, count, kept.agrees.last))) refl
+  full_answer count weight = rw (open_core journal kept.closes_nothing, le-leb 255 (created_count journal) (omega (arith, count, kept.agrees.last))) refl
 
   memory_answer : queue_count old.core.queues < 256 → (weight : ℕ) → IsAnswer (Create weight) answers.NoMemory journal
-  memory_answer count weight = rw (open_core (terms_at old) journal kept.notes, lt-leb 255 (created_count journal) (omega (arith, count, kept.agrees.last))) (inl refl)
+  memory_answer count weight = rw (open_core journal kept.closes_nothing, lt-leb 255 (created_count journal) (omega (arith, count, kept.agrees.last))) (inl refl)
 
   missing_answer : (queue weight : ℕ) → queue_count old.core.queues ≤ queue → IsAnswer (SetShares queue weight) answers.NoQueue journal
   missing_answer queue weight missing = rw (lt-leb queue (created_count journal) (omega (arith, missing, kept.agrees.last))) refl

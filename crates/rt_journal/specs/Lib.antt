@@ -1,8 +1,11 @@
-pub mod Journals
 pub mod Orders
 pub mod Polls
 pub mod Deliveries
+pub mod Yet
 pub mod Agreement
+pub mod Submissions
 pub mod Recorded
 pub mod Ends
 pub mod Steps
+pub mod Turns
+pub mod Together

@@ -1,10 +1,10 @@
 //! What one actor of an executor is made of: its journal, which tells each of its steps, and a core beside it.
 #![tactic(auto)]
 
-pub mod assembly;
-pub mod journal;
+pub mod desk;
+pub mod laws;
 pub mod recorded;
 
-pub use assembly::Assembly;
-pub use journal::Journal;
+pub use desk::RecordedDesk;
 pub use recorded::Recorded;
+pub use rt_notes::{Assembly, Journal};

@@ -18,7 +18,7 @@ use Rattle.rt_link.specs.Calls.{Sends}
 use Rattle.rt_world.specs.State.{WorldView, without_job, journal_at}
 use Rattle.rt_world.specs.Sends.{Sends as SendsOrder}
 use Rattle.rt_world.specs.declared.event.Reply.TheVariants as reply
-use Rattle.rt_journal.specs.Journals.{JournalView}
+use Rattle.rt_notes.specs.Journals.{JournalView}
 use Rattle.rt_world.specs.Links.{link_at, ChangesLink}
 use Rattle.rt_world.specs.Inside.{terms_in, Parts, notes_at, world_of, IsLinkBetween}
 use Rattle.rt_world.specs.Tasks.{IsWorld}
@@ -107,7 +107,7 @@ module _ {J T : Type 0} (same : J → J → Type 0) (made : J → ℕ) (polls : 
   outstanding : outstanding_count core (journal_at sender (world_of old)) ≡ length link.sent
   outstanding =
       ap (outstanding_count core) (journal_at-world old sender)
-      ∙ (outstanding-accepted (terms_in sender old) core (notes_at sender old.journals) (world.lawful sender there).notes
+      ∙ (outstanding-accepted core (notes_at sender old.journals) (world.early sender there).collects_nothing
       ∙ (ap length is_between.all_accepted ∙ length-numbered sender core 0 link.sent))
 
   accepted_count : length (accepted_orders core (journal_at sender (world_of old))) ≡ length link.sent

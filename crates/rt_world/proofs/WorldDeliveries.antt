@@ -17,8 +17,9 @@ use Rattle.rt_jobs.specs.declared.job.Step.{Step}
 use Rattle.rt_link.specs.declared.plain.Whole.{Whole}
 use Rattle.rt_link.specs.Whole.{IsLink}
 use Rattle.rt_core.specs.State.{CoreView, inside_count, delivered_of, opened}
+use Rattle.rt_journal.proofs.Kept.{open_gates}
 use Rattle.rt_world.specs.Links.{link_at, ChangesLink}
-use Rattle.rt_world.specs.Inside.{terms_in, Parts, core_at, notes_at, numbered_orders, IsCoreAtRest, IsLinkBetween}
+use Rattle.rt_world.specs.Inside.{terms_in, Parts, core_at, notes_at, numbered_orders, IsCoreAtRest, IsLinkBetween, IsEarly}
 use Rattle.rt_world.specs.Tasks.{IsWorld}
 use Rattle.rt_journal.proofs.NumberedOrders.{slice_get-numbered, take-one_more}
 use Rattle.rt_world.proofs.WorldAfter.{after, Keeps, notes_now, notes_elsewhere}
@@ -99,7 +100,7 @@ module _ {J T : Type 0} (same : J → J → Type 0) (made : J → ℕ) (polls : 
         omega (arith, rest.inside, few_all, rest.room)
 
     pub next_delivered : (number : ℕ) → number ≡ link.taken + 1 → IsNextDelivered (terms_in core old) (record { from = sender; to = core; number = number }) journal
-    next_delivered number next = record { sender = there; in_range = let law = world.links_law sender core there core_there in omega (arith, next, taken_less, law.numbered, (is_between sender there).base); receiver = refl; next = omega (arith, next, (is_between sender there).all_taken) }
+    next_delivered number next = record { sender = there; in_range = let law = world.links_law sender core there core_there in omega (arith, next, taken_less, law.numbered, (is_between sender there).base); receiver = refl; next = omega (arith, next, (is_between sender there).all_taken); gate = rw (open_gates sender journal (world.early core (omega (arith, core_there))).closes_nothing) tt }
 
     -- the core after the delivery, with its longer journal, and the link of which one more is taken
     module _ (number : ℕ) (next : number ≡ link.taken + 1) (links : List (List (Whole J T))) (changes : ChangesLink old.links links sender core (link_at sender core links))
@@ -234,8 +235,8 @@ module _ {J T : Type 0} (same : J → J → Type 0) (made : J → ℕ) (polls : 
         core_now : core_at core inside ≡ after_core
         core_now = get_or-set_same old.inside core after_core (opened 0 0 0 0) (omega (arith, world.all_there.cores_are, core_there))
 
-        pub deliveries_keep : IsLawful (terms_in core old) longer → IsCoreAtRest core old.cores old.cap after_core longer → Keeps same made polls fits ready old world core known_core longer inside links
-        deliveries_keep lawful at_rest = record {
+        pub deliveries_keep : IsLawful (terms_in core old) longer → IsEarly longer → IsCoreAtRest core old.cores old.cap after_core longer → Keeps same made polls fits ready old world core known_core longer inside links
+        deliveries_keep lawful early at_rest = record {
           cores_are = length-set old.inside core after_core;
           rows_are = changes.same_rows;
           links_are = changes.same_cores;
@@ -243,6 +244,7 @@ module _ {J T : Type 0} (same : J → J → Type 0) (made : J → ℕ) (polls : 
           accepted = λ from other. ([], append-nil _ ∙ sym (accepted_same from other));
           sent = λ from other. ([], append-nil _ ∙ sym (sent_same from other));
           lawful = lawful;
+          early = early;
           at_rest = λ known. subst (λ view. IsCoreAtRest core old.cores old.cap view longer) (sym core_now) at_rest;
           between = between_now;
           links_law = law_now;
