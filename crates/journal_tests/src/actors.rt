@@ -116,8 +116,7 @@ impl<O: OutEnd<ScriptJob> + Drop> Sender<O> {
     pub fn submit(&mut self, order: Order<ScriptJob>) -> bool
         requires { HasReadyJob ⟦<ScriptJob as Task>⟧.done ⟦<ScriptJob as Task>⟧.CanPoll order }
     {
-        self.desk.journal().free() >= 1
-            && self.desk.submit(&mut self.end, CORE, order).is_ok()
+        self.desk.journal().free() >= 1 && self.desk.submit(&mut self.end, CORE, order).is_ok()
     }
 
     pub fn tells(&self, notes: &[Note<u64>]) -> bool {
@@ -155,8 +154,7 @@ impl<O: OutEnd<ScriptJob> + Drop> Caller<O> {
     pub fn submit(&mut self, order: Order<ScriptJob>) -> bool
         requires { HasReadyJob ⟦<ScriptJob as Task>⟧.done ⟦<ScriptJob as Task>⟧.CanPoll order }
     {
-        self.core.journal().free() >= 1
-            && self.core.submit(&mut self.end, CORE, order).is_ok()
+        self.core.journal().free() >= 1 && self.core.submit(&mut self.end, CORE, order).is_ok()
     }
 
     /// The notes alone.

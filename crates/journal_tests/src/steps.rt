@@ -5,7 +5,7 @@ ghost use Rattle.rt_jobs.specs.Ready.{HasReadyJob};
 ghost use Rattle.rt_link.specs.Whole.{fresh};
 
 use crate::actors::{CORE, Caller, Receiver, Sender, tells};
-use rt_ids::{ActorNo, Answer, CoreNo, JobId, Note, Order, QueueNo};
+use rt_ids::{ActorNo, Answer, JobId, Note, Order, QueueNo};
 use rt_jobs::{ScriptJob, Task};
 use rt_journal::{Recorded, RecordedDesk};
 use rt_link::{OutEnd, PlainLink};
@@ -81,19 +81,20 @@ fn a_core_sends_over_a_plain_link(rt: HostRuntime) -> Result<(), Fail> {
 
 #[test]
 fn an_order_crosses_a_ring_and_is_polled(rt: HostRuntime) -> Result<(), Fail> {
+    let half = Shares::try_new(500)?;
     let (out, inward) = RingLink::open(rt.alloc(), OUTSIDE, CORE, 4)?;
     let desk = RecordedDesk::open(rt.alloc(), OUTSIDE, 1, 4, 10)?;
     let core = Recorded::open(rt.alloc(), rt.alloc(), CORE, 1, 4, 10)?;
     let mut sender = Sender::new(desk, out);
     let mut receiver = Receiver::new(core, inward);
     let early = receiver.deliver();
-    let sent = sender.submit(job(&rt)) && sender.submit(Order::Create(Shares::DEFAULT));
+    let sent = sender.submit(job(&rt)) && sender.submit(Order::Create(half));
     let came = receiver.deliver() && receiver.deliver() && !receiver.deliver();
     let polled = receiver.turn(5) && !receiver.turn(5);
     let notes = [
         Note::Took(name(1, 1), QueueNo(0)),
         Note::Answered(name(1, 2), Answer::Created(QueueNo(1))),
-        Note::Created(QueueNo(1), Shares::DEFAULT),
+        Note::Created(QueueNo(1), half),
         Note::Pick(QueueNo(0), 0),
         Note::Start(name(1, 1)),
         Note::Done(name(1, 1), 10, 7),
@@ -104,9 +105,10 @@ fn an_order_crosses_a_ring_and_is_polled(rt: HostRuntime) -> Result<(), Fail> {
 
 #[test]
 fn queues_are_created_at_the_opening(rt: HostRuntime) -> Result<(), Fail> {
-    let mut core: Recorded<ScriptJob> = Recorded::open(rt.alloc(), rt.alloc(), CoreNo(0), 1, 4, 10)?;
-    let made = core.create(Shares::DEFAULT);
-    let notes = [Note::Created(QueueNo(1), Shares::DEFAULT)];
+    let half = Shares::try_new(500)?;
+    let mut core: Recorded<ScriptJob> = Recorded::open(rt.alloc(), rt.alloc(), CORE, 1, 4, 10)?;
+    let made = core.create(half);
+    let notes = [Note::Created(QueueNo(1), half)];
     assert!(rt; made == Ok(QueueNo(1)) && tells(core.journal(), &notes));
     Ok(())
 }
