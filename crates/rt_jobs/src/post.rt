@@ -1,6 +1,7 @@
 //! What a job may ask for while it is polled.
 
-ghost use Rattle.std.specs.Prelude.{◌≡◌, [], Ok, Err};
+ghost use Rattle.std.specs.Prelude.{◌≡◌, [], Err, IsOk, IfOk};
+ghost use Rattle.rt_ids.specs.declared.names.JobId.{JobId};
 ghost use Rattle.rt_ids.specs.Journal.{Journal};
 ghost use Rattle.rt_ids.specs.declared.order.SendError.TheVariants.{NoCore};
 ghost use Rattle.rt_ids.specs.declared.names.TicketError.TheVariants.{Unknown};
@@ -17,6 +18,9 @@ pub trait Post<J: Task, T> {
     /// The notes of the actor for whom it submits, the newest first.
     ghost notes: { Self → Journal T };
 
+    /// The submission of this name waits for its outcome: it can be detached.
+    ghost Waits: { Self → JobId → Type 0 };
+
     /// Sends an order to a core, under the next number of that link.
     ///
     /// # Errors
@@ -24,7 +28,8 @@ pub trait Post<J: Task, T> {
     /// `NoCore` where there is no such core; otherwise as the link. The order comes back.
     fn submit(&mut self, to: CoreNo, order: Order<J>) -> Result<Ticket, SendError<J>>
         requires ready { HasReadyJob J.done J.CanPoll order }
-        ensures noted { NotesSubmit (notes self.old) to order result (notes self.new) };
+        ensures noted { NotesSubmit (notes self.old) to order result (notes self.new) }
+        ensures waits { IfOk result (Waits self.new) };
 
     /// The outcome of a submission, which is gone from then on.
     ///
@@ -40,7 +45,8 @@ pub trait Post<J: Task, T> {
     ///
     /// `Unknown` and `Gone`, as a desk.
     fn detach(&mut self, ticket: Ticket) -> Result<(), TicketError>
-        ensures noted { NotesDetach (notes self.old) ticket result (notes self.new) };
+        ensures noted { NotesDetach (notes self.old) ticket result (notes self.new) }
+        ensures waits { Waits self.old ticket → IsOk result };
 }
 
 /// A post of an actor that has no links: there is no core for it, and it notes nothing.
@@ -51,6 +57,8 @@ impl<J: Task, T> Post<J, T> for NoPost {
     ghost use Rattle.std.specs.Prelude.{[]};
 
     ghost notes = { λ _. [] };
+
+    ghost Waits = { λ _ _. ⊥ };
 
     fn submit(&mut self, _to: CoreNo, order: Order<J>) -> Result<Ticket, SendError<J>>
         requires { HasReadyJob J.done J.CanPoll order }
