@@ -1,5 +1,5 @@
 use Rattle.std.proofs.Common.{◌≡◌, false}
-use Rattle.links_tests.proofs.jobs.told_times.Given as goal
+use Rattle.jobs_tests.proofs.jobs.told_times.Given as goal
 
 -- the job at hand can be polled
 abbrev pub invariant-loop-polled : goal.invariant-loop-polled

@@ -1,5 +1,5 @@
 use Rattle.rt_desk.proofs.Cores.{AreUnused-one, IsUnused-fresh}
-use Rattle.links_tests.proofs.desks.opened.Goals as goal
+use Rattle.desk_tests.proofs.ring.opened.Goals as goal
 
 pub begin-requires-clause-unused : goal.begin-requires-clause-unused
 begin-requires-clause-unused c =

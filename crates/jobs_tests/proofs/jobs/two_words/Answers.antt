@@ -4,7 +4,7 @@ use Rattle.rt_jobs.specs.declared.poll.Poll.TheVariants as poll
 use Rattle.rt_jobs.specs.declared.job.Step.{Step}
 use Rattle.rt_jobs.specs.declared.job.Step.TheVariants.{Yield, Done}
 use Rattle.rt_jobs.specs.Scripts.{Script, Does}
-use Rattle.links_tests.proofs.jobs.two_words.Goals as goal
+use Rattle.jobs_tests.proofs.jobs.two_words.Goals as goal
 
 -- the second of two words doesn't yield
 second_ends : (job later : Script) (first second value : ℕ) (told : Option ℕ) → job.polls ≡ poll.Yield first ∷ poll.Done second value ∷ [] →
