@@ -1,6 +1,0 @@
-pub mod Faults
-pub mod Drafts
-pub mod Feeds
-pub mod JournalTexts
-pub mod Telling
-pub mod Laws
