@@ -53,4 +53,4 @@ module _ {J : Type 0} {same : J → J → Type 0} {made : J → ℕ} {polls : J 
   world_joined = together_joined _ _ _ _ _ _ _ _ _ _ _ _ _ together assembled
 
   pub world_sound : IsSound (assembly_of (world_of parts))
-  world_sound = joining_is_sound (assembly_of (world_of parts)) world_joined.lawful world_joined.links
+  world_sound = joining_is_sound (assembly_of (world_of parts)) world_joined
