@@ -23,17 +23,24 @@ use Rattle.rt_world.proofs.WorldAfter.{IsStep, world_after}
 use Rattle.rt_world.proofs.CoreSteps.{DidStep, desk_is, parts_now, rests}
 use Rattle.rt_world.proofs.Sending.{changes, all_sent, others_received, outs_sent}
 
+-- what a submission of a core says of it
+pub record IsSentBy {J T : Type 0} (same : J → J → Type 0) (made : J → ℕ) (polls : J → ℕ → Step T → Option ℕ → Type 0)
+    (to : ℕ) (order : Order J) (view : RecordedView J T) (link : Whole J T) (answer : Result JobId (SendError J)) (now : RecordedView J T) (after : Whole J T) : Type 0 where
+  pub submitted : IsSubmitted to order (desk_of view) link answer (desk_of now) after
+  pub rest : now ≡ record view { journal = now.journal }
+  pub seat : IsSameSeat view now
+  pub ins : (from : ℕ) → KeepsIn from view now
+  pub sound : IsRecorded same made polls now
+
 module _ {J T : Type 0} {same : J → J → Type 0} {made : J → ℕ} {polls : J → ℕ → Step T → Option ℕ → Type 0} {old : Parts J T}
     (world : IsWorld same made polls old) (sender to : ℕ) (sender_there : sender < old.cores) (to_there : to < old.cores)
     (order : Order J) (answer : Result JobId (SendError J)) (now : RecordedView J T) (after : Whole J T)
-    (core_did : IsSubmitted to order (desk_of (core_at sender old)) (link_at sender to old.links) answer (desk_of now) after)
-    (rest : now ≡ record (core_at sender old) { journal = now.journal }) (seat : IsSameSeat (core_at sender old) now)
-    (ins : (from : ℕ) → KeepsIn from (core_at sender old) now) (sound : IsRecorded same made polls now) where
+    (core_did : IsSentBy same made polls to order (core_at sender old) (link_at sender to old.links) answer now after) where
   there : sender ≤ old.cores
   there = omega (arith, sender_there)
 
   did : IsSubmitted to order (desk_at sender old) (link_at sender to old.links) answer (desk_of now) after
-  did = subst (λ desk. IsSubmitted to order desk (link_at sender to old.links) answer (desk_of now) after) (sym (desk_is world sender sender_there)) core_did
+  did = subst (λ desk. IsSubmitted to order desk (link_at sender to old.links) answer (desk_of now) after) (sym (desk_is world sender sender_there)) core_did.submitted
 
   abbrev pub core_sent : Parts J T
   core_sent = parts_now world sender sender_there now (with_link old.links sender to after)
@@ -41,9 +48,9 @@ module _ {J T : Type 0} {same : J → J → Type 0} {made : J → ℕ} {polls : 
   pub core_rests : IsWorld same made polls core_sent
   core_rests =
       rests world sender sender_there now (with_link old.links sender to after) (record {
-        recorded = sound;
-        at_rest = ap (λ view. view.core.out) rest ∙ world.at_rest sender sender_there;
-        seat = seat;
+        recorded = core_did.sound;
+        at_rest = ap (λ view. view.core.out) core_did.rest ∙ world.at_rest sender sender_there;
+        seat = core_did.seat;
         rows_are = (changes world sender to there to_there order answer (desk_of now) after did).same_rows;
         links_are = (changes world sender to there to_there order answer (desk_of now) after did).same_cores;
         received = others_received world sender to there to_there order answer (desk_of now) after did;
@@ -51,7 +58,7 @@ module _ {J T : Type 0} {same : J → J → Type 0} {made : J → ℕ} {polls : 
         outs = outs_sent world sender to there to_there order answer (desk_of now) after did;
         ins = λ from known.
             in_stays from now _ _ (all_sent world sender to there to_there order answer (desk_of now) after did from sender)
-            ((ins from).each _ (world.beside.ins from sender known sender_there));
+            ((core_did.ins from).each _ (world.beside.ins from sender known sender_there));
       })
 
   pub core_sends : Sends sender to order (world_of old) (world_of core_sent) (sent_reply answer)

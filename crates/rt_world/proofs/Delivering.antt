@@ -13,10 +13,8 @@ use Rattle.rt_link.specs.Calls.{SeesMore}
 use Rattle.rt_journal.specs.Recorded.{RecordedView, IsRecorded, desk_of}
 use Rattle.rt_journal.specs.Ends.{IsInOf, IsOutOf, KeepsIn, KeepsOuts, IsSameSeat}
 use Rattle.rt_journal.specs.Steps.{Delivers as DeliversTo}
-use Rattle.rt_world.specs.declared.event.Reply.{Reply}
-use Rattle.rt_world.specs.declared.event.Reply.TheVariants as reply
 use Rattle.rt_world.specs.State.{journal_at, sent_at, noted}
-use Rattle.rt_world.specs.Deliveries.{Delivers, IsDelivery, next_place}
+use Rattle.rt_world.specs.Deliveries.{Delivers, IsDelivery, next_place, taken_reply}
 use Rattle.rt_world.specs.Links.{link_at, ChangesLink}
 use Rattle.rt_world.specs.Inside.{Parts, core_at, desk_at, world_of, IsWorld}
 use Rattle.rt_world.proofs.Desks.{sent_at-world}
@@ -32,24 +30,31 @@ slice_get-end (item ∷ items) (suc place) is = slice_get-end items place (omega
 
 -- what a delivery says of the core, and of the link
 pub record IsTakenBy {J T : Type 0} (same : J → J → Type 0) (made : J → ℕ) (polls : J → ℕ → Step T → Option ℕ → Type 0)
-    (sender : ℕ) (view : RecordedView J T) (link : Whole J T) (found : Bool) (now : RecordedView J T) (after : Whole J T) : Type 0 where
+    (view : RecordedView J T) (link : Whole J T) (found : Bool) (now : RecordedView J T) (after : Whole J T) : Type 0 where
   pub delivers : DeliversTo view (inward_of link) now (inward_of after) found
-  pub beside : IsInOf sender now (inward_of after)
-  pub others : (other : ℕ) → other ≢ sender → KeepsIn other view now
+  pub beside : IsInOf link.from now (inward_of after)
+  pub others : (other : ℕ) → other ≢ link.from → KeepsIn other view now
   pub outs : KeepsOuts (desk_of view) (desk_of now)
   pub seat : IsSameSeat view now
   pub sound : IsRecorded same made polls now
   pub untouched : kept_by_receiver after ≡ kept_by_receiver link
 
--- what the core is told
-abbrev pub taken_reply : {J : Type 0} → Bool → Reply J
-taken_reply true = reply.Noted
-taken_reply false = reply.Empty
+-- the end is beside the core that takes from it
+pub may_take : {J T : Type 0} {same : J → J → Type 0} {made : J → ℕ} {polls : J → ℕ → Step T → Option ℕ → Type 0} {old : Parts J T}
+    (world : IsWorld same made polls old) (sender core : ℕ) → sender ≤ old.cores → core < old.cores → (view : RecordedView J T) → view ≡ core_at core old →
+    (link : Whole J T) → link ≡ link_at sender core old.links → IsInOf link.from view (inward_of link)
+may_take {old = old} world sender core there core_there view view_is link link_is =
+    let its = world.beside.ins sender core there core_there in
+    subst (λ at. IsInOf at.from view (inward_of at)) (sym link_is)
+    (
+    subst (λ at. IsInOf (link_at sender core old.links).from at (inward_of (link_at sender core old.links))) (sym view_is)
+    (subst (λ from. IsInOf from (core_at core old) (inward_of (link_at sender core old.links))) (sym its.from) its)
+    )
 
 module _ {J T : Type 0} {same : J → J → Type 0} {made : J → ℕ} {polls : J → ℕ → Step T → Option ℕ → Type 0} {old : Parts J T}
     (world : IsWorld same made polls old) (sender core : ℕ) (there : sender ≤ old.cores) (core_there : core < old.cores)
     (found : Bool) (now : RecordedView J T) (after : Whole J T)
-    (did : IsTakenBy same made polls sender (core_at core old) (link_at sender core old.links) found now after) where
+    (did : IsTakenBy same made polls (core_at core old) (link_at sender core old.links) found now after) where
   abbrev view : RecordedView J T
   view = core_at core old
 
@@ -58,6 +63,12 @@ module _ {J T : Type 0} {same : J → J → Type 0} {made : J → ℕ} {polls : 
 
   abbrev links : List (List (Whole J T))
   links = with_link old.links sender core after
+
+  from_is : link.from ≡ sender
+  from_is = (world.beside.ins sender core there core_there).from
+
+  beside_now : IsInOf sender now (inward_of after)
+  beside_now = subst (λ from. IsInOf from now (inward_of after)) from_is did.beside
 
   -- what the core did on the link: it took, and sees what it saw
   record DidOnLink : Type 0 where
@@ -102,8 +113,8 @@ module _ {J T : Type 0} {same : J → J → Type 0} {made : J → ℕ} {polls : 
   ins : (from : ℕ) → from ≤ old.cores → IsInOf from now (inward_of (link_at from core links))
   ins from known =
       ⊎_elim
-      (λ one. subst (λ at. IsInOf at now (inward_of (link_at at core links))) (sym one) (subst (λ link. IsInOf sender now (inward_of link)) (sym changes.changed) did.beside))
-      (λ away. subst (λ link. IsInOf from now (inward_of link)) (sym (changes.others from core (λ one two. away one))) ((did.others from away).each _ (world.beside.ins from core known core_there)))
+      (λ one. subst (λ at. IsInOf at now (inward_of (link_at at core links))) (sym one) (subst (λ link. IsInOf sender now (inward_of link)) (sym changes.changed) beside_now))
+      (λ away. subst (λ link. IsInOf from now (inward_of link)) (sym (changes.others from core (λ one two. away one))) ((did.others from (λ one. away (one ∙ from_is))).each _ (world.beside.ins from core known core_there)))
       (cases_eq from sender)
 
   abbrev pub delivered : Parts J T

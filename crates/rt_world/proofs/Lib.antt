@@ -1,6 +1,7 @@
 pub mod Desks
 pub mod LinkRows
 pub mod LinkSteps
+pub mod Borrowed
 pub mod LinkOpening
 pub mod PartOpening
 pub mod Hollow
@@ -11,8 +12,8 @@ pub mod SentLinks
 pub mod Sending
 pub mod CoreSending
 pub mod Delivering
-pub mod Turning
 pub mod OneTurn
+pub mod Turning
 pub mod Gathered
 pub mod WorldSound
 pub mod RunSteps

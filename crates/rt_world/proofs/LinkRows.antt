@@ -71,27 +71,17 @@ module _ {J T : Type 0} (links : List (List (Whole J T))) (s d : ℕ) (link : Wh
       ∙ set-get_or (sent_lists links) s []
       )
 
--- what a call borrows: a row, and a link of that row
-pub record IsBorrowed {J T V : Type 0} (items : V → List (Whole J T)) (rows : List V) (s d : ℕ) (row : V) (before : Whole J T) : Type 0 where
-  pub in_rows : s < length (map items rows)
-  pub in_row : d < length (row_of s (map items rows))
-  pub row_is : row ≡ get_or rows s row
-  pub link_is : before ≡ get_or (items row) d before
-
-module _ {J T V : Type 0} {items : V → List (Whole J T)} {rows : List V} {s d : ℕ} {row : V} {before : Whole J T} (borrowed : IsBorrowed items rows s d row before) where
+-- a row that a call borrows, and a link of that row
+module _ {J T V : Type 0} (items : V → List (Whole J T)) (rows : List V) (s : ℕ) (in_rows : s < length rows) (row : V) (row_is : row ≡ get_or rows s row) where
   pub row_of-borrowed : row_of s (map items rows) ≡ items row
-  row_of-borrowed = get_or-map items rows s row [] (omega (arith, borrowed.in_rows, length-map rows items)) ∙ ap items (sym borrowed.row_is)
+  row_of-borrowed = get_or-map items rows s row [] in_rows ∙ ap items (sym row_is)
 
   -- the link is the one of these two
-  pub link_at-borrowed : before ≡ link_at s d (map items rows)
-  link_at-borrowed =
-      sym
-      (
-      ap (λ links. get_or links d (no_link s d)) row_of-borrowed
-      ∙ get_or_default (items row) d (no_link s d) before (subst (λ links. d < length links) row_of-borrowed borrowed.in_row) ∙ sym borrowed.link_is
-      )
+  pub link_at-borrowed : (d : ℕ) (before : Whole J T) → d < length (items row) → before ≡ get_or (items row) d before → before ≡ link_at s d (map items rows)
+  link_at-borrowed d before in_row link_is =
+      sym (ap (λ links. get_or links d (no_link s d)) row_of-borrowed ∙ get_or_default (items row) d (no_link s d) before in_row ∙ sym link_is)
 
   -- and what is left there stands in its place
-  pub rows-with_link : (after_row : V) (after : Whole J T) → items after_row ≡ set (items row) d after → map items (set rows s after_row) ≡ with_link (map items rows) s d after
-  rows-with_link after_row after written =
+  pub rows-with_link : (d : ℕ) (after_row : V) (after : Whole J T) → items after_row ≡ set (items row) d after → map items (set rows s after_row) ≡ with_link (map items rows) s d after
+  rows-with_link d after_row after written =
       map-set items rows s after_row ∙ ap (set (map items rows) s) (written ∙ ap (λ links. set links d after) (sym row_of-borrowed))

@@ -30,6 +30,7 @@ use Rattle.rt_world.specs.Links.{link_at}
 use Rattle.rt_world.specs.Inside.{Parts, core_at, desk_at, notes_at, seat_of, world_of, IsWorld}
 use Rattle.rt_world.proofs.Desks.{sent_at-world}
 use Rattle.rt_world.proofs.LinkSteps.{received-same, sent-same}
+use Rattle.rt_world.proofs.OneTurn.{IsKeptBeside}
 use Rattle.rt_world.proofs.CoreSteps.{desk_is, parts_now, rests, journal_is, journals_now}
 
 module _ {J T : Type 0} {same : J → J → Type 0} {made : J → ℕ} {polls : J → ℕ → Step T → Option ℕ → Type 0} {old : Parts J T}
@@ -119,6 +120,16 @@ module _ {J T : Type 0} {same : J → J → Type 0} {made : J → ℕ} {polls : 
     turns_now reply.Empty did = absurd did
     turns_now (reply.NoActor back) did = absurd did
     turns_now (reply.NoRoom back) did = absurd did
+
+  -- a creation leaves the core at rest
+  pub created_stays : (weight : ℕ) (told : Result ℕ CreateError) → CreatesQueue weight view told now → IsKeptBeside same made polls view now → one.StaysBeside same made polls view now
+  created_stays weight told did kept =
+      record { recorded = kept.sound; at_rest = by_told told did ∙ world.at_rest core there; seat = kept.seat; ins = kept.ins; outs = kept.outs }
+    where
+      by_told : (told : Result ℕ CreateError) → CreatesQueue weight view told now → now.core.out ≡ view.core.out
+      by_told (Ok queue) did = did.3
+      by_told (Err TooMany) did = ap (λ view. view.core.out) did.1
+      by_told (Err Memory) did = ap (λ view. view.core.out) did.1
 
   -- the creation is the one of an opening
   pub creates_now : (weight : ℕ) (told : Result ℕ CreateError) → CreatesQueue weight view told now → CreatesAtOpening core weight (world_of old) told (world_of quiet)

@@ -50,7 +50,9 @@ module _ {J : Type 0} {same : J → J → Type 0} {made : J → ℕ} {polls : J 
 
   -- there is one for each actor, each is lawful, and the links between them agree
   pub world_joined : AreJoined (assembly_of (world_of parts))
-  world_joined = together_joined _ _ _ _ _ _ _ _ _ _ _ _ _ together assembled
+  world_joined = together_joined parts.cores parts.cap (λ actor. desk_at actor parts) (λ core. core_at core parts)
+      (λ sender core. out_of (link_at sender core parts.links)) (λ sender core. (link_at sender core parts.links).credited) (λ sender core. inward_of (link_at sender core parts.links))
+      (assembly_of (world_of parts)) together assembled
 
   pub world_sound : IsSound (assembly_of (world_of parts))
   world_sound = joining_is_sound (assembly_of (world_of parts)) world_joined

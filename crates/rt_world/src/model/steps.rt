@@ -5,7 +5,7 @@ ghost use Rattle.rt_core.specs.declared.turn.PickError.TheVariants.{Busy};
 ghost use Rattle.rt_jobs.specs.Ready.{HasReadyJob};
 ghost use Rattle.rt_world.specs.State.{journal_at};
 ghost use Rattle.rt_world.specs.Sends.{Sends, sent_reply};
-ghost use Rattle.rt_world.specs.Deliveries.{Delivers};
+ghost use Rattle.rt_world.specs.Deliveries.{Delivers, taken_reply};
 ghost use Rattle.rt_world.specs.Turns.{Turns};
 ghost use Rattle.rt_world.specs.OneTurn as one;
 ghost use Rattle.rt_world.specs.PickedJobs.{TookOut, TookNone};
@@ -45,11 +45,7 @@ impl<J: Task<Out = u64>, A: Allocator + Clone> World<J, A> {
     {
         let row = &mut self.links[from.0 as usize];
         let link = &mut row[core.0 as usize];
-        if self.inside[core.0 as usize].deliver(link) {
-            Reply::Noted
-        } else {
-            Reply::Empty
-        }
+        reply_if(self.inside[core.0 as usize].deliver(link))
     }
 }
 
@@ -80,6 +76,13 @@ fn turn_of<J: Job + Task<Out = u64>, A: Allocator + Clone>(
     };
     drop(core.settle(Ran::poll(job), spent));
     Reply::Noted
+}
+
+// What the core is told.
+fn reply_if<J>(found: bool) -> Reply<J>
+    ensures { result ≡ taken_reply found }
+{
+    if found { Reply::Noted } else { Reply::Empty }
 }
 
 // What the sender is told.
