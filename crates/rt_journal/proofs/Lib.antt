@@ -21,6 +21,7 @@ pub mod QuietSteps
 pub mod QueuesCreated
 pub mod Picked
 pub mod SettledPolls
+pub mod Turned
 pub mod Wrote
 pub mod Submitted
 pub mod SentNotes
