@@ -42,7 +42,7 @@ decimal_value (c ∷ e ∷ cs) d some lead small =
     decimal_value_after (0 * 10 + digit_value c) (e ∷ cs) (omega arith) d.1 small
     ∙ ap (λ x. x ++ (e ∷ cs)) (decimal_digit (0 * 10 + digit_value c) (omega (arith, d.0)) ∙ ap (λ x. x ∷ []) is)
 
--- what is written of a number begins with no zero, but for 0 itself
+-- what is written of a number begins with no zero, except of 0 itself
 record Leads (n : ℕ) (ds : List ℕ) : Type 0 where
   some : 1 ≤ length ds
   first : 0 < n → 48 < get_or ds 0 0
