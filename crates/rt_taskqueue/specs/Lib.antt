@@ -1,4 +1,5 @@
 pub mod Queues
 pub mod Slips
+pub mod Closing
 pub mod Linked
 pub mod Entries
