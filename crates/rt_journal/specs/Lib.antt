@@ -1,4 +1,3 @@
-pub mod Journals
 pub mod Orders
 pub mod Polls
 pub mod Deliveries

@@ -6,11 +6,11 @@ ghost use Rattle.rt_journal.specs.Recorded.{IsRecorded};
 ghost use Rattle.rt_journal.specs.Ends.{IsInOf, KeepsIn, KeepsOuts, IsSameSeat};
 ghost use Rattle.rt_journal.specs.Steps.{opened_beside, IsNextIn, Receives, Delivers};
 
-use crate::journal::Journal;
 use rt_core::Core;
 use rt_ids::{CoreNo, Envelope};
 use rt_jobs::Task;
 use rt_link::{History, InEnd};
+use rt_notes::Journal;
 use std::alloc::{AllocError, Allocator, Global};
 use std::marker::Model;
 

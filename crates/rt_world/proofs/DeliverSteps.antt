@@ -20,7 +20,7 @@ use Rattle.rt_core.specs.Deliveries.{Delivers as CarriesOut}
 use Rattle.rt_world.specs.State.{WorldView, journal_at, sent_at, noted}
 use Rattle.rt_world.specs.Deliveries.{IsDelivery, Delivers, next_place}
 use Rattle.rt_world.specs.declared.event.Reply.TheVariants as reply
-use Rattle.rt_journal.specs.Journals.{JournalView}
+use Rattle.rt_notes.specs.Journals.{JournalView}
 use Rattle.rt_world.specs.Links.{link_at, ChangesLink}
 use Rattle.rt_world.specs.Inside.{Parts, core_at, notes_at, world_of, IsLinkBetween}
 use Rattle.rt_world.specs.Tasks.{IsWorld}

@@ -17,7 +17,7 @@ use Rattle.rt_link.proofs.WholeLaws.{IsLink-fresh}
 use Rattle.rt_taskqueue.specs.Queues.{waiting_of, shares_of}
 use Rattle.rt_core.specs.State.{CoreView, runtime_of, opened}
 use Rattle.rt_world.specs.State.{journal_at, sent_at, assembly_of}
-use Rattle.rt_journal.specs.Journals.{JournalView}
+use Rattle.rt_notes.specs.Journals.{JournalView}
 use Rattle.rt_world.specs.Links.{row_of, link_at, no_link, AreFresh}
 use Rattle.rt_world.specs.Inside.{terms_in, Parts, notes_at, world_of, IsCoreAtRest, IsLinkBetween, AreOpened, AreEmpty}
 use Rattle.rt_world.specs.Tasks.{HasTask, IsWorld}

@@ -2,7 +2,7 @@
 use Rattle.std.proofs.Common.{◌≡◌, ℕ, ◌+◌, ◌≤◌, [], ◌++◌, length, get_or, set, sym, ap, ◌∙◌, subst, arith}
 use Rattle.std.proofs.lemmas.List.{get_or_default}
 use Rattle.rt_ids.specs.Journal.{Journal}
-use Rattle.rt_journal.specs.Journals.{JournalView}
+use Rattle.rt_notes.specs.Journals.{JournalView}
 use Rattle.rt_world.specs.State.{journal_at}
 use Rattle.rt_world.specs.Inside.{Parts, AreAllThere, notes_at, world_of}
 use Rattle.rt_world.proofs.WorldViews.{journal_at-world}

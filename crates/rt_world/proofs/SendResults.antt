@@ -18,7 +18,7 @@ use Rattle.rt_link.specs.Calls.{Sends}
 use Rattle.rt_world.specs.State.{WorldView, without_job, journal_at}
 use Rattle.rt_world.specs.Sends.{Sends as SendsOrder}
 use Rattle.rt_world.specs.declared.event.Reply.TheVariants as reply
-use Rattle.rt_journal.specs.Journals.{JournalView}
+use Rattle.rt_notes.specs.Journals.{JournalView}
 use Rattle.rt_world.specs.Links.{link_at, ChangesLink}
 use Rattle.rt_world.specs.Inside.{terms_in, Parts, notes_at, world_of, IsLinkBetween}
 use Rattle.rt_world.specs.Tasks.{IsWorld}

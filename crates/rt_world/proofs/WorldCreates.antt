@@ -15,7 +15,7 @@ use Rattle.rt_taskqueue.specs.declared.queues.CreateError.TheVariants.{TooMany, 
 use Rattle.rt_taskqueue.specs.Queues.{queue_count}
 use Rattle.rt_core.specs.State.{CoreView, opened}
 use Rattle.rt_core.specs.Deliveries.{Creates, CreatesQueue}
-use Rattle.rt_journal.specs.Journals.{JournalView}
+use Rattle.rt_notes.specs.Journals.{JournalView}
 use Rattle.rt_world.specs.State.{journal_at, noted}
 use Rattle.rt_world.specs.Inside.{Parts, core_at, notes_at, journal_view, world_of}
 use Rattle.rt_world.specs.Tasks.{IsWorld}

@@ -20,7 +20,7 @@ use Rattle.rt_core.specs.declared.turn.Settled.TheVariants.{Yielded, Finished}
 use Rattle.rt_core.specs.State.{CoreView, JobOut, runtime_of}
 use Rattle.rt_core.specs.Turns.{TakesOut, Picks, Settles, SettlesOut}
 use Rattle.rt_core.specs.Answers.{IsTaskOut}
-use Rattle.rt_journal.specs.Journals.{JournalView}
+use Rattle.rt_notes.specs.Journals.{JournalView}
 use Rattle.rt_world.specs.State.{journal_at}
 use Rattle.rt_world.specs.Turns.{settle_note, IsPoll}
 use Rattle.rt_world.specs.PickedJobs.{TookOut}

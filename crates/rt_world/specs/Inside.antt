@@ -8,7 +8,7 @@ use Rattle.rt_link.specs.declared.plain.Whole.{Whole}
 use Rattle.rt_core.specs.State.{CoreView, inside_count, opened}
 pub use Rattle.rt_journal.specs.Orders.{numbered_orders}
 use Rattle.rt_world.specs.State.{WorldView}
-use Rattle.rt_journal.specs.Journals.{JournalView}
+use Rattle.rt_notes.specs.Journals.{JournalView}
 use Rattle.rt_world.specs.Links.{row_of}
 use Rattle.rt_journal.specs.Agreement.{Agrees}
 

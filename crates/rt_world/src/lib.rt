@@ -9,4 +9,4 @@ pub mod model;
 pub use event::{Event, Reply};
 pub use links::Links;
 pub use model::{World, WorldError};
-pub use rt_journal::{Assembly, Journal};
+pub use rt_notes::{Assembly, Journal};

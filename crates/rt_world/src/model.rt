@@ -9,7 +9,7 @@ use crate::links::Links;
 use rt_core::Core;
 use rt_ids::ActorNo;
 use rt_jobs::Task;
-use rt_journal::{Assembly, Journal};
+use rt_notes::{Assembly, Journal};
 use std::alloc::{AllocError, Allocator, Global};
 use std::marker::Model;
 

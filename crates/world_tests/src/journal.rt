@@ -1,7 +1,7 @@
 //! A journal by its calls.
 
 use rt_ids::{ActorNo, Mode, Note};
-use rt_journal::Journal;
+use rt_notes::Journal;
 use std::test::Fail;
 
 const FIRST: Note<u64> = Note::CoreClosed(Mode::Return);

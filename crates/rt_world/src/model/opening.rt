@@ -11,7 +11,7 @@ use crate::links::Links;
 use rt_core::Core;
 use rt_ids::{CoreNo, QueueNo};
 use rt_jobs::Task;
-use rt_journal::Journal;
+use rt_notes::Journal;
 use rt_shares::Shares;
 use rt_taskqueue::CreateError;
 use std::alloc::{AllocError, Allocator, Global};

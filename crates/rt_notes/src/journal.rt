@@ -1,7 +1,7 @@
 //! The notes of one actor.
 
 ghost use Rattle.std.specs.Prelude.{◌≡◌, ◌↔◌, ◌+◌, ◌<◌, ◌≤◌, [], ◌∷◌, ◌++◌, length, reverse, slice_get, IfOk, IsTrue};
-ghost use Rattle.rt_journal.specs.Journals.{free_notes, IsWithinRoom};
+ghost use Rattle.rt_notes.specs.Journals.{free_notes, IsWithinRoom};
 
 use rt_ids::Note;
 use std::alloc::{AllocError, Global};
@@ -17,12 +17,12 @@ pub struct Journal<T: Copy> {
 }
 
 impl<T: Copy> Model for Journal<T> {
-    ghost use Rattle.rt_journal.specs.Journals.{JournalView};
+    ghost use Rattle.rt_notes.specs.Journals.{JournalView};
 
     ghost Value = { JournalView T };
 
     ghost use Rattle.std.specs.Prelude.{vec_capacity};
-    ghost use Rattle.rt_journal.specs.Journals.{journal_of_notes, IsReserved};
+    ghost use Rattle.rt_notes.specs.Journals.{journal_of_notes, IsReserved};
 
     ghost view = { λ journal. journal_of_notes journal.room journal.notes.items };
 
