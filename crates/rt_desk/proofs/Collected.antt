@@ -1,15 +1,14 @@
 -- A lane after a collection, as the call tells of its end.
-use Rattle.std.proofs.Common.{◌≡◌, ◌⊎◌, ℕ, ◌+◌, ◌<◌, length, Option, Some, None, refl, sym, ap, subst, ◌∙◌, arith}
-use Rattle.std.specs.Prelude.{List, slice_get, IfSome, IfNone}
+use Rattle.std.proofs.Common.{◌≡◌, ℕ, ◌+◌, ◌<◌, Option, Some, None, sym, ap, subst, ◌∙◌, arith}
+use Rattle.std.specs.Prelude.{List, IfSome, IfNone}
 use Rattle.rt_ids.specs.declared.order.Order.{Order}
 use Rattle.rt_ids.specs.declared.order.Outcome.{Outcome}
 use Rattle.rt_link.specs.declared.ends.Outward.{Outward}
 use Rattle.rt_link.specs.Calls.{Collects}
 use Rattle.rt_link.specs.Ends.{AreOf, SoundOut}
 use Rattle.rt_desk.specs.Held.{at, Removes}
-use Rattle.rt_desk.specs.Lanes.{Lane, IsLaneOf}
+use Rattle.rt_desk.specs.Lanes.{Lane, IsLaneOf, IsJustGot}
 use Rattle.rt_desk.specs.Steps.{Becomes}
-use Rattle.rt_desk.specs.declared.entry.Entry.{Entry}
 use Rattle.rt_desk.specs.declared.entry.Entry.TheVariants.{Pending, Detached, Collected}
 use Rattle.rt_desk.proofs.Collections.{IsLaneOf-seen, IsLaneOf-kept, IsLaneOf-dropped, IsLaneOf-redeemed, IsLaneOf-detached, next_not_none, next_not_collected}
 
@@ -19,51 +18,56 @@ pub pulled : {V : Type 0} (held new : List (ℕ × V)) (number : ℕ) (before : 
 pulled held new number before None none removes there = absurd (let e : at held number ≡ None = none in cc)
 pulled held new number before (Some value) none removes there = let same : value ≡ before = let e : at held number ≡ Some value = removes.was in cc in subst (Removes held new number) same removes
 
-module _ {J T : Type 0} (fits : Order J → Outcome J T → Type 0) (lane : Lane J T) (out later : Outward J T) (credited after : ℕ) (l : IsLaneOf fits lane out credited)
-    (same : after ≡ credited) (sound : SoundOut later after) (named : AreOf fits later.base later.sent later.seen) where
-  -- nothing was found
-  pub IsLaneOf-none : Collects out later None → IsLaneOf fits lane later after
-  IsLaneOf-none collects =
-      let sound' : SoundOut (record out { seen = later.seen }) credited = subst (λ k. SoundOut (record out { seen = later.seen }) k) same (subst (λ o. SoundOut o after) collects.0 sound) in
-      let named' : AreOf fits out.base out.sent later.seen = subst (λ o. AreOf fits o.base o.sent later.seen) collects.0 named in
-      subst (λ o. IsLaneOf fits lane o after) (sym collects.0)
-      (subst (λ k. IsLaneOf fits lane (record out { seen = later.seen }) k) (sym same) (IsLaneOf-seen fits lane out credited l later.seen collects.1 named' sound'))
+-- nothing was found
+pub IsLaneOf-none : {J T : Type 0} (fits : Order J → Outcome J T → Type 0) (lane : Lane J T) (out later : Outward J T) (credited after : ℕ) → IsLaneOf fits lane out credited
+    → after ≡ credited → SoundOut later after → AreOf fits later.base later.sent later.seen → Collects out later None → IsLaneOf fits lane later after
+IsLaneOf-none fits lane out later credited after l same sound named collects =
+    let sound' : SoundOut (record out { seen = later.seen }) credited = subst (λ k. SoundOut (record out { seen = later.seen }) k) same (subst (λ o. SoundOut o after) collects.0 sound) in
+    let named' : AreOf fits out.base out.sent later.seen = subst (λ o. AreOf fits o.base o.sent later.seen) collects.0 named in
+    subst (λ o. IsLaneOf fits lane o after) (sym collects.0)
+    (subst (λ k. IsLaneOf fits lane (record out { seen = later.seen }) k) (sym same) (IsLaneOf-seen fits lane out credited l later.seen collects.1 named' sound'))
 
-  module _ (number : ℕ) (outcome : Outcome J T) (collects : Collects out later (Some (number, outcome))) where
-    abbrev shown : Outward J T
-    shown = record out { seen = later.seen; got = out.got + 1 }
+module _ {J T : Type 0} (fits : Order J → Outcome J T → Type 0) where
+  -- an outcome that the end gives was just got
+  pub IsJustGot-found : (lane : Lane J T) (out later : Outward J T) (credited after number : ℕ) (outcome : Outcome J T) → IsLaneOf fits lane out credited → after ≡ credited
+      → Collects out later (Some (number, outcome)) → SoundOut later after → AreOf fits later.base later.sent later.seen → after < later.got → IsJustGot fits lane later after number outcome
+  IsJustGot-found lane out later credited after number outcome l same collects sound named earned =
+      record { out = out; lane_of = subst (IsLaneOf fits lane out) (sym same) l; collects = collects; sound = sound; named = named; earned = earned }
 
-    sound-shown : SoundOut shown credited
-    sound-shown = subst (λ k. SoundOut shown k) same (subst (λ o. SoundOut o after) collects.0 sound)
+module _ {J T : Type 0} (fits : Order J → Outcome J T → Type 0) (lane : Lane J T) (later : Outward J T) (credited number : ℕ) (outcome : Outcome J T)
+    (j : IsJustGot fits lane later credited number outcome) where
+  abbrev shown : Outward J T
+  shown = record j.out { seen = later.seen; got = j.out.got + 1 }
 
-    named-shown : AreOf fits out.base out.sent later.seen
-    named-shown = subst (λ o. AreOf fits o.base o.sent later.seen) collects.0 named
+  sound-shown : SoundOut shown credited
+  sound-shown = subst (λ o. SoundOut o credited) j.collects.0 j.sound
 
-    -- the number waits
-    pub not_none : ¬ (at lane.entries number ≡ None)
-    not_none = next_not_none fits lane out credited l later.seen collects.1 named-shown number outcome collects.2
+  named-shown : AreOf fits j.out.base j.out.sent later.seen
+  named-shown = subst (λ o. AreOf fits o.base o.sent later.seen) j.collects.0 j.named
 
-    pub not_collected : (other : Outcome J T) → ¬ (at lane.entries number ≡ Some (Collected other))
-    not_collected other = next_not_collected fits lane out credited l later.seen collects.1 named-shown number outcome collects.2 other
+  -- the number waits
+  pub not_none : ¬ (at lane.entries number ≡ None)
+  not_none = next_not_none fits lane j.out credited j.lane_of later.seen j.collects.1 named-shown number outcome j.collects.2
 
-    -- an outcome is kept
-    pub IsLaneOf-collected : (new : Lane J T) → Becomes lane.entries new.entries number Pending (Collected outcome)
-        → new.room ≡ lane.room → new.count ≡ lane.count → new.last ≡ lane.last → IsLaneOf fits new later after
-    IsLaneOf-collected new becomes room count last =
-        subst (λ o. IsLaneOf fits new o after) (sym collects.0)
-        (subst (λ k. IsLaneOf fits new shown k) (sym same)
-        (IsLaneOf-kept fits lane out credited l later.seen collects.1 named-shown number outcome collects.2 sound-shown new becomes room count last))
+  pub not_collected : (other : Outcome J T) → ¬ (at lane.entries number ≡ Some (Collected other))
+  not_collected other = next_not_collected fits lane j.out credited j.lane_of later.seen j.collects.1 named-shown number outcome j.collects.2 other
 
-    -- an outcome is dropped, and its place is free
-    pub IsLaneOf-let_go : (new : Lane J T) (last_out : Outward J T) (last_credited : ℕ) → Removes lane.entries new.entries number Detached
-        → after < later.got → last_out ≡ later → last_credited ≡ after + 1
-        → new.room ≡ lane.room → new.count ≡ lane.count → new.last ≡ lane.last → IsLaneOf fits new last_out last_credited
-    IsLaneOf-let_go new last_out last_credited removes earned out_is credited_is room count last =
-        let got : later.got ≡ out.got + 1 = ap (λ (o : Outward J T). o.got) collects.0 in
-        let one_more : last_credited ≡ credited + 1 = credited_is ∙ ap (λ k. k + 1) same in
-        subst (λ o. IsLaneOf fits new o last_credited) (sym (out_is ∙ collects.0))
-        (subst (λ k. IsLaneOf fits new shown k) (sym one_more)
-        (IsLaneOf-dropped fits lane out credited l later.seen collects.1 named-shown number outcome collects.2 sound-shown (omega arith) new removes room count last))
+  -- an outcome is kept
+  pub IsLaneOf-collected : (new : Lane J T) → Becomes lane.entries new.entries number Pending (Collected outcome)
+      → new.room ≡ lane.room → new.count ≡ lane.count → new.last ≡ lane.last → IsLaneOf fits new later credited
+  IsLaneOf-collected new becomes room count last =
+      subst (λ o. IsLaneOf fits new o credited) (sym j.collects.0)
+      (IsLaneOf-kept fits lane j.out credited j.lane_of later.seen j.collects.1 named-shown number outcome j.collects.2 sound-shown new becomes room count last)
+
+  -- an outcome is dropped, and its place is free
+  pub IsLaneOf-let_go : (new : Lane J T) (last_out : Outward J T) (last_credited : ℕ) → Removes lane.entries new.entries number Detached
+      → last_out ≡ later → last_credited ≡ credited + 1 → new.room ≡ lane.room → new.count ≡ lane.count → new.last ≡ lane.last → IsLaneOf fits new last_out last_credited
+  IsLaneOf-let_go new last_out last_credited removes out_is one_more room count last =
+      let got : later.got ≡ j.out.got + 1 = ap (λ (o : Outward J T). o.got) j.collects.0 in
+      let earned : credited < later.got = j.earned in
+      subst (λ o. IsLaneOf fits new o last_credited) (sym (out_is ∙ j.collects.0))
+      (subst (λ k. IsLaneOf fits new shown k) (sym one_more)
+      (IsLaneOf-dropped fits lane j.out credited j.lane_of later.seen j.collects.1 named-shown number outcome j.collects.2 sound-shown (omega arith) new removes room count last))
 
 -- A lane after a redemption or a detachment, as the call tells of its end.
 module _ {J T : Type 0} (fits : Order J → Outcome J T → Type 0) (lane new : Lane J T) (out later : Outward J T) (credited after : ℕ) (l : IsLaneOf fits lane out credited)

@@ -1,20 +1,18 @@
 -- What a collection, a redemption and a detachment do to a lane.
-use Rattle.std.proofs.Common.{◌≡◌, ◌≢◌, ◌⊎◌, inl, inr, ℕ, ◌+◌, ◌-◌, ◌^◌, ◌<◌, ◌≤◌, Bool, true, false, List, [], ◌∷◌, ◌++◌, length, Option, Some, None, refl, sym, ap, subst, ◌∙◌, arith}
-use Rattle.std.specs.Prelude.{slice_get, IfSome}
+use Rattle.std.proofs.Common.{◌≡◌, ◌≢◌, inl, inr, ℕ, ◌+◌, ◌<◌, ◌≤◌, true, List, Some, None, refl, sym, ap, subst, ◌∙◌, arith}
+use Rattle.std.specs.Prelude.{slice_get}
 use Rattle.std.proofs.lemmas.Bool.Decides.{eqb_tells, leb_tells}
 use Rattle.rt_ids.specs.declared.order.Order.{Order}
 use Rattle.rt_ids.specs.declared.order.Outcome.{Outcome}
 use Rattle.rt_link.specs.declared.ends.Outward.{Outward}
-use Rattle.rt_link.specs.Calls.{Collects}
 use Rattle.rt_link.specs.Ends.{StartsWith, AreOf, SoundOut}
 use Rattle.rt_link.proofs.EndFacts.{SoundOut-credit}
 use Rattle.rt_link.proofs.Lists.{slice_get-starts}
-use Rattle.rt_desk.specs.Held.{one, at, tally, count_of, Adds, Removes}
-use Rattle.rt_desk.specs.Lanes.{Lane, is_collected, IsSent, IsGot, IsAwaited, FitsSent, Stands, IsLaneOf}
+use Rattle.rt_desk.specs.Held.{at, Removes}
+use Rattle.rt_desk.specs.Lanes.{Lane, is_collected, IsSent, IsGot, FitsSent, Stands, IsLaneOf}
 use Rattle.rt_desk.specs.Steps.{Becomes}
 use Rattle.rt_desk.specs.declared.entry.Entry.{Entry}
 use Rattle.rt_desk.specs.declared.entry.Entry.TheVariants.{Pending, Detached, Collected}
-use Rattle.rt_desk.proofs.Lanes.{option_cases, Stands-sent}
 
 module _ {J T : Type 0} (fits : Order J → Outcome J T → Type 0) (lane : Lane J T) (out : Outward J T) (credited : ℕ) (l : IsLaneOf fits lane out credited) where
   -- an outcome that waits is one that was collected, and its order's

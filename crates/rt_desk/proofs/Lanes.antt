@@ -1,6 +1,6 @@
 -- What a lane knows of its numbers, and that a send keeps it.
-use Rattle.std.proofs.Common.{◌≡◌, ◌≢◌, ◌⊎◌, inl, inr, ℕ, ◌+◌, ◌-◌, ◌^◌, ◌<◌, ◌≤◌, Bool, true, false, List, [], ◌∷◌, ◌++◌, length, length-append, Option, Some, None, Ok, Err, refl, sym, ap, subst, ◌∙◌, arith}
-use Rattle.std.specs.Prelude.{slice_get, IfSome}
+use Rattle.std.proofs.Common.{◌≡◌, ◌≢◌, ◌⊎◌, inl, inr, ℕ, ◌+◌, ◌<◌, ◌≤◌, true, List, [], ◌∷◌, ◌++◌, length, length-append, Option, Some, None, Ok, Err, refl, sym, ap, subst, ◌∙◌, arith}
+use Rattle.std.specs.Prelude.{slice_get}
 use Rattle.std.proofs.lemmas.Bool.Decides.{eqb_tells}
 use Rattle.rt_ids.specs.declared.order.Order.{Order}
 use Rattle.rt_ids.specs.declared.order.Outcome.{Outcome}
@@ -9,10 +9,10 @@ use Rattle.rt_ids.specs.declared.order.SendError.TheVariants.{Closed, Full, Spen
 use Rattle.rt_link.specs.declared.ends.Outward.{Outward}
 use Rattle.rt_link.specs.Calls.{Sends}
 use Rattle.rt_link.specs.Ends.{AreOf, SoundOut}
-use Rattle.rt_link.proofs.EndFacts.{SoundOut-Sends, SoundOut-credit}
+use Rattle.rt_link.proofs.EndFacts.{SoundOut-Sends}
 use Rattle.rt_link.proofs.Numbers.{AreOf-starts}
-use Rattle.rt_desk.specs.Held.{one, at, tally, count_of, Adds, Removes}
-use Rattle.rt_desk.specs.Lanes.{Lane, is_collected, IsSent, IsGot, IsAwaited, FitsSent, Stands, IsLaneOf, IsUnused, fresh_lane, IsGiven}
+use Rattle.rt_desk.specs.Held.{at, Adds}
+use Rattle.rt_desk.specs.Lanes.{Lane, is_collected, IsSent, Stands, IsLaneOf, IsUnused, fresh_lane}
 use Rattle.rt_desk.specs.declared.entry.Entry.{Entry}
 use Rattle.rt_desk.specs.declared.entry.Entry.TheVariants.{Pending, Detached, Collected}
 

@@ -4,4 +4,5 @@ pub mod Tops
 pub mod Lanes
 pub mod Collections
 pub mod Collected
+pub mod Gathered
 pub mod Cores

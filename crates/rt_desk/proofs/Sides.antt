@@ -1,8 +1,8 @@
 -- What becomes of a tree where one of its sides changes, or its top is taken.
-use Rattle.std.proofs.Common.{◌≡◌, ◌≢◌, ℕ, ◌+◌, ◌*◌, ◌<◌, ◌/◌, ◌%◌, ◌^◌, List, [], Bool, true, false, Option, Some, None, inl, inr, refl, sym, ap, ◌∙◌, arith}
-use Rattle.std.specs.Prelude.{is_some, eqb}
+use Rattle.std.proofs.Common.{◌≡◌, ◌≢◌, ℕ, ◌+◌, ◌*◌, ◌<◌, ◌/◌, ◌%◌, ◌^◌, List, [], false, Some, None, inl, inr, refl, sym, ap, ◌∙◌, arith}
+use Rattle.std.specs.Prelude.{is_some}
 use Rattle.std.proofs.lemmas.Bool.Decides.{eqb_tells}
-use Rattle.rt_desk.specs.Held.{at, tally, held_below, IsLow, IsNodeSound, Adds, Removes}
+use Rattle.rt_desk.specs.Held.{at, held_below, IsLow, IsNodeSound, Adds, Removes}
 use Rattle.rt_desk.proofs.Digits.{at-top, at-even, at-odd, tally-below}
 
 module _ {V : Type 0} (rest : ℕ) (value : V) where

@@ -1,10 +1,7 @@
 -- The top of a tree, as the code meets it: the tree is seen as a list, and its top is one of its forms.
-use Rattle.std.proofs.Common.{◌≡◌, ◌≢◌, ℕ, ◌+◌, ◌*◌, ◌<◌, ◌/◌, ◌%◌, ◌^◌, List, [], Option, Some, None, refl, sym, ap, subst, ◌∙◌, arith}
-use Rattle.std.specs.Prelude.{is_some, IfNone}
-use Rattle.rt_desk.specs.Held.{at, tally, held_below, IsNodeSound, Adds, Removes}
-use Rattle.rt_desk.specs.Nodes.{held, IsTrie, IsLoose}
-use Rattle.rt_desk.specs.declared.trie.Link.{Link}
-use Rattle.rt_desk.specs.declared.trie.Link.TheVariants.{Empty, Top}
+use Rattle.std.proofs.Common.{◌≡◌, ◌≢◌, ℕ, ◌+◌, ◌*◌, ◌/◌, ◌%◌, List, Option, Some, None, sym, ◌∙◌}
+use Rattle.std.specs.Prelude.{IfNone}
+use Rattle.rt_desk.specs.Held.{at, held_below, IsNodeSound, Removes}
 use Rattle.rt_desk.specs.declared.trie.Node.{Node}
 use Rattle.rt_desk.proofs.Digits.{at-top, at-even, at-odd}
 use Rattle.rt_desk.proofs.Sides.{Hoists-even, Hoists-odd}

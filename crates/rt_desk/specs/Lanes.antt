@@ -1,8 +1,9 @@
 -- What is known of the submissions of one actor to one core, and how it belongs to the out end of their link.
-use Rattle.std.specs.Prelude.{◌≡◌, ◌⊎◌, ℕ, ◌+◌, ◌-◌, ◌<◌, ◌≤◌, Bool, true, false, List, [], ◌∷◌, length, Option, Some, None, slice_get, IfSome}
+use Rattle.std.specs.Prelude.{◌≡◌, ◌⊎◌, ℕ, ◌+◌, ◌-◌, ◌<◌, ◌≤◌, Bool, true, false, List, [], length, Some, None, slice_get, IfSome}
 use Rattle.rt_ids.specs.declared.order.Order.{Order}
 use Rattle.rt_ids.specs.declared.order.Outcome.{Outcome}
 use Rattle.rt_link.specs.declared.ends.Outward.{Outward}
+use Rattle.rt_link.specs.Calls.{Collects}
 use Rattle.rt_link.specs.Ends.{AreOf, SoundOut}
 use Rattle.rt_desk.specs.Held.{at, tally, count_of}
 use Rattle.rt_desk.specs.declared.entry.Entry.{Entry}
@@ -20,6 +21,12 @@ abbrev pub is_collected : {J T : Type 0} → Entry J T → Bool
 is_collected (Collected outcome) = true
 is_collected Pending = false
 is_collected Detached = false
+
+-- whether nobody will ask for the outcome
+abbrev pub is_detached : {J T : Type 0} → Entry J T → Bool
+is_detached Detached = true
+is_detached Pending = false
+is_detached (Collected outcome) = false
 
 module _ {J T : Type 0} where
   -- a lane of which no number was given
@@ -70,6 +77,15 @@ module _ {J T : Type 0} where
     pub gone : (number : ℕ) → IsSent out number → at lane.entries number ≡ None → (outcome : Outcome J T) × IsGot out number outcome
     pub outstanding : count_of lane.entries + credited ≡ length out.sent
     pub kept : tally lane.entries is_collected + credited ≡ out.got
+
+  -- an outcome was just collected at the end beside this lane, which doesn't know of it yet
+  pub record IsJustGot (fits : Order J → Outcome J T → Type 0) (lane : Lane J T) (later : Outward J T) (credited number : ℕ) (outcome : Outcome J T) : Type 0 where
+    pub out : Outward J T
+    pub lane_of : IsLaneOf fits lane out credited
+    pub collects : Collects out later (Some (number, outcome))
+    pub sound : SoundOut later credited
+    pub named : AreOf fits later.base later.sent later.seen
+    pub earned : credited < later.got
 
   -- an end on which nothing was done yet
   abbrev pub IsUnused : ℕ → Outward J T → ℕ → Type 0

@@ -2,5 +2,6 @@ pub mod Held
 pub mod Nodes
 pub mod Shelves
 pub mod Lanes
+pub mod Told
 pub mod Steps
 pub mod Desks

@@ -1,13 +1,15 @@
 -- What each call does to a lane.
-use Rattle.std.specs.Prelude.{◌≡◌, ◌⊎◌, ℕ, ◌+◌, List, Option, Some, None, Result, Ok, Err, slice_get}
+use Rattle.std.specs.Prelude.{◌≡◌, ◌≢◌, ◌⊎◌, ℕ, ◌+◌, List, ◌++◌, length, take, Option, Some, None, Result, Ok, Err, All}
 use Rattle.rt_ids.specs.declared.order.Outcome.{Outcome}
 use Rattle.rt_ids.specs.declared.order.SendError.{SendError}
 use Rattle.rt_ids.specs.declared.names.JobId.{JobId}
 use Rattle.rt_ids.specs.declared.names.TicketError.{TicketError}
 use Rattle.rt_ids.specs.declared.names.TicketError.TheVariants as refusal
 use Rattle.rt_link.specs.declared.ends.Outward.{Outward}
-use Rattle.rt_desk.specs.Held.{at, Adds, Removes}
-use Rattle.rt_desk.specs.Lanes.{Lane, IsGiven, IsGone}
+use Rattle.rt_link.specs.Calls.{Collects}
+use Rattle.rt_link.specs.Ends.{StartsWith}
+use Rattle.rt_desk.specs.Held.{at, tally, Adds, Removes}
+use Rattle.rt_desk.specs.Lanes.{Lane, is_detached, IsGiven, IsGone}
 use Rattle.rt_desk.specs.declared.entry.Standing.{Standing}
 use Rattle.rt_desk.specs.declared.entry.Standing.TheVariants as standing
 use Rattle.rt_desk.specs.declared.entry.Entry.{Entry}
@@ -30,14 +32,36 @@ module _ {J T : Type 0} where
   Keeps old new number outcome credited later =
       (Becomes old new number Pending (Collected outcome) × (later ≡ credited)) ⊎ (Removes old new number Detached × (later ≡ credited + 1))
 
-  -- One outcome was collected: the next that the link shows, under its number.
-  pub record CollectsOne (old new : Lane J T) (out later : Outward J T) (credited after : ℕ) : Type 0 where
-    pub number : ℕ
-    pub outcome : Outcome J T
-    pub next : slice_get later.seen out.got ≡ Some (number, outcome)
-    pub got : later.got ≡ out.got + 1
-    pub keeps : Keeps old.entries new.entries number outcome credited after
+  -- The next outcome that the link shows is collected: one that is waited for is kept, a detached one is dropped. Or the link shows none.
+  abbrev pub CollectsNext : Lane J T → Lane J T → Outward J T → Outward J T → ℕ → ℕ → Option (ℕ × Outcome J T) → Type 0
+  CollectsNext old new out later credited after None = Collects out later None × (new ≡ old) × (after ≡ credited)
+  CollectsNext old new out later credited after (Some found) =
+      Collects out later (Some found) × (new ≡ record old { entries = new.entries }) × Keeps old.entries new.entries found.0 found.1 credited after
+
+  -- what becomes of an entry when its outcome is collected: a submission that waits has its outcome from then on, a detached one is gone
+  abbrev pub Settles : Option (Entry J T) → Outcome J T → Option (Entry J T) → Type 0
+  Settles (Some Pending) outcome after = after ≡ Some (Collected outcome)
+  Settles (Some Detached) outcome after = after ≡ None
+  Settles _ outcome after = ⊥
+
+  -- These outcomes are collected, in this order, each under its number. No other entry changes. As many places of the link are free as detached ones are gone.
+  pub record CollectsThese (old new : Lane J T) (out later : Outward J T) (credited after : ℕ) (outcomes : List (ℕ × Outcome J T)) : Type 0 where
+    pub end : later ≡ record out { seen = later.seen; got = later.got }
+    pub longer : StartsWith later.seen out.seen
+    pub in_order : take later.got later.seen ≡ take out.got out.seen ++ outcomes
+    pub settled : All (λ found. Settles (at old.entries found.0) found.1 (at new.entries found.0)) outcomes
+    pub others : (number : ℕ) → All (λ found. found.0 ≢ number) outcomes → at new.entries number ≡ at old.entries number
+    pub freed : after + tally new.entries is_detached ≡ credited + tally old.entries is_detached
     pub rest : new ≡ record old { entries = new.entries }
+
+  -- so many outcomes are collected
+  abbrev pub CollectsMany : Lane J T → Lane J T → Outward J T → Outward J T → ℕ → ℕ → ℕ → Type 0
+  CollectsMany old new out later credited after count =
+      (outcomes : List (ℕ × Outcome J T)) × CollectsThese old new out later credited after outcomes × (length outcomes ≡ count)
+
+  -- all outcomes that the link shows are collected, so many of them
+  abbrev pub CollectsAll : Lane J T → Lane J T → Outward J T → Outward J T → ℕ → ℕ → ℕ → Type 0
+  CollectsAll old new out later credited after count = CollectsMany old new out later credited after count × (later.got ≡ length later.seen)
 
   -- why a ticket is refused
   abbrev pub Refuses : Lane J T → ℕ → TicketError → Type 0

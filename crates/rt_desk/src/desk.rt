@@ -1,6 +1,6 @@
 //! One actor's submissions, to all cores.
 
-ghost use Rattle.std.specs.Prelude.{◌≡◌, ◌↔◌, ◌<◌, ◌≤◌, ◌+◌, ◌⊎◌, ℕ, length, Ok, Err, Some, IfOk, IfSome, OnErr, IsTrue, slice_get};
+ghost use Rattle.std.specs.Prelude.{◌≡◌, ◌↔◌, ◌<◌, ◌≤◌, ℕ, length, Option, Err, IfOk, IfSome, OnErr, IsTrue, slice_get};
 ghost use Rattle.rt_ids.specs.declared.names.TicketError.TheVariants.{Unknown};
 ghost use Rattle.rt_ids.specs.declared.order.SendError.TheVariants.{NoCore};
 ghost use Rattle.rt_jobs.specs.Ready.{HasReadyJob};
@@ -9,11 +9,12 @@ ghost use Rattle.rt_link.specs.Fits.{Fits};
 ghost use Rattle.rt_desk.specs.Held.{count_of, Adds};
 ghost use Rattle.rt_desk.specs.Desks.{fresh_desk, IsFor, AreEndsOf, AreUnused, AtCore};
 ghost use Rattle.rt_desk.specs.Lanes.{IsGot, FitsSent};
-ghost use Rattle.rt_desk.specs.Steps.{Redeems, Detaches, numbered};
+ghost use Rattle.rt_desk.specs.Steps.{CollectsNext, CollectsAll, Redeems, Detaches, numbered};
+ghost use Rattle.rt_desk.specs.Told.{told_of};
 ghost use Rattle.rt_desk.specs.declared.entry.Entry.TheVariants.{Pending};
 
 use crate::lane::Lane;
-use rt_ids::{ActorNo, CoreNo, JobId, Order, Outcome, SendError, Ticket, TicketError};
+use rt_ids::{ActorNo, CoreNo, JobId, Order, Outcome, OutcomeNote, SendError, Ticket, TicketError};
 use rt_jobs::Task;
 use rt_link::OutEnd;
 use std::alloc::{AllocError, Global};
@@ -176,13 +177,55 @@ impl<J: Task> Desk<J> {
         lane.submit(end, order)
     }
 
+    /// Collects the next outcome that the link of a core shows, if it shows one: its name, and what became of the submission.
+    ///
+    /// The outcome is kept for its ticket, or dropped where that is detached.
+    pub fn collect_one<O: OutEnd<J>>(
+        &mut self,
+        ends: &mut [O],
+        core: CoreNo,
+    ) -> Option<(JobId, OutcomeNote<J::Out>)>
+    where
+        J::Out: Copy,
+        requires ends { AreEndsOf (Fits J.SameTask J.Answers) O.out O.credited self.old ends.old }
+        requires core { core < length self.old.lanes }
+        ensures ends { AreEndsOf (Fits J.SameTask J.Answers) O.out O.credited self.new ends.new }
+        ensures collects { AtCore self.old self.new ends.old ends.new core (λ lane later end now.
+            (O.untouched now ≡ O.untouched end) × (found : Option (ℕ × Outcome J J.Out)) × (result ≡ told_of self.old.actor core found)
+            × CollectsNext lane later (O.out end) (O.out now) (O.credited end) (O.credited now) found) }
+    {
+        let from = self.actor;
+        self.collect_told_at(ends, core.0 as usize, from, core)
+    }
+
+    fn collect_told_at<O: OutEnd<J>>(
+        &mut self,
+        ends: &mut [O],
+        core: usize,
+        from: ActorNo,
+        to: CoreNo,
+    ) -> Option<(JobId, OutcomeNote<J::Out>)>
+    where
+        J::Out: Copy,
+        requires ends { AreEndsOf (Fits J.SameTask J.Answers) O.out O.credited self.old ends.old }
+        requires core { core < length self.old.lanes }
+        ensures ends { AreEndsOf (Fits J.SameTask J.Answers) O.out O.credited self.new ends.new }
+        ensures collects { AtCore self.old self.new ends.old ends.new core (λ lane later end now.
+            (O.untouched now ≡ O.untouched end) × (found : Option (ℕ × Outcome J J.Out)) × (result ≡ told_of from to found)
+            × CollectsNext lane later (O.out end) (O.out now) (O.credited end) (O.credited now) found) }
+    {
+        let lane = &mut self.lanes[core];
+        let end = &mut ends[core];
+        lane.collect_told(end, from, to)
+    }
+
     /// Collects all outcomes that the link of a core shows. How many there were.
     pub fn collect_from<O: OutEnd<J>>(&mut self, ends: &mut [O], core: CoreNo) -> usize
         requires ends { AreEndsOf (Fits J.SameTask J.Answers) O.out O.credited self.old ends.old }
         requires core { core < length self.old.lanes }
         ensures ends { AreEndsOf (Fits J.SameTask J.Answers) O.out O.credited self.new ends.new }
         ensures collects { AtCore self.old self.new ends.old ends.new core (λ lane later end now.
-            (O.untouched now ≡ O.untouched end) × ((O.out now).sent ≡ (O.out end).sent) × (length (O.out now).seen ≡ (O.out now).got) × (result + (O.out end).got ≡ (O.out now).got)) }
+            (O.untouched now ≡ O.untouched end) × CollectsAll lane later (O.out end) (O.out now) (O.credited end) (O.credited now) result) }
     {
         self.collect_at(ends, core.0 as usize)
     }
@@ -192,7 +235,7 @@ impl<J: Task> Desk<J> {
         requires core { core < length self.old.lanes }
         ensures ends { AreEndsOf (Fits J.SameTask J.Answers) O.out O.credited self.new ends.new }
         ensures collects { AtCore self.old self.new ends.old ends.new core (λ lane later end now.
-            (O.untouched now ≡ O.untouched end) × ((O.out now).sent ≡ (O.out end).sent) × (length (O.out now).seen ≡ (O.out now).got) × (result + (O.out end).got ≡ (O.out now).got)) }
+            (O.untouched now ≡ O.untouched end) × CollectsAll lane later (O.out end) (O.out now) (O.credited end) (O.credited now) result) }
     {
         let lane = &mut self.lanes[core];
         let end = &mut ends[core];

@@ -1,17 +1,18 @@
 //! The submissions of one actor to one core.
 
-ghost use Rattle.std.specs.Prelude.{◌≡◌, ◌+◌, ◌<◌, ◌≤◌, ℕ, ◌↔◌, true, false, length, None, Some, slice_get, IfOk, IfErr, IfSome, IfNone, IsTrue, OnErr};
+ghost use Rattle.std.specs.Prelude.{◌≡◌, ◌↔◌, ℕ, Option, is_some, IfOk, IsTrue, OnErr};
 ghost use Rattle.rt_jobs.specs.Ready.{HasReadyJob};
-ghost use Rattle.rt_link.specs.Calls.{Sends, Collects};
+ghost use Rattle.rt_link.specs.Calls.{Sends};
 ghost use Rattle.rt_link.specs.Fits.{Fits};
 ghost use Rattle.rt_desk.specs.Held.{at, count_of, Adds};
-ghost use Rattle.rt_desk.specs.Lanes.{fresh_lane, IsGiven, IsLaneOf, IsGot, FitsSent};
-ghost use Rattle.rt_desk.specs.Steps.{CollectsOne, Redeems, Detaches, StandsAs};
+ghost use Rattle.rt_desk.specs.Lanes.{fresh_lane, IsGiven, IsLaneOf, IsJustGot, IsGot, FitsSent};
+ghost use Rattle.rt_desk.specs.Steps.{CollectsNext, CollectsAll, Keeps, Redeems, Detaches, StandsAs};
+ghost use Rattle.rt_desk.specs.Told.{outcome_note, told_of};
 ghost use Rattle.rt_desk.specs.declared.entry.Entry.TheVariants.{Pending};
 
 use crate::entry::{Entry, Standing};
 use crate::shelf::Shelf;
-use rt_ids::{Order, Outcome, SendError, TicketError};
+use rt_ids::{ActorNo, CoreNo, JobId, Order, Outcome, OutcomeNote, SendError, TicketError};
 use rt_jobs::Task;
 use rt_link::OutEnd;
 use std::alloc::{AllocError, Global};
@@ -37,6 +38,17 @@ impl<J: Task> Model for Lane<J> {
     ghost use Rattle.std.specs.Prelude.{◌≤◌};
 
     ghost invariant = { λ l. l.count ≤ l.last };
+}
+
+/// An outcome as a note tells it, without the job that it hands back.
+fn note_of<J, T: Copy>(outcome: &Outcome<J, T>) -> OutcomeNote<T>
+    ensures { result ≡ outcome_note outcome.now }
+{
+    match outcome {
+        Outcome::Finished(out) => OutcomeNote::Finished(*out),
+        Outcome::Returned(reason, _) => OutcomeNote::Returned(*reason),
+        Outcome::Answered(answer) => OutcomeNote::Answered(*answer),
+    }
 }
 
 impl<J: Task> Lane<J> {
@@ -72,19 +84,15 @@ impl<J: Task> Lane<J> {
         Ok(number)
     }
 
-    /// Collects one outcome, if the link shows one. Whether it did.
-    pub(crate) fn collect_one<O: OutEnd<J>>(&mut self, end: &mut O) -> bool
-        requires { IsLaneOf (Fits J.SameTask J.Answers) self.old (O.out end.old) (O.credited end.old) }
+    /// Takes in an outcome that was just collected: it is kept, or dropped where nobody will ask for it.
+    fn keep<O: OutEnd<J>>(&mut self, end: &mut O, number: u64, outcome: Outcome<J, J::Out>)
+        requires { IsJustGot (Fits J.SameTask J.Answers) self.old (O.out end.old) (O.credited end.old) number outcome }
         ensures lane { IsLaneOf (Fits J.SameTask J.Answers) self.new (O.out end.new) (O.credited end.new) }
         ensures untouched { O.untouched end.new ≡ O.untouched end.old }
-        ensures sent { (O.out end.new).sent ≡ (O.out end.old).sent }
-        ensures all { result ≡ false → length (O.out end.new).seen ≡ (O.out end.old).got }
-        ensures none { result ≡ false → (self.new ≡ self.old) × (O.credited end.new ≡ O.credited end.old) × ((O.out end.new).got ≡ (O.out end.old).got) }
-        ensures one { result ≡ true → CollectsOne self.old self.new (O.out end.old) (O.out end.new) (O.credited end.old) (O.credited end.new) }
+        ensures out { O.out end.new ≡ O.out end.old }
+        ensures rest { self.new ≡ record self.old { entries = self.new.entries } }
+        ensures keeps { Keeps self.old.entries self.new.entries number outcome (O.credited end.old) (O.credited end.new) }
     {
-        let Some((number, outcome)) = end.collect() else {
-            return false;
-        };
         let Some(entry) = self.shelf.pull(number) else {
             unreachable!()
         };
@@ -96,7 +104,44 @@ impl<J: Task> Lane<J> {
             }
             Entry::Collected(_) => unreachable!(),
         }
+    }
+
+    /// Collects one outcome, if the link shows one. Whether it did.
+    pub(crate) fn collect_one<O: OutEnd<J>>(&mut self, end: &mut O) -> bool
+        requires { IsLaneOf (Fits J.SameTask J.Answers) self.old (O.out end.old) (O.credited end.old) }
+        ensures lane { IsLaneOf (Fits J.SameTask J.Answers) self.new (O.out end.new) (O.credited end.new) }
+        ensures untouched { O.untouched end.new ≡ O.untouched end.old }
+        ensures collects { (found : Option (ℕ × Outcome J J.Out)) × (result ≡ is_some found)
+            × CollectsNext self.old self.new (O.out end.old) (O.out end.new) (O.credited end.old) (O.credited end.new) found }
+    {
+        let Some((number, outcome)) = end.collect() else {
+            return false;
+        };
+        self.keep(end, number, outcome);
         true
+    }
+
+    /// Collects one outcome, if the link from this actor to this core shows one. Its name, and what became of the submission.
+    pub(crate) fn collect_told<O: OutEnd<J>>(
+        &mut self,
+        end: &mut O,
+        from: ActorNo,
+        to: CoreNo,
+    ) -> Option<(JobId, OutcomeNote<J::Out>)>
+    where
+        J::Out: Copy,
+        requires { IsLaneOf (Fits J.SameTask J.Answers) self.old (O.out end.old) (O.credited end.old) }
+        ensures lane { IsLaneOf (Fits J.SameTask J.Answers) self.new (O.out end.new) (O.credited end.new) }
+        ensures untouched { O.untouched end.new ≡ O.untouched end.old }
+        ensures collects { (found : Option (ℕ × Outcome J J.Out)) × (result ≡ told_of from to found)
+            × CollectsNext self.old self.new (O.out end.old) (O.out end.new) (O.credited end.old) (O.credited end.new) found }
+    {
+        let Some((number, outcome)) = end.collect() else {
+            return None;
+        };
+        let told = note_of(&outcome);
+        self.keep(end, number, outcome);
+        Some((JobId { from, to, number }, told))
     }
 
     /// Collects all outcomes that the link shows. How many there were.
@@ -104,9 +149,7 @@ impl<J: Task> Lane<J> {
         requires { IsLaneOf (Fits J.SameTask J.Answers) self.old (O.out end.old) (O.credited end.old) }
         ensures lane { IsLaneOf (Fits J.SameTask J.Answers) self.new (O.out end.new) (O.credited end.new) }
         ensures untouched { O.untouched end.new ≡ O.untouched end.old }
-        ensures sent { (O.out end.new).sent ≡ (O.out end.old).sent }
-        ensures all { length (O.out end.new).seen ≡ (O.out end.new).got }
-        ensures count { result + (O.out end.old).got ≡ (O.out end.new).got }
+        ensures collects { CollectsAll self.old self.new (O.out end.old) (O.out end.new) (O.credited end.old) (O.credited end.new) result }
     {
         let mut count = 0;
         while self.collect_one(end) {

@@ -115,7 +115,7 @@ module _ {J T : Type 0} (old : RecordedView J T) (name : JobId)
       inside = ap (λ out. held_count core.queues + number_if (is_some out)) (ap (λ core. core.out) enters.rest)
 
       accepted : refusal queue journal ≡ None
-      accepted = refusal-exists (terms_at old) journal kept.notes queue (omega (arith, enters.exists, kept.agrees.last))
+      accepted = refusal-exists journal kept.closes_nothing queue (omega (arith, enters.exists, kept.agrees.last))
 
       line_now : (other : ℕ) (test : Bool) → (other == queue) ≡ test → waiting_of other core.queues ≡ waiting_of other old.core.queues ++ cond test ((name, false, job) ∷ []) []
       line_now other true one =
@@ -160,7 +160,7 @@ module _ {J T : Type 0} (old : RecordedView J T) (name : JobId)
     }
       where
         refused : refusal queue journal ≡ Some why.NoQueue
-        refused = refusal-missing (terms_at old) journal kept.notes queue (omega (arith, missing, kept.agrees.last))
+        refused = refusal-missing journal queue (omega (arith, missing, kept.agrees.last))
 
         given_more : sum_upto (given_count (writes.Back name why.NoQueue ∷ journal)) old.core.cores ≤ sum_upto (given_count journal) old.core.cores + 1
         given_more = sum_upto-at_most_one (given_count journal) (given_count (writes.Back name why.NoQueue ∷ journal)) name.from
@@ -247,10 +247,10 @@ module _ {J T : Type 0} (old : RecordedView J T) (name : JobId)
 
   -- a creation that is refused, by why
   full_answer : queue_count old.core.queues ≡ 256 → (weight : ℕ) → IsAnswer (Create weight) answers.TooMany journal
-  full_answer count weight = rw (open_core (terms_at old) journal kept.notes, le-leb 255 (created_count journal) (omega (arith, count, kept.agrees.last))) refl
+  full_answer count weight = rw (open_core journal kept.closes_nothing, le-leb 255 (created_count journal) (omega (arith, count, kept.agrees.last))) refl
 
   memory_answer : queue_count old.core.queues < 256 → (weight : ℕ) → IsAnswer (Create weight) answers.NoMemory journal
-  memory_answer count weight = rw (open_core (terms_at old) journal kept.notes, lt-leb 255 (created_count journal) (omega (arith, count, kept.agrees.last))) (inl refl)
+  memory_answer count weight = rw (open_core journal kept.closes_nothing, lt-leb 255 (created_count journal) (omega (arith, count, kept.agrees.last))) (inl refl)
 
   missing_answer : (queue weight : ℕ) → queue_count old.core.queues ≤ queue → IsAnswer (SetShares queue weight) answers.NoQueue journal
   missing_answer queue weight missing = rw (lt-leb queue (created_count journal) (omega (arith, missing, kept.agrees.last))) refl

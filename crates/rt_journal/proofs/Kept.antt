@@ -29,6 +29,7 @@ use Rattle.rt_core.specs.State.{CoreView, JobOut, is_working, is_any, runtime_of
 use Rattle.rt_core.specs.State as state
 pub use Rattle.rt_journal.specs.Agreement.{IsKept}
 use Rattle.rt_journal.specs.Agreement.{Agrees, IsJobOut, AreMarked, names_of}
+use Rattle.rt_journal.specs.Yet.{ClosesNothing}
 
 -- a note that takes no turn and is no effect may stand where nothing is awaited
 pub plainly_stands : {T : Type 0} (terms : Terms) (note : Note T) (before : Journal T) → MayWrite terms note → MayFollow terms note before →
@@ -37,23 +38,23 @@ pub plainly_stands : {T : Type 0} (terms : Terms) (note : Note T) (before : Jour
 plainly_stands terms note before writer law no_pick no_answer plain free =
     record { may_follow = law; turn = rw (no_pick, plain); effect = rw no_answer free; writer = writer }
 
-module _ {T : Type 0} (terms : Terms) where
-  -- no queue and no core is closed by any note that may stand
-  pub open_queues : (queue : ℕ) (journal : Journal T) → EachNote (MayStand terms) journal → queue_mode queue journal ≡ None
+module _ {T : Type 0} where
+  -- no queue and no core is closed where nothing was closed
+  pub open_queues : (queue : ℕ) (journal : Journal T) → EachNote ClosesNothing journal → queue_mode queue journal ≡ None
   open_queues queue [] notes = refl
-  open_queues queue (note ∷ before) notes = by_note note notes.0.may_follow (open_queues queue before notes.1)
+  open_queues queue (note ∷ before) notes = by_note note notes.0 (open_queues queue before notes.1)
     where
-      by_note : (note : Note T) → MayFollow terms note before → queue_mode queue before ≡ None → queue_mode queue (note ∷ before) ≡ None
-      by_note (writes.QueueClosed other mode) law stays = absurd law
-      by_note _ law stays = stays
+      by_note : (note : Note T) → ClosesNothing note before → queue_mode queue before ≡ None → queue_mode queue (note ∷ before) ≡ None
+      by_note (writes.QueueClosed other mode) closes stays = absurd closes
+      by_note _ closes stays = stays
 
-  pub open_core : (journal : Journal T) → EachNote (MayStand terms) journal → core_mode journal ≡ None
+  pub open_core : (journal : Journal T) → EachNote ClosesNothing journal → core_mode journal ≡ None
   open_core [] notes = refl
-  open_core (note ∷ before) notes = by_note note notes.0.may_follow (open_core before notes.1)
+  open_core (note ∷ before) notes = by_note note notes.0 (open_core before notes.1)
     where
-      by_note : (note : Note T) → MayFollow terms note before → core_mode before ≡ None → core_mode (note ∷ before) ≡ None
-      by_note (writes.CoreClosed mode) law stays = absurd law
-      by_note _ law stays = stays
+      by_note : (note : Note T) → ClosesNothing note before → core_mode before ≡ None → core_mode (note ∷ before) ≡ None
+      by_note (writes.CoreClosed mode) closes stays = absurd closes
+      by_note _ closes stays = stays
 
 module _ {J : Type 0} where
   -- something is there where a job waits or is out

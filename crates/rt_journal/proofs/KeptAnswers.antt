@@ -74,11 +74,13 @@ module _ {J T : Type 0} (terms : Terms) (old new : CoreView J) (name : JobId) (j
     agrees = agrees-back why.NoQueue;
     notes = (
       plainly_stands terms (writes.Back name why.NoQueue) journal kept.is_core
-          (next, (queue, refusal-missing terms journal kept.notes queue (omega (arith, missing, kept.agrees.last)))) kept.no_pick kept.no_answer refl tt,
+          (next, (queue, refusal-missing journal queue (omega (arith, missing, kept.agrees.last)))) kept.no_pick kept.no_answer refl tt,
       kept.notes,
     );
     no_pick = refl;
     no_answer = refl;
+    closes_nothing = (tt, kept.closes_nothing);
+    collects_nothing = (tt, kept.collects_nothing);
   }
 
   -- a command is answered
@@ -94,4 +96,6 @@ module _ {J T : Type 0} (terms : Terms) (old new : CoreView J) (name : JobId) (j
     notes = (answered_stands order answer right, kept.notes);
     no_pick = refl;
     no_answer = rw plain;
+    closes_nothing = (tt, kept.closes_nothing);
+    collects_nothing = (tt, kept.collects_nothing);
   }

@@ -122,7 +122,7 @@ module _ {J T : Type 0} (terms : Terms) (old new : CoreView J) (name : JobId) (q
   -- a creation finds a core that isn't closed, and room for one more queue
   pub creation_answer : (full : Bool) → nat_le 255 (created_count journal) ≡ full → (answer : Answer) → IsCreationAnswer None full (created_count journal + 1) answer →
       IsAnswer (orders.Create weight) answer journal
-  creation_answer full at answer right = rw (open_core terms journal kept.notes, at) right
+  creation_answer full at answer right = rw (open_core journal kept.closes_nothing, at) right
 
   pub kept-created : queue ≡ queue_count old.queues → Creates old weight new →
       IsAnswer (orders.Create weight) (answers.Created queue) journal
@@ -139,6 +139,8 @@ module _ {J T : Type 0} (terms : Terms) (old new : CoreView J) (name : JobId) (q
       );
       no_pick = refl;
       no_answer = refl;
+      closes_nothing = (tt, (tt, kept.closes_nothing));
+      collects_nothing = (tt, (tt, kept.collects_nothing));
     },
   )
     where
@@ -163,6 +165,8 @@ module _ {J T : Type 0} (terms : Terms) (old new : CoreView J) (name : JobId) (q
       );
       no_pick = refl;
       no_answer = refl;
+      closes_nothing = (tt, (tt, kept.closes_nothing));
+      collects_nothing = (tt, (tt, kept.collects_nothing));
     },
   )
     where

@@ -27,6 +27,7 @@ use Rattle.rt_taskqueue.specs.Queues.{waiting_of}
 use Rattle.rt_core.specs.State.{CoreView, JobOut, no_tally, tally_of, runtime_of, delivered_of, is_working, entry_runtime}
 use Rattle.rt_core.specs.Deliveries.{Enters, counted}
 use Rattle.rt_journal.specs.Agreement.{Agrees, IsJobOut, AreMarked, names_of}
+use Rattle.rt_journal.specs.Yet.{ClosesNothing}
 use Rattle.rt_journal.proofs.Kept.{IsKept, plainly_stands, turns-stays, open_queues, open_core, working}
 
 -- the next name from its sender is counted
@@ -65,14 +66,15 @@ module _ {J T : Type 0} (terms : Terms) (old new : CoreView J) (name : JobId) (j
           ∙ agrees.delivered sender before
           )
 
-module _ {T : Type 0} (terms : Terms) (journal : Journal T) (notes : EachNote (MayStand terms) journal) where
+module _ {T : Type 0} (journal : Journal T) where
   -- a queue that exists refuses nobody, as nothing is closed, and one that doesn't exist refuses all
-  pub refusal-exists : (queue : ℕ) → queue ≤ created_count journal → refusal queue journal ≡ None
-  refusal-exists queue exists = rw (le-leb queue (created_count journal) exists, open_queues terms queue journal notes, open_core terms journal notes)
+  pub refusal-exists : EachNote ClosesNothing journal → (queue : ℕ) → queue ≤ created_count journal → refusal queue journal ≡ None
+  refusal-exists closes queue exists = rw (le-leb queue (created_count journal) exists, open_queues queue journal closes, open_core journal closes)
 
   pub refusal-missing : (queue : ℕ) → created_count journal < queue → refusal queue journal ≡ Some why.NoQueue
   refusal-missing queue missing = rw (lt-leb queue (created_count journal) missing)
 
+module _ {T : Type 0} (terms : Terms) (journal : Journal T) (notes : EachNote (MayStand terms) journal) where
   -- who is delivered now has not entered and not started
   pub not_entered : (name other : JobId) → IsNextDelivered terms name journal → is_some (queue_of other journal) ≡ true → same_name other name ≡ false
   not_entered name other next entered = not_old terms other name journal next ((known_of terms journal notes).entered_old other entered)
@@ -164,7 +166,7 @@ module _ {J T : Type 0} (terms : Terms) (old new : CoreView J) (name : JobId) (q
   took_out (Some job) alone = (alone.0, rw (not_entered terms journal kept.notes name job.name next (rw alone.1 refl)) alone.1)
 
   took_follows : MayFollow terms (writes.Took name queue) journal
-  took_follows = (next, refusal-exists terms journal kept.notes queue (omega (arith, enters.exists, kept.agrees.last)))
+  took_follows = (next, refusal-exists journal kept.closes_nothing queue (omega (arith, enters.exists, kept.agrees.last)))
 
   pub kept-took : IsKept terms new (writes.Took name queue ∷ journal)
   kept-took = record {
@@ -186,4 +188,6 @@ module _ {J T : Type 0} (terms : Terms) (old new : CoreView J) (name : JobId) (q
     notes = (plainly_stands terms (writes.Took name queue) journal kept.is_core took_follows kept.no_pick kept.no_answer refl tt, kept.notes);
     no_pick = refl;
     no_answer = refl;
+    closes_nothing = (tt, kept.closes_nothing);
+    collects_nothing = (tt, kept.collects_nothing);
   }

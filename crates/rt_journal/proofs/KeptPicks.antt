@@ -10,7 +10,7 @@ use Rattle.rt_ids.specs.declared.names.JobId.{JobId}
 use Rattle.rt_ids.specs.declared.note.Note.TheVariants as writes
 use Rattle.rt_ids.specs.Limits.{most_turns}
 use Rattle.rt_ids.specs.Keys.{KeyAtMost}
-use Rattle.rt_ids.specs.Journal.{Journal, is_told}
+use Rattle.rt_ids.specs.Journal.{Journal, EachNote, is_told}
 use Rattle.rt_ids.specs.Filters.{name_started, delivered_names}
 use Rattle.rt_ids.specs.Work.{queue_of}
 use Rattle.rt_ids.specs.Runtimes.{virtual_runtime, floor, shares}
@@ -30,6 +30,7 @@ use Rattle.rt_taskqueue.specs.Queues.{queue_count, waiting_of, shares_of, no_que
 use Rattle.rt_core.specs.State.{CoreView, JobOut, no_tally, tally_of, runtime_of, delivered_of}
 use Rattle.rt_core.specs.Turns.{TakesOut}
 use Rattle.rt_journal.specs.Agreement.{IsJobOut, AreMarked, names_of}
+use Rattle.rt_journal.specs.Yet.{ClosesNothing, CollectsNothing}
 use Rattle.rt_journal.proofs.Kept.{IsKept, plainly_stands, turns-stays, open_queues, open_core}
 use Rattle.rt_journal.proofs.PollNotes.{poll_note, is_marked, marks-start}
 
@@ -75,7 +76,7 @@ module _ {J T : Type 0} (terms : Terms) (old new : CoreView J) (name : JobId) (q
       (right_pick_of_lines terms queue journal kept.notes nobody name (names_of takes.others) first_in_line least)
 
   pub not_returning : return_reason queue journal ≡ None
-  not_returning = rw (open_queues terms queue journal kept.notes, open_core terms journal kept.notes)
+  not_returning = rw (open_queues queue journal kept.closes_nothing, open_core journal kept.closes_nothing)
 
   turn : IsTurnOf name queue picked
   turn = record { picked = refl; others = names_of takes.others; first = first_in_line }
@@ -209,6 +210,14 @@ module _ {J T : Type 0} (terms : Terms) (old new : CoreView J) (name : JobId) (q
   no_answer_now false = refl
   no_answer_now true = refl
 
+  closes_nothing_now : (before : Bool) → EachNote ClosesNothing (poll_note name before ∷ picked)
+  closes_nothing_now false = (tt, (tt, kept.closes_nothing))
+  closes_nothing_now true = (tt, (tt, kept.closes_nothing))
+
+  collects_nothing_now : (before : Bool) → EachNote CollectsNothing (poll_note name before ∷ picked)
+  collects_nothing_now false = (tt, (tt, kept.collects_nothing))
+  collects_nothing_now true = (tt, (tt, kept.collects_nothing))
+
   pub kept-picked : turns journal < most_turns → IsKept terms new polled
   kept-picked left = record {
     is_core = kept.is_core;
@@ -229,4 +238,6 @@ module _ {J T : Type 0} (terms : Terms) (old new : CoreView J) (name : JobId) (q
     notes = (poll_stands was_started (sym start_told), (pick_stands left, kept.notes));
     no_pick = no_pick_now was_started;
     no_answer = no_answer_now was_started;
+    closes_nothing = closes_nothing_now was_started;
+    collects_nothing = collects_nothing_now was_started;
   }

@@ -1,6 +1,7 @@
 pub mod Orders
 pub mod Polls
 pub mod Deliveries
+pub mod Yet
 pub mod Agreement
 pub mod Recorded
 pub mod Ends

@@ -59,11 +59,11 @@ module _ {J T : Type 0} (same : J → J → Type 0) (made : J → ℕ) (polls : 
   -- a creation that is refused, by why
   full_answer : queue_count view.queues ≡ 256 → (weight : ℕ) → IsAnswer (Create weight) answers.TooMany journal
   full_answer count weight =
-      rw (open_core (terms_in core old) journal (world.lawful core (omega (arith, core_there))).notes, le-leb 255 (created_count journal) (omega (arith, count, rest.agrees.last))) refl
+      rw (open_core journal (world.early core (omega (arith, core_there))).closes_nothing, le-leb 255 (created_count journal) (omega (arith, count, rest.agrees.last))) refl
 
   memory_answer : queue_count view.queues < 256 → (weight : ℕ) → IsAnswer (Create weight) answers.NoMemory journal
   memory_answer count weight =
-      rw (open_core (terms_in core old) journal (world.lawful core (omega (arith, core_there))).notes, lt-leb 255 (created_count journal) (omega (arith, count, rest.agrees.last))) (inl refl)
+      rw (open_core journal (world.early core (omega (arith, core_there))).closes_nothing, lt-leb 255 (created_count journal) (omega (arith, count, rest.agrees.last))) (inl refl)
 
   missing_answer : (queue weight : ℕ) → queue_count view.queues ≤ queue → IsAnswer (SetShares queue weight) answers.NoQueue journal
   missing_answer queue weight missing = rw (lt-leb queue (created_count journal) (omega (arith, missing, rest.agrees.last))) refl

@@ -19,7 +19,7 @@ use Rattle.rt_core.specs.State.{CoreView, runtime_of, opened}
 use Rattle.rt_world.specs.State.{journal_at, sent_at, assembly_of}
 use Rattle.rt_notes.specs.Journals.{JournalView}
 use Rattle.rt_world.specs.Links.{row_of, link_at, no_link, AreFresh}
-use Rattle.rt_world.specs.Inside.{terms_in, Parts, notes_at, world_of, IsCoreAtRest, IsLinkBetween, AreOpened, AreEmpty}
+use Rattle.rt_world.specs.Inside.{terms_in, Parts, notes_at, world_of, IsEarly, IsCoreAtRest, IsLinkBetween, AreOpened, AreEmpty}
 use Rattle.rt_world.specs.Tasks.{HasTask, IsWorld}
 use Rattle.rt_journal.specs.Agreement.{AreMarked, names_of}
 use Rattle.rt_world.specs.Opening.{IsFresh}
@@ -106,6 +106,7 @@ module _ {J T : Type 0} (same : J → J → Type 0) (made : J → ℕ) (polls : 
     };
     lawful = λ actor known.
         subst (IsLawful (terms_in actor parts)) (sym (no_notes actor known)) (record { notes = tt; no_pick = refl; no_answer = refl; nobody_out = refl });
+    early = λ actor known. subst (λ journal. IsEarly journal) (sym (no_notes actor known)) (record { closes_nothing = tt; collects_nothing = tt });
     at_rest = λ core known.
         subst (λ view. IsCoreAtRest core cores cap view (notes_at core journals)) (sym (cores_open.each_opened core known))
         (subst (IsCoreAtRest core cores cap (opened core cores ((cores + 1) * cap) 0)) (sym (no_notes core (omega (arith, known)))) (rests_at_opening J core cores cap T));

@@ -165,4 +165,4 @@ module _ {J T : Type 0} (same : J → J → Type 0) (made : J → ℕ) (polls : 
         )
       where
         accepted : refusal queue journal ≡ None
-        accepted = refusal-exists (terms_in core old) journal was_lawful.notes queue (omega (arith, enters.exists, rest.agrees.last))
+        accepted = refusal-exists journal kept.closes_nothing queue (omega (arith, enters.exists, rest.agrees.last))

@@ -15,7 +15,7 @@ use Rattle.rt_core.specs.State.{CoreView, delivered_of}
 use Rattle.rt_core.specs.Deliveries.{counted}
 use Rattle.rt_world.specs.State.{without_job, order_under, assembly_of}
 use Rattle.rt_world.specs.Links.{link_at}
-use Rattle.rt_world.specs.Inside.{terms_in, Parts, numbered_orders, core_at, notes_at, world_of, IsCoreAtRest}
+use Rattle.rt_world.specs.Inside.{terms_in, Parts, numbered_orders, core_at, notes_at, world_of, IsCoreAtRest, IsEarly}
 use Rattle.rt_world.specs.Tasks.{IsWorld}
 use Rattle.rt_journal.proofs.Kept.{IsKept}
 use Rattle.rt_world.proofs.WorldViews.{journal_of-world, sent_at-world, first_under-numbered}
@@ -47,8 +47,11 @@ module _ {J T : Type 0} (same : J → J → Type 0) (made : J → ℕ) (polls : 
   pub was_lawful : IsLawful (terms_in core old) journal
   was_lawful = world.lawful core core_known
 
+  was_early : IsEarly journal
+  was_early = world.early core core_known
+
   pub kept : IsKept (terms_in core old) view journal
-  kept = record { is_core = core_there; agrees = rest.agrees; notes = was_lawful.notes; no_pick = was_lawful.no_pick; no_answer = was_lawful.no_answer }
+  kept = record { is_core = core_there; agrees = rest.agrees; notes = was_lawful.notes; no_pick = was_lawful.no_pick; no_answer = was_lawful.no_answer; closes_nothing = was_early.closes_nothing; collects_nothing = was_early.collects_nothing }
 
   pub is_next : IsNextDelivered (terms_in core old) name journal
   is_next = next_delivered same made polls fits ready old world sender core there core_there order at number next

@@ -107,7 +107,7 @@ module _ {J T : Type 0} (same : J → J → Type 0) (made : J → ℕ) (polls : 
         )
       where
         refused : refusal queue journal ≡ Some why.NoQueue
-        refused = refusal-missing (terms_in core old) journal was_lawful.notes queue (omega (arith, missing, rest.agrees.last))
+        refused = refusal-missing journal queue (omega (arith, missing, rest.agrees.last))
 
         done : IsCarriedOut after_core (writes.Back name why.NoQueue ∷ journal)
         done = record {

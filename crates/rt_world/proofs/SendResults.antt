@@ -107,7 +107,7 @@ module _ {J T : Type 0} (same : J → J → Type 0) (made : J → ℕ) (polls : 
   outstanding : outstanding_count core (journal_at sender (world_of old)) ≡ length link.sent
   outstanding =
       ap (outstanding_count core) (journal_at-world old sender)
-      ∙ (outstanding-accepted (terms_in sender old) core (notes_at sender old.journals) (world.lawful sender there).notes
+      ∙ (outstanding-accepted core (notes_at sender old.journals) (world.early sender there).collects_nothing
       ∙ (ap length is_between.all_accepted ∙ length-numbered sender core 0 link.sent))
 
   accepted_count : length (accepted_orders core (journal_at sender (world_of old))) ≡ length link.sent

@@ -14,7 +14,7 @@ use Rattle.rt_link.specs.declared.plain.Whole.{Whole}
 use Rattle.rt_link.specs.Whole.{IsLink}
 use Rattle.rt_world.specs.State.{without_job}
 use Rattle.rt_world.specs.Links.{link_at, ChangesLink}
-use Rattle.rt_world.specs.Inside.{terms_in, Parts, core_at, notes_at, IsCoreAtRest, IsLinkBetween}
+use Rattle.rt_world.specs.Inside.{terms_in, Parts, core_at, notes_at, IsEarly, IsCoreAtRest, IsLinkBetween}
 use Rattle.rt_world.specs.Tasks.{IsWorld}
 use Rattle.rt_journal.proofs.Kept.{plainly_stands, stays_calm, calm_sent, SameJobs}
 use Rattle.rt_journal.proofs.NumberedOrders.{length-numbered}
@@ -54,7 +54,7 @@ module _ {J T : Type 0} (same : J → J → Type 0) (made : J → ℕ) (polls : 
     spelled = spelled;
     next = omega (arith, next, accepted_count);
     in_range = in_range;
-    credit = omega (arith, outstanding-accepted (terms_in sender old) core journal (world.lawful sender there).notes, accepted_count, credit);
+    credit = omega (arith, outstanding-accepted core journal (world.early sender there).collects_nothing, accepted_count, credit);
   }
 
   pub lawful_longer : IsSpelledOrder (without_job order) → IsLawful (terms_in sender old) longer
@@ -66,6 +66,9 @@ module _ {J T : Type 0} (same : J → J → Type 0) (made : J → ℕ) (polls : 
         no_answer = refl;
         nobody_out = was.nobody_out;
       }
+
+  pub early_longer : IsEarly longer
+  early_longer = let was = world.early sender there in record { closes_nothing = (tt, was.closes_nothing); collects_nothing = (tt, was.collects_nothing) }
 
   pub rest_longer : sender < old.cores → IsCoreAtRest sender old.cores old.cap (core_at sender old.inside) longer
   rest_longer known =

@@ -22,7 +22,7 @@ use Rattle.rt_core.specs.Turns.{TakesOut}
 use Rattle.rt_world.specs.State.{journal_at}
 use Rattle.rt_world.specs.Turns.{polls_made, settle_note, IsPoll}
 use Rattle.rt_world.specs.Turns as turns
-use Rattle.rt_world.specs.Inside.{terms_in, Parts, core_at, notes_at, world_of}
+use Rattle.rt_world.specs.Inside.{terms_in, Parts, core_at, notes_at, world_of, IsEarly}
 use Rattle.rt_world.specs.Tasks.{HasTask, IsWorld}
 use Rattle.rt_journal.specs.Agreement.{names_of}
 use Rattle.rt_journal.proofs.Kept.{IsKept}
@@ -46,8 +46,11 @@ module _ {J T : Type 0} (same : J → J → Type 0) (made : J → ℕ) (polls : 
   lawful : IsLawful (terms_in core old) journal
   lawful = world.lawful core (omega (arith, core_there))
 
+  early : IsEarly journal
+  early = world.early core (omega (arith, core_there))
+
   kept : IsKept (terms_in core old) view journal
-  kept = record { is_core = core_there; agrees = (world.at_rest core core_there).agrees; notes = lawful.notes; no_pick = lawful.no_pick; no_answer = lawful.no_answer }
+  kept = record { is_core = core_there; agrees = (world.at_rest core core_there).agrees; notes = lawful.notes; no_pick = lawful.no_pick; no_answer = lawful.no_answer; closes_nothing = early.closes_nothing; collects_nothing = early.collects_nothing }
 
   abbrev runtime : ℕ
   runtime = runtime_of queue view

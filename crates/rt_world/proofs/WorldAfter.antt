@@ -19,7 +19,7 @@ use Rattle.rt_core.specs.State.{CoreView}
 use Rattle.rt_world.specs.State.{order_under, assembly_of}
 use Rattle.rt_world.specs.Turns.{polls_made}
 use Rattle.rt_world.specs.Links.{row_of, link_at}
-use Rattle.rt_world.specs.Inside.{terms_in, Parts, core_at, notes_at, journal_view, world_of, IsCoreAtRest, IsLinkBetween}
+use Rattle.rt_world.specs.Inside.{terms_in, Parts, core_at, notes_at, journal_view, world_of, IsEarly, IsCoreAtRest, IsLinkBetween}
 use Rattle.rt_world.specs.Tasks.{OwesAfter, HasTask, IsWorld}
 use Rattle.rt_world.proofs.WorldViews.{journal_at-world, journal_of-world, sent_at-world, first_under-longer, slice_get-prefix, as_sent-stays}
 
@@ -56,6 +56,7 @@ module _ {J T : Type 0} (same : J → J → Type 0) (made : J → ℕ) (polls : 
           IsPrefix (accepted_orders core (notes_at sender old.journals)) (accepted_orders core (notes_at sender new.journals))
       pub sent : (sender core : ℕ) → IsPrefix (link_at sender core old.links).sent (link_at sender core links).sent
       pub lawful : IsLawful (terms_in actor old) journal
+      pub early : IsEarly journal
       pub at_rest : actor < old.cores → IsCoreAtRest actor old.cores old.cap (core_at actor inside) journal
       pub between : (sender core : ℕ) → sender ≤ old.cores → core < old.cores →
           IsLinkBetween sender core old.cap (link_at sender core links) (accepted_orders core (notes_at sender new.journals)) (delivered_names sender (notes_at core new.journals))
@@ -90,6 +91,14 @@ module _ {J T : Type 0} (same : J → J → Type 0) (made : J → ℕ) (polls : 
               let here : other ≡ actor = eqb-true other actor one in
               subst (λ at. IsLawful (terms_in at old) (notes_at at new.journals)) (sym here) (subst (IsLawful (terms_in actor old)) (sym notes_now) keeps.lawful)
           by_test false apart = subst (IsLawful (terms_in other old)) (sym (notes_elsewhere other (eqb-false other actor apart))) (world.lawful other known)
+
+      early_now : (other : ℕ) → other ≤ old.cores → IsEarly (notes_at other new.journals)
+      early_now other known = by_test (other == actor) refl
+        where
+          by_test : (test : Bool) → (other == actor) ≡ test → IsEarly (notes_at other new.journals)
+          by_test true one =
+              subst (λ at. IsEarly (notes_at at new.journals)) (sym (eqb-true other actor one)) (subst (λ journal. IsEarly journal) (sym notes_now) keeps.early)
+          by_test false apart = subst (λ journal. IsEarly journal) (sym (notes_elsewhere other (eqb-false other actor apart))) (world.early other known)
 
       rest_now : (core : ℕ) → core < old.cores → IsCoreAtRest core old.cores old.cap (core_at core inside) (notes_at core new.journals)
       rest_now core known = by_test (core == actor) refl
@@ -136,6 +145,7 @@ module _ {J T : Type 0} (same : J → J → Type 0) (made : J → ℕ) (polls : 
           rooms_are = room_kept;
         };
         lawful = lawful_now;
+        early = early_now;
         at_rest = rest_now;
         between = keeps.between;
         links_law = keeps.links_law;

@@ -19,7 +19,7 @@ use Rattle.rt_core.specs.Deliveries.{Creates}
 use Rattle.rt_journal.proofs.TakenOrders.{carries_out-opening}
 use Rattle.rt_world.specs.State.{journal_at}
 use Rattle.rt_world.specs.Turns.{polls_made}
-use Rattle.rt_world.specs.Inside.{terms_in, Parts, core_at, notes_at, world_of, IsCoreAtRest}
+use Rattle.rt_world.specs.Inside.{terms_in, Parts, core_at, notes_at, world_of, IsEarly, IsCoreAtRest}
 use Rattle.rt_world.specs.Tasks.{OwesAfter, HasTask, IsWorld}
 use Rattle.rt_journal.proofs.Kept.{plainly_stands}
 use Rattle.rt_journal.proofs.KeptCommands.{agrees-created}
@@ -43,6 +43,9 @@ module _ {J T : Type 0} (same : J → J → Type 0) (made : J → ℕ) (polls : 
 
   lawful : IsLawful (terms_in core old) journal
   lawful = world.lawful core (omega (arith, core_there))
+
+  early : IsEarly journal
+  early = world.early core (omega (arith, core_there))
 
   abbrev longer : Journal T
   longer = writes.Created queue weight ∷ journal
@@ -73,6 +76,7 @@ module _ {J T : Type 0} (same : J → J → Type 0) (made : J → ℕ) (polls : 
       no_answer = refl;
       nobody_out = lawful.nobody_out;
     };
+    early = record { closes_nothing = (tt, early.closes_nothing); collects_nothing = (tt, early.collects_nothing) };
     at_rest = record {
       agrees = agrees-created view last queue weight journal rest.agrees next creates same_delivered;
       free = ap (λ core. core.out) creates.rest ∙ rest.free;

@@ -21,7 +21,7 @@ use Rattle.rt_world.specs.State.{order_under, assembly_of}
 use Rattle.rt_world.specs.Deliveries.{IsDelivery}
 use Rattle.rt_world.specs.Turns.{polls_made}
 use Rattle.rt_world.specs.Links.{link_at, ChangesLink}
-use Rattle.rt_world.specs.Inside.{terms_in, Parts, core_at, notes_at, world_of, IsCoreAtRest}
+use Rattle.rt_world.specs.Inside.{terms_in, Parts, core_at, notes_at, world_of, IsEarly, IsCoreAtRest}
 use Rattle.rt_world.specs.Tasks.{OwesAfter, HasTask, IsWorld}
 use Rattle.rt_journal.specs.Agreement.{IsJobOut}
 use Rattle.rt_journal.proofs.Kept.{IsKept}
@@ -82,6 +82,9 @@ module _ {J T : Type 0} (same : J → J → Type 0) (made : J → ℕ) (polls : 
       nobody_out = subst (λ out. IsJobOut out longer) now_free done.kept_after.agrees.out;
     }
 
+    early_after : IsEarly longer
+    early_after = record { closes_nothing = done.kept_after.closes_nothing; collects_nothing = done.kept_after.collects_nothing }
+
     rest_after : IsCoreAtRest core old.cores old.cap after_core longer
     rest_after = record {
       agrees = done.kept_after.agrees;
@@ -95,7 +98,7 @@ module _ {J T : Type 0} (same : J → J → Type 0) (made : J → ℕ) (polls : 
     known = known_core same made polls fits ready old world sender core there core_there order at number next links changes taken law after_core longer done.tells
 
     keeps : Keeps same made polls fits ready old world core known longer (set old.inside core after_core) links
-    keeps = deliveries_keep same made polls fits ready old world sender core there core_there order at number next links changes taken law after_core longer done.tells lawful_after rest_after
+    keeps = deliveries_keep same made polls fits ready old world sender core there core_there order at number next links changes taken law after_core longer done.tells lawful_after early_after rest_after
 
     pub stays_sent : (which : JobId) (what : Order (Unit {0})) → order_of which (assembly_of (world_of old)) ≡ Some what → order_of which (assembly_of (world_of new)) ≡ Some what
     stays_sent = order_stays same made polls fits ready old world core known longer (set old.inside core after_core) links keeps

@@ -18,7 +18,7 @@ use Rattle.rt_link.specs.declared.plain.Whole.{Whole}
 use Rattle.rt_link.specs.Whole.{IsLink}
 use Rattle.rt_core.specs.State.{CoreView, inside_count, delivered_of, opened}
 use Rattle.rt_world.specs.Links.{link_at, ChangesLink}
-use Rattle.rt_world.specs.Inside.{terms_in, Parts, core_at, notes_at, numbered_orders, IsCoreAtRest, IsLinkBetween}
+use Rattle.rt_world.specs.Inside.{terms_in, Parts, core_at, notes_at, numbered_orders, IsCoreAtRest, IsLinkBetween, IsEarly}
 use Rattle.rt_world.specs.Tasks.{IsWorld}
 use Rattle.rt_journal.proofs.NumberedOrders.{slice_get-numbered, take-one_more}
 use Rattle.rt_world.proofs.WorldAfter.{after, Keeps, notes_now, notes_elsewhere}
@@ -234,8 +234,8 @@ module _ {J T : Type 0} (same : J → J → Type 0) (made : J → ℕ) (polls : 
         core_now : core_at core inside ≡ after_core
         core_now = get_or-set_same old.inside core after_core (opened 0 0 0 0) (omega (arith, world.all_there.cores_are, core_there))
 
-        pub deliveries_keep : IsLawful (terms_in core old) longer → IsCoreAtRest core old.cores old.cap after_core longer → Keeps same made polls fits ready old world core known_core longer inside links
-        deliveries_keep lawful at_rest = record {
+        pub deliveries_keep : IsLawful (terms_in core old) longer → IsEarly longer → IsCoreAtRest core old.cores old.cap after_core longer → Keeps same made polls fits ready old world core known_core longer inside links
+        deliveries_keep lawful early at_rest = record {
           cores_are = length-set old.inside core after_core;
           rows_are = changes.same_rows;
           links_are = changes.same_cores;
@@ -243,6 +243,7 @@ module _ {J T : Type 0} (same : J → J → Type 0) (made : J → ℕ) (polls : 
           accepted = λ from other. ([], append-nil _ ∙ sym (accepted_same from other));
           sent = λ from other. ([], append-nil _ ∙ sym (sent_same from other));
           lawful = lawful;
+          early = early;
           at_rest = λ known. subst (λ view. IsCoreAtRest core old.cores old.cap view longer) (sym core_now) at_rest;
           between = between_now;
           links_law = law_now;

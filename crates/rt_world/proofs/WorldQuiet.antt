@@ -16,7 +16,7 @@ use Rattle.rt_core.specs.State.{CoreView, opened}
 use Rattle.rt_world.specs.State.{journal_at, order_under, assembly_of}
 use Rattle.rt_world.specs.Turns.{polls_made}
 use Rattle.rt_world.specs.Links.{link_at}
-use Rattle.rt_world.specs.Inside.{terms_in, Parts, core_at, notes_at, world_of, IsCoreAtRest, IsLinkBetween}
+use Rattle.rt_world.specs.Inside.{terms_in, Parts, core_at, notes_at, world_of, IsEarly, IsCoreAtRest, IsLinkBetween}
 use Rattle.rt_world.specs.Tasks.{HasTask, IsWorld}
 use Rattle.rt_world.proofs.WorldViews.{journal_at-world, as_sent-stays}
 use Rattle.rt_world.proofs.WorldAfter.{after, Keeps, notes_now, notes_elsewhere, under_stays, order_stays, world_after}
@@ -34,6 +34,7 @@ module _ {J T : Type 0} (same : J → J → Type 0) (made : J → ℕ) (polls : 
     pub accepted : (other : ℕ) → accepted_orders other longer ≡ accepted_orders other (notes_at core old.journals)
     pub delivered : (from : ℕ) → delivered_names from longer ≡ delivered_names from (notes_at core old.journals)
     pub lawful : IsLawful (terms_in core old) longer
+    pub early : IsEarly longer
     pub at_rest : IsCoreAtRest core old.cores old.cap last longer
 
   core_known : core ≤ old.cores
@@ -82,6 +83,7 @@ module _ {J T : Type 0} (same : J → J → Type 0) (made : J → ℕ) (polls : 
       accepted = λ from other. ([], append-nil (accepted_orders other (notes_at from old.journals)) ∙ sym (accepted_same from other));
       sent = λ from other. ([], append-nil (link_at from other old.links).sent);
       lawful = is.lawful;
+      early = is.early;
       at_rest = λ known. subst (λ view. IsCoreAtRest core old.cores old.cap view longer) (sym core_now) is.at_rest;
       between = λ from other known other_known.
           subst (λ accepted. IsLinkBetween from other old.cap (link_at from other old.links) accepted (delivered_names from (notes_at other quiet.journals))) (sym (accepted_same from other))

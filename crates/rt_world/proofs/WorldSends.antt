@@ -54,6 +54,7 @@ module _ {J T : Type 0} (same : J → J → Type 0) (made : J → ℕ) (polls : 
     accepted = sent_links.accepted_prefix same made polls fits ready old world sender core there core_there order number links changes sent credit next in_range law;
     sent = sent_links.sent_prefix same made polls fits ready old world sender core there core_there order number links changes sent credit next in_range law;
     lawful = sent_notes.lawful_longer same made polls fits ready old world sender core there core_there order number links changes sent credit next in_range law spelled;
+    early = sent_notes.early_longer same made polls fits ready old world sender core there core_there order number links changes sent credit next in_range law;
     at_rest = sent_notes.rest_longer same made polls fits ready old world sender core there core_there order number links changes sent credit next in_range law;
     between = sent_links.between_now same made polls fits ready old world sender core there core_there order number links changes sent credit next in_range law;
     links_law = sent_links.law_now same made polls fits ready old world sender core there core_there order number links changes sent credit next in_range law;

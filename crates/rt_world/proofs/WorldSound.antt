@@ -2,7 +2,7 @@
 use Rattle.std.proofs.Common.{◌≡◌, ℕ, [], ◌∷◌, ◌++◌, refl, sym, ◌∙◌, ap, subst, drop, ◌≤◌}
 use Rattle.std.specs.Prelude.{map, Option}
 use Rattle.std.proofs.lemmas.List.{length-map, take-append-drop}
-use Rattle.rt_ids.specs.Terms.{Terms, terms_of}
+use Rattle.rt_ids.specs.Terms.{terms_of}
 use Rattle.rt_ids.specs.declared.note.Note.{Note}
 use Rattle.rt_ids.specs.declared.note.Note.TheVariants as writes
 use Rattle.rt_ids.specs.declared.order.Order.{Order}
@@ -11,24 +11,25 @@ use Rattle.rt_ids.specs.Assembly.{Assembly, journal_of, IsPrefix}
 use Rattle.rt_ids.specs.Filters.{accepted_orders, delivered_names, collected_outcomes, given_outcomes}
 use Rattle.rt_ids.specs.Joining.{AreJoined, DeliversAsSent, LinksAgree}
 use Rattle.rt_ids.specs.Journal.{Journal, EachNote}
-use Rattle.rt_ids.specs.Lawful.{IsLawful, MayStand, MayFollow}
+use Rattle.rt_ids.specs.Lawful.{IsLawful}
 use Rattle.rt_ids.specs.Sound.{IsSound}
 use Rattle.rt_ids.proofs.Joining.{joining_is_sound}
 use Rattle.rt_jobs.specs.declared.job.Step.{Step}
+use Rattle.rt_journal.specs.Yet.{CollectsNothing}
 use Rattle.rt_world.specs.State.{assembly_of}
 use Rattle.rt_world.specs.Links.{link_at}
 use Rattle.rt_world.specs.Inside.{terms_in, Parts, world_of, notes_at}
 use Rattle.rt_world.specs.Tasks.{IsWorld}
 use Rattle.rt_world.proofs.WorldViews.{journal_of-world}
 
--- a lawful journal collects nothing by now
-nothing_collected : {T : Type 0} (terms : Terms) (core : ℕ) (journal : Journal T) → EachNote (MayStand terms) journal → collected_outcomes core journal ≡ []
-nothing_collected terms core [] notes = refl
-nothing_collected {T} terms core (note ∷ before) notes = by_note note notes.0.may_follow (nothing_collected terms core before notes.1)
+-- where no note collects, nothing was collected
+nothing_collected : {T : Type 0} (core : ℕ) (journal : Journal T) → EachNote CollectsNothing journal → collected_outcomes core journal ≡ []
+nothing_collected core [] notes = refl
+nothing_collected {T} core (note ∷ before) notes = by_note note notes.0 (nothing_collected core before notes.1)
   where
-    by_note : (note : Note T) → MayFollow terms note before → collected_outcomes core before ≡ [] → collected_outcomes core (note ∷ before) ≡ []
-    by_note (writes.Collected name outcome) law rest = absurd law
-    by_note _ law rest = rest
+    by_note : (note : Note T) → CollectsNothing note before → collected_outcomes core before ≡ [] → collected_outcomes core (note ∷ before) ≡ []
+    by_note (writes.Collected name outcome) collects rest = absurd collects
+    by_note _ collects rest = rest
 
 module _ {J T : Type 0} (same : J → J → Type 0) (made : J → ℕ) (polls : J → ℕ → Step T → Option ℕ → Type 0)
     (fits : Order J → Outcome J T → Type 0) (ready : Order J → Type 0) (parts : Parts J T) (world : IsWorld same made polls fits ready parts) where
@@ -46,7 +47,7 @@ module _ {J T : Type 0} (same : J → J → Type 0) (made : J → ℕ) (polls : 
     collections = λ sender core there core_there. (
       given_outcomes sender (journal_of core assembly),
       ap (λ collected. collected ++ given_outcomes sender (journal_of core assembly))
-          (ap (collected_outcomes core) (journal_of-world parts sender) ∙ nothing_collected (terms_in sender parts) core (notes_at sender parts.journals) (world.lawful sender there).notes),
+          (ap (collected_outcomes core) (journal_of-world parts sender) ∙ nothing_collected core (notes_at sender parts.journals) (world.early sender there).collects_nothing),
     );
     as_sent = λ actor there. subst (EachNote (DeliversAsSent assembly)) (sym (journal_of-world parts actor)) (world.as_sent actor there);
   }

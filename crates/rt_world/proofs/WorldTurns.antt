@@ -22,7 +22,7 @@ use Rattle.rt_core.specs.State.{CoreView, JobOut, inside_count, runtime_of}
 use Rattle.rt_core.specs.Turns.{TakesOut, settled_view}
 use Rattle.rt_world.specs.State.{journal_at, assembly_of}
 use Rattle.rt_world.specs.Turns.{polls_made, settle_note}
-use Rattle.rt_world.specs.Inside.{terms_in, Parts, core_at, notes_at, world_of, IsCoreAtRest}
+use Rattle.rt_world.specs.Inside.{terms_in, Parts, core_at, notes_at, world_of, IsEarly, IsCoreAtRest}
 use Rattle.rt_world.specs.Tasks.{HasTask, IsWorld}
 use Rattle.rt_journal.specs.Agreement.{IsJobOut}
 use Rattle.rt_journal.proofs.Kept.{IsKept}
@@ -51,8 +51,11 @@ module _ {J T : Type 0} (same : J → J → Type 0) (made : J → ℕ) (polls : 
   lawful : IsLawful (terms_in core old) journal
   lawful = world.lawful core (omega (arith, core_there))
 
+  early : IsEarly journal
+  early = world.early core (omega (arith, core_there))
+
   kept : IsKept (terms_in core old) view journal
-  kept = record { is_core = core_there; agrees = rest.agrees; notes = lawful.notes; no_pick = lawful.no_pick; no_answer = lawful.no_answer }
+  kept = record { is_core = core_there; agrees = rest.agrees; notes = lawful.notes; no_pick = lawful.no_pick; no_answer = lawful.no_answer; closes_nothing = early.closes_nothing; collects_nothing = early.collects_nothing }
 
   abbrev time : ℕ
   time = unwrap_or ran.told spent
@@ -89,6 +92,7 @@ module _ {J T : Type 0} (same : J → J → Type 0) (made : J → ℕ) (polls : 
         no_answer = done.kept_after.no_answer;
         nobody_out = subst (λ out. IsJobOut out longer) done.free done.kept_after.agrees.out;
       };
+      early = record { closes_nothing = done.kept_after.closes_nothing; collects_nothing = done.kept_after.collects_nothing };
       at_rest = record {
         agrees = done.kept_after.agrees;
         free = done.free;

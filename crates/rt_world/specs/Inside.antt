@@ -3,7 +3,7 @@ use Rattle.std.specs.Prelude.{◌≡◌, ℕ, ◌+◌, ◌*◌, ◌<◌, ◌≤�
 use Rattle.rt_ids.specs.declared.names.JobId.{JobId}
 use Rattle.rt_ids.specs.declared.order.Order.{Order}
 use Rattle.rt_ids.specs.Terms.{Terms}
-use Rattle.rt_ids.specs.Journal.{Journal}
+use Rattle.rt_ids.specs.Journal.{Journal, EachNote}
 use Rattle.rt_link.specs.declared.plain.Whole.{Whole}
 use Rattle.rt_core.specs.State.{CoreView, inside_count, opened}
 pub use Rattle.rt_journal.specs.Orders.{numbered_orders}
@@ -11,6 +11,7 @@ use Rattle.rt_world.specs.State.{WorldView}
 use Rattle.rt_notes.specs.Journals.{JournalView}
 use Rattle.rt_world.specs.Links.{row_of}
 use Rattle.rt_journal.specs.Agreement.{Agrees}
+use Rattle.rt_journal.specs.Yet.{ClosesNothing, CollectsNothing}
 
 -- the parts of a world: its cores, its links by sender and then by core, its journals by actor
 pub record Parts (J T : Type 0) : Type 0 where
@@ -35,6 +36,12 @@ module _ {T : Type 0} where
 
   abbrev pub notes_at : ℕ → List (JournalView T) → Journal T
   notes_at actor journals = (journal_view actor journals).notes
+
+module _ {T : Type 0} where
+  -- nothing is closed yet, and nothing collected
+  pub record IsEarly (journal : Journal T) : Type 0 where
+    pub closes_nothing : EachNote ClosesNothing journal
+    pub collects_nothing : EachNote CollectsNothing journal
 
 module _ {J T : Type 0} where
   -- the world that is made of these parts

@@ -14,7 +14,7 @@ use Rattle.rt_taskqueue.specs.Queues.{waiting_of}
 use Rattle.rt_world.specs.State.{WorldView, journal_at, order_under, assembly_of}
 use Rattle.rt_world.specs.Turns.{polls_made}
 use Rattle.rt_world.specs.Links.{link_at}
-use Rattle.rt_world.specs.Inside.{Parts, terms_in, AreAllThere, core_at, notes_at, world_of, IsCoreAtRest, IsLinkBetween}
+use Rattle.rt_world.specs.Inside.{Parts, terms_in, AreAllThere, core_at, notes_at, world_of, IsEarly, IsCoreAtRest, IsLinkBetween}
 
 module _ {J T : Type 0} (same : J → J → Type 0) (made : J → ℕ) (polls : J → ℕ → Step T → Option ℕ → Type 0) where
   -- after so many polls, a poll of this job owes what the next poll of the job that was sent owes
@@ -32,10 +32,11 @@ module _ {J T : Type 0} (same : J → J → Type 0) (made : J → ℕ) (polls : 
 module _ {J T : Type 0} (same : J → J → Type 0) (made : J → ℕ) (polls : J → ℕ → Step T → Option ℕ → Type 0)
     (fits : Order J → Outcome J T → Type 0) (ready : Order J → Type 0) where
   -- a world at rest: each actor's journal is lawful, each core agrees with its journal, each link with the journals of its two ends,
-  -- each delivery is of the order that was sent under its name, and each job inside has the task that was sent
+  -- each delivery is of the order that was sent under its name, each job inside has the task that was sent, and nothing is closed yet or collected
   pub record IsWorld (parts : Parts J T) : Type 0 where
     pub all_there : AreAllThere parts
     pub lawful : (actor : ℕ) → actor ≤ parts.cores → IsLawful (terms_in actor parts) (notes_at actor parts.journals)
+    pub early : (actor : ℕ) → actor ≤ parts.cores → IsEarly (notes_at actor parts.journals)
     pub at_rest : (core : ℕ) → core < parts.cores →
         IsCoreAtRest core parts.cores parts.cap (core_at core parts.inside) (notes_at core parts.journals)
     pub between : (sender core : ℕ) → sender ≤ parts.cores → core < parts.cores →

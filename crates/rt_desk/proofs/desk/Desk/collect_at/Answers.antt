@@ -24,4 +24,4 @@ returns-clause-collects g c =
     (subst (λ d. length c.args.ends.now ≡ length d.lanes) (sym c.self.view_is) c.requires.ends.count)
     (subst (λ d. c.args.core < length d.lanes) (sym c.self.view_is) c.requires.core)
     c.index_mut-lane.ensures.value (ap (get_or c.args.ends.now c.args.core) c.index-ends-core.is)
-    (c.collect.ensures.untouched, c.collect.ensures.sent, c.collect.ensures.all, c.collect.ensures.count))
+    (c.collect.ensures.untouched, c.collect.ensures.collects))

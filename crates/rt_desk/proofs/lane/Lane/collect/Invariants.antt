@@ -1,6 +1,7 @@
-use Rattle.std.proofs.Common.{◌≡◌, ◌+◌, ◌-◌, length}
+use Rattle.std.proofs.Common.{◌≡◌, ◌-◌, length}
 use Rattle.rt_link.specs.Fits.{Fits}
 use Rattle.rt_desk.specs.Lanes.{IsLaneOf}
+use Rattle.rt_desk.specs.Steps.{CollectsMany}
 use Rattle.rt_desk.proofs.lane.Lane.collect.Given as goal
 
 -- the lane belongs to its end, and each outcome that was collected is counted
@@ -8,8 +9,7 @@ abbrev pub invariant-loop-count : goal.invariant-loop-count
 invariant-loop-count g l = record {
   lane : IsLaneOf (Fits g.J.Task.SameTask g.J.Task.Answers) l.self (g.O.OutEnd.out l.end) (g.O.OutEnd.credited l.end);
   untouched : g.O.OutEnd.untouched l.end ≡ g.O.OutEnd.untouched l.fn.end;
-  sent : (g.O.OutEnd.out l.end).sent ≡ (g.O.OutEnd.out l.fn.end).sent;
-  count : l.count + (g.O.OutEnd.out l.fn.end).got ≡ (g.O.OutEnd.out l.end).got;
+  many : CollectsMany l.fn.self l.self (g.O.OutEnd.out l.fn.end) (g.O.OutEnd.out l.end) (g.O.OutEnd.credited l.fn.end) (g.O.OutEnd.credited l.end) l.count;
 }
 
 -- no more outcomes can be collected than orders were sent
