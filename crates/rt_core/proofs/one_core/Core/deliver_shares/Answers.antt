@@ -1,6 +1,7 @@
-use Rattle.std.proofs.Common.{◌<◌, refl, sym, subst, rules, length-set}
+use Rattle.std.proofs.Common.{◌<◌, refl, sym, ap, subst, rules, length-set}
 use Rattle.rt_taskqueue.specs.Queues.{queue_count}
 use Rattle.rt_taskqueue.specs.Slips.{queues_alone}
+use Rattle.rt_core.specs.Senders.{SendersView}
 use Rattle.rt_core.specs.State.{CoreView}
 use Rattle.rt_core.specs.Inside.{core_view, job_out}
 use Rattle.rt_core.proofs.Fits.{IsBounded-from_turns}
@@ -27,9 +28,10 @@ returns-clause-delivers g c =
     let inside = c.self.inside in
     let exists : c.args.queue < queue_count (queues_alone inside.queues) =
     subst (λ (view : CoreView g.row.J.Denot). c.args.queue < queue_count view.queues) (sym c.self.view_is) (c.has_queue.ensures.0 c.if-not-has_queue.false) in
+    let gates = ap (λ (senders : SendersView). senders.gates) c.count-2.ensures in
     rw (← c.self.view_is) (
-      record { exists = exists; shares = c.set_shares.ensures.given.queues; rest = refl },
-      ap (λ (senders : SendersView). senders.delivered) c.count-2.ensures ∙ ?,
+      record { exists = exists; shares = c.set_shares.ensures.given.queues; rest = λ i. core_view inside.core inside.cores (queues_alone c.set_shares.new.self) inside.tallies.items inside.floor inside.turns (job_out inside.out) (record { delivered = c.count-2.new.self.delivered; gates = gates i }) inside.mode },
+      (let v = c.name.view_is in let counted = ap (λ (senders : SendersView). senders.delivered) c.count-2.ensures in search rules),
       c.two_notes.ensures,
     )
 

@@ -1,9 +1,7 @@
-use Rattle.std.proofs.Common.{◌≡◌, ℕ, Bool, [], ◌∷◌, refl, sym, ap, subst, ◌∙◌, arith}
-use Rattle.rt_ids.specs.declared.note.Note.TheVariants as notes
+use Rattle.std.proofs.Common.{◌≡◌, [], refl, sym, ◌∙◌, arith, rules}
 use Rattle.rt_taskqueue.specs.Slips.{queues_alone}
 use Rattle.rt_core.specs.Inside.{core_view, job_out}
 use Rattle.std.proofs.lemmas.Bool.{true≢false}
-use Rattle.rt_core.specs.Turns.{TakesOut}
 use Rattle.rt_core.proofs.Fits.{IsBounded-from_turns}
 use Rattle.rt_core.proofs.Counting.{job_out-none, some_job_out}
 use Rattle.rt_core.proofs.Picking.{idle_if_no_key, work_if_key}
@@ -28,14 +26,6 @@ returns-then-self-clause-picks g c =
     let free = job_out-none inside.out (sym c.is_some.ensures ∙ c.if-is_some.false) in
     let some : inside.ready.keys ≡ [] → ⊥ = λ none. true≢false (sym (c.is_empty.ensures.1 none) ∙ c.if-is_empty.false) in
     rw (← c.self.view_is) (free, c.if-self.true, work_if_key view inside.ready.keys some free c.self.invariant.listed, refl, c.new-then-self.ensures)
-
-pub pick_first-requires-clause-work : goal.pick_first-requires-clause-work
-pick_first-requires-clause-work g c =
-    let inside = c.self.inside in
-    let view = core_view inside.core inside.cores (queues_alone inside.queues) inside.tallies.items inside.floor inside.turns (job_out inside.out) inside.senders inside.mode in
-    let free = job_out-none inside.out (sym c.is_some.ensures ∙ c.if-is_some.false) in
-    let some : inside.ready.keys ≡ [] → ⊥ = λ none. true≢false (sym (c.is_empty.ensures.1 none) ∙ c.if-is_empty.false) in
-    rw (← c.self.view_is) (work_if_key view inside.ready.keys some free c.self.invariant.listed)
 
 pub returns-then-is_some-clause-ready : goal.returns-then-is_some-clause-ready
 returns-then-is_some-clause-ready g c = tt
@@ -64,9 +54,19 @@ returns-then-self-clause-bounded g c =
     let view = core_view inside.core inside.cores (queues_alone inside.queues) inside.tallies.items inside.floor inside.turns (job_out inside.out) inside.senders inside.mode in
     rw (← c.self.view_is) (IsBounded-from_turns view c.self.invariant.turns)
 
-pub pick_first-requires-clause-free : goal.pick_first-requires-clause-free
-pick_first-requires-clause-free g c = rw (← c.self.view_is) (job_out-none c.self.inside.out (sym c.is_some.ensures ∙ c.if-is_some.false))
+pub pick_first-turn-requires : goal.pick_first-turn-requires
+pick_first-turn-requires g c =
+    let inside = c.self.inside in
+    let view = core_view inside.core inside.cores (queues_alone inside.queues) inside.tallies.items inside.floor inside.turns (job_out inside.out) inside.senders inside.mode in
+    let free = job_out-none inside.out (sym c.is_some.ensures ∙ c.if-is_some.false) in
+    let some : inside.ready.keys ≡ [] → ⊥ = λ none. true≢false (sym (c.is_empty.ensures.1 none) ∙ c.if-is_empty.false) in
+    (search rules, rw (← c.self.view_is) (free, (omega (arith, c.self.ranges), work_if_key view inside.ready.keys some free c.self.invariant.listed)))
 
-pub pick_first-requires-clause-turns : goal.pick_first-requires-clause-turns
-pick_first-requires-clause-turns g c = rw (← c.self.view_is) (omega (arith, c.self.ranges))
+pub returns-clause-picks : goal.returns-clause-picks
+returns-clause-picks g c = c.pick_first-turn.ensures.picks
 
+pub returns-clause-ready : goal.returns-clause-ready
+returns-clause-ready g c = c.pick_first-turn.ensures.ready
+
+pub returns-clause-bounded : goal.returns-clause-bounded
+returns-clause-bounded g c = c.pick_first-turn.ensures.bounded
