@@ -1,7 +1,8 @@
-//! Keys, tickets, and copies of orders and notes.
+//! Keys, tickets, orders and outcomes as notes tell them, and copies of orders and notes.
 
 use rt_ids::{
-    ActorNo, CoreNo, JobId, Key, Mode, Note, Order, OutcomeNote, QueueNo, QueueStats, Ticket,
+    ActorNo, Answer, CoreNo, JobId, Key, Mode, Note, Order, Outcome, OutcomeNote, QueueNo,
+    QueueStats, Reason, Ticket,
 };
 use rt_shares::Shares;
 
@@ -64,6 +65,29 @@ fn an_order_is_told_without_its_job(rt: HostRuntime) {
             && is_told(
                 Order::SetShares(QueueNo(4), shares),
                 Order::SetShares(QueueNo(4), shares)
+            )
+    );
+}
+
+fn is_noted(outcome: Outcome<u64, u64>, note: OutcomeNote<u64>) -> bool {
+    outcome.note() == note
+}
+
+#[test]
+fn an_outcome_is_told_without_its_job(rt: HostRuntime) {
+    let created = Answer::Created(QueueNo(4));
+    let finished = is_noted(Outcome::Finished(7), OutcomeNote::Finished(7));
+    let answered = is_noted(Outcome::Answered(created), OutcomeNote::Answered(created));
+    let refused = is_noted(
+        Outcome::Answered(Answer::TooMany),
+        OutcomeNote::Answered(Answer::TooMany),
+    );
+    let back = Order::Job(QueueNo(4), 7);
+    assert!(rt;
+        finished && answered && refused
+            && is_noted(
+                Outcome::Returned(Reason::QueueReturned, back),
+                OutcomeNote::Returned(Reason::QueueReturned)
             )
     );
 }

@@ -1,15 +1,17 @@
 -- What each of these orders calls for is something else.
-use Rattle.std.proofs.Common.{◌≡◌, ℕ, inl, inr, [], refl, sym, ap, subst, arith}
+use Rattle.std.proofs.Common.{◌≡◌, ℕ, inl, inr, [], ◌∷◌, refl, sym, ap, subst, arith}
 use Rattle.std.specs.Prelude.{Option, Some}
 use Rattle.std.proofs.lemmas.Option.{same_Some}
 use Rattle.rt_ids.specs.declared.note.Note.{Note}
 use Rattle.rt_ids.specs.declared.note.Note.TheVariants as notes
+use Rattle.rt_ids.specs.declared.note.OutcomeNote.TheVariants.{Finished}
 use Rattle.rt_ids.specs.declared.order.Answer.TheVariants as answers
 use Rattle.rt_ids.specs.declared.order.Order.{Order}
 use Rattle.rt_ids.specs.declared.order.Order.TheVariants.{Job, Create}
 use Rattle.rt_ids.specs.declared.order.Reason.TheVariants as why
 use Rattle.rt_ids.specs.BadLinks.{LinksAreRefused}
 use Rattle.rt_ids.specs.Commands.{IsAnswer, effect_note, refusal}
+use Rattle.rt_ids.specs.Filters.{Outcomes}
 
 -- no creation is answered as if it set shares
 not_shares : (order : Order (Unit {0})) → Some (Create 500) ≡ Some order → IsAnswer {T = ℕ} order answers.SharesSet [] → ⊥
@@ -41,9 +43,16 @@ not_600 order sent carried =
     let weight : ◌≡◌ {A = ℕ} 500 600 = given in
     omega arith
 
+-- the answer of the first of these outcomes
+abbrev first_value : Outcomes ℕ → ℕ
+first_value ((name, Finished value) ∷ rest) = value
+first_value _ = 0
+
 pub links_refused : LinksAreRefused
 links_refused = record {
   answer = λ agree. let sent = (agree.as_sent 0 (omega arith)).1.0 in not_shares sent.0 sent.1 sent.2;
   refusal = λ agree. let sent = (agree.as_sent 0 (omega arith)).0 in not_denied sent.0 sent.1 sent.2;
   effect = λ agree. let sent = (agree.as_sent 0 (omega arith)).0 refl in not_600 sent.0 sent.1 sent.2;
+  count = λ agree. let count : 0 ≡ 1 = agree.gates 1 0 (omega arith) (omega arith) 0 refl in omega arith;
+  outcome = λ agree. let given = (agree.collections 1 0 (omega arith) (omega arith)).1 in let value : 8 ≡ 7 = ap first_value given in cc;
 }

@@ -1,5 +1,5 @@
 -- Names that are one, and names among others.
-use Rattle.std.proofs.Common.{◌≡◌, ℕ, ◌⊎◌, inl, inr, Bool, true, false, List, [], ◌∷◌, ◌++◌, refl, sym, ap, cond}
+use Rattle.std.proofs.Common.{◌≡◌, ℕ, ◌⊎◌, inl, inr, Bool, true, false, List, [], ◌∷◌, ◌++◌, refl, sym, ◌∙◌, ap, cond}
 use Rattle.std.specs.Prelude.{◌==◌, ◌&&◌, ◌||◌, not, Option, Some, None}
 use Rattle.std.specs.List.{list_any}
 use Rattle.std.proofs.lemmas.Bool.{and_parts, eqb-true, eq-eqb}
@@ -70,6 +70,42 @@ among-names_but_for name (Some other) (first ∷ names) there =
         apart false same = refl
         apart true same = rw (← one_name name other same, at_name) at at_other
     by_tests false at_other false at_name there rest = rest (rw at_name at there)
+
+-- who is there stays there, whoever comes
+pub among-stays : (name : JobId) (names : List JobId) (more : Option JobId) → among name names ≡ true → among name (with_last names more) ≡ true
+among-stays name names None there = there
+among-stays name [] (Some other) there = cc
+among-stays name (first ∷ names) (Some other) there = by_first (same_name name first) there (among-stays name names (Some other))
+  where
+    by_first : (test : Bool) → (test || among name names) ≡ true → (among name names ≡ true → among name (names ++ other ∷ []) ≡ true) →
+        (test || among name (names ++ other ∷ [])) ≡ true
+    by_first true there rest = refl
+    by_first false there rest = rest there
+
+-- who comes is there
+pub among-comes : (name : JobId) (names : List JobId) → among name (names ++ name ∷ []) ≡ true
+among-comes name [] = rw (same_as_itself name)
+among-comes name (first ∷ names) = by_first (same_name name first) (among-comes name names)
+  where
+    by_first : (test : Bool) → among name (names ++ name ∷ []) ≡ true → (test || among name (names ++ name ∷ [])) ≡ true
+    by_first true rest = refl
+    by_first false rest = rest
+
+-- who is there stays there when another one goes
+pub among-kept : (name gone : JobId) (names : List JobId) → among name names ≡ true → same_name name gone ≡ false → among name (names_but gone names) ≡ true
+among-kept name gone [] there apart = cc
+among-kept name gone (first ∷ names) there apart = by_tests (same_name gone first) refl (same_name name first) refl there (among-kept name gone names)
+  where
+    by_tests : (dropped : Bool) → same_name gone first ≡ dropped → (here : Bool) → same_name name first ≡ here → (here || among name names) ≡ true →
+        (among name names ≡ true → same_name name gone ≡ false → among name (names_but gone names) ≡ true) →
+        among name (cond (not dropped) (first ∷ names_but gone names) (names_but gone names)) ≡ true
+    by_tests false at_gone true at_name there rest = rw at_name
+    by_tests false at_gone false at_name there rest = rw (at_name, rest there apart)
+    by_tests true at_gone false at_name there rest = rest there apart
+    by_tests true at_gone true at_name there rest =
+        let one : name ≡ gone = one_name name first at_name ∙ sym (one_name gone first at_gone) in
+        let same : same_name name gone ≡ true = rw (one, same_as_itself gone) in
+        cc
 
 -- the number of the first name, which tells lists of names apart
 abbrev pub first_number : List JobId → ℕ

@@ -1,12 +1,13 @@
 -- A core that creates a queue on command and runs a job in it is lawful, its links agree, and so it is sound: the law of joining is about something.
 use Rattle.std.proofs.Common.{◌≡◌, ℕ, suc, zero, ◌<◌, ◌≤◌, inr, Bool, true, false, [], ◌∷◌, refl, sym, ◌∙◌, arith, eqb-true}
 use Rattle.std.proofs.lemmas.Bool.{true≢false}
-use Rattle.std.specs.Prelude.{◌==◌, map}
+use Rattle.std.specs.Prelude.{◌==◌, Some, length, map}
 use Rattle.rt_ids.specs.declared.names.JobId.{JobId}
 use Rattle.rt_ids.specs.declared.note.Note.TheVariants.{Sent, Answered, Created, Took, Pick, Start, Yield, Resume, Done}
 use Rattle.rt_ids.specs.declared.order.Answer.TheVariants as answers
 use Rattle.rt_ids.specs.declared.order.Order.TheVariants.{Job, Create}
 use Rattle.rt_ids.specs.Assembly.{Assembly, journal_of, IsPrefix}
+use Rattle.rt_ids.specs.Closing.{final_count}
 use Rattle.rt_ids.specs.Filters.{accepted_orders, delivered_names, collected_outcomes, given_outcomes}
 use Rattle.rt_ids.specs.Journal.{Journal, EachNote}
 use Rattle.rt_ids.specs.Joining.{DeliversAsSent, LinksAgree}
@@ -87,11 +88,11 @@ core_lawful = record {
             (
               record { may_follow = record { right = first_pick; turn_left = omega arith }; turn = refl; effect = tt; writer = omega arith },
               (
-                record { may_follow = (record { sender = omega arith; receiver = refl; next = refl; in_range = omega arith }, refl); turn = refl; effect = tt; writer = omega arith },
+                record { may_follow = (record { sender = omega arith; receiver = refl; next = refl; in_range = omega arith; gate = tt }, refl); turn = refl; effect = tt; writer = omega arith },
                 (
                   record { may_follow = record { next = refl; in_range = omega arith; shares = record { positive = omega arith; bounded = omega arith } }; turn = refl; effect = refl; writer = omega arith },
                   (
-                    record { may_follow = (record { sender = omega arith; receiver = refl; next = refl; in_range = omega arith }, (Create 500, inr refl)); turn = refl; effect = tt; writer = omega arith },
+                    record { may_follow = (record { sender = omega arith; receiver = refl; next = refl; in_range = omega arith; gate = tt }, (Create 500, inr refl)); turn = refl; effect = tt; writer = omega arith },
                     tt,
                   ),
                 ),
@@ -119,7 +120,7 @@ lawful (suc (suc actor)) within = absurd (omega arith)
 
 -- all that was sent was delivered, and nothing was collected
 agree : LinksAgree assembly
-agree = record { deliveries = deliveries; collections = collections; as_sent = as_sent }
+agree = record { deliveries = deliveries; collections = collections; gates = gates; as_sent = as_sent }
   where
     deliveries : (sender core : ℕ) → sender ≤ 1 → core < 1 →
         IsPrefix (delivered_names sender (journal_of core assembly)) (map (λ sent. sent.0) (accepted_orders core (journal_of sender assembly)))
@@ -135,6 +136,11 @@ agree = record { deliveries = deliveries; collections = collections; as_sent = a
     collections (suc (suc sender)) zero s c = absurd (omega arith)
     collections sender (suc core) s c = absurd (omega arith)
 
+    gates : (sender core : ℕ) → sender ≤ 1 → core < 1 → (count : ℕ) → final_count sender (journal_of core assembly) ≡ Some count →
+        count ≡ length (accepted_orders core (journal_of sender assembly))
+    gates sender zero s c count shut = cc
+    gates sender (suc core) s c count shut = absurd (omega arith)
+
     as_sent : (actor : ℕ) → actor ≤ 1 → EachNote (DeliversAsSent assembly) (journal_of actor assembly)
     as_sent zero within = (tt, (tt, (tt, (tt, (tt, (tt, (refl, ((λ effect. (Create 500, refl, refl)), ((Create 500, refl, inr refl), tt)))))))))
     as_sent (suc zero) within = (tt, (tt, tt))
@@ -142,4 +148,4 @@ agree = record { deliveries = deliveries; collections = collections; as_sent = a
 
 -- so they are sound together
 sound : IsSound assembly
-sound = joining_is_sound assembly lawful agree
+sound = joining_is_sound assembly (record { journals = refl; lawful = lawful; links = agree })

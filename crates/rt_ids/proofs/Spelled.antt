@@ -23,6 +23,7 @@ use Rattle.rt_ids.specs.Names.{same_name, is_number}
 use Rattle.rt_ids.specs.Spelled.{IsReceived, IsBackReason, IsReturnReason, IsSpelledAnswer, IsSpelledNote, AreSpelledNotes}
 use Rattle.rt_ids.specs.Terms.{Terms}
 use Rattle.rt_ids.specs.Work.{has_work, entered_count, left_count, queue_of, queue_entered, queue_joined, number_if}
+use Rattle.rt_ids.proofs.Collected.{accepted_own, collected_own, fitting_spelled}
 use Rattle.rt_ids.proofs.JobsOut.{alone_out}
 use Rattle.rt_ids.proofs.Known.{known_of, first_in_line}
 use Rattle.rt_ids.proofs.NameLemmas.{one_name}
@@ -181,9 +182,10 @@ module _ {T : Type 0} (terms : Terms) where
           (turn_received name law.may_follow.0 before notes.1 law.may_follow.1, returning _ _ reason law.may_follow.2)
       by_note (Yield name time) law = out_received name before notes.1 law.may_follow
       by_note (Done name time value) law = out_received name before notes.1 law.may_follow
-      by_note (QueueClosed queue mode) law = absurd law.may_follow
-      by_note (CoreClosed mode) law = absurd law.may_follow
-      by_note (Shut sender count) law = absurd law.may_follow
-      by_note (Collected name outcome) law = absurd law.may_follow
-      by_note (Redeemed name outcome) law = absurd law.may_follow
-      by_note (Detached name) law = absurd law.may_follow
+      by_note (QueueClosed queue mode) law = (law.writer, omega (arith, law.may_follow.0, few_created before notes.1))
+      by_note (CoreClosed mode) law = law.writer
+      by_note (Shut sender count) law = (law.writer, law.may_follow.known, omega (arith, law.may_follow.in_range))
+      by_note (Collected name outcome) law =
+          (accepted_own terms name law.may_follow.order before actor notes.1 law.may_follow.accepted, fitting_spelled law.may_follow.order outcome law.may_follow.fits)
+      by_note (Redeemed name outcome) law = collected_own terms name outcome before actor notes.1 law.may_follow.collected
+      by_note (Detached name) law = accepted_own terms name law.may_follow.order before actor notes.1 law.may_follow.accepted

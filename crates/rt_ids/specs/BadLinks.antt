@@ -1,10 +1,12 @@
 -- Journals that no order calls for: each may be lawful by itself, and may even be sound, and the links don't agree.
 use Rattle.std.specs.Prelude.{ℕ, [], ◌∷◌}
 use Rattle.rt_ids.specs.declared.note.Note.TheVariants as notes
+use Rattle.rt_ids.specs.declared.note.OutcomeNote.TheVariants.{Finished}
 use Rattle.rt_ids.specs.declared.order.Answer.TheVariants as answers
+use Rattle.rt_ids.specs.declared.order.Mode.TheVariants.{Finish}
 use Rattle.rt_ids.specs.declared.order.Reason.TheVariants as why
 use Rattle.rt_ids.specs.Assembly.{Assembly}
-use Rattle.rt_ids.specs.BadJournals.{submission, with_journals, one_job, one_command}
+use Rattle.rt_ids.specs.BadJournals.{submission, with_journals, one_job, one_command, done}
 use Rattle.rt_ids.specs.Joining.{LinksAgree}
 
 -- an order to create a queue is answered, and carried out, as if it set shares
@@ -19,8 +21,18 @@ open_queue_denied = with_journals (notes.Back (submission 1) why.NoQueue ∷ [])
 abbrev pub created_with_other_shares : Assembly ℕ
 created_with_other_shares = with_journals (notes.Created 1 600 ∷ notes.Answered (submission 1) (answers.Created 1) ∷ []) one_command
 
+-- a gate is shut at another count than that of the accepted orders
+abbrev pub shut_at_another : Assembly ℕ
+shut_at_another = with_journals (notes.Shut 1 0 ∷ notes.CoreClosed Finish ∷ []) one_job
+
+-- another answer is collected than the one that was given
+abbrev pub collected_another : Assembly ℕ
+collected_another = with_journals done (notes.Collected (submission 1) (Finished 8) ∷ one_job)
+
 -- the links of none of them agree
 pub record LinksAreRefused : Type 0 where
   pub answer : LinksAgree answered_otherwise → ⊥
   pub refusal : LinksAgree open_queue_denied → ⊥
   pub effect : LinksAgree created_with_other_shares → ⊥
+  pub count : LinksAgree shut_at_another → ⊥
+  pub outcome : LinksAgree collected_another → ⊥

@@ -1,8 +1,10 @@
--- Modes of queues and cores, gates, and when a core is drained.
-use Rattle.std.specs.Prelude.{◌≡◌, ℕ, ◌==◌, if◌then◌else◌, Option, Some, None, IsTrue, length, ◌≤◌}
+-- Modes of queues and cores, what a further closing changes, gates, and when a core is drained.
+use Rattle.std.specs.Prelude.{◌≡◌, ℕ, ◌==◌, if◌then◌else◌, Bool, true, false, Option, Some, None, IsTrue, length, ◌≤◌, ◌<◌, ◌^◌}
+use Rattle.std.specs.Option.{IsSome}
 use Rattle.rt_ids.specs.declared.note.Note.{Note}
 use Rattle.rt_ids.specs.declared.note.Note.TheVariants.{QueueClosed, CoreClosed, Shut}
 use Rattle.rt_ids.specs.declared.order.Mode.{Mode}
+use Rattle.rt_ids.specs.declared.order.Mode.TheVariants.{Finish, Return}
 use Rattle.rt_ids.specs.Journal.{Journal, latest_told}
 use Rattle.rt_ids.specs.Filters.{delivered_names}
 use Rattle.rt_ids.specs.Work.{has_work}
@@ -33,6 +35,25 @@ core_mode = latest_told core_mode_told
 -- the final count of a gate, if it is shut
 abbrev pub final_count : {T : Type 0} → ℕ → Journal T → Option ℕ
 final_count sender = latest_told (count_told sender)
+
+-- whether a closing changes anything: it closes what is open, and `Return` replaces `Finish`
+abbrev pub closes : Option Mode → Mode → Bool
+closes None mode = true
+closes (Some Finish) Return = true
+closes (Some _) _ = false
+
+-- what comes through a shut gate is within its count
+abbrev pub IsCounted : Option ℕ → ℕ → Type 0
+IsCounted None number = Unit {0}
+IsCounted (Some count) number = number ≤ count
+
+-- the core is closed and the gate of this actor isn't shut, and its count is no less than what was delivered
+pub record IsNextShut {T : Type 0} (cores sender count : ℕ) (before : Journal T) : Type 0 where
+  pub closed : IsSome (core_mode before)
+  pub not_shut : final_count sender before ≡ None
+  pub known : sender ≤ cores
+  pub delivered : length (delivered_names sender before) ≤ count
+  pub in_range : count < 2 ^ 63
 
 -- every gate is shut and all behind it delivered, and no queue has work
 pub record IsDrained {T : Type 0} (cores : ℕ) (journal : Journal T) : Type 0 where

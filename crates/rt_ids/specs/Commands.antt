@@ -80,7 +80,7 @@ IsOpening [] = Unit {0}
 IsOpening (notes.Created queue weight ∷ before) = IsOpening before
 IsOpening _ = ⊥
 
--- behind an answer with an effect stands the note of that effect, which stands nowhere else, except the creations at the opening
+-- behind an answer with an effect stands the note of that effect, which stands nowhere else, except the creations at the opening and where a core closes by itself
 abbrev pub IsEffectDue : {T : Type 0} → Option Answer → Note T → Journal T → Type 0
 IsEffectDue None (notes.Created queue weight) before = IsOpening before
 IsEffectDue None (notes.SharesSet queue weight) before = ⊥
@@ -88,4 +88,6 @@ IsEffectDue None (notes.QueueClosed queue mode) before = ⊥
 IsEffectDue None _ before = Unit {0}
 IsEffectDue (Some answer) (notes.Created queue weight) before = answer ≡ answers.Created queue
 IsEffectDue (Some answer) (notes.SharesSet queue weight) before = answer ≡ answers.SharesSet
+IsEffectDue (Some answer) (notes.QueueClosed queue mode) before = answer ≡ answers.Closed
+IsEffectDue (Some answer) (notes.CoreClosed mode) before = answer ≡ answers.Closed
 IsEffectDue (Some answer) _ before = ⊥

@@ -1,12 +1,15 @@
--- A core that closes, runs what is inside, and is drained: soundness refuses the bad journals and not this one.
-use Rattle.std.specs.Prelude.{ℕ, [], ◌∷◌}
-use Rattle.rt_ids.specs.declared.note.Note.TheVariants.{Took, CoreClosed, Pick, Start, Resume, Yield, Done, Shut, Collected, Redeemed}
+-- Two cores that close and are drained, one in each mode, with senders that collect, redeem and detach: the laws refuse the bad journals and not these.
+use Rattle.std.specs.Prelude.{◌≡◌, ℕ, [], ◌∷◌}
+use Rattle.rt_ids.specs.declared.note.Note.TheVariants.{Took, CoreClosed, Pick, Start, Resume, Yield, Done, Returned, Shut, Collected, Redeemed, Detached}
 use Rattle.rt_ids.specs.declared.note.OutcomeNote.TheVariants as outcome
-use Rattle.rt_ids.specs.declared.order.Mode.TheVariants.{Finish}
-use Rattle.rt_ids.specs.Assembly.{Assembly}
-use Rattle.rt_ids.specs.BadJournals.{submission, with_journals, one_job}
+use Rattle.rt_ids.specs.declared.order.Mode.TheVariants.{Finish, Return}
+use Rattle.rt_ids.specs.declared.order.Reason.TheVariants.{CoreReturned}
+use Rattle.rt_ids.specs.Assembly.{Assembly, journal_of}
+use Rattle.rt_ids.specs.BadJournals.{submission, with_journals, one_job, two_jobs, both_taken}
 use Rattle.rt_ids.specs.Closing.{IsDrained}
+use Rattle.rt_ids.specs.Joining.{AreJoined}
 use Rattle.rt_ids.specs.Journal.{Journal}
+use Rattle.rt_ids.specs.Outstanding.{outstanding_count}
 use Rattle.rt_ids.specs.Sound.{IsSound}
 
 -- the core closes with a job inside, and shuts both gates
@@ -28,7 +31,38 @@ served = Redeemed (submission 1) (outcome.Finished 7) ∷ Collected (submission 
 abbrev pub drained_core : Assembly ℕ
 drained_core = with_journals ended served
 
--- it is drained and sound
+-- one of two jobs was polled, and the core closes in mode `Finish`, and then in mode `Return`
+abbrev pub polled_once : Journal ℕ
+polled_once = Yield (submission 1) 10 ∷ Start (submission 1) ∷ Pick 0 0 ∷ both_taken
+
+abbrev pub returning : Journal ℕ
+returning = CoreClosed Return ∷ CoreClosed Finish ∷ polled_once
+
+-- it hands back both jobs, the waiting one first
+abbrev pub one_returned : Journal ℕ
+one_returned = Returned (submission 2) CoreReturned ∷ Pick 0 10 ∷ returning
+
+-- and shuts its gates
+abbrev pub both_returned : Journal ℕ
+both_returned = Shut 0 0 ∷ Shut 1 2 ∷ Returned (submission 1) CoreReturned ∷ Pick 0 10 ∷ one_returned
+
+-- their sender detaches the first job, collects both outcomes, and redeems that of the second
+abbrev pub detached_one : Journal ℕ
+detached_one =
+    Redeemed (submission 2) (outcome.Returned CoreReturned) ∷ Collected (submission 1) (outcome.Returned CoreReturned) ∷
+    Collected (submission 2) (outcome.Returned CoreReturned) ∷ Detached (submission 1) ∷ two_jobs
+
+abbrev pub returning_core : Assembly ℕ
+returning_core = with_journals both_returned detached_one
+
+-- joined journals whose core 0 is drained, which so are sound, and whose outside actor has nothing outstanding
+pub record IsServed (assembly : Assembly ℕ) : Type 0 where
+  pub drained : IsDrained 1 (journal_of 0 assembly)
+  pub joined : AreJoined assembly
+  pub sound : IsSound assembly
+  pub nothing_outstanding : outstanding_count 0 (journal_of 1 assembly) ≡ 0
+
+-- both are
 pub record DrainedIsSound : Type 0 where
-  pub drained : IsDrained 1 ended
-  pub sound : IsSound drained_core
+  pub finishing : IsServed drained_core
+  pub returning : IsServed returning_core

@@ -8,6 +8,7 @@ use Rattle.rt_ids.specs.declared.order.Order.TheVariants.{Job}
 use Rattle.rt_ids.specs.Journal.{Journal, EachNote}
 use Rattle.rt_ids.specs.Filters.{accepted_orders, delivered_names, given_outcomes, collected_outcomes}
 use Rattle.rt_ids.specs.Assembly.{Assembly, journal_of, IsPrefix, names_of, order_of}
+use Rattle.rt_ids.specs.Closing.{final_count}
 use Rattle.rt_ids.specs.Commands.{refusal, IsAnswer, effect_note, has_effect}
 use Rattle.rt_ids.specs.Lawful.{MayStand, IsLawful}
 use Rattle.rt_ids.specs.Sound.{IsSound}
@@ -35,12 +36,14 @@ DeliversAs under _ before = Unit {0}
 abbrev pub DeliversAsSent : {T : Type 0} → Assembly T → Note T → Journal T → Type 0
 DeliversAsSent assembly = DeliversAs (λ name. order_of name assembly)
 
--- what was delivered is the beginning of what was accepted, what was collected that of what was given, and each delivery is as the order sent calls for
+-- what was delivered is the beginning of what was accepted, what was collected that of what was given, each shut gate counts what was accepted, and each delivery is as the order sent calls for
 pub record LinksAgree {T : Type 0} (assembly : Assembly T) : Type 0 where
   pub deliveries : (sender core : ℕ) → sender ≤ assembly.cores → core < assembly.cores →
       IsPrefix (delivered_names sender (journal_of core assembly)) (names_of (accepted_orders core (journal_of sender assembly)))
   pub collections : (sender core : ℕ) → sender ≤ assembly.cores → core < assembly.cores →
       IsPrefix (collected_outcomes core (journal_of sender assembly)) (given_outcomes sender (journal_of core assembly))
+  pub gates : (sender core : ℕ) → sender ≤ assembly.cores → core < assembly.cores → (count : ℕ) →
+      final_count sender (journal_of core assembly) ≡ Some count → count ≡ length (accepted_orders core (journal_of sender assembly))
   pub as_sent : (actor : ℕ) → actor ≤ assembly.cores → EachNote (DeliversAsSent assembly) (journal_of actor assembly)
 
 -- what the journals of one house are together: one for each actor, each lawful, and joined by links that agree
@@ -51,9 +54,7 @@ pub record AreJoined {T : Type 0} (assembly : Assembly T) : Type 0 where
 
 -- journals that are lawful each by itself are sound together, where the links agree
 abbrev pub JoiningIsSound : Type 0
-JoiningIsSound =
-    (assembly : Assembly ℕ) → ((actor : ℕ) → actor ≤ assembly.cores → IsLawful (terms_of actor assembly) (journal_of actor assembly)) →
-    LinksAgree assembly → IsSound assembly
+JoiningIsSound = (assembly : Assembly ℕ) → AreJoined assembly → IsSound assembly
 
 -- each note of a lawful journal can be spelled
 abbrev pub LawfulIsSpelled : Type 0

@@ -1,11 +1,13 @@
 -- Which note may stand after which: the steps of one actor.
-use Rattle.std.specs.Prelude.{◌≡◌, ℕ, ◌+◌, ◌<◌, ◌≤◌, ◌^◌, true, false, Some, None, is_some, List, [], ◌∷◌, length}
+use Rattle.std.specs.Prelude.{◌≡◌, ℕ, ◌+◌, ◌<◌, ◌≤◌, ◌^◌, true, false, Some, None, is_some, IsTrue, List, [], ◌∷◌, length}
 use Rattle.rt_shares.specs.Charge.{InRange}
 use Rattle.rt_ids.specs.declared.names.JobId.{JobId}
 use Rattle.rt_ids.specs.declared.note.Note.{Note}
-use Rattle.rt_ids.specs.declared.note.Note.TheVariants.{Sent, Took, Back, Answered, Created, SharesSet, Pick, Start, Resume, Yield, Done, Returned, Collected, Redeemed, Detached}
+use Rattle.rt_ids.specs.declared.note.Note.TheVariants.{Sent, Took, Back, Answered, Created, SharesSet, QueueClosed, CoreClosed, Pick, Start, Resume, Yield, Done, Returned, Shut, Collected, Redeemed, Detached}
 use Rattle.rt_ids.specs.declared.order.Order.{Order}
 use Rattle.rt_ids.specs.Journal.{Journal, EachNote, is_told}
+use Rattle.rt_ids.specs.Closing.{closes, core_mode, queue_mode, final_count, IsCounted, IsNextShut}
+use Rattle.rt_ids.specs.Collecting.{IsNextCollected, IsRedeemable, IsDetachable}
 use Rattle.rt_ids.specs.Filters.{accepted_orders, delivered_names, name_started}
 use Rattle.rt_ids.specs.Lines.{line, jobs_out}
 use Rattle.rt_ids.specs.Limits.{most_queues, most_turns}
@@ -26,12 +28,13 @@ pub record IsNextSent {T : Type 0} (terms : Terms) (name : JobId) (order : Order
   pub credit : outstanding_count name.to before < terms.cap
   pub spelled : IsSpelledOrder order
 
--- the name is the next that is delivered from its sender
+-- the name is the next that is delivered from its sender, and within the count of its gate, if that is shut
 pub record IsNextDelivered {T : Type 0} (terms : Terms) (name : JobId) (before : Journal T) : Type 0 where
   pub sender : name.from ≤ terms.cores
   pub receiver : name.to ≡ terms.actor
   pub next : name.number ≡ length (delivered_names name.from before) + 1
   pub in_range : name.number < 2 ^ 63
+  pub gate : IsCounted (final_count name.from before) name.number
 
 -- the queue was just picked, and the job is the first of its line
 pub record IsTurnOf {T : Type 0} (name : JobId) (queue : ℕ) (before : Journal T) : Type 0 where
@@ -59,6 +62,8 @@ MayFollow terms (Answered name answer) before =
     IsNextDelivered terms name before × ((order : Order (Unit {0})) × IsAnswer order answer before)
 MayFollow terms (Created queue weight) before = IsNextQueue queue weight before
 MayFollow terms (SharesSet queue weight) before = (queue ≤ created_count before) × InRange weight
+MayFollow terms (QueueClosed queue mode) before = (queue ≤ created_count before) × IsTrue (closes (queue_mode queue before) mode)
+MayFollow terms (CoreClosed mode) before = IsTrue (closes (core_mode before) mode)
 MayFollow terms (Pick queue runtime) before = IsNextTurn queue runtime before
 MayFollow terms (Start name) before =
     (queue : ℕ) × IsTurnOf name queue before × (return_reason queue before ≡ None) × (is_told name_started name before ≡ false)
@@ -68,8 +73,10 @@ MayFollow terms (Returned name reason) before =
     (queue : ℕ) × IsTurnOf name queue before × (return_reason queue before ≡ Some reason)
 MayFollow terms (Yield name time) before = jobs_out before ≡ name ∷ []
 MayFollow terms (Done name time value) before = jobs_out before ≡ name ∷ []
--- closing, collecting and redeeming come with their calls
-MayFollow terms _ before = ⊥
+MayFollow terms (Shut sender count) before = IsNextShut terms.cores sender count before
+MayFollow terms (Collected name outcome) before = IsNextCollected name outcome before
+MayFollow terms (Redeemed name outcome) before = IsRedeemable name outcome before
+MayFollow terms (Detached name) before = IsDetachable name before
 
 -- a core may write each note; the outside actor writes what it sends, collects, redeems and detaches, and nothing else
 abbrev pub MayWrite : {T : Type 0} → Terms → Note T → Type 0

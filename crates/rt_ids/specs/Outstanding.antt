@@ -21,6 +21,10 @@ abbrev pub name_detached : {T : Type 0} → Note T → Option JobId
 name_detached (Detached name) = Some name
 name_detached _ = None
 
+-- a submission is gone for its sender once it is redeemed or detached
+abbrev pub is_gone : {T : Type 0} → JobId → Journal T → Bool
+is_gone name journal = is_told name_redeemed name journal || is_told name_detached name journal
+
 -- a submission is outstanding until it is redeemed, or both detached and collected
 abbrev pub is_outstanding : {T : Type 0} → JobId → Journal T → Bool
 is_outstanding name journal =

@@ -4,16 +4,13 @@ use Rattle.rt_shares.specs.Charge.{InRange}
 use Rattle.rt_ids.specs.declared.names.JobId.{JobId}
 use Rattle.rt_ids.specs.declared.note.Note.{Note}
 use Rattle.rt_ids.specs.declared.note.Note.TheVariants.{Sent, Took, Back, Answered, Created, SharesSet, QueueClosed, CoreClosed, Pick, Start, Resume, Yield, Done, Returned, Shut, Collected, Redeemed, Detached}
-use Rattle.rt_ids.specs.declared.note.OutcomeNote.{OutcomeNote}
-use Rattle.rt_ids.specs.declared.note.OutcomeNote.TheVariants as outcomes
-use Rattle.rt_ids.specs.declared.order.Answer.{Answer}
-use Rattle.rt_ids.specs.declared.order.Answer.TheVariants as answers
 use Rattle.rt_ids.specs.declared.order.Reason.{Reason}
 use Rattle.rt_ids.specs.declared.order.Reason.TheVariants as why
 use Rattle.rt_ids.specs.Assembly.{Assembly, journal_of}
 use Rattle.rt_ids.specs.Journal.{Journal, EachNote}
 use Rattle.rt_ids.specs.Limits.{most_cores, most_capacity, most_queues, last_number}
 use Rattle.rt_ids.specs.Orders.{IsSpelledOrder}
+pub use Rattle.rt_ids.specs.Outcomes.{IsSpelledAnswer, IsSpelledOutcome}
 use Rattle.rt_ids.specs.Terms.{Terms, terms_of}
 
 -- a name: its sender is an actor, its receiver a core, and its number one of a link
@@ -42,15 +39,6 @@ abbrev pub IsReturnReason : Reason → Type 0
 IsReturnReason why.QueueReturned = Unit {0}
 IsReturnReason why.CoreReturned = Unit {0}
 IsReturnReason _ = ⊥
-
--- an answer that names a queue names one of those that there may be
-abbrev pub IsSpelledAnswer : Answer → Type 0
-IsSpelledAnswer (answers.Created queue) = queue < most_queues
-IsSpelledAnswer _ = Unit {0}
-
-abbrev pub IsSpelledOutcome : {T : Type 0} → OutcomeNote T → Type 0
-IsSpelledOutcome (outcomes.Answered answer) = IsSpelledAnswer answer
-IsSpelledOutcome _ = Unit {0}
 
 -- what each note names is within its range, and its actor may write it: the outside actor sends, collects, redeems and detaches, and does nothing else
 abbrev pub IsSpelledNote : {T : Type 0} → Terms → Note T → Type 0

@@ -2,8 +2,10 @@
 
 ghost use Rattle.std.specs.Prelude.{◌≡◌};
 ghost use Rattle.rt_ids.specs.Orders.{IsSpelledOrder, without_job};
+ghost use Rattle.rt_ids.specs.Outcomes.{IsSpelledOutcome, outcome_note};
 
 use crate::names::{JobId, QueueNo};
+use crate::note::OutcomeNote;
 use rt_shares::Shares;
 use std::alloc::AllocError;
 
@@ -103,6 +105,24 @@ pub enum Outcome<J, T> {
     Returned(Reason, Order<J>),
     /// The command was carried out, or refused by the core.
     Answered(Answer),
+}
+
+impl<J, T: Copy> Outcome<J, T> {
+    /// The outcome without its job, as a note tells it. A caller also learns that the queue of a creation is within its range.
+    pub fn note(&self) -> OutcomeNote<T>
+        ensures same { result ≡ outcome_note self.now }
+        ensures spelled { IsSpelledOutcome result }
+    {
+        match self {
+            Outcome::Finished(value) => OutcomeNote::Finished(*value),
+            Outcome::Returned(reason, _) => OutcomeNote::Returned(*reason),
+            Outcome::Answered(Answer::Created(queue)) => {
+                let _number = queue.0;
+                OutcomeNote::Answered(Answer::Created(*queue))
+            }
+            Outcome::Answered(answer) => OutcomeNote::Answered(*answer),
+        }
+    }
 }
 
 /// Why an order was not accepted. The order comes back.

@@ -1,6 +1,8 @@
 //! Laws that small journals with one thing wrong are not sound: each clause of soundness refuses what it is there to refuse.
 
 ghost use Rattle.rt_ids.specs.BadCloses.{ClosesAreRefused};
+ghost use Rattle.rt_ids.specs.BadClosings.{ClosingsAreRefused};
+ghost use Rattle.rt_ids.specs.BadCollects.{CollectsAreRefused};
 ghost use Rattle.rt_ids.specs.BadLinks.{LinksAreRefused};
 ghost use Rattle.rt_ids.specs.BadOrder.{OrderIsRefused};
 ghost use Rattle.rt_ids.specs.BadOutcomes.{OutcomesAreRefused};
@@ -34,4 +36,12 @@ pub fn steps()
 
 pub fn links()
     ensures { LinksAreRefused }
+{}
+
+pub fn collects()
+    ensures { CollectsAreRefused }
+{}
+
+pub fn closings()
+    ensures { ClosingsAreRefused }
 {}

@@ -15,7 +15,7 @@ use Rattle.rt_ids.specs.Runtimes.{virtual_runtime, floor, charge_noted, runtime_
 use Rattle.rt_ids.specs.Names.{is_number}
 use Rattle.rt_ids.specs.Work.{has_work, number_if, queue_entered, queue_joined}
 use Rattle.rt_ids.specs.Lines.{line, queue_out, name_joining, name_leaving, name_polled, name_settled}
-use Rattle.rt_ids.specs.Closing.{queue_mode, core_mode}
+use Rattle.rt_ids.specs.Closing.{queue_mode, core_mode, final_count}
 use Rattle.rt_ids.specs.Clauses.{queue_just_picked}
 use Rattle.rt_ids.specs.Commands.{effect_awaited}
 use Rattle.rt_ids.specs.Picks.{pick_count, turns}
@@ -54,6 +54,14 @@ module _ {T : Type 0} where
     where
       by_note : (note : Note T) → ClosesNothing note before → core_mode before ≡ None → core_mode (note ∷ before) ≡ None
       by_note (writes.CoreClosed mode) closes stays = absurd closes
+      by_note _ closes stays = stays
+
+  pub open_gates : (sender : ℕ) (journal : Journal T) → EachNote ClosesNothing journal → final_count sender journal ≡ None
+  open_gates sender [] notes = refl
+  open_gates sender (note ∷ before) notes = by_note note notes.0 (open_gates sender before notes.1)
+    where
+      by_note : (note : Note T) → ClosesNothing note before → final_count sender before ≡ None → final_count sender (note ∷ before) ≡ None
+      by_note (writes.Shut other count) closes stays = absurd closes
       by_note _ closes stays = stays
 
 module _ {J : Type 0} where

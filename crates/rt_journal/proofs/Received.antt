@@ -35,6 +35,7 @@ use Rattle.rt_journal.proofs.PollsMade.{polls_made-fresh}
 use Rattle.rt_journal.proofs.Sums.{sum_upto-one_more, sum_upto-room}
 use Rattle.rt_journal.proofs.TakenOrders.{order_taken-longer, order_taken-last, order_taken-parts, note_taken-stays, as_sent-stays}
 use Rattle.rt_journal.proofs.CarriedOut.{IsCarriedOut, IsOf, carries_out}
+use Rattle.rt_journal.proofs.Kept.{open_gates}
 use Rattle.rt_journal.proofs.EndsKept.{keeps_in, prefix-along, slice_get-seen}
 
 module _ {J T : Type 0} {same : J → J → Type 0} {made : J → ℕ} {polls : J → ℕ → Step T → Option ℕ → Type 0} where
@@ -163,7 +164,7 @@ room_in view name recorded next =
 module _ {J T : Type 0} {same : J → J → Type 0} {made : J → ℕ} {polls : J → ℕ → Step T → Option ℕ → Type 0} (old : RecordedView J T) (name : JobId)
     (recorded : IsRecorded same made polls old) (next : IsNextIn old name) where
   pub next_delivered : IsNextDelivered (terms_at old) name old.journal.notes
-  next_delivered = record { sender = next.sender; receiver = next.receiver; next = next.next; in_range = next.in_range }
+  next_delivered = record { sender = next.sender; receiver = next.receiver; next = next.next; in_range = next.in_range; gate = rw (open_gates name.from old.journal.notes recorded.kept.closes_nothing) tt }
 
   -- the core counts as its journal does
   pub next_for_core : name.number ≡ delivered_of name.from old.core + 1

@@ -17,6 +17,7 @@ use Rattle.rt_jobs.specs.declared.job.Step.{Step}
 use Rattle.rt_link.specs.declared.plain.Whole.{Whole}
 use Rattle.rt_link.specs.Whole.{IsLink}
 use Rattle.rt_core.specs.State.{CoreView, inside_count, delivered_of, opened}
+use Rattle.rt_journal.proofs.Kept.{open_gates}
 use Rattle.rt_world.specs.Links.{link_at, ChangesLink}
 use Rattle.rt_world.specs.Inside.{terms_in, Parts, core_at, notes_at, numbered_orders, IsCoreAtRest, IsLinkBetween, IsEarly}
 use Rattle.rt_world.specs.Tasks.{IsWorld}
@@ -99,7 +100,7 @@ module _ {J T : Type 0} (same : J → J → Type 0) (made : J → ℕ) (polls : 
         omega (arith, rest.inside, few_all, rest.room)
 
     pub next_delivered : (number : ℕ) → number ≡ link.taken + 1 → IsNextDelivered (terms_in core old) (record { from = sender; to = core; number = number }) journal
-    next_delivered number next = record { sender = there; in_range = let law = world.links_law sender core there core_there in omega (arith, next, taken_less, law.numbered, (is_between sender there).base); receiver = refl; next = omega (arith, next, (is_between sender there).all_taken) }
+    next_delivered number next = record { sender = there; in_range = let law = world.links_law sender core there core_there in omega (arith, next, taken_less, law.numbered, (is_between sender there).base); receiver = refl; next = omega (arith, next, (is_between sender there).all_taken); gate = rw (open_gates sender journal (world.early core (omega (arith, core_there))).closes_nothing) tt }
 
     -- the core after the delivery, with its longer journal, and the link of which one more is taken
     module _ (number : ℕ) (next : number ≡ link.taken + 1) (links : List (List (Whole J T))) (changes : ChangesLink old.links links sender core (link_at sender core links))
