@@ -9,7 +9,7 @@ use Rattle.rt_ids.specs.declared.order.Answer.{Answer}
 use Rattle.rt_ids.specs.declared.order.Answer.TheVariants as answers
 use Rattle.rt_ids.specs.Journal.{or_else}
 use Rattle.rt_ids.specs.Commands.{reason_if_closed, reason_if_returning}
-use Rattle.rt_taskqueue.specs.Closing.{closes}
+use Rattle.rt_ids.specs.Closing.{closes}
 use Rattle.rt_taskqueue.specs.Queues.{queue_count, mode_of, ChangesMode}
 use Rattle.rt_core.specs.State.{CoreView, delivered_of, gate_of, is_working}
 

@@ -1,6 +1,7 @@
 pub mod Sums
 pub mod NumberedOrders
 pub mod Kept
+pub mod KeptModes
 pub mod KeptDeliveries
 pub mod KeptAnswers
 pub mod KeptCommands

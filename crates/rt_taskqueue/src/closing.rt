@@ -1,6 +1,6 @@
 //! Which closing does anything.
 ghost use Rattle.std.specs.Prelude.{◌≡◌};
-ghost use Rattle.rt_taskqueue.specs.Closing as spec;
+ghost use Rattle.rt_ids.specs.Closing as spec;
 
 use rt_ids::Mode;
 

@@ -1,7 +1,7 @@
 //! All task queues of a core.
 ghost use Rattle.std.specs.Prelude.{◌≡◌, ◌+◌, ◌<◌, ◌≤◌, ◌↔◌, [], ◌∷◌, ◌++◌, true, false, drop, length, None, is_some, IsTrue, IfOk, OnErr, IfSome, IfNone, OnSome};
 ghost use Rattle.rt_taskqueue.specs.Slips.{queue_count, shares_of, mode_of, waiting_of, held_count, has_slip, without_slip, with_slip, first_queue, IsWithinLimits, ChangesLine, ChangesShares, ChangesMode, AddsQueue};
-ghost use Rattle.rt_taskqueue.specs.Closing as spec;
+ghost use Rattle.rt_ids.specs.Closing as spec;
 
 use crate::closing::closes;
 use crate::line::Line;

@@ -66,12 +66,19 @@ impl<J: Task, A: Allocator + Clone> Core<J, A> {
         self.mode.is_some()
     }
 
-    /// Whether the core was told that the gate of this sender is shut.
-    pub fn is_shut(&self, from: ActorNo) -> bool
-        requires { from ≤ self.now.cores }
-        ensures { result ≡ is_some (gate_of from self.now) }
+    /// How the core was closed, if it was.
+    pub fn mode(&self) -> Option<Mode>
+        ensures { result ≡ self.now.mode }
     {
-        self.senders.gate(usize::from(from.0)).is_some()
+        self.mode
+    }
+
+    /// The final count of this sender's gate, if the core was told that it is shut.
+    pub fn gate(&self, from: ActorNo) -> Option<u64>
+        requires { from ≤ self.now.cores }
+        ensures { result ≡ gate_of from self.now }
+    {
+        self.senders.gate(usize::from(from.0))
     }
 
     /// Whether every gate is shut, all behind it was delivered, and no queue has work.

@@ -1,6 +1,6 @@
 use Rattle.std.proofs.Common.{◌≡◌, ◌<◌, Bool, Some, true, refl, sym, ◌∙◌, ap, subst}
 use Rattle.rt_ids.specs.declared.order.Mode.{Mode}
-use Rattle.rt_taskqueue.specs.Closing.{closes}
+use Rattle.rt_ids.specs.Closing.{closes}
 use Rattle.rt_taskqueue.specs.Queues.{queue_count, mode_of}
 use Rattle.rt_taskqueue.specs.Slips.{queues_alone}
 use Rattle.rt_core.specs.State.{CoreView}
