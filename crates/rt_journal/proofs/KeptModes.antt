@@ -4,13 +4,15 @@ use Rattle.std.specs.Prelude.{◌⊎◌, Some, None, nat_le, nat_lt, slice_index
 use Rattle.std.proofs.lemmas.Bool.{cases_lt, le-leb, lt-leb, lt-ltb, le-ltb}
 use Rattle.rt_ids.specs.declared.note.Note.{Note}
 use Rattle.rt_ids.specs.declared.order.Reason.TheVariants as why
-use Rattle.rt_ids.specs.Journal.{Journal, or_else}
+use Rattle.rt_ids.specs.Journal.{Journal, EachNote, or_else}
 use Rattle.rt_ids.specs.Closing.{mode_told, core_mode_told, count_told, queue_mode, core_mode, final_count}
 use Rattle.rt_ids.specs.Commands.{created_count, refusal, return_reason, reason_if_closed, reason_if_returning}
 use Rattle.rt_taskqueue.specs.Queues.{queue_count, mode_of}
 use Rattle.rt_core.specs.State.{CoreView}
 use Rattle.rt_core.specs.Closing as core
 use Rattle.rt_journal.specs.Agreement.{AgreesOnClosing}
+use Rattle.rt_journal.specs.Yet.{ClosesNothing}
+use Rattle.rt_journal.proofs.Kept.{open_queues, open_core}
 
 -- a note that closes no queue and no core, and shuts no gate
 pub record IsOpenNote {T : Type 0} (note : Note T) : Type 0 where
@@ -60,3 +62,11 @@ module _ {J T : Type 0} (view : CoreView J) (journal : Journal T) (agrees : Agre
   -- a job is handed back for the reason that the journal gives
   pub return_reason-agrees : (queue : ℕ) → core.return_reason queue view ≡ return_reason queue journal
   return_reason-agrees queue = λ i. or_else (reason_if_returning (agrees.modes queue i) why.QueueReturned) (reason_if_returning (agrees.mode i) why.CoreReturned)
+
+  -- nothing is closed yet, so the core is open and hands no job back
+  module _ (closes : EachNote ClosesNothing journal) where
+    pub core_is_open : view.mode ≡ None
+    core_is_open = agrees.mode ∙ open_core journal closes
+
+    pub hands_nothing_back : (queue : ℕ) → core.return_reason queue view ≡ None
+    hands_nothing_back queue = return_reason-agrees queue ∙ rw (open_queues queue journal closes, open_core journal closes)

@@ -20,7 +20,7 @@ use Rattle.rt_world.specs.State.{journal_at, noted}
 use Rattle.rt_world.specs.Inside.{Parts, core_at, notes_at, journal_view, world_of}
 use Rattle.rt_world.specs.Tasks.{IsWorld}
 use Rattle.rt_world.specs.Opening.{IsUnbegun, CreatesAtOpening}
-use Rattle.rt_journal.proofs.Kept.{open_core}
+use Rattle.rt_journal.proofs.KeptModes.{core_is_open}
 use Rattle.rt_world.proofs.WorldViews.{journal_at-world}
 use Rattle.rt_world.proofs.WorldAfter.{after}
 use Rattle.rt_world.proofs.WorldCreated.{world_created}
@@ -35,7 +35,7 @@ open_core_at same made polls fits ready old world core core_there view view_is =
     let viewed : core_at core old.inside ≡ view =
     get_or_default old.inside core (opened 0 0 0 0) view (omega (arith, world.all_there.cores_are, core_there)) ∙ sym view_is in
     ap (λ core. core.mode) (sym viewed)
-    ∙ ((world.at_rest core core_there).agrees.closing.mode ∙ open_core (notes_at core old.journals) (world.early core (omega (arith, core_there))).closes_nothing)
+    ∙ core_is_open (core_at core old.inside) (notes_at core old.journals) (world.at_rest core core_there).agrees.closing (world.early core (omega (arith, core_there))).closes_nothing
 
 module _ {J T : Type 0} (same : J → J → Type 0) (made : J → ℕ) (polls : J → ℕ → Step T → Option ℕ → Type 0)
     (fits : Order J → Outcome J T → Type 0) (ready : Order J → Type 0)

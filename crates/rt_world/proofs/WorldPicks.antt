@@ -8,7 +8,6 @@ use Rattle.rt_ids.specs.declared.note.Note.TheVariants as writes
 use Rattle.rt_ids.specs.declared.order.Order.{Order}
 use Rattle.rt_ids.specs.declared.order.Order.TheVariants.{Job, Create, SetShares}
 use Rattle.rt_ids.specs.declared.order.Outcome.{Outcome}
-use Rattle.rt_ids.specs.Journal.{EachNote}
 use Rattle.rt_ids.specs.Lawful.{IsLawful}
 use Rattle.rt_ids.specs.Lines.{line}
 use Rattle.rt_ids.specs.Picks.{turns}
@@ -31,9 +30,7 @@ use Rattle.rt_world.specs.PickedJobs.{turn_of, TookOut, TookNone, HandsNothingBa
 use Rattle.rt_world.specs.Inside.{terms_in, Parts, core_at, notes_at, world_of, IsCoreAtRest}
 use Rattle.rt_world.specs.Tasks.{IsWorld}
 use Rattle.rt_journal.specs.Agreement.{names_of}
-use Rattle.rt_journal.specs.Yet.{ClosesNothing}
-use Rattle.rt_journal.proofs.Kept.{open_queues, open_core}
-use Rattle.rt_journal.proofs.KeptModes.{return_reason-agrees}
+use Rattle.rt_journal.proofs.KeptModes.{hands_nothing_back}
 use Rattle.rt_journal.proofs.PollNotes.{poll_note}
 use Rattle.rt_world.proofs.WorldViews.{journal_at-world}
 
@@ -79,11 +76,7 @@ module _ {J T : Type 0} (same : J → J → Type 0) (made : J → ℕ) (polls : 
   nobody_returns : (queue : ℕ) → return_reason queue view ≡ None
   nobody_returns queue =
       ap (return_reason queue) (sym viewed)
-      ∙ (return_reason-agrees (core_at core old.inside) (notes_at core old.journals) rest.agrees.closing queue
-      ∙ rw (open_queues queue (notes_at core old.journals) closes, open_core (notes_at core old.journals) closes))
-    where
-      closes : EachNote ClosesNothing (notes_at core old.journals)
-      closes = (world.early core (omega (arith, core_there))).closes_nothing
+      ∙ hands_nothing_back (core_at core old.inside) (notes_at core old.journals) rest.agrees.closing (world.early core (omega (arith, core_there))).closes_nothing queue
 
   pub nothing_back : HandsNothingBack picked
   nothing_back = by_turn picked picks
