@@ -23,7 +23,10 @@ fn is_refused(
     let Some((delivered, notes)) = submit(core, number, Order::Job(queue, job)) else {
         return false;
     };
-    let Delivered::Back(reason, Order::Job(from, back)) = delivered else {
+    let Delivered::Back(reason, order) = delivered else {
+        return false;
+    };
+    let Order::Job(from, back) = order else {
         return false;
     };
     reason == want
@@ -61,12 +64,15 @@ fn closes(core: &mut Core<ScriptJob, Global>, mode: Mode, want: bool) -> bool {
 
 /// The gate of a sender of whom so many were delivered is shut at this count, if the core is closed and wasn't told.
 fn shuts(core: &mut Core<ScriptJob, Global>, from: u8, delivered: u64, count: u64) -> bool {
+    if delivered > 9 {
+        return false;
+    }
     let next = JobId {
         from: ActorNo(from),
         to: CoreNo(0),
         number: delivered + 1,
     };
-    if delivered > 9 || !core.is_next(&next) {
+    if !core.is_next(&next) {
         return false;
     }
     match (core.mode(), core.gate(ActorNo(from))) {
@@ -74,6 +80,14 @@ fn shuts(core: &mut Core<ScriptJob, Global>, from: u8, delivered: u64, count: u6
             &core.gate_shut(ActorNo(from), count),
             Note::Shut(ActorNo(from), count),
         ),
+        _ => false,
+    }
+}
+
+/// An order of a job for this queue.
+fn is_for(order: &Order<ScriptJob>, want: QueueNo) -> bool {
+    match order {
+        Order::Job(queue, _) => *queue == want,
         _ => false,
     }
 }
@@ -86,13 +100,13 @@ fn hands_back(
     why: Reason,
 ) -> bool {
     let (picked, notes) = core.pick();
-    let Ok(Turn::Back(named, reason, Order::Job(queue, _))) = picked else {
+    let Ok(Turn::Back(named, reason, order)) = picked else {
         return false;
     };
     let told = [Note::Pick(at.0, at.1), Note::Returned(name(number), why)];
     named == name(number)
         && reason == why
-        && queue == at.0
+        && is_for(&order, at.0)
         && notes.as_slice() == told.as_slice()
 }
 

@@ -8,6 +8,7 @@ pub mod KeptCommands
 pub mod PollNotes
 pub mod KeptPicks
 pub mod KeptSettles
+pub mod KeptClosings
 pub mod PollsMade
 pub mod TurnNotes
 pub mod AllOutstanding
