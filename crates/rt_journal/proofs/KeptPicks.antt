@@ -140,7 +140,7 @@ module _ {J T : Type 0} (terms : Terms) (old new : CoreView J) (name : JobId) (q
           elsewhere away there =
               away (same_Some other queue (sym ((known_of terms journal kept.notes).line_queue other name there) ∙ its_queue))
 
-  marks_then : (other : ℕ) → AreMarked journal (waiting_of other new.queues)
+  pub marks_then : (other : ℕ) → AreMarked journal (waiting_of other new.queues)
   marks_then other = by_test (other == queue) refl
     where
       by_test : (test : Bool) → (other == queue) ≡ test → AreMarked journal (waiting_of other new.queues)
