@@ -9,6 +9,7 @@ pub mod PollNotes
 pub mod KeptPicks
 pub mod KeptSettles
 pub mod KeptClosings
+pub mod KeptReturns
 pub mod PollsMade
 pub mod TurnNotes
 pub mod AllOutstanding
@@ -23,6 +24,7 @@ pub mod QuietSteps
 pub mod QueuesCreated
 pub mod Picked
 pub mod SettledPolls
+pub mod Turned
 pub mod Wrote
 pub mod Submitted
 pub mod SentNotes

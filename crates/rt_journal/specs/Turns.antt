@@ -79,3 +79,21 @@ module _ {J T : Type 0} where
       pub journal : new.journal ≡ with_notes (settle_note out.name (unwrap_or ran.told spent) ran.step ∷ []) old.journal
       pub out_now : new.core.out ≡ None
       pub took : new.took ≡ old.took
+
+    -- a turn: the right pick is made, and the first job of that line is polled once, as its task owes
+    pub record IsTurn (old : RecordedView J T) (ran : AfterPoll J T) (spent : ℕ) (new : RecordedView J T) : Type 0 where
+      pub turn_left : turns old.journal.notes < 2 ^ 64 - 1
+      pub queue : ℕ
+      pub runtime : ℕ
+      pub right : IsRightPick queue runtime old.journal.notes
+      pub name : JobId
+      pub others : List JobId
+      pub first : line queue old.journal.notes ≡ name ∷ others
+      pub kept : return_reason queue old.journal.notes ≡ None
+      pub sent : J
+      pub task : order_taken old.took name ≡ Some (Job queue sent)
+      pub owed : polls sent (made sent + polls_made name old.journal.notes) ran.step ran.told
+      pub answered : IfDone ran.step (answers sent)
+      pub journal : new.journal ≡ with_notes (settle_note name (unwrap_or ran.told spent) ran.step ∷ poll_note name (is_told name_started name old.journal.notes) ∷ writes.Pick queue runtime ∷ []) old.journal
+      pub took : new.took ≡ old.took
+      pub out_now : new.core.out ≡ None
