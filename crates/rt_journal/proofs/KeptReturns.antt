@@ -45,7 +45,7 @@ module _ {J T : Type 0} (terms : Terms) (old new : CoreView J) (name : JobId) (q
     out = Some (record { name = name; queue = queue; job = job });
   }
 
-  takes : TakesOut old name queue hands.was_started job middle
+  abbrev takes : TakesOut old name queue hands.was_started job middle
   takes = record { next = hands.next; others = hands.others; first = hands.first; line = hands.line; rest = refl }
 
   first_in_line : line queue journal ≡ name ∷ names_of hands.others
