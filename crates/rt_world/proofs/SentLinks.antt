@@ -150,10 +150,10 @@ module _ {J T : Type 0} {same : J → J → Type 0} {made : J → ℕ} {polls : 
             room = old.room;
             journals = (journals_are ∙ journals-noted old sender now (writes.Sent name (without_job order) ∷ []) (ap (λ desk. desk.journal.notes) submits.2)) i;
             sent = (
-            sent-with_link old.links sender core after
-            ∙ ap (λ orders. set (world_of old).sent sender (set (get_or (world_of old).sent sender []) core orders))
-            (sent ∙ ap (λ orders. orders ++ order ∷ []) (sym (sent_at-world old sender core)))
-            ) i;
+                sent-with_link old.links sender core after
+                ∙ ap (λ orders. set (world_of old).sent sender (set (get_or (world_of old).sent sender []) core orders))
+                (sent ∙ ap (λ orders. orders ++ order ∷ []) (sym (sent_at-world old sender core)))
+                ) i;
           },
         )
         by_answer (Err (Closed back final)) submits sent sends =

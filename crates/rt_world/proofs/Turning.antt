@@ -137,7 +137,7 @@ module _ {J T : Type 0} {same : J → J → Type 0} {made : J → ℕ} {polls : 
     did.0 ∙ ap (λ journal. created_count journal + 1) (sym here),
     did.1,
     let journals = journals_now world core there now old.links (writes.Created queue weight ∷ []) did.2 in
-    λ i. record { cores = old.cores; cap = old.cap; room = old.room; journals = journals i; sent = (world_of old).sent },
+        λ i. record { cores = old.cores; cap = old.cap; room = old.room; journals = journals i; sent = (world_of old).sent },
   )
   creates_now weight (Err TooMany) did = (ap (λ journal. created_count journal + 1) here ∙ did.0, unchanged did.1)
   creates_now weight (Err Memory) did = (subst (λ journal. created_count journal + 1 < 256) (sym here) did.0, unchanged did.1)

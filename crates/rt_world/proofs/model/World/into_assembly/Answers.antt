@@ -18,14 +18,22 @@ pub push_reserved-requires : goal.push_reserved-requires
 push_reserved-requires g c =
     let all = YieldsList-from_vec {s = c.into_iter-core-iterator.result} c.self.inside.inside.items c.into_iter-core-iterator.ensures.into_iter_gives.0 (c.into_iter-core-iterator.ensures.into_iter_gives.1 ∙ c.self.inside.inside.ok.0) in
     let turn = YieldsList-turn all c.loop-core.yielded c.loop-core.core-iterator c.loop-core.yielded_by _ c.next.new.self c.in-Some.core c.in-Some.is c.next.ensures.steps in
-    omega (arith, turn.0, c.loop-core.gathered.ok.0, ap length c.loop-core.invariant.0, length-map c.loop-core.yielded (λ core. core.journal), c.loop-core.invariant.1,
-    c.self.invariant.1.all_there.cores_are, ap (λ world. world.cores) c.self.view_is)
+    omega (
+      arith,
+      turn.0,
+      c.loop-core.gathered.ok.0,
+      ap length c.loop-core.invariant.0,
+      length-map c.loop-core.yielded (λ core. core.journal),
+      c.loop-core.invariant.1,
+      c.self.invariant.1.all_there.cores_are,
+      ap (λ world. world.cores) c.self.view_is,
+    )
 
 pub loop-core-preserved : goal.loop-core-preserved
 loop-core-preserved g c = (
   c.push_reserved.ensures.items
-  ∙ (ap (λ front. front ++ c.into_journal.result ∷ []) c.loop-core.invariant.0
-  ∙ (ap (λ last. journals_of c.loop-core.yielded ++ last ∷ []) c.into_journal.ensures ∙ sym (map-append (λ core. core.journal) c.loop-core.yielded (c.in-Some.core ∷ [])))),
+      ∙ (ap (λ front. front ++ c.into_journal.result ∷ []) c.loop-core.invariant.0
+      ∙ (ap (λ last. journals_of c.loop-core.yielded ++ last ∷ []) c.into_journal.ensures ∙ sym (map-append (λ core. core.journal) c.loop-core.yielded (c.in-Some.core ∷ [])))),
   omega (arith, c.loop-core.invariant.1, c.push_reserved.ensures.capacity),
 )
 
@@ -34,8 +42,16 @@ push_reserved-requires-2 g c =
     let all = YieldsList-from_vec {s = c.into_iter-core-iterator.result} c.self.inside.inside.items c.into_iter-core-iterator.ensures.into_iter_gives.0 (c.into_iter-core-iterator.ensures.into_iter_gives.1 ∙ c.self.inside.inside.ok.0) in
     let end = YieldsList-end all c.loop-core.yielded c.loop-core.core-iterator c.loop-core.yielded_by _ c.next.new.self c.in-None.is c.next.ensures.steps in
     let yielded_are : c.loop-core.yielded ≡ c.self.inside.inside.items = sym (map-id c.loop-core.yielded) ∙ end.0 in
-    omega (arith, ap length yielded_are, c.loop-core.gathered.ok.0, ap length c.loop-core.invariant.0, length-map c.loop-core.yielded (λ core. core.journal), c.loop-core.invariant.1,
-    c.self.invariant.1.all_there.cores_are, ap (λ world. world.cores) c.self.view_is)
+    omega (
+      arith,
+      ap length yielded_are,
+      c.loop-core.gathered.ok.0,
+      ap length c.loop-core.invariant.0,
+      length-map c.loop-core.yielded (λ core. core.journal),
+      c.loop-core.invariant.1,
+      c.self.invariant.1.all_there.cores_are,
+      ap (λ world. world.cores) c.self.view_is,
+    )
 
 pub of-requires : goal.of-requires
 of-requires g c =
