@@ -1,0 +1,345 @@
+// A job submitted from one thread to a worker on another, polled there once and redeemed, by hand in Rust, as one writes it without
+// proofs. The two threads are joined by a link of two words (as benches/ring has it, sequentially consistent), or by two of std's
+// bounded channels. The worker takes what there is, puts it into a queue, polls the first of the queue, gives its answer, and parks
+// after so many rounds in which nothing was done.
+use std::cell::UnsafeCell;
+use std::collections::VecDeque;
+use std::hint::{black_box, spin_loop};
+use std::mem::MaybeUninit;
+use std::sync::atomic::{AtomicBool, AtomicU64, Ordering::SeqCst};
+use std::sync::mpsc::{sync_channel, Receiver, SyncSender, TryRecvError};
+use std::sync::{Arc, OnceLock};
+use std::thread::{self, JoinHandle, Thread};
+use std::time::{Duration, Instant};
+
+const GATE: u64 = 1 << 63;
+
+// How many places a link has.
+const PLACES: usize = 64;
+
+// A worker that never parks.
+const NEVER: u64 = u64::MAX;
+
+#[derive(Clone, Copy)]
+struct Job {
+    value: u64,
+}
+
+impl Job {
+    fn poll(&mut self) -> u64 {
+        self.value = black_box(self.value) + 1;
+        self.value
+    }
+}
+
+enum Taken {
+    Job(u64, Job),
+    Nothing,
+    Shut,
+}
+
+trait Sending {
+    fn send(&mut self, job: Job);
+    fn collect(&mut self) -> Option<(u64, u64)>;
+    fn shut(&mut self);
+}
+
+trait Receiving: Send + 'static {
+    fn take(&mut self) -> Taken;
+    fn give(&mut self, number: u64, answer: u64);
+    // Waits, perhaps, until there is something to take.
+    fn park(&mut self) -> Taken;
+}
+
+struct Board {
+    accept: AtomicU64,
+    given: AtomicU64,
+    orders: [UnsafeCell<MaybeUninit<Job>>; PLACES],
+    outcomes: [UnsafeCell<MaybeUninit<(u64, u64)>>; PLACES],
+    asleep: AtomicBool,
+    worker: OnceLock<Thread>,
+}
+
+unsafe impl Sync for Board {}
+unsafe impl Send for Board {}
+
+struct Out {
+    board: Arc<Board>,
+    sent: u64,
+    got: u64,
+}
+
+struct In {
+    board: Arc<Board>,
+    taken: u64,
+    given: u64,
+}
+
+impl Out {
+    fn wake(&self) {
+        if self.board.asleep.swap(false, SeqCst) {
+            if let Some(worker) = self.board.worker.get() {
+                worker.unpark();
+            }
+        }
+    }
+}
+
+impl Sending for Out {
+    fn send(&mut self, job: Job) {
+        let place = self.sent as usize % PLACES;
+        unsafe { (*self.board.orders[place].get()).write(job) };
+        let found = self.board.accept.compare_exchange(self.sent, self.sent + 1, SeqCst, SeqCst);
+        assert!(found.is_ok());
+        self.sent += 1;
+        self.wake();
+    }
+
+    fn collect(&mut self) -> Option<(u64, u64)> {
+        if self.board.given.load(SeqCst) == self.got {
+            return None;
+        }
+        let place = self.got as usize % PLACES;
+        self.got += 1;
+        Some(unsafe { (*self.board.outcomes[place].get()).assume_init_read() })
+    }
+
+    fn shut(&mut self) {
+        self.board.accept.fetch_or(GATE, SeqCst);
+        self.wake();
+    }
+}
+
+impl Receiving for In {
+    fn take(&mut self) -> Taken {
+        let word = self.board.accept.load(SeqCst);
+        if word & !GATE == self.taken {
+            return if word & GATE == 0 { Taken::Nothing } else { Taken::Shut };
+        }
+        let place = self.taken as usize % PLACES;
+        self.taken += 1;
+        Taken::Job(self.taken, unsafe { (*self.board.orders[place].get()).assume_init_read() })
+    }
+
+    fn give(&mut self, number: u64, answer: u64) {
+        let place = self.given as usize % PLACES;
+        unsafe { (*self.board.outcomes[place].get()).write((number, answer)) };
+        self.given += 1;
+        self.board.given.swap(self.given, SeqCst);
+    }
+
+    fn park(&mut self) -> Taken {
+        self.board.worker.get_or_init(thread::current);
+        self.board.asleep.store(true, SeqCst);
+        // What came before the mark stood is found here; who comes later sees the mark.
+        let taken = self.take();
+        if matches!(taken, Taken::Nothing) {
+            thread::park();
+        }
+        self.board.asleep.store(false, SeqCst);
+        taken
+    }
+}
+
+fn words() -> (Out, In) {
+    let board = Arc::new(Board {
+        accept: AtomicU64::new(0),
+        given: AtomicU64::new(0),
+        orders: std::array::from_fn(|_| UnsafeCell::new(MaybeUninit::uninit())),
+        outcomes: std::array::from_fn(|_| UnsafeCell::new(MaybeUninit::uninit())),
+        asleep: AtomicBool::new(false),
+        worker: OnceLock::new(),
+    });
+    (Out { board: board.clone(), sent: 0, got: 0 }, In { board, taken: 0, given: 0 })
+}
+
+struct Front {
+    orders: Option<SyncSender<(u64, Job)>>,
+    outcomes: Receiver<(u64, u64)>,
+    sent: u64,
+}
+
+struct Back {
+    orders: Receiver<(u64, Job)>,
+    outcomes: SyncSender<(u64, u64)>,
+}
+
+impl Sending for Front {
+    fn send(&mut self, job: Job) {
+        self.sent += 1;
+        if let Some(orders) = &self.orders {
+            orders.send((self.sent, job)).unwrap();
+        }
+    }
+
+    fn collect(&mut self) -> Option<(u64, u64)> {
+        self.outcomes.try_recv().ok()
+    }
+
+    fn shut(&mut self) {
+        self.orders = None;
+    }
+}
+
+impl Receiving for Back {
+    fn take(&mut self) -> Taken {
+        match self.orders.try_recv() {
+            Ok((number, job)) => Taken::Job(number, job),
+            Err(TryRecvError::Empty) => Taken::Nothing,
+            Err(TryRecvError::Disconnected) => Taken::Shut,
+        }
+    }
+
+    fn give(&mut self, number: u64, answer: u64) {
+        self.outcomes.send((number, answer)).unwrap();
+    }
+
+    fn park(&mut self) -> Taken {
+        match self.orders.recv() {
+            Ok((number, job)) => Taken::Job(number, job),
+            Err(_) => Taken::Shut,
+        }
+    }
+}
+
+fn channels() -> (Front, Back) {
+    let (orders, orders_there) = sync_channel(PLACES);
+    let (outcomes_there, outcomes) = sync_channel(PLACES);
+    (Front { orders: Some(orders), outcomes, sent: 0 }, Back { orders: orders_there, outcomes: outcomes_there })
+}
+
+// One round: all that is there is taken, and one job polled. Whether anything was done, and whether no more comes.
+fn round(end: &mut impl Receiving, queue: &mut VecDeque<(u64, Job)>) -> (bool, bool) {
+    let (mut done, mut shut) = (false, false);
+    for _ in 0..PLACES {
+        match end.take() {
+            Taken::Job(number, job) => {
+                queue.push_back((number, job));
+                done = true;
+            }
+            Taken::Nothing => break,
+            Taken::Shut => {
+                shut = true;
+                break;
+            }
+        }
+    }
+    if let Some((number, mut job)) = queue.pop_front() {
+        let answer = job.poll();
+        end.give(number, answer);
+        done = true;
+    }
+    (done, shut)
+}
+
+fn work(mut end: impl Receiving, patience: u64) {
+    let mut queue = VecDeque::with_capacity(PLACES);
+    let mut idle = 0;
+    loop {
+        let (done, shut) = round(&mut end, &mut queue);
+        if done {
+            idle = 0;
+        } else if shut {
+            return;
+        } else if idle < patience {
+            idle += 1;
+            spin_loop();
+        } else {
+            if let Taken::Job(number, job) = end.park() {
+                queue.push_back((number, job));
+            }
+            idle = 0;
+        }
+    }
+}
+
+fn wait_for(out: &mut impl Sending) -> u64 {
+    loop {
+        if let Some((_, answer)) = out.collect() {
+            return answer;
+        }
+        spin_loop();
+    }
+}
+
+// Nanoseconds for each of so many jobs, with so many outstanding.
+fn trips(mut out: impl Sending, worker: JoinHandle<()>, jobs: u64, outstanding: u64) -> f64 {
+    let start = Instant::now();
+    let mut sum = 0;
+    for value in 0..jobs {
+        if value >= outstanding {
+            sum += wait_for(&mut out);
+        }
+        out.send(Job { value });
+    }
+    for _ in 0..outstanding.min(jobs) {
+        sum += wait_for(&mut out);
+    }
+    let taken = start.elapsed().as_nanos() as f64 / jobs as f64;
+    assert_eq!(sum, jobs * (jobs + 1) / 2);
+    out.shut();
+    worker.join().unwrap();
+    taken
+}
+
+// Nanoseconds that each of so many jobs took, submitted one by one with a pause before each.
+fn paused(mut out: impl Sending, worker: JoinHandle<()>, jobs: u64, pause: Duration) -> f64 {
+    let mut taken = Duration::ZERO;
+    for value in 0..jobs {
+        let begin = Instant::now();
+        while begin.elapsed() < pause {
+            spin_loop();
+        }
+        let start = Instant::now();
+        out.send(Job { value });
+        black_box(wait_for(&mut out));
+        taken += start.elapsed();
+    }
+    out.shut();
+    worker.join().unwrap();
+    taken.as_nanos() as f64 / jobs as f64
+}
+
+fn over_words(patience: u64) -> (Out, JoinHandle<()>) {
+    let (out, inward) = words();
+    (out, thread::spawn(move || work(inward, patience)))
+}
+
+fn over_channels(patience: u64) -> (Front, JoinHandle<()>) {
+    let (front, back) = channels();
+    (front, thread::spawn(move || work(back, patience)))
+}
+
+fn middle(rounds: usize, measure: impl Fn() -> f64) -> f64 {
+    let mut times: Vec<f64> = (0..rounds).map(|_| measure()).collect();
+    times.sort_by(f64::total_cmp);
+    times[rounds / 2]
+}
+
+fn main() {
+    let rounds = std::env::args().nth(1).map_or(9, |word| word.parse().unwrap());
+    for (name, outstanding, jobs) in [("single", 1, 20_000), ("trip_64", 64, 200_000)] {
+        for (form, patience) in [("", NEVER), ("_parking", 300)] {
+            let taken = middle(rounds, || {
+                let (out, worker) = over_words(patience);
+                trips(out, worker, jobs, outstanding)
+            });
+            println!("{name} words{form} {taken:.1}");
+            let taken = middle(rounds, || {
+                let (out, worker) = over_channels(patience);
+                trips(out, worker, jobs, outstanding)
+            });
+            println!("{name} channels{form} {taken:.1}");
+        }
+    }
+    for patience in [0, 10, 30, 100, 300, 1000, 3000, 10_000, 30_000, NEVER] {
+        for pause in [0, 1, 10, 100] {
+            let taken = middle(rounds, || {
+                let (out, worker) = over_words(patience);
+                paused(out, worker, 1000, Duration::from_micros(pause))
+            });
+            let rounds_of_idleness = if patience == NEVER { "never".to_string() } else { patience.to_string() };
+            println!("idle {rounds_of_idleness} {pause} {taken:.1}");
+        }
+    }
+}
