@@ -218,7 +218,13 @@ fn hands_all_back(core: &mut Core<ScriptJob, Global>) -> bool {
     takes(core, 1, FIRST, &[Poll::Yield(10), Poll::Done(1, 1)])
         && yields(core, 1, 10)
         && closes(core, Mode::Return, true)
-        && answers(core, 2, Order::Create(shares(10)), Answer::CoreClosing, None)
+        && answers(
+            core,
+            2,
+            Order::Create(shares(10)),
+            Answer::CoreClosing,
+            None,
+        )
         && shuts(core, 0, 2, 3)
         && !shuts(core, 0, 2, 3)
         && shuts(core, 1, 0, 0)

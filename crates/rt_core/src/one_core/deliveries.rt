@@ -141,10 +141,7 @@ impl<J: Task, A: Allocator + Clone> Core<J, A> {
         if self.is_closed() {
             self.count(&name);
             let answered = Note::Answered(name, Answer::CoreClosing);
-            return (
-                Delivered::Answered(Answer::CoreClosing),
-                one_note(answered),
-            );
+            return (Delivered::Answered(Answer::CoreClosing), one_note(answered));
         }
         self.create_open(name, shares)
     }

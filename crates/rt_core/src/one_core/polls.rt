@@ -100,9 +100,7 @@ impl<J: Task, A: Allocator + Clone> Core<J, A> {
         requires { IsSome self.now.out }
         ensures { IsOut self.now result.0 result.1 }
     {
-        let Some(out) = &self.out else {
-            unreachable!()
-        };
+        let Some(out) = &self.out else { unreachable!() };
         (out.name, out.queue)
     }
 
