@@ -11,6 +11,7 @@ use Rattle.rt_jobs.specs.declared.job.Step.{Step}
 use Rattle.rt_jobs.specs.Steps.{AfterPoll}
 use Rattle.rt_core.specs.State.{JobOut}
 use Rattle.rt_core.specs.declared.turn.Turn.{Turn}
+use Rattle.rt_core.specs.declared.turn.Turn.TheVariants.{Start, Resume, Back, Idle}
 use Rattle.rt_core.specs.declared.turn.PickError.{PickError}
 use Rattle.rt_core.specs.declared.turn.PickError.TheVariants.{Busy}
 use Rattle.rt_core.specs.declared.turn.Settled.{Settled}
@@ -23,7 +24,7 @@ use Rattle.rt_journal.specs.Ends.{KeepsIn, KeepsOuts, IsSameSeat}
 use Rattle.rt_world.specs.declared.event.Reply.{Reply}
 use Rattle.rt_world.specs.declared.event.Reply.TheVariants as reply
 use Rattle.rt_world.specs.OneTurn.{StaysBeside, PollsOne, Turns}
-use Rattle.rt_world.specs.PickedJobs.{turn_of, TookOut, TookNone}
+use Rattle.rt_world.specs.PickedJobs.{turn_of, TookOut, TookNone, HandsNothingBack}
 
 -- what one call says of a core, of its seat and of the ends beside it
 pub record IsKeptBeside {J T : Type 0} (same : J → J → Type 0) (made : J → ℕ) (polls : J → ℕ → Step T → Option ℕ → Type 0) (old new : RecordedView J T) : Type 0 where
@@ -43,6 +44,17 @@ module _ {J T : Type 0} {same : J → J → Type 0} {made : J → ℕ} {polls : 
     (picks : Picks old picked middle) (kept : IsKeptBeside same made polls old middle) where
   pub not_busy : picked ≡ Err Busy → ⊥
   not_busy busy = (subst (λ answer. Picks old answer middle) busy picks).0 free
+
+  -- nothing is closed, so no job is handed back
+  pub nothing_back : HandsNothingBack picked
+  nothing_back = by_turn picked picks
+    where
+      by_turn : (picked : Result (Turn J) PickError) → Picks old picked middle → HandsNothingBack picked
+      by_turn (Ok (Start name queue job)) does = tt
+      by_turn (Ok (Resume name queue job)) does = tt
+      by_turn (Ok (Back name reason order)) does = does
+      by_turn (Ok Idle) does = tt
+      by_turn (Err error) does = tt
 
   -- where no job is taken out, the reply is that of a turn that changes nothing
   pub no_turn : (answers : J → T → Type 0) (spent : ℕ) (told : Reply J) → TookNone picked told → Turns made polls answers spent old middle told

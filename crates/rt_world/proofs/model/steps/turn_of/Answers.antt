@@ -2,13 +2,16 @@ use Rattle.std.proofs.Common.{sym, subst, arith}
 use Rattle.std.proofs.lemmas.Result.{IfOk-at_ok, IfErr-at_err}
 use Rattle.rt_jobs.specs.Steps.{IfDone, OnYield, OwesOn}
 use Rattle.rt_world.specs.PickedJobs.{TookOut, TookNone}
-use Rattle.rt_world.proofs.OneTurn.{IsKeptBeside, not_busy, no_turn, no_turn_stays, is_out, room_left, turned, turned_stays}
+use Rattle.rt_world.proofs.OneTurn.{IsKeptBeside, not_busy, nothing_back, no_turn, no_turn_stays, is_out, room_left, turned, turned_stays}
 use Rattle.rt_world.proofs.model.steps.turn_of.Goals as goal
 
 pub job_or_reply-requires : goal.job_or_reply-requires
 job_or_reply-requires g c =
     let kept : IsKeptBeside g.J.Task.SameTask g.J.Task.made g.J.Task.Polls c.args.core.now c.pick.new.self = record { sound = c.pick.ensures.sound; seat = c.pick.ensures.seat; ins = c.pick.ensures.ins; outs = c.pick.ensures.outs } in
-    not_busy c.args.core.now c.requires.free c.pick.result c.pick.new.self c.pick.ensures.picks kept
+    record {
+      free = not_busy c.args.core.now c.requires.free c.pick.result c.pick.new.self c.pick.ensures.picks kept;
+      kept = nothing_back c.args.core.now c.requires.free c.pick.result c.pick.new.self c.pick.ensures.picks kept;
+    }
 
 pub returns-in-Err : goal.returns-in-Err
 returns-in-Err g c =
