@@ -5,3 +5,5 @@
 mod actors;
 #[cfg(test)]
 mod grid;
+#[cfg(test)]
+mod teams;
