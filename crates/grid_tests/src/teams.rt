@@ -9,9 +9,8 @@ use rt_jobs::{AnyJob, Task};
 use rt_settings::{Clock, SystemClock};
 use rt_workers::{Promised, Team, Work};
 use std::alloc::{AllocError, Global};
-use std::sync::Arc;
-use std::sync::Wait;
 use std::sync::atomic::{AtomicU64, Ordering};
+use std::sync::{Arc, Wait};
 use std::test::Fail;
 
 /// How often a worker looks for the other.

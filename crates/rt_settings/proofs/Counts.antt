@@ -27,14 +27,14 @@ module _ (queues : List Entry) (index : ℕ) (none : Entry) (low : index < lengt
   -- the next queue is of no core, or of one
   pub stray_here : (cores : ℕ) → cores ≤ (get_or queues index none).0 → strays cores (drop index queues) ≡ 1 + strays cores (drop (suc index) queues)
   stray_here cores none_such =
-      let one : (if nat_lt (get_or queues index none).0 cores then 0 else 1) ≡ 1
-      = ap (λ (test : Bool). if test then 0 else 1) (le-ltb (get_or queues index none).0 cores none_such) in
+      let one : ◌≡◌ {A = ℕ} (if nat_lt (get_or queues index none).0 cores then 0 else 1) 1
+      = ap {B = ℕ} (λ (test : Bool). if test then 0 else 1) (le-ltb (get_or queues index none).0 cores none_such) in
       omega (arith, first_stray cores, one)
 
   pub stray_away : (cores : ℕ) → (get_or queues index none).0 < cores → strays cores (drop index queues) ≡ strays cores (drop (suc index) queues)
   stray_away cores there =
-      let none_more : (if nat_lt (get_or queues index none).0 cores then 0 else 1) ≡ 0
-      = ap (λ (test : Bool). if test then 0 else 1) (lt-ltb (get_or queues index none).0 cores there) in
+      let none_more : ◌≡◌ {A = ℕ} (if nat_lt (get_or queues index none).0 cores then 0 else 1) 0
+      = ap {B = ℕ} (λ (test : Bool). if test then 0 else 1) (lt-ltb (get_or queues index none).0 cores there) in
       omega (arith, first_stray cores, none_more)
 
 -- nothing is left to count

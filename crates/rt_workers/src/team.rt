@@ -10,9 +10,8 @@ use crate::work::{Left, Promised, Work, end_of};
 use std::alloc::Global;
 use std::marker::Model;
 use std::snapshot::Snapshot;
-use std::sync::Arc;
-use std::sync::Wait;
 use std::sync::atomic::{AtomicU64, Ordering};
+use std::sync::{Arc, Wait};
 use std::thread::Threads;
 
 /// Why no worker runs, and what became of each.

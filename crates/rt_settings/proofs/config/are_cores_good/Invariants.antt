@@ -3,4 +3,4 @@ use Rattle.rt_settings.specs.Configs.{IsCoreGood}
 use Rattle.rt_settings.proofs.config.are_cores_good.Given as goal
 
 abbrev pub invariant-loop-core : goal.invariant-loop-core
-invariant-loop-core g l = (core : ℕ) → core < l.core → IsCoreGood l.cores l.cap l.room core l.queues
+invariant-loop-core l = (core : ℕ) → core < l.core → IsCoreGood l.cores l.cap l.room core l.queues
