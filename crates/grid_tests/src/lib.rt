@@ -5,5 +5,3 @@
 mod actors;
 #[cfg(test)]
 mod grid;
-#[cfg(test)]
-mod teams;

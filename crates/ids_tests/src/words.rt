@@ -84,7 +84,9 @@ fn an_outcome_is_told_without_its_job(rt: HostRuntime) {
     );
     let back = Order::Job(QueueNo(4), 7);
     assert!(rt;
-        finished && answered && refused
+        finished
+            && answered
+            && refused
             && is_noted(
                 Outcome::Returned(Reason::QueueReturned, back),
                 OutcomeNote::Returned(Reason::QueueReturned)

@@ -13,7 +13,7 @@ module _ {A : Type 0} where
   pub at_end : (xs : List A) (x none : A) (n : ℕ) → length xs ≡ n → get_or (xs ++ x ∷ []) n none ≡ x
   at_end xs x none n is = rw (← is) (get_or-append_seam xs x [] none)
 
--- the links but for those of one actor
+-- the links except those of one actor
 abbrev pub SameBut : ℕ → Links → Links → Type 0
 SameBut k old new = (a : ℕ) → a ≢ k → new a ≡ old a
 

@@ -1,4 +1,4 @@
--- Where a core is drained among joined journals, all that was accepted for it has ended.
+-- If a core is drained among joined journals, all that was accepted for it has ended.
 use Rattle.std.proofs.Common.{◌≡◌, ℕ, ◌<◌, ◌≤◌, inl, inr, Bool, true, false, List, [], ◌∷◌, ◌++◌, length, refl, sym, ◌∙◌, ap, subst, arith, append-nil}
 use Rattle.std.specs.Prelude.{Option, Some, None, nat_le, slice_get, is_some}
 use Rattle.std.proofs.lemmas.Bool.{leb-true, leb-false, true≢false}

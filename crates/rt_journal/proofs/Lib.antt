@@ -1,12 +1,15 @@
 pub mod Sums
 pub mod NumberedOrders
 pub mod Kept
+pub mod KeptModes
 pub mod KeptDeliveries
 pub mod KeptAnswers
 pub mod KeptCommands
 pub mod PollNotes
 pub mod KeptPicks
 pub mod KeptSettles
+pub mod KeptClosings
+pub mod KeptReturns
 pub mod PollsMade
 pub mod TurnNotes
 pub mod AllOutstanding

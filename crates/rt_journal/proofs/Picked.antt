@@ -1,6 +1,6 @@
 -- A core beside its journal picks: the right pick takes a job out, or the core says why there is none.
 use Rattle.std.proofs.Common.{◌≡◌, ℕ, ◌+◌, ◌<◌, ◌≤◌, Bool, true, false, List, [], ◌∷◌, ◌++◌, length, reverse, refl, sym, ◌∙◌, ap, subst, arith, add-zero}
-use Rattle.std.specs.Prelude.{◌==◌, Option, None, All, is_some, Result, Ok, Err}
+use Rattle.std.specs.Prelude.{◌==◌, Option, Some, None, All, is_some, Result, Ok, Err}
 use Rattle.std.proofs.lemmas.Bool.{eqb-true, eqb-false}
 use Rattle.std.proofs.lemmas.Option.{same_Some}
 use Rattle.std.proofs.lemmas.List.Elements.{All-head, All-tail}
@@ -8,6 +8,9 @@ use Rattle.rt_ids.specs.Limits.{most_turns}
 use Rattle.rt_ids.specs.declared.names.JobId.{JobId}
 use Rattle.rt_ids.specs.declared.note.Note.{Note}
 use Rattle.rt_ids.specs.declared.note.Note.TheVariants.{Pick}
+use Rattle.rt_ids.specs.declared.order.Order.{Order}
+use Rattle.rt_ids.specs.declared.order.Order.TheVariants.{Job, Create, SetShares}
+use Rattle.rt_ids.specs.declared.order.Reason.{Reason}
 use Rattle.rt_ids.specs.Journal.{Journal}
 use Rattle.rt_ids.specs.Lines.{line}
 use Rattle.rt_ids.specs.Picks.{turns, pick_count}
@@ -16,7 +19,7 @@ use Rattle.rt_ids.proofs.WorkOfLines.{no_work, work_of_line}
 use Rattle.rt_jobs.specs.declared.job.Step.{Step}
 use Rattle.rt_taskqueue.specs.Queues.{waiting_of, held_count}
 use Rattle.rt_core.specs.declared.turn.Turn.{Turn}
-use Rattle.rt_core.specs.declared.turn.Turn.TheVariants.{Start, Resume, Idle}
+use Rattle.rt_core.specs.declared.turn.Turn.TheVariants.{Start, Resume, Back, Idle}
 use Rattle.rt_core.specs.declared.turn.PickError.{PickError}
 use Rattle.rt_core.specs.declared.turn.PickError.TheVariants.{Busy, Spent}
 use Rattle.rt_core.specs.State.{CoreView, runtime_of, inside_count}
@@ -26,10 +29,14 @@ use Rattle.rt_journal.specs.Agreement.{IsJobOut, names_of}
 use Rattle.rt_journal.specs.Polls.{polls_made, poll_note}
 use Rattle.rt_journal.specs.Recorded.{RecordedView, terms_at, IsRecorded, HasTask, sum_upto, given_count}
 use Rattle.rt_journal.specs.Turns.{Picks, IsPick}
+use Rattle.rt_journal.proofs.KeptModes.{hands_nothing_back}
 use Rattle.rt_journal.proofs.KeptPicks.{kept-picked, right_pick, first_in_line, not_returning, start_told}
 use Rattle.rt_journal.proofs.Received.{task_stays}
 use Rattle.rt_journal.proofs.Quiet.{quiet-picked, as_sent-picked}
 use Rattle.rt_journal.proofs.QuietSteps.{stepped, IsQuietStep, nothing_done, nothing_stepped}
+
+none≢some : {A : Type 0} (item : A) → None ≡ Some item → ⊥
+none≢some item same = cc
 
 pick_at_most_one : {T : Type 0} (note : Note T) → pick_count note ≤ 1
 pick_at_most_one (Pick queue runtime) = omega arith
@@ -123,9 +130,17 @@ module _ {J T : Type 0} {same : J → J → Type 0} {made : J → ℕ} {polls : 
       took = refl;
     }
 
+  -- nothing is closed, so no job is handed back
+  never_back : (name : JobId) (reason : Reason) (order : Order J) (notes : List (Note T)) → CorePicks old.core (Ok (Back name reason order)) core notes → ⊥
+  never_back name reason (Job queue job) notes does =
+      none≢some reason (sym (hands_nothing_back old.core old.journal.notes recorded.kept.agrees.closing recorded.kept.closes_nothing queue) ∙ does.1)
+  never_back name reason (Create weight) notes does = does
+  never_back name reason (SetShares queue weight) notes does = does
+
   pub few-picked : (answer : Result (Turn J) PickError) (notes : List (Note T)) → CorePicks old.core answer core notes → length notes ≤ 2
-  few-picked (Ok (Start name queue job)) notes does = omega (arith, ap length does.1)
-  few-picked (Ok (Resume name queue job)) notes does = omega (arith, ap length does.1)
+  few-picked (Ok (Start name queue job)) notes does = omega (arith, ap length does.2)
+  few-picked (Ok (Resume name queue job)) notes does = omega (arith, ap length does.2)
+  few-picked (Ok (Back name reason order)) notes does = absurd (never_back name reason order notes does)
   few-picked (Ok Idle) notes does = omega (arith, ap length does.3)
   few-picked (Err Busy) notes does = omega (arith, ap length does.2)
   few-picked (Err Spent) notes does = omega (arith, ap length does.4)
@@ -137,8 +152,9 @@ module _ {J T : Type 0} {same : J → J → Type 0} {made : J → ℕ} {polls : 
   nothing notes same_core none = subst Stepped (sym none) (subst (λ core. IsQuietStep old core [] same made polls) (sym same_core) (nothing_done old recorded))
 
   pub step-picked : (answer : Result (Turn J) PickError) (notes : List (Note T)) → CorePicks old.core answer core notes → Stepped notes
-  step-picked (Ok (Start name queue job)) notes does = subst Stepped (sym does.1) (picked name queue false job does.0)
-  step-picked (Ok (Resume name queue job)) notes does = subst Stepped (sym does.1) (picked name queue true job does.0)
+  step-picked (Ok (Start name queue job)) notes does = subst Stepped (sym does.2) (picked name queue false job does.0)
+  step-picked (Ok (Resume name queue job)) notes does = subst Stepped (sym does.2) (picked name queue true job does.0)
+  step-picked (Ok (Back name reason order)) notes does = absurd (never_back name reason order notes does)
   step-picked (Ok Idle) notes does = nothing notes does.2 does.3
   step-picked (Err Busy) notes does = nothing notes does.1 does.2
   step-picked (Err Spent) notes does = nothing notes does.3 does.4
@@ -161,9 +177,10 @@ module _ {J T : Type 0} {same : J → J → Type 0} {made : J → ℕ} {polls : 
 
   pub picks-now : (answer : Result (Turn J) PickError) (notes : List (Note T)) → CorePicks old.core answer core notes → Picks old answer (stepped old core (reverse notes))
   picks-now (Ok (Start name queue job)) notes does =
-      subst (λ list. IsPick old name queue false job (stepped old core (reverse list))) (sym does.1) (pick_is name queue false job does.0)
+      subst (λ list. IsPick old name queue false job (stepped old core (reverse list))) (sym does.2) (pick_is name queue false job does.0)
   picks-now (Ok (Resume name queue job)) notes does =
-      subst (λ list. IsPick old name queue true job (stepped old core (reverse list))) (sym does.1) (pick_is name queue true job does.0)
+      subst (λ list. IsPick old name queue true job (stepped old core (reverse list))) (sym does.2) (pick_is name queue true job does.0)
+  picks-now (Ok (Back name reason order)) notes does = never_back name reason order notes does
   picks-now (Ok Idle) notes does = (idle does.0 does.1, nothing_stepped old recorded core does.2 (reverse notes) (ap reverse does.3))
   picks-now (Err Busy) notes does = (does.0, nothing_stepped old recorded core does.1 (reverse notes) (ap reverse does.2))
   picks-now (Err Spent) notes does =

@@ -18,6 +18,7 @@ use Rattle.rt_journal.specs.Submissions.{DeskView, IsWritten, Submits, terms_of_
 use Rattle.rt_journal.specs.Recorded.{RecordedView, IsRecorded, HasTask, desk_of, terms_at}
 use Rattle.rt_journal.specs.Ends.{KeepsIn}
 use Rattle.rt_journal.specs.Steps.{with_notes}
+use Rattle.rt_journal.proofs.KeptModes.{same_modes, closing-stays}
 use Rattle.rt_journal.proofs.Kept.{IsKept, stays_calm, calm_sent, SameJobs}
 use Rattle.rt_journal.proofs.EndsKept.{keeps_in}
 use Rattle.rt_journal.proofs.Received.{task_stays}
@@ -54,6 +55,7 @@ module _ {J T : Type 0} {same : J → J → Type 0} {made : J → ℕ} {polls : 
           out = calm.out;
           out_exists = was.out_exists;
           delivered = was.delivered;
+          closing = closing-stays old.core old.core (writes.Sent name what) journal (same_modes old.core) (record { queues = λ queue. refl; core = refl; gates = λ sender. refl }) was.closing;
         };
         notes = written.notes;
         no_pick = written.no_pick;

@@ -14,7 +14,7 @@ use Rattle.rt_jobs.specs.declared.job.Step.TheVariants as step
 use Rattle.rt_jobs.specs.Steps.{AfterPoll, IfDone, OnYield, OwesOn}
 use Rattle.rt_core.specs.State.{JobOut}
 use Rattle.rt_core.specs.declared.turn.Turn.{Turn}
-use Rattle.rt_core.specs.declared.turn.Turn.TheVariants.{Start, Resume, Idle}
+use Rattle.rt_core.specs.declared.turn.Turn.TheVariants.{Start, Resume, Back, Idle}
 use Rattle.rt_core.specs.declared.turn.PickError.{PickError}
 use Rattle.rt_core.specs.declared.turn.PickError.TheVariants.{Busy, Spent}
 use Rattle.rt_core.specs.declared.turn.Settled.{Settled}
@@ -59,6 +59,8 @@ module _ {J T : Type 0} where
   abbrev pub Picks : RecordedView J T → Result (Turn J) PickError → RecordedView J T → Type 0
   Picks old (Ok (Start name queue job)) new = IsPick old name queue false job new
   Picks old (Ok (Resume name queue job)) new = IsPick old name queue true job new
+  -- nothing is closed yet, so no job is handed back
+  Picks old (Ok (Back name reason order)) new = ⊥
   Picks old (Ok Idle) new = ((queue : ℕ) → has_work queue old.journal.notes ≡ false) × (new ≡ old)
   Picks old (Err Busy) new = (old.core.out ≢ None) × (new ≡ old)
   Picks old (Err Spent) new =

@@ -45,7 +45,8 @@ impl Assembly {
 
     /// How many cores there are. The outside actor has the number behind them.
     pub fn cores(&self) -> u8
-        ensures { result ≡ self.now.cores }
+        ensures value { result ≡ self.now.cores }
+        ensures journals { length self.now.journals ≡ self.now.cores + 1 }
     {
         self.cores
     }

@@ -1,6 +1,7 @@
 //! The notes of one actor.
 
 ghost use Rattle.std.specs.Prelude.{◌≡◌, ◌↔◌, ◌+◌, ◌<◌, ◌≤◌, [], ◌∷◌, ◌++◌, length, reverse, slice_get, IfOk, IsTrue};
+ghost use Rattle.rt_ids.specs.Limits.{most_notes};
 ghost use Rattle.rt_notes.specs.Journals.{free_notes, IsWithinRoom};
 
 use rt_ids::Note;
@@ -36,6 +37,16 @@ impl<T: Copy> Journal<T> {
     {
         let notes = Vec::with_capacity(alloc, room as usize)?;
         Ok(Journal { notes, room })
+    }
+
+    /// The journal of these notes, the oldest first, which has room for no other.
+    pub fn of(notes: Vec<Note<T>>) -> Self
+        requires { length notes.items ≤ most_notes }
+        ensures notes { result.notes ≡ reverse notes.items }
+        ensures room { result.room ≡ length notes.items }
+    {
+        let room = notes.len() as u32;
+        Journal { notes, room }
     }
 
     /// Adds the newest note.
@@ -94,5 +105,12 @@ impl<T: Copy> Journal<T> {
         ensures { result ≡ slice_get (reverse self.now.notes) index }
     {
         self.notes.get(index).copied()
+    }
+
+    /// All notes, the oldest first.
+    pub fn as_slice(&self) -> &[Note<T>]
+        ensures { result.now ≡ reverse self.now.notes }
+    {
+        self.notes.as_slice()
     }
 }

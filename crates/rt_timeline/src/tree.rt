@@ -204,22 +204,16 @@ impl<A: Allocator> Tree<A> {
     {
         if let Link::Top(top, vr) = &mut self.root {
             let here = top.key(*vr);
-            let top: &mut Node<A> = top;
-            if is_before(key, &here) {
-                let (node, lower) = top.left.remove(key)?;
-                top.left.know_filled();
+            let behind = is_before(&here, key);
+            if behind || is_before(key, &here) {
+                let top: &mut Node<A> = top;
+                let side = top.side_mut(behind);
+                let (node, lower) = side.remove(key)?;
+                side.know_filled();
                 if !lower {
                     return Some((node, false));
                 }
-                return Some((node, tilt(&mut self.root, true)));
-            }
-            if is_before(&here, key) {
-                let (node, lower) = top.right.remove(key)?;
-                top.right.know_filled();
-                if !lower {
-                    return Some((node, false));
-                }
-                return Some((node, tilt(&mut self.root, false)));
+                return Some((node, tilt(&mut self.root, !behind)));
             }
         }
         match mem::replace(&mut self.root, Link::Empty) {

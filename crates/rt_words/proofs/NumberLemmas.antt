@@ -1,5 +1,5 @@
 -- Words that spell numbers are digits, and one more digit makes ten times the number and the digit.
-use Rattle.std.proofs.Common.{◌≡◌, ℕ, ◌+◌, ◌-◌, ◌*◌, ◌<◌, Bool, true, false, List, length, get_or, take, refl, arith, IsTrue, ◌&&◌}
+use Rattle.std.proofs.Common.{◌^◌, ◌≤◌, Some, None, ap, ◌≡◌, ℕ, ◌+◌, ◌-◌, ◌*◌, ◌<◌, Bool, true, false, List, length, get_or, take, refl, arith, IsTrue, ◌&&◌}
 use Rattle.std.proofs.lemmas.Bool.Decides.{nat_tests}
 use Rattle.std.specs.Char.{digit_value, is_ascii_digit}
 use Rattle.std.specs.Int.{IsInRange}
@@ -9,7 +9,8 @@ use Rattle.std.specs.Str.Parse.{AllDigits}
 use Rattle.std.proofs.lemmas.Int.Digits.{digits_value_more}
 use Rattle.std.proofs.lemmas.List.Recursion.{same_from_clauses}
 use Rattle.std.proofs.lemmas.Str.Parse.{digit_at, tells_all_ascii_digits, numerals_by_value}
-use Rattle.rt_words.specs.Numbers.{is_number, value_of}
+use Rattle.std.proofs.lemmas.List.{take_all}
+use Rattle.rt_words.specs.Numbers.{is_number, value_of, kept_in}
 
 -- `all` with the test of a digit is the test of digits
 pub list_all-digits : (word : List ℕ) → list_all is_ascii_digit word ≡ all_ascii_digits word
@@ -34,3 +35,13 @@ value_more word i h l =
 
 pub digit_in_number : (word : List ℕ) (i : ℕ) → IsTrue (is_number word) → i < length word → IsInRange 48 57 (get_or word i 0)
 digit_in_number word i h l = digit_at word i (digits-from_number word h) l
+
+-- a number that a word of 128 bits holds, and one that it doesn't
+pub kept_past : (n : ℕ) → 2 ^ 128 ≤ n → kept_in 0 (2 ^ 128 - 1) (Some n) ≡ None
+kept_past n large = grind (arith, nat_tests)
+
+pub kept_within : (value n : ℕ) → value ≡ n → value < 2 ^ 128 → Some value ≡ kept_in 0 (2 ^ 128 - 1) (Some n)
+kept_within value n is small = grind (arith, nat_tests)
+
+pub value_of-all : (word : List ℕ) (count : ℕ) → length word ≤ count → value_of (take count word) ≡ value_of word
+value_of-all word count all = ap value_of (take_all count word all)

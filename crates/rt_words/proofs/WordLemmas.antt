@@ -1,8 +1,8 @@
 -- How a line falls into words.
-use Rattle.std.proofs.Common.{Option, Some, None, unwrap_or, ◌≡◌, ℕ, ◌+◌, ◌-◌, ◌<◌, ◌≤◌, ◌==◌, Bool, List, [], ◌∷◌, length, take, drop, arith}
+use Rattle.std.proofs.Common.{true, false, not, IsTrue, sym, ◌∙◌, refl, rules, ap, Option, Some, None, unwrap_or, ◌≡◌, ℕ, ◌+◌, ◌-◌, ◌<◌, ◌≤◌, ◌==◌, Bool, List, [], ◌∷◌, length, take, drop, arith}
 use Rattle.std.proofs.lemmas.Grind.{common_steps}
 use Rattle.std.specs.List.{position_or_len}
-use Rattle.std.specs.Option.{option_map}
+use Rattle.std.specs.Option.{option_map, is_some}
 use Rattle.std.specs.Borrow.{Bor}
 use Rattle.std.proofs.lemmas.List.Splits.{slice_split_none, slice_split_first, length-slice_split}
 use Rattle.std.proofs.lemmas.List.Sums.{fails_before_first, count_by-le-length}
@@ -37,3 +37,14 @@ words_shown (Some l) ws line shown is = cc
 -- a line has at most as many words as bytes, and one more
 pub length-words : (line : List ℕ) → length (words line) ≤ length line + 1
 length-words line = omega (arith, length-slice_split is_space line, count_by-le-length is_space line)
+
+-- a line has one word at least
+pub words_some : (line : List ℕ) → words line ≡ [] → ⊥
+words_some line none = omega (arith, length-slice_split is_space line, ap length none)
+
+-- what a reader of words shows where it has no line left
+pub over_shown : (o : Option (Bor (List ℕ))) (ws : List (List ℕ)) (none : Bool) → unwrap_or (option_map (λ l. words l.now) o) [] ≡ ws → is_some o ≡ not none → (IsTrue none → ws ≡ []) × (ws ≡ [] → IsTrue none)
+over_shown None ws true shown is = (λ yes. sym shown, λ empty. search rules)
+over_shown None ws false shown is = cc
+over_shown (Some line) ws true shown is = cc
+over_shown (Some line) ws false shown is = (λ yes. absurd (search rules), λ empty. absurd (words_some line.now (shown ∙ empty)))

@@ -21,3 +21,8 @@ number_of word = if is_number word then Some (value_of word) else None
 abbrev pub within : ℕ → ℕ → Option ℕ → Result ℕ Cause
 within least most None = Err BadWord
 within least most (Some n) = if nat_le least n && nat_le n most then Ok n else Err OutOfRange
+
+-- the number, if there is one from the least to the most
+abbrev pub kept_in : ℕ → ℕ → Option ℕ → Option ℕ
+kept_in least most None = None
+kept_in least most (Some n) = if nat_le least n && nat_le n most then Some n else None

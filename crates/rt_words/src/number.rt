@@ -1,6 +1,6 @@
 //! Numbers as words spell them.
 
-ghost use Rattle.std.specs.Prelude.{◌≡◌, ◌^◌, min, IsTrue};
+ghost use Rattle.std.specs.Prelude.{◌≡◌, ◌≤◌, ◌^◌, ◌-◌, min, IsTrue, Some, IfSome};
 ghost use Rattle.std.specs.Option.{option_map};
 ghost use Rattle.std.specs.Str.{all_ascii_digits};
 ghost use Rattle.rt_words.specs.Numbers as spec;
@@ -24,6 +24,45 @@ pub fn number_within(word: &[u8], least: u64, most: u64) -> Result<u64, Cause>
             }
         }
     }
+}
+
+/// The number that the word spells, if it is from `least` to `most`; nothing otherwise.
+pub fn number_between(word: &[u8], least: u64, most: u64) -> Option<u64>
+    ensures value { result ≡ spec.kept_in least most (spec.number_of word.now) }
+    ensures least { IfSome result (λ number. least ≤ number) }
+    ensures most { IfSome result (λ number. number ≤ most) }
+{
+    let number = capped_number(word)?;
+    if number < u128::from(least) || number > u128::from(most) {
+        None
+    } else {
+        Some(number as u64)
+    }
+}
+
+/// The number that the word spells, if it is below 2^128; nothing otherwise.
+pub fn wide_number(word: &[u8]) -> Option<u128>
+    ensures { result ≡ spec.kept_in 0 (2 ^ 128 - 1) (spec.number_of word.now) }
+{
+    if is_number(word) {
+        wide_value(word)
+    } else {
+        None
+    }
+}
+
+/// What the digits write, if it is below 2^128.
+fn wide_value(digits: &[u8]) -> Option<u128>
+    requires { IsTrue (spec.is_number digits.now) }
+    ensures { result ≡ spec.kept_in 0 (2 ^ 128 - 1) (Some (spec.value_of digits.now)) }
+{
+    let mut value = 0u128;
+    for digit in digits {
+        let unit = digit.wrapping_sub(b'0');
+        let tens = value.checked_mul(10)?;
+        value = tens.checked_add(u128::from(unit))?;
+    }
+    Some(value)
 }
 
 /// The number that the word spells. All numbers of 2^64 and more come as 2^64.

@@ -1,6 +1,6 @@
 //! The words of a line.
 
-ghost use Rattle.std.specs.Prelude.{◌≡◌, ◌≤◌, ◌==◌, ℕ, length, Option, Some, None, if◌then◌else◌};
+ghost use Rattle.std.specs.Prelude.{◌≡◌, ◌≤◌, ◌==◌, ℕ, length, Option, Some, None, if◌then◌else◌, IsTrue, ◌↔◌, []};
 ghost use Rattle.std.specs.List.{position_or_len};
 ghost use Rattle.rt_words.specs.Words as spec;
 
@@ -44,6 +44,15 @@ impl<'a> Words<'a> {
             None => b"",
             Some(word) => word,
         }
+    }
+}
+
+impl<'a> Words<'a> {
+    /// Whether no word is left.
+    pub fn is_over(&self) -> bool
+        ensures { IsTrue result ↔ (self.now ≡ []) }
+    {
+        self.rest.is_none()
     }
 }
 

@@ -6,6 +6,4 @@ mod boxed;
 #[cfg(test)]
 mod journal;
 #[cfg(test)]
-mod links;
-#[cfg(test)]
 mod model;

@@ -156,6 +156,28 @@ fn a_link_holds_as_many_as_it_may(rt: HostRuntime) -> Result<(), Fail> {
     Ok(())
 }
 
+/// Whether the actor may note so many more.
+fn has_free(world: &World<ScriptJob>, actor: u8, free: u32) -> bool {
+    actor <= world.cores() && world.journal(ActorNo(actor)).free() == free
+}
+
+#[test]
+fn each_link_carries_its_own(rt: HostRuntime) -> Result<(), Fail> {
+    let mut world: World<ScriptJob> = World::try_new(rt.alloc(), rt.alloc(), 2, 1, 100)?;
+    assert!(rt; step(&mut world, submit(&rt, 2, 1, 0, 7)) == Became::Sent);
+    let rows = [
+        (1, 0, Became::Empty),
+        (0, 2, Became::Empty),
+        (1, 2, Became::Noted),
+        (1, 2, Became::Empty),
+    ];
+    for (core, from, want) in rows {
+        assert!(rt; step(&mut world, Event::Deliver(CoreNo(core), ActorNo(from))) == want);
+    }
+    assert!(rt; has_free(&world, 2, 99) && has_free(&world, 1, 99) && has_free(&world, 0, 100));
+    Ok(())
+}
+
 #[test]
 fn a_job_for_no_queue_goes_back(rt: HostRuntime) -> Result<(), Fail> {
     let mut world: World<ScriptJob> = World::try_new(rt.alloc(), rt.alloc(), 1, 4, 100)?;

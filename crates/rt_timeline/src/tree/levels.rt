@@ -89,7 +89,7 @@ fn is_behind_apart(vr: u128, queue: QueueNo, other_vr: u128, other_queue: QueueN
 impl<A: Allocator> Node<A> {
     /// The right side, or else the left one.
     #[inline]
-    fn side_mut(&mut self, right: bool) -> &mut Tree<A>
+    pub(super) fn side_mut(&mut self, right: bool) -> &mut Tree<A>
         ensures value { result.now ≡ side_of right self.old }
         ensures* lends { sem 𝓛 (LendsSide A.row A.Allocator right self.entry result) }
     {

@@ -10,7 +10,7 @@ returns-then-len-before-clause-ok c =
     on_ok_weaker c.print_notes.result
     (notes_printed c.args.event c.args.model.now c.step-reply.new.self c.step-reply.result (happened _ c.args.event c.args.model.now c.step-reply.new.self c.step-reply.result c.event_of.ensures c.step-reply.ensures) c.requires.roomy c.requires.there
     c.ends_of-ends.result c.journal.result.now.notes c.journal-journal.result.now.notes c.len-before.result (string_bytes c.args.page.now) (string_bytes c.print_notes.new.page)
-    c.ends_of-ends.ensures c.journal.ensures c.journal-journal.ensures c.len-before.ensures.value (omega arith))
+    c.ends_of-ends.ensures c.journal.ensures.notes c.journal-journal.ensures.notes c.len-before.ensures.value (omega arith))
     c.print_notes.ensures.ok
 
 pub returns-in_default-clause-ok : goal.returns-in_default-clause-ok
@@ -19,5 +19,5 @@ returns-in_default-clause-ok c =
     let none = c.if-len-before.false in
     quiet_printed c.args.event c.args.model.now c.step-reply.new.self c.step-reply.result (happened _ c.args.event c.args.model.now c.step-reply.new.self c.step-reply.result c.event_of.ensures c.step-reply.ensures) c.requires.roomy c.requires.there
     c.ends_of-ends.result c.journal.result.now.notes c.journal-journal.result.now.notes c.len-before.result None (string_bytes c.args.page.now) (string_bytes c.args.page.now)
-    c.ends_of-ends.ensures c.journal.ensures c.journal-journal.ensures c.len-before.ensures.value (omega arith)
+    c.ends_of-ends.ensures c.journal.ensures.notes c.journal-journal.ensures.notes c.len-before.ensures.value (omega arith)
     (sym c.in_default.is ∙ c.quiet_of.ensures) (sym (append-nil (string_bytes c.args.page.now)))

@@ -3,8 +3,14 @@ use Rattle.rt_shares.specs.Charge.{InRange}
 use Rattle.rt_ids.specs.Commands.{IsOpening}
 use Rattle.rt_journal.specs.Steps.{CreatesQueue}
 use Rattle.rt_journal.proofs.QueuesCreated.{few-created, step-created, creates-now}
+use Rattle.rt_journal.proofs.KeptModes.{core_is_open}
 use Rattle.rt_journal.proofs.Wrote.{view_of, quiet_written, now_is, quiet_sound, quiet_invariant, quiet_seat, quiet_ins, quiet_outs}
 use Rattle.rt_journal.proofs.recorded.Recorded.create.Goals as goal
+
+pub create-created-requires : goal.create-created-requires
+create-created-requires g c =
+    let kept = c.self.invariant.0.kept in
+    (omega arith, core_is_open c.self.inside.core c.self.inside.said.journal.notes kept.agrees.closing kept.closes_nothing)
 
 pub write-requires-clause-room : goal.write-requires-clause-room
 write-requires-clause-room g c =

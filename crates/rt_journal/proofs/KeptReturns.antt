@@ -1,0 +1,136 @@
+-- What a core tells of itself stays what its journal says, as a pick hands a job back; and the notes of the pick may stand.
+use Rattle.std.proofs.Common.{◌≡◌, ℕ, ◌+◌, ◌<◌, Bool, true, false, [], ◌∷◌, length, refl, sym, ◌∙◌, ap, subst, arith, get_or, set, get_or-set_same, get_or-set_other, length-set}
+use Rattle.std.specs.Prelude.{◌==◌, Some, None, max}
+use Rattle.std.proofs.lemmas.Bool.{eqb-true, eqb-false}
+use Rattle.rt_ids.specs.Terms.{Terms}
+use Rattle.rt_ids.specs.declared.names.JobId.{JobId}
+use Rattle.rt_ids.specs.declared.note.Note.TheVariants as writes
+use Rattle.rt_ids.specs.declared.order.Reason.{Reason}
+use Rattle.rt_ids.specs.Limits.{most_turns}
+use Rattle.rt_ids.specs.Journal.{Journal, EachNote}
+use Rattle.rt_ids.specs.Runtimes.{virtual_runtime}
+use Rattle.rt_ids.specs.Lines.{line}
+use Rattle.rt_ids.specs.Picks.{turns}
+use Rattle.rt_ids.specs.Commands.{return_reason}
+use Rattle.rt_ids.specs.Lawful.{MayStand}
+use Rattle.rt_ids.proofs.LineSteps.{line-turn, line-turn_elsewhere}
+use Rattle.rt_ids.proofs.RuntimeSteps.{virtual_runtime-stays, floor-stays}
+use Rattle.rt_taskqueue.specs.Queues.{waiting_of, shares_of}
+use Rattle.rt_core.specs.State.{CoreView, no_tally, tally_of, runtime_of, delivered_of}
+use Rattle.rt_core.specs.Closing as core
+use Rattle.rt_core.specs.Turns.{TakesOut, HandsBack}
+use Rattle.rt_journal.specs.Agreement.{Agrees, AgreesOnClosing, IsJobOut, AreMarked, names_of}
+use Rattle.rt_journal.proofs.Kept.{IsKept, plainly_stands, turns-stays}
+use Rattle.rt_journal.proofs.KeptModes.{SameModes, same_modes, closing-stays, return_reason-agrees}
+use Rattle.rt_journal.proofs.KeptPicks as kept_picks
+
+module _ {J T : Type 0} (terms : Terms) (old new : CoreView J) (name : JobId) (queue : ℕ) (job : J) (reason : Reason) (journal : Journal T)
+    (kept : IsKept terms old journal) (hands : HandsBack old name queue job new) (returns : core.return_reason queue old ≡ Some reason) where
+  abbrev runtime : ℕ
+  runtime = runtime_of queue old
+
+  abbrev picked : Journal T
+  picked = writes.Pick queue runtime ∷ journal
+
+  abbrev longer : Journal T
+  longer = writes.Returned name reason ∷ picked
+
+  -- the core as it would be with the job out
+  abbrev middle : CoreView J
+  middle = record old {
+    queues = new.queues;
+    tallies = set old.tallies queue (record (tally_of queue old) { selected = (tally_of queue old).selected + 1 });
+    floor = max old.floor runtime;
+    turns = old.turns + 1;
+    out = Some (record { name = name; queue = queue; job = job });
+  }
+
+  abbrev takes : TakesOut old name queue hands.was_started job middle
+  takes = record { next = hands.next; others = hands.others; first = hands.first; line = hands.line; rest = refl }
+
+  first_in_line : line queue journal ≡ name ∷ names_of hands.others
+  first_in_line = kept_picks.first_in_line terms old middle name queue hands.was_started job journal kept takes
+
+  exists : queue < length old.tallies
+  exists = let there = kept_picks.exists terms old middle name queue hands.was_started job journal kept takes in omega (arith, there, kept.agrees.tallied)
+
+  lines_now : (other : ℕ) → names_of (waiting_of other new.queues) ≡ line other longer
+  lines_now other = by_test (other == queue) refl
+    where
+      by_test : (test : Bool) → (other == queue) ≡ test → names_of (waiting_of other new.queues) ≡ line other longer
+      by_test true same =
+          let left = line-turn terms journal kept.notes queue runtime name (names_of hands.others) first_in_line in
+          subst (λ at. names_of (waiting_of at new.queues) ≡ line at longer) (sym (eqb-true other queue same)) (ap names_of hands.line.changed ∙ sym (left.returned reason))
+      by_test false apart =
+          let away : other ≡ queue → ⊥ = eqb-false other queue apart in
+          let left = line-turn_elsewhere terms journal kept.notes other queue runtime name (names_of hands.others) first_in_line away in
+          ap names_of (hands.line.others other away) ∙ (kept.agrees.lines other ∙ sym (left.returned reason))
+
+  runtime_kept : (other : ℕ) → runtime_of other new ≡ runtime_of other old
+  runtime_kept other = ap (λ core. runtime_of other core) hands.rest ∙ by_test (other == queue) refl
+    where
+      by_test : (test : Bool) → (other == queue) ≡ test →
+          (get_or (set old.tallies queue (record (tally_of queue old) { selected = (tally_of queue old).selected + 1; returned = (tally_of queue old).returned + 1 })) other no_tally).runtime ≡ runtime_of other old
+      by_test true same =
+          subst (λ at. (get_or (set old.tallies queue (record (tally_of queue old) { selected = (tally_of queue old).selected + 1; returned = (tally_of queue old).returned + 1 })) at no_tally).runtime ≡ runtime_of at old)
+          (sym (eqb-true other queue same)) (ap (λ tally. tally.runtime) (get_or-set_same old.tallies queue _ no_tally exists))
+      by_test false apart = ap (λ tally. tally.runtime) (get_or-set_other old.tallies queue other _ no_tally (eqb-false other queue apart))
+
+  modes_stay : SameModes old new
+  modes_stay = record {
+    modes = hands.line.same_modes;
+    mode = ap (λ core. core.mode) hands.rest;
+    gates = ap (λ core. core.gates) hands.rest;
+    cores = ap (λ core. core.cores) hands.rest;
+  }
+
+  nobody_out : new.out ≡ None
+  nobody_out = ap (λ core. core.out) hands.rest ∙ hands.next.free
+
+  none≢some : {A : Type 0} (item : A) → None ≡ Some item → ⊥
+  none≢some item same = cc
+
+  closing_now : AgreesOnClosing new longer
+  closing_now =
+      closing-stays new new (writes.Returned name reason) picked (same_modes new) (record { queues = λ queue. refl; core = refl; gates = λ sender. refl })
+      (closing-stays old new (writes.Pick queue runtime) journal modes_stay (record { queues = λ queue. refl; core = refl; gates = λ sender. refl }) kept.agrees.closing)
+
+  pub agrees-returned : Agrees new longer
+  agrees-returned = record {
+    tallied = ap (λ core. length core.tallies) hands.rest ∙ (length-set old.tallies queue _ ∙ (kept.agrees.tallied ∙ sym hands.line.same_count));
+    senders = ap (λ core. length core.delivered) hands.rest ∙ (kept.agrees.senders ∙ ap (λ cores. cores + 1) (sym (ap (λ core. core.cores) hands.rest)));
+    last = hands.line.same_count ∙ kept.agrees.last;
+    lines = lines_now;
+    marks = λ other. kept_picks.marks_then terms old middle name queue hands.was_started job journal kept takes other;
+    runtimes = λ other.
+        runtime_kept other
+        ∙ (kept.agrees.runtimes other
+        ∙ (sym (virtual_runtime-stays other journal (writes.Pick queue runtime) refl refl) ∙ sym (virtual_runtime-stays other picked (writes.Returned name reason) refl refl)));
+    weights = λ other there. hands.line.same_shares other ∙ kept.agrees.weights other (rw (← hands.line.same_count) there);
+    the_floor = ap (λ core. core.floor) hands.rest ∙ (ap (λ at. max at runtime) kept.agrees.the_floor ∙ sym (floor-stays (writes.Returned name reason) picked refl));
+    turns = ap (λ core. core.turns) hands.rest ∙ (ap (λ count. count + 1) kept.agrees.turns ∙ sym (turns-stays (writes.Returned name reason) picked refl));
+    out = subst (λ out. IsJobOut out longer) (sym nobody_out) (kept_picks.nobody terms old middle name queue hands.was_started job journal kept takes);
+    out_exists = λ out at. absurd (none≢some out (sym nobody_out ∙ at));
+    delivered = λ sender known. ap (λ core. delivered_of sender core) hands.rest ∙ kept.agrees.delivered sender (rw (← ap (λ core. core.cores) hands.rest) known);
+    closing = closing_now;
+  }
+
+  -- the pick is right, and the job goes back for the reason that the journal gives
+  pub return_stands : turns journal < most_turns → EachNote (MayStand terms) longer
+  return_stands left = (
+    record {
+      may_follow = (
+        queue,
+        record { picked = refl; others = names_of hands.others; first = first_in_line },
+        sym (return_reason-agrees old journal kept.agrees.closing queue) ∙ returns,
+      );
+      turn = refl;
+      effect = tt;
+      writer = kept.is_core;
+    },
+    (
+      plainly_stands terms (writes.Pick queue runtime) journal kept.is_core
+          (record { right = kept_picks.right_pick terms old middle name queue hands.was_started job journal kept takes; turn_left = left }) kept.no_pick kept.no_answer refl tt,
+      kept.notes,
+    ),
+  )

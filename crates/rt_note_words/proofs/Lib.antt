@@ -1,0 +1,10 @@
+pub mod Decimals
+pub mod Cuts
+pub mod Options
+pub mod FieldTexts
+pub mod PhraseTexts
+pub mod NoteTexts
+pub mod NoteReads
+pub mod NoteTells
+pub mod JoinedTexts
+pub mod LineTexts

@@ -1,0 +1,3 @@
+pub mod Writers
+pub mod Texts
+pub mod Pages
