@@ -1,10 +1,7 @@
 //! Workers on threads of their own.
 
 ghost use Rattle.std.specs.Prelude.{◌≡◌};
-ghost use Rattle.rt_grid.specs.Ends.{SameEnds};
 
-use rt_grid::{Ends, open_all};
-use rt_jobs::{AnyJob, Task};
 use rt_settings::{Clock, SystemClock};
 use rt_workers::{Promised, Team, Work};
 use std::alloc::{AllocError, Global};
@@ -86,47 +83,6 @@ fn two_workers_meet(rt: HostRuntime) -> Result<(), Fail> {
     };
     let met = team.join(&rt);
     assert!(rt; have_met(&met));
-    Ok(())
-}
-
-/// A worker that holds the ends of an actor's links.
-#[derive(Drop)]
-struct Holder<J: Task> {
-    ends: Ends<J>,
-}
-
-impl<J: Task> Promised for Holder<J> {
-    ghost use Rattle.rt_grid.specs.Ends.{SameEnds};
-
-    type Ended = Ends<J>;
-
-    ghost keeps = { λ worker ends. SameEnds worker.ends ends };
-}
-
-impl<J: Task> Work for Holder<J> {
-    fn run<R: Wait>(self, _rt: &R) -> Ends<J> {
-        self.ends
-    }
-}
-
-/// A worker for each actor of a house.
-fn holders<J: Task>(alloc: Global, all: Vec<Ends<J>>) -> Result<Vec<Holder<J>>, AllocError> {
-    let mut workers = Vec::with_capacity(alloc, all.len())?;
-    for ends in all {
-        workers.push(Holder { ends })?;
-    }
-    Ok(workers)
-}
-
-#[test]
-fn a_team_of_boxed_jobs_ends(rt: HostRuntime) -> Result<(), Fail> {
-    let all = open_all::<AnyJob>(rt.alloc(), 2, 1)?;
-    let workers = holders(rt.alloc(), all)?;
-    let Ok(team) = Team::start(rt, rt.alloc(), workers) else {
-        assert!(rt; false, "no thread could be made");
-        return Ok(());
-    };
-    assert_eq!(rt; team.join(&rt).len(), 3);
     Ok(())
 }
 
