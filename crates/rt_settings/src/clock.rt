@@ -1,0 +1,56 @@
+//! What time a worker reads.
+
+ghost use Rattle.std.specs.Prelude.{◌≡◌, ◌-◌, ◌≤◌};
+
+use std::time;
+
+/// A worker's own clock, read just before and just after each poll.
+///
+/// It may tell any number: a poll counts with the time that its clock tells.
+pub trait Clock {
+    /// The time in nanoseconds, since any moment.
+    fn now(&mut self) -> u64;
+}
+
+/// How long a poll took, between two readings. 0 where the clock fell.
+pub fn spent_between(before: u64, after: u64) -> u64
+    ensures { result ≡ after - before }
+{
+    after.saturating_sub(before)
+}
+
+/// The system's clock that isn't set back. It never falls: where it can't be read, it tells its last reading.
+#[derive(Clone, Copy, Drop)]
+pub struct SystemClock<R> {
+    clock: R,
+    last: u64,
+}
+
+impl<R> SystemClock<R> {
+    /// A clock that has not been read.
+    pub fn new(clock: R) -> Self {
+        SystemClock { clock, last: 0 }
+    }
+
+    /// The last reading.
+    pub fn last(&self) -> u64
+        ensures { result ≡ self.now.last }
+    {
+        self.last
+    }
+}
+
+impl<R: time::Clock> Clock for SystemClock<R> {
+    fn now(&mut self) -> u64
+        ensures rises { self.old.last ≤ result }
+        ensures kept { self.new.last ≡ result }
+    {
+        if let Ok(time) = self.clock.monotonic() {
+            let nanos = u64::try_from(time.as_nanos()).unwrap_or(u64::MAX);
+            if nanos > self.last {
+                self.last = nanos;
+            }
+        }
+        self.last
+    }
+}
