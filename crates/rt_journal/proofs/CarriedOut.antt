@@ -15,10 +15,9 @@ use Rattle.rt_ids.specs.declared.order.Answer.{Answer}
 use Rattle.rt_ids.specs.declared.order.Answer.TheVariants as answers
 use Rattle.rt_ids.specs.Journal.{Journal, EachNote, with_last}
 use Rattle.rt_ids.specs.Assembly.{IsPrefix}
-use Rattle.rt_ids.specs.Filters.{accepted_orders, collected_outcomes, delivered_names, given_outcomes}
-use Rattle.rt_ids.specs.Outstanding.{outstanding_count}
+use Rattle.rt_ids.specs.Filters.{delivered_names, given_outcomes}
 use Rattle.rt_ids.specs.Work.{number_if}
-use Rattle.rt_ids.specs.Commands.{created_count, refusal, IsAnswer, has_effect, effect_note}
+use Rattle.rt_ids.specs.Commands.{created_count, refusal, IsAnswer, has_effect}
 use Rattle.rt_ids.specs.Lawful.{IsNextDelivered}
 use Rattle.rt_ids.proofs.Told.{length-with_last_if}
 use Rattle.rt_taskqueue.specs.Queues.{queue_count, waiting_of, held_count}
@@ -89,6 +88,7 @@ module _ {J T : Type 0} (old : RecordedView J T) (name : JobId)
     outstanding = λ core. refl;
     collected = λ core. refl;
     given = λ sender. ([], append-nil (given_outcomes sender journal));
+    gates = λ sender. refl;
   }
 
   -- a job enters its queue
@@ -147,7 +147,7 @@ module _ {J T : Type 0} (old : RecordedView J T) (name : JobId)
       cores = ap (λ core. core.cores) counts;
       room = ap (λ core. core.queues.room) counts;
       out = ap (λ core. core.out) counts;
-      lists = record { accepted = λ core. refl; outstanding = λ core. refl; collected = λ core. refl; given = λ from. prefix-with_last (given_outcomes from journal) _ };
+      lists = record { accepted = λ core. refl; outstanding = λ core. refl; collected = λ core. refl; given = λ from. prefix-with_last (given_outcomes from journal) _; gates = λ from. refl };
       delivered = counted_one;
       held = omega (arith, ap inside_count counts, given_more);
       polls = λ which. no_polls which journal;
@@ -175,7 +175,7 @@ module _ {J T : Type 0} (old : RecordedView J T) (name : JobId)
       cores = ap (λ core. core.cores) counts;
       room = ap (λ core. core.queues.room) counts;
       out = ap (λ core. core.out) counts;
-      lists = record { accepted = λ core. refl; outstanding = λ core. refl; collected = λ core. refl; given = λ from. prefix-with_last (given_outcomes from journal) _ };
+      lists = record { accepted = λ core. refl; outstanding = λ core. refl; collected = λ core. refl; given = λ from. prefix-with_last (given_outcomes from journal) _; gates = λ from. refl };
       delivered = counted_one;
       held = omega (arith, ap inside_count counts, answered_more answer);
       polls = λ which. no_polls which journal;
@@ -196,7 +196,7 @@ module _ {J T : Type 0} (old : RecordedView J T) (name : JobId)
     cores = ap (λ core. core.cores) creates.rest;
     room = creates.added.same_room;
     out = ap (λ core. core.out) creates.rest;
-    lists = record { accepted = λ core. refl; outstanding = λ core. refl; collected = λ core. refl; given = λ from. prefix-with_last (given_outcomes from journal) _ };
+    lists = record { accepted = λ core. refl; outstanding = λ core. refl; collected = λ core. refl; given = λ from. prefix-with_last (given_outcomes from journal) _; gates = λ from. refl };
     delivered = counted_one;
     held = omega (arith, inside, answered_more (answers.Created queue));
     polls = λ which. no_polls_twice which journal;
@@ -225,7 +225,7 @@ module _ {J T : Type 0} (old : RecordedView J T) (name : JobId)
     cores = ap (λ core. core.cores) weighs.rest;
     room = weighs.shares.same_room;
     out = ap (λ core. core.out) weighs.rest;
-    lists = record { accepted = λ core. refl; outstanding = λ core. refl; collected = λ core. refl; given = λ from. prefix-with_last (given_outcomes from journal) _ };
+    lists = record { accepted = λ core. refl; outstanding = λ core. refl; collected = λ core. refl; given = λ from. prefix-with_last (given_outcomes from journal) _; gates = λ from. refl };
     delivered = counted_one;
     held = omega (arith, inside, answered_more answers.SharesSet);
     polls = λ which. no_polls_twice which journal;

@@ -23,7 +23,7 @@ use Rattle.rt_core.specs.Turns.{settled_view}
 use Rattle.rt_journal.specs.Agreement.{IsJobOut, AreMarked, names_of}
 use Rattle.rt_journal.proofs.Kept.{IsKept, plainly_stands, turns-stays}
 
-none≢some : {A : Type 0} (item : A) → None ≡ Some item → ⊥
+pub none≢some : {A : Type 0} (item : A) → None ≡ Some item → ⊥
 none≢some item same = cc
 
 module _ {J T : Type 0} (terms : Terms) (old : CoreView J) (job : JobOut J) (time done : ℕ) (queues : QueuesView J) (journal : Journal T)

@@ -17,3 +17,13 @@ pub mod Received
 pub mod DeliveredEnds
 pub mod Quiet
 pub mod Opened
+pub mod QuietSteps
+pub mod QueuesCreated
+pub mod Picked
+pub mod SettledPolls
+pub mod Turned
+pub mod Wrote
+pub mod Submitted
+pub mod SentNotes
+pub mod DeliveredNames
+pub mod Together

@@ -1,15 +1,20 @@
 -- A core that was just opened, beside a journal without a note.
-use Rattle.std.proofs.Common.{◌≡◌, ℕ, zero, suc, ◌+◌, ◌*◌, ◌<◌, ◌≤◌, [], refl, sym, ap, subst, arith}
+use Rattle.std.proofs.Common.{false, ◌++◌, length, take, ◌≡◌, ℕ, zero, suc, ◌+◌, ◌*◌, ◌<◌, ◌≤◌, [], refl, sym, ap, subst, arith}
 use Rattle.std.specs.Prelude.{Option, Some, None, All}
 use Rattle.std.proofs.lemmas.List.{length-replicate, get_or-replicate}
 use Rattle.std.proofs.lemmas.List.Elements.{All-nil}
-use Rattle.rt_ids.specs.declared.order.Order.{Order}
 use Rattle.rt_jobs.specs.declared.job.Step.{Step}
 use Rattle.rt_taskqueue.specs.Queues.{waiting_of, shares_of}
-use Rattle.rt_core.specs.State.{CoreView, JobOut, runtime_of, opened}
+use Rattle.rt_core.specs.State.{CoreView, runtime_of, opened}
 use Rattle.rt_journal.specs.Agreement.{Agrees, AreMarked, names_of}
-use Rattle.rt_journal.specs.Recorded.{RecordedView, IsRecorded, HasTask, sum_upto, delivered_count, given_count}
+use Rattle.rt_journal.specs.Recorded.{IsRecorded, HasTask, sum_upto, given_count}
 use Rattle.rt_journal.specs.Steps.{opened_beside}
+use Rattle.rt_link.specs.declared.ends.Outward.{Outward}
+use Rattle.rt_link.specs.declared.ends.Inward.{Inward}
+use Rattle.rt_link.specs.Calls.{final_of}
+use Rattle.rt_journal.specs.Orders.{numbered_orders}
+use Rattle.rt_journal.specs.Submissions.{opened_desk}
+use Rattle.rt_journal.specs.Ends.{IsInOf, IsOutOf, named_outcomes}
 
 none≢some : {A : Type 0} (item : A) → None ≡ Some item → ⊥
 none≢some item same = cc
@@ -65,3 +70,35 @@ recorded-opened {J} {T} same made polls core cores cap room there = record {
   waiting = λ queue. subst (All (λ entry. HasTask same made polls [] [] queue entry.0 entry.2)) (sym (no_line J core cores cap queue)) (All-nil _);
   out = λ job at. absurd (none≢some job at);
 }
+
+module _ {J T : Type 0} (core cores cap room : ℕ) where
+  -- an end from which nothing was taken is beside a core that was just opened
+  pub in_of-opened : (sender : ℕ) (inward : Inward J T) → sender ≤ cores → inward.from ≡ sender → inward.to ≡ core → inward.base ≡ 0 → inward.capacity ≡ cap → inward.taken ≡ 0 → inward.given ≡ [] → inward.shut ≡ false →
+      IsInOf sender (opened_beside core cores cap room) inward
+  in_of-opened sender inward known from to base capacity taken given shut = record {
+    known = known;
+    from = from;
+    to = to;
+    base = base;
+    capacity = capacity;
+    gate = ap (final_of inward) (sym shut);
+    taken = sym taken;
+    behind = omega (arith, taken);
+    given = ([], ap (λ outcomes. named_outcomes sender core outcomes ++ []) given);
+    orders = λ name order same at. absurd (none≢some order at);
+  }
+
+  -- an end on which nothing was sent is beside a desk that was just opened
+  pub out_of-opened : (actor to : ℕ) (out : Outward J T) (credited : ℕ) → to < cores → out.from ≡ actor → out.to ≡ to → out.base ≡ 0 → out.capacity ≡ cap → out.sent ≡ [] → out.got ≡ 0 → credited ≡ 0 →
+      IsOutOf to (opened_desk actor cores cap room) out credited
+  out_of-opened actor to out credited known from its_core base capacity sent got given_back = record {
+    known = known;
+    from = from;
+    to = its_core;
+    base = base;
+    capacity = capacity;
+    accepted = ap (numbered_orders actor to 0) (sym sent);
+    outstanding = omega (arith, given_back, ap length sent);
+    behind = omega (arith, got);
+    collected = ap (λ count. named_outcomes actor to (take count out.seen)) (sym got);
+  }

@@ -1,0 +1,7 @@
+use Rattle.journal_tests.proofs.actors.Receiver.turn.Goals as goal
+
+pub invariant_of-self : goal.invariant_of-self
+invariant_of-self g c = (c.settle.ensures.ins 1).each _ ((c.pick.ensures.ins 1).each _ c.self.invariant)
+
+pub invariant_of-self-in-Resume-1 : goal.invariant_of-self-in-Resume-1
+invariant_of-self-in-Resume-1 g c = (c.settle-in-Ok-Resume.ensures.ins 1).each _ ((c.pick.ensures.ins 1).each _ c.self.invariant)

@@ -1,0 +1,166 @@
+//! Actors with one end of one link each, whatever kind of link it is.
+
+ghost use Rattle.std.specs.Prelude.{◌≡◌};
+ghost use Rattle.rt_jobs.specs.Ready.{HasReadyJob};
+ghost use Rattle.rt_journal.specs.Ends.{IsInOf, IsOutOf};
+ghost use Rattle.rt_journal.specs.Recorded.{desk_of};
+
+use rt_core::Turn;
+use rt_ids::{CoreNo, Note, Order};
+use rt_jobs::{Ran, ScriptJob, Task};
+use rt_journal::{Journal, Recorded, RecordedDesk};
+use rt_link::{InEnd, OutEnd};
+use std::marker::Model;
+
+/// The core that all orders here are for.
+pub const CORE: CoreNo = CoreNo(0);
+
+/// Whether these are the notes, the oldest first.
+pub fn tells(journal: &Journal<u64>, notes: &[Note<u64>]) -> bool {
+    if journal.len() != notes.len() {
+        return false;
+    }
+    for (i, note) in notes.iter().enumerate() {
+        if journal.get(i) != Some(*note) {
+            return false;
+        }
+    }
+    true
+}
+
+/// Core 0 of one core, with the end of its link from the outside actor.
+#[derive(Drop)]
+pub struct Receiver<I: InEnd<ScriptJob> + Drop> {
+    core: Recorded<ScriptJob>,
+    end: I,
+}
+
+impl<I: InEnd<ScriptJob> + Drop> Model for Receiver<I> {
+    ghost use Rattle.std.specs.Prelude.{ℕ};
+    ghost use Rattle.rt_journal.specs.Ends.{IsInOf};
+
+    ghost Value = { ℕ };
+
+    ghost view = { λ _. 0 };
+
+    ghost invariant = { λ r. IsInOf 1 r.core (I.inward r.end) };
+}
+
+impl<I: InEnd<ScriptJob> + Drop> Receiver<I> {
+    pub fn new(core: Recorded<ScriptJob>, end: I) -> Self
+        requires { IsInOf 1 core (I.inward end) }
+    {
+        Receiver { core, end }
+    }
+
+    /// Whether an order came.
+    pub fn deliver(&mut self) -> bool {
+        self.core.journal().free() >= 2 && self.core.deliver(&mut self.end)
+    }
+
+    /// Whether a job was polled once, and is done or waits again.
+    pub fn turn(&mut self, spent: u64) -> bool {
+        if self.core.journal().free() < 3 {
+            return false;
+        }
+        match self.core.pick() {
+            Ok(Turn::Start(_, _, job)) => {
+                drop(self.core.settle(Ran::poll(job), spent));
+                true
+            }
+            Ok(Turn::Resume(_, _, job)) => {
+                drop(self.core.settle(Ran::poll(job), spent));
+                true
+            }
+            _ => false,
+        }
+    }
+
+    pub fn tells(&self, notes: &[Note<u64>]) -> bool {
+        tells(self.core.journal(), notes)
+    }
+
+    /// How many jobs are inside.
+    pub fn held(&self) -> u64 {
+        let (core, _) = self.core.core().stats();
+        core.held
+    }
+}
+
+/// The outside actor of one core, with the end of its link to that core.
+#[derive(Drop)]
+pub struct Sender<O: OutEnd<ScriptJob> + Drop> {
+    desk: RecordedDesk<ScriptJob>,
+    end: O,
+}
+
+impl<O: OutEnd<ScriptJob> + Drop> Model for Sender<O> {
+    ghost use Rattle.std.specs.Prelude.{ℕ};
+    ghost use Rattle.rt_journal.specs.Ends.{IsOutOf};
+
+    ghost Value = { ℕ };
+
+    ghost view = { λ _. 0 };
+
+    ghost invariant = { λ s. IsOutOf 0 s.desk (O.out s.end) (O.credited s.end) };
+}
+
+impl<O: OutEnd<ScriptJob> + Drop> Sender<O> {
+    pub fn new(desk: RecordedDesk<ScriptJob>, end: O) -> Self
+        requires { IsOutOf 0 desk (O.out end) (O.credited end) }
+    {
+        Sender { desk, end }
+    }
+
+    /// Whether the order was accepted.
+    pub fn submit(&mut self, order: Order<ScriptJob>) -> bool
+        requires { HasReadyJob ⟦<ScriptJob as Task>⟧.done ⟦<ScriptJob as Task>⟧.CanPoll order }
+    {
+        self.desk.journal().free() >= 1 && self.desk.submit(&mut self.end, CORE, order).is_ok()
+    }
+
+    pub fn tells(&self, notes: &[Note<u64>]) -> bool {
+        tells(self.desk.journal(), notes)
+    }
+}
+
+/// Core 0 of one core, with the end of its link to itself.
+#[derive(Drop)]
+pub struct Caller<O: OutEnd<ScriptJob> + Drop> {
+    core: Recorded<ScriptJob>,
+    end: O,
+}
+
+impl<O: OutEnd<ScriptJob> + Drop> Model for Caller<O> {
+    ghost use Rattle.std.specs.Prelude.{ℕ};
+    ghost use Rattle.rt_journal.specs.Ends.{IsOutOf};
+    ghost use Rattle.rt_journal.specs.Recorded.{desk_of};
+
+    ghost Value = { ℕ };
+
+    ghost view = { λ _. 0 };
+
+    ghost invariant = { λ s. IsOutOf 0 (desk_of s.core) (O.out s.end) (O.credited s.end) };
+}
+
+impl<O: OutEnd<ScriptJob> + Drop> Caller<O> {
+    pub fn new(core: Recorded<ScriptJob>, end: O) -> Self
+        requires { IsOutOf 0 (desk_of core) (O.out end) (O.credited end) }
+    {
+        Caller { core, end }
+    }
+
+    /// Whether the order was accepted.
+    pub fn submit(&mut self, order: Order<ScriptJob>) -> bool
+        requires { HasReadyJob ⟦<ScriptJob as Task>⟧.done ⟦<ScriptJob as Task>⟧.CanPoll order }
+    {
+        self.core.journal().free() >= 1 && self.core.submit(&mut self.end, CORE, order).is_ok()
+    }
+
+    /// The notes alone.
+    pub fn into_journal(self) -> Journal<u64> {
+        let Caller { core, end } = self;
+        drop(end);
+        core.into_journal()
+    }
+}

@@ -1,0 +1,7 @@
+//! Tests of recorded cores and desks over their public calls, over plain links and over rings on one thread.
+#![tactic(auto)]
+
+#[cfg(test)]
+mod actors;
+#[cfg(test)]
+mod steps;
