@@ -1,7 +1,7 @@
 //! The task queues of a core, step by step: each step tells whether it came out as wanted.
 
 use crate::one_core::{FIRST, SECOND, name, shares};
-use rt_ids::{JobId, QueueNo};
+use rt_ids::{JobId, Mode, QueueNo};
 use rt_shares::Shares;
 use rt_taskqueue::{CreateError, Queues};
 use std::alloc::{Allocator, Global};
@@ -9,17 +9,22 @@ use std::test::Fail;
 
 const THIRD: QueueNo = QueueNo(2);
 
-/// A job that is its own number joins, if its queue is there and there is room.
+/// A job that is its own number joins, if its queue is there and open and there is room.
 pub(crate) fn joins<A: Allocator + Clone>(
     queues: &mut Queues<u64, A>,
     queue: QueueNo,
     number: u64,
 ) -> bool {
-    let fits = u16::from(queue.0) < queues.queue_count() && queues.has_room();
-    if fits {
-        queues.admit(queue, name(number), number);
+    if u16::from(queue.0) >= queues.queue_count() || !queues.has_room() {
+        return false;
     }
-    fits
+    match queues.mode(queue) {
+        Some(_) => false,
+        None => {
+            queues.admit(queue, name(number), number);
+            true
+        }
+    }
 }
 
 /// A job that was started joins again, if its queue is there and there is room.
@@ -164,6 +169,28 @@ fn lines_stand_apart(rt: HostRuntime) -> Result<(), Fail> {
         && joins_again(&mut queues, FIRST, name(1), 1)
         && leave_in_turn(&mut queues, &rows);
     assert!(rt; went && queues.has_room() && waiting(&queues, FIRST) == Some(0));
+    Ok(())
+}
+
+/// A queue that exists is closed, or isn't.
+fn closes(queues: &mut Queues<u64, Global>, queue: QueueNo, mode: Mode, want: bool) -> bool {
+    u16::from(queue.0) < queues.queue_count() && queues.close(queue, mode) == want
+}
+
+#[test]
+fn a_closed_line_takes_no_more(rt: HostRuntime) -> Result<(), Fail> {
+    let mut queues = Queues::open(rt.alloc(), 4)?;
+    let closed = creates(&mut queues, 500, Ok(SECOND))
+        && joins(&mut queues, SECOND, 1)
+        && closes(&mut queues, SECOND, Mode::Finish, true)
+        && closes(&mut queues, SECOND, Mode::Finish, false)
+        && closes(&mut queues, SECOND, Mode::Return, true)
+        && closes(&mut queues, SECOND, Mode::Finish, false);
+    let went = !joins(&mut queues, SECOND, 2)
+        && joins(&mut queues, FIRST, 3)
+        && gives(&mut queues, SECOND, 1, false)
+        && joins_again(&mut queues, SECOND, name(1), 1);
+    assert!(rt; closed && went);
     Ok(())
 }
 

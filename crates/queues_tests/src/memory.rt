@@ -1,6 +1,6 @@
 //! A core in heaps that are just too small, and in the least one that serves.
 
-use crate::one_core::{FIRST, SECOND, answers, creates, picks, shares, takes};
+use crate::one_core::{FIRST, SECOND, answers, creates, makes, picks, shares, takes};
 use linked_list_allocator::LocalHeap;
 use rt_core::Core;
 use rt_ids::{Answer, CoreNo, Order, QueueNo};
@@ -13,8 +13,12 @@ const THIRD: QueueNo = QueueNo(2);
 /// A core and two more queues in this heap, if they fit.
 fn three_queues(heap: &LocalHeap) -> Option<Core<ScriptJob, &LocalHeap>> {
     let mut core = Core::open(heap, CoreNo(0), 1, 4).ok()?;
-    let made = core.create(shares(1000)).0.is_ok() && core.create(shares(1000)).0.is_ok();
-    if made { Some(core) } else { None }
+    let first = makes(&mut core, shares(1000))?.0.is_ok();
+    if first && makes(&mut core, shares(1000))?.0.is_ok() {
+        Some(core)
+    } else {
+        None
+    }
 }
 
 /// A third creation is refused, also as an order.

@@ -97,6 +97,17 @@ pub(crate) fn is_one(notes: &Notes<u64>, want: Note<u64>) -> bool {
     notes.as_slice() == [want].as_slice()
 }
 
+/// What a creation comes to, if the core is open.
+pub(crate) fn makes<A: Allocator + Clone>(
+    core: &mut Core<ScriptJob, A>,
+    shares: Shares,
+) -> Option<(Result<QueueNo, CreateError>, Notes<u64>)> {
+    match core.mode() {
+        Some(_) => None,
+        None => Some(core.create(shares)),
+    }
+}
+
 /// A creation comes to this, with one note where a queue was made.
 pub(crate) fn creates<A: Allocator + Clone>(
     core: &mut Core<ScriptJob, A>,
@@ -104,7 +115,9 @@ pub(crate) fn creates<A: Allocator + Clone>(
     want: Result<QueueNo, CreateError>,
 ) -> bool {
     let shares = shares(weight);
-    let (made, notes) = core.create(shares);
+    let Some((made, notes)) = makes(core, shares) else {
+        return false;
+    };
     made == want
         && match want {
             Ok(queue) => is_one(&notes, Note::Created(queue, shares)),

@@ -103,11 +103,16 @@ fn boxes_wait(heap: &LocalHeap) -> Result<bool, AllocError> {
 type Boxes<'a> = Queues<Box<u64, &'a LocalHeap>, &'a LocalHeap>;
 
 fn box_joins<'a>(queues: &mut Boxes<'a>, number: u64, job: Box<u64, &'a LocalHeap>) -> bool {
-    let fits = queues.queue_count() > 1 && queues.has_room();
-    if fits {
-        queues.admit(SECOND, crate::one_core::name(number), job);
+    if queues.queue_count() < 2 || !queues.has_room() {
+        return false;
     }
-    fits
+    match queues.mode(SECOND) {
+        Some(_) => false,
+        None => {
+            queues.admit(SECOND, crate::one_core::name(number), job);
+            true
+        }
+    }
 }
 
 fn first_box_leaves(queues: &mut Boxes<'_>) -> bool {

@@ -34,4 +34,4 @@ pub charge_fits : (turns : ℕ) (was charged : Tally) (time shares done : ℕ) �
     charged.runtime < was.runtime + 2 ^ 50 → charged.time < was.time + 2 ^ 40 → done ≤ 1 → FitsTurns turns 0 charged
 charge_fits turns was charged time shares done fits value charge_below time_below few =
     let finished : charged.finished ≡ was.finished + done = ap (λ (tally : Tally). tally.finished) value in
-    charged_fits turns was charged fits (omega arith) (ap (λ (tally : Tally). tally.selected) value) (omega arith) (omega arith)
+    charged_fits turns was charged fits (omega arith) (ap (λ (tally : Tally). tally.selected) value) (omega arith) (omega arith) (ap (λ (tally : Tally). tally.returned) value)

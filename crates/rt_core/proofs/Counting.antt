@@ -3,8 +3,9 @@ use Rattle.std.proofs.Common.{◌≡◌, ℕ, suc, zero, ◌+◌, ◌<◌, ◌�
 use Rattle.std.specs.Prelude.{Bool, true, false, ◌-◌, IfSome, is_some, slice_index_or}
 use Rattle.rt_ids.specs.declared.names.JobId.{JobId}
 use Rattle.rt_ids.specs.declared.names.Key.{Key}
+use Rattle.rt_ids.specs.declared.order.Mode.{Mode}
 use Rattle.rt_ids.specs.Work.{number_if}
-use Rattle.rt_taskqueue.specs.Queues.{QueuesView, waiting_of, queue_count, held_count, ChangesLine, ChangesShares, AddsQueue, IsWithinLimits}
+use Rattle.rt_taskqueue.specs.Queues.{QueuesView, waiting_of, queue_count, held_count, ChangesLine, ChangesShares, ChangesMode, AddsQueue, IsWithinLimits}
 use Rattle.rt_core.specs.State.{CoreView, JobOut, runtime_of}
 use Rattle.rt_core.specs.Inside.{job_out, unsettled_count, IsCounted, IsListed}
 use Rattle.rt_core.specs.declared.out.Out.{Out}
@@ -62,6 +63,21 @@ module _ {J : Type 0} where
     limits = limits;
     tallies = ap length tallies ∙ counted.tallies ∙ sym changes.same_count;
     senders = delivered ∙ counted.senders ∙ ap (λ n. n + 1) (sym cores);
+    all_inside = let polls : unsettled_count new ≡ unsettled_count old = ap polls_of out in omega (arith, changes.same_held, counted.all_inside);
+    within_room = counted.within_room;
+    same_room = counted.same_room ∙ sym changes.same_room;
+    reserved = counted.reserved;
+    out = out_same old new out (omega (arith, changes.same_count)) counted.out;
+  }
+
+  -- a queue is closed
+  pub IsCounted-closes : (old new : CoreView J) (inside room places queue : ℕ) (mode : Mode) → ChangesMode old.queues new.queues queue mode → IsWithinLimits new.queues →
+      new.cores ≡ old.cores → new.out ≡ old.out → new.tallies ≡ old.tallies → new.delivered ≡ old.delivered →
+      IsCounted old inside room places → IsCounted new inside room places
+  IsCounted-closes old new inside room places queue mode changes limits cores out tallies delivered counted = record {
+    limits = limits;
+    tallies = ap length tallies ∙ counted.tallies ∙ sym changes.same_count;
+    senders = ap length delivered ∙ counted.senders ∙ ap (λ n. n + 1) (sym cores);
     all_inside = let polls : unsettled_count new ≡ unsettled_count old = ap polls_of out in omega (arith, changes.same_held, counted.all_inside);
     within_room = counted.within_room;
     same_room = counted.same_room ∙ sym changes.same_room;

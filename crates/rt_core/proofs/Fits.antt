@@ -8,14 +8,14 @@ use Rattle.rt_core.specs.State.{CoreView, no_tally, tally_of, IsBounded}
 use Rattle.rt_core.specs.Inside.{FitsTurns, IsWithinTurns, unsettled_count}
 
 pub no_tally_fits : (turns unsettled floor : ℕ) → floor + unsettled * 2 ^ 50 ≤ turns * 2 ^ 50 → FitsTurns turns unsettled no_tally
-no_tally_fits turns unsettled floor low = record { runtime = omega arith; selected = omega arith; time = omega arith; finished = omega arith }
+no_tally_fits turns unsettled floor low = record { runtime = omega arith; selected = omega arith; time = omega arith; finished = omega arith; returned = omega arith }
 
 -- a queue is placed, or not
 pub placed_fits : (turns unsettled floor : ℕ) (tally : Tally) (working : Bool) → FitsTurns turns unsettled tally → floor + unsettled * 2 ^ 50 ≤ turns * 2 ^ 50 →
     FitsTurns turns unsettled (record tally { runtime = cond working tally.runtime (max tally.runtime floor) })
-placed_fits turns unsettled floor tally true fits low = record { runtime = fits.runtime; selected = fits.selected; time = fits.time; finished = fits.finished }
+placed_fits turns unsettled floor tally true fits low = record { runtime = fits.runtime; selected = fits.selected; time = fits.time; finished = fits.finished; returned = fits.returned }
 placed_fits turns unsettled floor tally false fits low =
-    record { runtime = omega (arith, fits.runtime); selected = fits.selected; time = fits.time; finished = fits.finished }
+    record { runtime = omega (arith, fits.runtime); selected = fits.selected; time = fits.time; finished = fits.finished; returned = fits.returned }
 
 -- one more turn is made, and its poll is out
 pub picked_fits : (turns : ℕ) (tally : Tally) → FitsTurns turns 0 tally → FitsTurns (turns + 1) 1 (record tally { selected = tally.selected + 1 })
@@ -24,6 +24,7 @@ picked_fits turns tally fits = record {
   selected = omega (arith, fits.selected);
   time = omega (arith, fits.time);
   finished = omega (arith, fits.finished);
+  returned = omega (arith, fits.returned);
 }
 
 pub other_fits : (turns : ℕ) (tally : Tally) → FitsTurns turns 0 tally → FitsTurns (turns + 1) 1 tally
@@ -32,16 +33,28 @@ other_fits turns tally fits = record {
   selected = omega (arith, fits.selected);
   time = omega (arith, fits.time);
   finished = omega (arith, fits.finished);
+  returned = omega (arith, fits.returned);
 }
 
 -- the poll that is out is settled
 pub charged_fits : (turns : ℕ) (tally charged : Tally) → FitsTurns turns 1 tally → charged.runtime ≤ tally.runtime + 2 ^ 50 → charged.selected ≡ tally.selected →
-    charged.time ≤ tally.time + 2 ^ 40 → charged.finished ≤ tally.finished + 1 → FitsTurns turns 0 charged
-charged_fits turns tally charged fits runtime selected time finished = record {
+    charged.time ≤ tally.time + 2 ^ 40 → charged.finished ≤ tally.finished + 1 → charged.returned ≡ tally.returned → FitsTurns turns 0 charged
+charged_fits turns tally charged fits runtime selected time finished returned = record {
   runtime = omega (arith, fits.runtime);
   selected = omega (arith, fits.selected);
   time = omega (arith, fits.time);
   finished = omega (arith, fits.finished);
+  returned = omega (arith, fits.returned);
+}
+
+-- the job that is out is handed back
+pub returned_fits : (turns : ℕ) (tally : Tally) → FitsTurns turns 1 tally → FitsTurns turns 0 (record tally { returned = tally.returned + 1 })
+returned_fits turns tally fits = record {
+  runtime = omega (arith, fits.runtime);
+  selected = fits.selected;
+  time = omega (arith, fits.time);
+  finished = omega (arith, fits.finished);
+  returned = omega (arith, fits.returned);
 }
 
 pub settled_fits : (turns : ℕ) (tally : Tally) → FitsTurns turns 1 tally → FitsTurns turns 0 tally
@@ -50,6 +63,7 @@ settled_fits turns tally fits = record {
   selected = fits.selected;
   time = omega (arith, fits.time);
   finished = omega (arith, fits.finished);
+  returned = omega (arith, fits.returned);
 }
 
 module _ {J : Type 0} where

@@ -10,3 +10,5 @@ pub mod Outcomes
 pub mod PollsSettled
 pub mod SlipsKept
 pub mod Opening
+pub mod Awaited
+pub mod Closings

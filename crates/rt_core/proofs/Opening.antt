@@ -1,17 +1,18 @@
 -- What holds inside a core as it opens.
-use Rattle.std.proofs.Common.{◌≡◌, ℕ, zero, suc, Bool, false, List, [], ◌∷◌, None, refl, sym, ap, arith}
+use Rattle.std.proofs.Common.{◌≡◌, ℕ, zero, suc, ◌+◌, ◌≤◌, length, Bool, false, List, [], ◌∷◌, None, refl, sym, ap, arith}
 use Rattle.std.proofs.lemmas.List.Elements.{All-push}
 use Rattle.rt_taskqueue.specs.Queues.{first_queue, waiting_of}
 use Rattle.rt_core.specs.declared.tally.Tally.{Tally}
+use Rattle.rt_core.specs.Senders.{SendersView}
 use Rattle.rt_core.specs.State.{CoreView, no_tally, is_any}
-use Rattle.rt_core.specs.Inside.{core_view, FitsTurns, IsListed, IsPollable, IsWithinTurns}
+use Rattle.rt_core.specs.Inside.{core_view, FitsTurns, IsCounted, IsListed, IsPollable, IsWithinTurns}
 use Rattle.rt_core.proofs.Entries.{entry_of-none}
 use Rattle.rt_core.proofs.Fits.{no_tally_fits}
 use Rattle.rt_core.proofs.Settling.{may_run-free}
 
-module _ {J : Type 0} (core cores room turns : ℕ) (delivered : List ℕ) where
+module _ {J : Type 0} (core cores room turns : ℕ) (senders : SendersView) where
   abbrev first_view : List Tally → CoreView J
-  first_view tallies = core_view core cores (first_queue room) tallies 0 turns None delivered
+  first_view tallies = core_view core cores (first_queue room) tallies 0 turns None senders None
 
   -- no job waits
   no_job : (tallies : List Tally) (queue : ℕ) → waiting_of queue (first_view tallies).queues ≡ []
@@ -21,6 +22,18 @@ module _ {J : Type 0} (core cores room turns : ℕ) (delivered : List ℕ) where
   pub IsListed-opened : (tallies : List Tally) → IsListed (first_view tallies) []
   IsListed-opened tallies = record {
     at = λ queue. sym (entry_of-none (first_view tallies) queue (may_run-free (first_view tallies) queue false refl (ap is_any (no_job tallies queue))));
+  }
+
+  pub IsCounted-opened : (places : ℕ) → length senders.delivered ≡ cores + 1 → 256 ≤ places → IsCounted (first_view (no_tally ∷ [])) 0 room places
+  IsCounted-opened places known reserved = record {
+    limits = record { some_queue = omega arith; few_queues = omega arith; within_room = omega arith };
+    tallies = refl;
+    senders = known;
+    all_inside = refl;
+    within_room = omega arith;
+    same_room = refl;
+    reserved = reserved;
+    out = tt;
   }
 
   pub IsPollable-opened : (done : J → Bool) (can_poll : J → Type 0) (tallies : List Tally) → IsPollable done can_poll (first_view tallies)

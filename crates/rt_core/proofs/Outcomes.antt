@@ -1,7 +1,7 @@
 -- What a delivered command came to, from what its parts did.
-use Rattle.std.proofs.Common.{◌≡◌, ◌↔◌, ℕ, ◌<◌, ◌≤◌, Bool, true, false, List, [], ◌∷◌, ◌++◌, Result, Ok, Err, ⊎_elim, sym, ap, ◌∙◌, subst}
+use Rattle.std.proofs.Common.{◌≡◌, ◌↔◌, ℕ, ◌<◌, ◌≤◌, Bool, true, false, List, [], ◌∷◌, ◌++◌, Option, Some, None, Result, Ok, Err, ⊎_elim, refl, sym, ap, ◌∙◌, subst}
 use Rattle.std.proofs.lemmas.Bool.{cases_lt, true≢false}
-use Rattle.std.specs.Prelude.{slice_set}
+use Rattle.std.specs.Prelude.{slice_set, is_some}
 use Rattle.rt_ids.specs.declared.names.JobId.{JobId}
 use Rattle.rt_ids.specs.declared.note.Note.{Note}
 use Rattle.rt_taskqueue.specs.Queues.{QueuesView, queue_count, AddsQueue}
@@ -9,6 +9,14 @@ use Rattle.rt_taskqueue.specs.declared.queues.CreateError.{CreateError}
 use Rattle.rt_taskqueue.specs.declared.queues.CreateError.TheVariants.{TooMany, Memory}
 use Rattle.rt_core.specs.State.{CoreView, no_tally}
 use Rattle.rt_core.specs.Deliveries.{Creates, CreatesQueue, CountsAlone, counted}
+
+-- what isn't there is none
+pub none_if_not : {X : Type 0} (found : Option X) → is_some found ≡ false → found ≡ None
+none_if_not None none = refl
+none_if_not (Some item) none = cc
+
+pub not_none : {X : Type 0} (found : Option X) → is_some found ≡ true → found ≡ None → ⊥
+not_none found some none = true≢false (sym some ∙ ap is_some none)
 
 -- a queue that isn't there is past all
 pub past_if_not : (there : Bool) (queue count : ℕ) → (there ≡ true) ↔ (queue < count) → there ≡ false → count ≤ queue
@@ -27,6 +35,7 @@ module _ {J : Type 0} where
       CountsAlone mid name new → Creates old weight new × (new.delivered ≡ counted name old)
   delivers_created old weight mid new name creates same counts = (
     record {
+      is_open = creates.is_open;
       few = creates.few;
       added = subst (λ (queues : QueuesView J). AddsQueue old.queues queues (queue_count old.queues) weight) (sym (ap (λ (view : CoreView J). view.queues) counts)) creates.added;
       rest = counts ∙ ap (λ (view : CoreView J). record view { delivered = counted name mid }) creates.rest

@@ -1,11 +1,10 @@
 -- What a delivery does: a job enters its queue or goes back, a command is carried out and answered.
-use Rattle.std.specs.Prelude.{◌≡◌, ℕ, ◌<◌, ◌≤◌, List, [], ◌∷◌, ◌++◌, slice_set, false, Result, Ok, Err}
+use Rattle.std.specs.Prelude.{◌≡◌, ◌≢◌, ℕ, ◌<◌, ◌≤◌, List, [], ◌∷◌, ◌++◌, slice_set, false, Some, None, Result, Ok, Err}
 use Rattle.rt_ids.specs.declared.names.JobId.{JobId}
 use Rattle.rt_ids.specs.declared.note.Note.{Note}
 use Rattle.rt_ids.specs.declared.note.Note.TheVariants as notes
 use Rattle.rt_ids.specs.declared.order.Order.{Order}
 use Rattle.rt_ids.specs.declared.order.Order.TheVariants.{Job, Create, SetShares}
-use Rattle.rt_ids.specs.declared.order.Reason.TheVariants as why
 use Rattle.rt_ids.specs.declared.order.Answer.TheVariants as answers
 use Rattle.rt_taskqueue.specs.declared.queues.CreateError.{CreateError}
 use Rattle.rt_taskqueue.specs.declared.queues.CreateError.TheVariants.{TooMany, Memory}
@@ -13,6 +12,7 @@ use Rattle.rt_taskqueue.specs.Queues.{queue_count, waiting_of, ChangesLine, Chan
 use Rattle.rt_core.specs.declared.delivery.Delivered.{Delivered}
 use Rattle.rt_core.specs.declared.delivery.Delivered.TheVariants.{Took, Back, Answered}
 use Rattle.rt_core.specs.State.{CoreView, no_tally, tally_of, entry_runtime}
+use Rattle.rt_core.specs.Closing.{refusal}
 
 module _ {J : Type 0} where
   -- the delivery is counted
@@ -29,8 +29,9 @@ module _ {J : Type 0} where
       delivered = counted name old;
     }
 
-  -- a queue is made, with the next number and no job
+  -- a queue is made in an open core, with the next number and no job
   pub record Creates (old : CoreView J) (weight : ℕ) (new : CoreView J) : Type 0 where
+    pub is_open : old.mode ≡ None
     pub few : queue_count old.queues < 256
     pub added : AddsQueue old.queues new.queues (queue_count old.queues) weight
     pub rest : new ≡ record old { queues = new.queues; tallies = old.tallies ++ no_tally ∷ []; delivered = new.delivered }
@@ -56,18 +57,20 @@ module _ {J T : Type 0} where
   -- what a delivery does to the core, by what it answers, with its notes in their order
   abbrev pub Delivers : CoreView J → JobId → Order J → Delivered J → CoreView J → List (Note T) → Type 0
   Delivers old name (Job queue job) Took new written =
-      Enters old name queue job new × (written ≡ notes.Took name queue ∷ [])
+      (refusal queue old ≡ None) × Enters old name queue job new × (written ≡ notes.Took name queue ∷ [])
   Delivers old name (Job queue job) (Back reason order) new written =
-      (queue_count old.queues ≤ queue) × (reason ≡ why.NoQueue) × (order ≡ Job queue job)
+      (refusal queue old ≡ Some reason) × (order ≡ Job queue job)
       × CountsAlone old name new × (written ≡ notes.Back name reason ∷ [])
   Delivers old name (Create weight) (Answered (answers.Created queue)) new written =
       (queue ≡ queue_count old.queues) × Creates old weight new × (new.delivered ≡ counted name old)
       × (written ≡ notes.Answered name (answers.Created queue) ∷ notes.Created queue weight ∷ [])
-  -- a core that has 256 queues says so; else there was no memory
+  -- a closed core says so; else one that has 256 queues does; else there was no memory
+  Delivers old name (Create weight) (Answered answers.CoreClosing) new written =
+      (old.mode ≢ None) × CountsAlone old name new × (written ≡ notes.Answered name answers.CoreClosing ∷ [])
   Delivers old name (Create weight) (Answered answers.TooMany) new written =
-      (queue_count old.queues ≡ 256) × CountsAlone old name new × (written ≡ notes.Answered name answers.TooMany ∷ [])
+      (old.mode ≡ None) × (queue_count old.queues ≡ 256) × CountsAlone old name new × (written ≡ notes.Answered name answers.TooMany ∷ [])
   Delivers old name (Create weight) (Answered answers.NoMemory) new written =
-      (queue_count old.queues < 256) × CountsAlone old name new × (written ≡ notes.Answered name answers.NoMemory ∷ [])
+      (old.mode ≡ None) × (queue_count old.queues < 256) × CountsAlone old name new × (written ≡ notes.Answered name answers.NoMemory ∷ [])
   Delivers old name (SetShares queue weight) (Answered answers.SharesSet) new written =
       Weighs old queue weight new × (new.delivered ≡ counted name old)
       × (written ≡ notes.Answered name answers.SharesSet ∷ notes.SharesSet queue weight ∷ [])

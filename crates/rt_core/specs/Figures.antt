@@ -1,16 +1,16 @@
 -- What a core tells of itself in numbers.
-use Rattle.std.specs.Prelude.{ℕ, false, length}
+use Rattle.std.specs.Prelude.{ℕ, Bool, length}
 use Rattle.rt_ids.specs.declared.stats.CoreStats.{CoreStats}
 use Rattle.rt_ids.specs.declared.stats.QueueStats.{QueueStats}
 use Rattle.rt_taskqueue.specs.Queues.{waiting_of, shares_of}
 use Rattle.rt_core.specs.State.{CoreView, tally_of, runtime_of, inside_count}
 
 module _ {J : Type 0} where
-  -- nothing closes a core, so none is drained
-  abbrev pub core_stats : CoreView J → CoreStats
-  core_stats view = record { turns = view.turns; floor = view.floor; held = inside_count view; drained = false }
+  -- the numbers of a core, which is drained or not
+  abbrev pub core_stats : CoreView J → Bool → CoreStats
+  core_stats view drained = record { turns = view.turns; floor = view.floor; held = inside_count view; drained = drained }
 
-  -- no pick hands a job back
+  -- the numbers of a queue
   abbrev pub queue_stats : ℕ → CoreView J → QueueStats
   queue_stats queue view = record {
     shares = shares_of queue view.queues;
@@ -19,5 +19,5 @@ module _ {J : Type 0} where
     virtual_runtime = runtime_of queue view;
     waiting = length (waiting_of queue view.queues);
     finished = (tally_of queue view).finished;
-    returned = 0;
+    returned = (tally_of queue view).returned;
   }

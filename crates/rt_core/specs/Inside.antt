@@ -1,12 +1,14 @@
 -- What holds inside a core.
 use Rattle.std.specs.Prelude.{◌≡◌, ℕ, ◌+◌, ◌*◌, ◌^◌, ◌<◌, ◌≤◌, ◌==◌, ◌&&◌, not, Bool, false, Option, Some, None, is_some, IfSome, List, [], ◌∷◌, length, All, slice_index_or, if◌then◌else◌}
 use Rattle.rt_ids.specs.declared.names.Key.{Key}
+use Rattle.rt_ids.specs.declared.order.Mode.{Mode}
 use Rattle.rt_ids.specs.Names.{is_number}
 use Rattle.rt_ids.specs.Work.{number_if}
 use Rattle.rt_jobs.specs.Ready.{IsReady}
 use Rattle.rt_taskqueue.specs.Queues.{QueuesView, waiting_of, queue_count, IsWithinLimits}
 use Rattle.rt_core.specs.declared.out.Out.{Out}
 use Rattle.rt_core.specs.declared.tally.Tally.{Tally}
+use Rattle.rt_core.specs.Senders.{SendersView}
 use Rattle.rt_core.specs.State.{CoreView, JobOut, is_any, queue_out, runtime_of, inside_count}
 
 -- the job that is out, as callers see it
@@ -25,6 +27,7 @@ pub record FitsTurns (turns unsettled : ℕ) (tally : Tally) : Type 0 where
   pub selected : tally.selected ≤ turns
   pub time : tally.time + unsettled * 2 ^ 40 ≤ turns * 2 ^ 40
   pub finished : tally.finished + unsettled ≤ turns
+  pub returned : tally.returned + unsettled ≤ turns
 
 -- a queue has its slip exactly where none of these keys is of it
 pub record KeepsSlips (queues : ℕ) (slips : List Bool) (keys : List Key) : Type 0 where
@@ -33,8 +36,8 @@ pub record KeepsSlips (queues : ℕ) (slips : List Bool) (keys : List Key) : Typ
 
 module _ {J : Type 0} where
   -- what callers see of these fields
-  abbrev pub core_view : ℕ → ℕ → QueuesView J → List Tally → ℕ → ℕ → Option (JobOut J) → List ℕ → CoreView J
-  core_view core cores queues tallies floor turns out delivered = record {
+  abbrev pub core_view : ℕ → ℕ → QueuesView J → List Tally → ℕ → ℕ → Option (JobOut J) → SendersView → Option Mode → CoreView J
+  core_view core cores queues tallies floor turns out senders mode = record {
     core = core;
     cores = cores;
     queues = queues;
@@ -42,7 +45,9 @@ module _ {J : Type 0} where
     floor = floor;
     turns = turns;
     out = out;
-    delivered = delivered;
+    delivered = senders.delivered;
+    gates = senders.gates;
+    mode = mode;
   }
 
   -- a queue may be picked if a job waits in it and the job that is out isn't of it

@@ -1,4 +1,6 @@
 pub mod State
+pub mod Senders
+pub mod Closing
 pub mod Deliveries
 pub mod Turns
 pub mod Answers

@@ -2,6 +2,7 @@
 use Rattle.std.specs.Prelude.{ℕ, ◌+◌, ◌*◌, ◌^◌, ◌≤◌, ◌||◌, Bool, true, false, Option, Some, None, is_some, slice_index_or, replicate, List, [], ◌∷◌, if◌then◌else◌}
 use Rattle.rt_shares.specs.Charge.{placed}
 use Rattle.rt_ids.specs.declared.names.JobId.{JobId}
+use Rattle.rt_ids.specs.declared.order.Mode.{Mode}
 use Rattle.rt_ids.specs.Names.{is_number}
 use Rattle.rt_ids.specs.Work.{number_if}
 use Rattle.rt_core.specs.declared.tally.Tally.{Tally}
@@ -15,9 +16,9 @@ pub record JobOut (J : Type 0) : Type 0 where
 
 -- what is counted of a new queue
 abbrev pub no_tally : Tally
-no_tally = record { runtime = 0; selected = 0; time = 0; finished = 0 }
+no_tally = record { runtime = 0; selected = 0; time = 0; finished = 0; returned = 0 }
 
--- the core's number and how many cores there are, its queues with their tallies, the floor, the turns made, the job that is out, and how many submissions of each sender were delivered
+-- the core's number and how many cores there are, its queues with their tallies, the floor, the turns made, the job that is out, how many submissions of each sender were delivered, the final count of each gate that is shut, and the mode in which it was closed, if it was
 pub record CoreView (J : Type 0) : Type 0 where
   pub core : ℕ
   pub cores : ℕ
@@ -27,6 +28,8 @@ pub record CoreView (J : Type 0) : Type 0 where
   pub turns : ℕ
   pub out : Option (JobOut J)
   pub delivered : List ℕ
+  pub gates : List (Option ℕ)
+  pub mode : Option Mode
 
 -- whether there is any
 abbrev pub is_any : {A : Type 0} → List A → Bool
@@ -44,6 +47,10 @@ module _ {J : Type 0} where
   -- how many submissions of a sender were delivered
   abbrev pub delivered_of : ℕ → CoreView J → ℕ
   delivered_of sender view = slice_index_or view.delivered sender 0
+
+  -- the final count of a sender's gate, if it is shut
+  abbrev pub gate_of : ℕ → CoreView J → Option ℕ
+  gate_of sender view = slice_index_or view.gates sender None
 
   abbrev pub queue_out : Option (JobOut J) → Option ℕ
   queue_out None = None
@@ -66,15 +73,17 @@ module _ {J : Type 0} where
   abbrev pub IsBounded : CoreView J → Type 0
   IsBounded view = (queue : ℕ) → runtime_of queue view ≤ view.turns * 2 ^ 50
 
-  -- a core as it opens: queue 0 alone, with no job, and nothing delivered
+  -- a core as it opens: queue 0 alone, with no job, nothing delivered, and nothing closed
   abbrev pub opened : ℕ → ℕ → ℕ → ℕ → CoreView J
   opened core cores room turns = record {
     core = core;
     cores = cores;
-    queues = record { queues = record { shares = 1000; waiting = [] } ∷ []; room = room };
+    queues = record { queues = record { shares = 1000; mode = None; waiting = [] } ∷ []; room = room };
     tallies = no_tally ∷ [];
     floor = 0;
     turns = turns;
     out = None;
     delivered = replicate (cores + 1) 0;
+    gates = replicate (cores + 1) None;
+    mode = None;
   }

@@ -1,21 +1,23 @@
--- What a turn does: a pick takes the first job of the right queue out, and settling its poll charges the queue.
+-- What a turn does: a pick takes the first job of the right queue out, or hands it back, and settling its poll charges the queue.
 use Rattle.std.specs.Prelude.{◌≡◌, ℕ, ◌+◌, ◌-◌, ◌^◌, max, List, [], ◌∷◌, ◌++◌, slice_set, Bool, true, false, Some, None, unwrap_or, Result, Ok, Err}
 use Rattle.rt_shares.specs.Charge.{charge, clamped}
 use Rattle.rt_ids.specs.declared.names.JobId.{JobId}
 use Rattle.rt_ids.specs.declared.note.Note.{Note}
 use Rattle.rt_ids.specs.declared.note.Note.TheVariants as notes
+use Rattle.rt_ids.specs.declared.order.Order.TheVariants.{Job}
 use Rattle.rt_ids.specs.Keys.{KeyAtMost}
 use Rattle.rt_jobs.specs.declared.job.Step.{Step}
 use Rattle.rt_jobs.specs.declared.job.Step.TheVariants as step
 use Rattle.rt_jobs.specs.Steps.{AfterPoll}
 use Rattle.rt_taskqueue.specs.Queues.{QueuesView, waiting_of, shares_of, ChangesLine}
 use Rattle.rt_core.specs.declared.turn.Turn.{Turn}
-use Rattle.rt_core.specs.declared.turn.Turn.TheVariants.{Start, Resume, Idle}
+use Rattle.rt_core.specs.declared.turn.Turn.TheVariants.{Start, Resume, Back, Idle}
 use Rattle.rt_core.specs.declared.turn.PickError.{PickError}
 use Rattle.rt_core.specs.declared.turn.PickError.TheVariants.{Busy, Spent}
 use Rattle.rt_core.specs.declared.turn.Settled.{Settled}
 use Rattle.rt_core.specs.declared.turn.Settled.TheVariants.{Yielded, Finished}
 use Rattle.rt_core.specs.State.{CoreView, JobOut, tally_of, runtime_of}
+use Rattle.rt_core.specs.Closing.{return_reason}
 
 module _ {J : Type 0} where
   -- the queue has a job at the head, and no queue with a job has a lesser pair (virtual runtime, number)
@@ -37,6 +39,23 @@ module _ {J : Type 0} where
       out = Some (record { name = name; queue = queue; job = job });
     }
 
+  -- the head of the next queue is handed back; that is a turn, and nothing is charged
+  pub record HandsBack (old : CoreView J) (name : JobId) (queue : ℕ) (job : J) (new : CoreView J) : Type 0 where
+    pub next : IsNext old queue
+    pub was_started : Bool
+    pub others : List (JobId × Bool × J)
+    pub first : waiting_of queue old.queues ≡ (name, was_started, job) ∷ others
+    pub line : ChangesLine old.queues new.queues queue others
+    pub rest : new ≡ record old {
+      queues = new.queues;
+      tallies = slice_set old.tallies queue (record (tally_of queue old) {
+        selected = (tally_of queue old).selected + 1;
+        returned = (tally_of queue old).returned + 1;
+      });
+      floor = max old.floor (runtime_of queue old);
+      turns = old.turns + 1;
+    }
+
   -- the queue of the job that was out is charged for the time, under the shares that it has now
   abbrev pub settled_view : CoreView J → JobOut J → ℕ → ℕ → QueuesView J → CoreView J
   settled_view old job time done queues = record old {
@@ -53,9 +72,13 @@ module _ {J T : Type 0} where
   -- what a pick does, by what it answers, with its notes in their order
   abbrev pub Picks : CoreView J → Result (Turn J) PickError → CoreView J → List (Note T) → Type 0
   Picks old (Ok (Start name queue job)) new written =
-      TakesOut old name queue false job new × (written ≡ notes.Pick queue (runtime_of queue old) ∷ notes.Start name ∷ [])
+      TakesOut old name queue false job new × (return_reason queue old ≡ None) × (written ≡ notes.Pick queue (runtime_of queue old) ∷ notes.Start name ∷ [])
   Picks old (Ok (Resume name queue job)) new written =
-      TakesOut old name queue true job new × (written ≡ notes.Pick queue (runtime_of queue old) ∷ notes.Resume name ∷ [])
+      TakesOut old name queue true job new × (return_reason queue old ≡ None) × (written ≡ notes.Pick queue (runtime_of queue old) ∷ notes.Resume name ∷ [])
+  Picks old (Ok (Back name reason (Job queue job))) new written =
+      HandsBack old name queue job new × (return_reason queue old ≡ Some reason)
+      × (written ≡ notes.Pick queue (runtime_of queue old) ∷ notes.Returned name reason ∷ [])
+  Picks old (Ok (Back name reason order)) new written = ⊥
   Picks old (Ok Idle) new written =
       (old.out ≡ None) × ((queue : ℕ) → waiting_of queue old.queues ≡ []) × (new ≡ old) × (written ≡ [])
   -- a job that is out comes before turns that are used up

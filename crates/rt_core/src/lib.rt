@@ -9,6 +9,8 @@ pub mod one_core;
 pub mod out;
 mod ready;
 #[doc(hidden)]
+pub mod senders;
+#[doc(hidden)]
 pub mod tally;
 pub mod turn;
 

@@ -1,21 +1,23 @@
 //! One core.
-ghost use Rattle.std.specs.Prelude.{◌≡◌, ◌↔◌, ℕ, ◌+◌, ◌*◌, ◌<◌, ◌≤◌, IsTrue, IfOk, Some, slice_get};
+ghost use Rattle.std.specs.Prelude.{◌≡◌, ◌↔◌, ℕ, ◌+◌, ◌*◌, ◌<◌, ◌≤◌, IsTrue, IfOk, Some, None, slice_get};
 ghost use Rattle.arrayvec.specs.ArrayVec.{array_vec_len};
 ghost use Rattle.rt_jobs.specs.Ready.{HasReadyJob};
 ghost use Rattle.rt_taskqueue.specs.Queues.{queue_count};
 ghost use Rattle.rt_core.specs.State.{delivered_of, inside_count, IsBounded, opened};
+ghost use Rattle.rt_core.specs.Closing.{IsDrained};
 ghost use Rattle.rt_core.specs.Deliveries.{Delivers, CreatesQueue};
 ghost use Rattle.rt_core.specs.Turns.{Picks, SettlesOut};
 ghost use Rattle.rt_core.specs.Answers.{IsReadyTurn, IsTaskOut, AnswersOut};
 ghost use Rattle.rt_core.specs.Figures.{core_stats, queue_stats};
 
 use crate::delivery::Delivered;
-use crate::notes::{Notes, one_note, two_notes};
+use crate::notes::{Notes, one_note};
 use crate::out::Out;
+use crate::senders::Senders;
 use crate::tally::{MOST_QUEUES, Tally};
 use crate::turn::{PickError, Settled, Turn};
 use arrayvec::ArrayVec;
-use rt_ids::{CoreNo, CoreStats, Envelope, JobId, Key, Note, Order, QueueNo, QueueStats};
+use rt_ids::{CoreNo, CoreStats, Envelope, JobId, Mode, Note, Order, QueueNo, QueueStats};
 use rt_jobs::{Ran, Step, Task};
 use rt_shares::Shares;
 use rt_taskqueue::{CreateError, Queues};
@@ -23,8 +25,10 @@ use rt_timeline::Timeline;
 use std::alloc::{AllocError, Allocator, Global};
 use std::marker::Model;
 
+mod closings;
 mod deliveries;
 mod figures;
+mod picks;
 mod polls;
 
 /// One core: its task queues, what each has used of the core, and the job that is being polled.
@@ -37,13 +41,15 @@ pub struct Core<J: Task, A: Allocator + Clone = Global> {
     // times it is with its queue.
     ready: Timeline<A>,
     tallies: Vec<Tally, A>,
-    delivered: Vec<u64, A>,
+    senders: Senders<A>,
     floor: u128,
     turns: u64,
     // How many jobs are inside: those that wait, and the one that is out.
     inside: usize,
     room: usize,
     out: Option<Out<J>>,
+    // How the core was closed, if it was.
+    mode: Option<Mode>,
 }
 
 impl<J: Task, A: Allocator + Clone> Model for Core<J, A> {
@@ -55,9 +61,9 @@ impl<J: Task, A: Allocator + Clone> Model for Core<J, A> {
     ghost use Rattle.rt_taskqueue.specs.Slips.{queues_alone};
     ghost use Rattle.rt_core.specs.Inside.{job_out, core_view, IsCore};
 
-    ghost view = { λ c. core_view c.core c.cores (queues_alone c.queues) c.tallies.items c.floor c.turns (job_out c.out) c.delivered.items };
+    ghost view = { λ c. core_view c.core c.cores (queues_alone c.queues) c.tallies.items c.floor c.turns (job_out c.out) c.senders c.mode };
 
-    ghost invariant = { λ c. IsCore J.done J.CanPoll (core_view c.core c.cores (queues_alone c.queues) c.tallies.items c.floor c.turns (job_out c.out) c.delivered.items) c.queues.slips c.ready.keys c.inside c.room (vec_capacity c.tallies) };
+    ghost invariant = { λ c. IsCore J.done J.CanPoll (core_view c.core c.cores (queues_alone c.queues) c.tallies.items c.floor c.turns (job_out c.out) c.senders c.mode) c.queues.slips c.ready.keys c.inside c.room (vec_capacity c.tallies) };
 }
 
 impl<J: Task, A: Allocator + Clone> Core<J, A> {
@@ -79,23 +85,24 @@ impl<J: Task, A: Allocator + Clone> Core<J, A> {
     ) -> Result<Self, AllocError>
         ensures { IfOk result (λ c. c ≡ opened core cores ((cores + 1) * cap) turns) }
     {
-        let senders = usize::from(cores) + 1;
-        let room = senders * usize::from(cap);
+        let count = usize::from(cores) + 1;
+        let room = count * usize::from(cap);
         let mut tallies = Vec::with_capacity(alloc.clone()?, MOST_QUEUES)?;
         tallies.push_reserved(Tally::NONE);
-        let delivered = Vec::from_elem(alloc.clone()?, 0, senders)?;
+        let senders = Senders::open(alloc.clone()?, count)?;
         Ok(Core {
             core,
             cores,
             queues: Queues::open(alloc, room)?,
             ready: Timeline::new(),
             tallies,
-            delivered,
+            senders,
             floor: 0,
             turns,
             inside: 0,
             room,
             out: None,
+            mode: None,
         })
     }
 
@@ -112,15 +119,16 @@ impl<J: Task, A: Allocator + Clone> Core<J, A> {
             ↔ ((name.now.from ≤ self.now.cores) × (name.now.number ≡ delivered_of name.now.from self.now + 1)) }
     {
         let sender = usize::from(name.from.0);
-        sender < self.delivered.len()
+        sender < self.senders.len()
             && name.number > 0
-            && self.delivered[sender] == name.number - 1
+            && self.senders.delivered(sender) == name.number - 1
     }
 
-    /// Makes a queue under the next number.
+    /// Makes a queue in an open core, under the next number.
     pub fn create(&mut self, shares: Shares) -> (Result<QueueNo, CreateError>, Notes<J::Out>)
     where
         J::Out: Copy,
+        requires is_open { self.old.mode ≡ None }
         ensures creates { CreatesQueue self.old shares result.0 self.new result.1.items }
         ensures bounded { IsBounded self.new }
     {
@@ -152,7 +160,8 @@ impl<J: Task, A: Allocator + Clone> Core<J, A> {
         }
     }
 
-    /// Picks the queue of least virtual runtime, then least number, and takes its first job out.
+    /// Picks the queue of least virtual runtime, then least number, and takes its first job out, or hands it back if the queue or the
+    /// core is closed so.
     pub fn pick(&mut self) -> (Result<Turn<J>, PickError>, Notes<J::Out>)
     where
         J::Out: Copy,
@@ -169,21 +178,8 @@ impl<J: Task, A: Allocator + Clone> Core<J, A> {
         if self.turns == u64::MAX {
             return (Err(PickError::Spent), ArrayVec::new());
         }
-        let (key, name, started, job) = self.take_out();
-        let Key { vr, queue } = key;
-        let picked = Note::Pick(queue, vr);
-        let polled = name;
-        if started {
-            (
-                Ok(Turn::Resume(name, queue, job)),
-                two_notes(picked, Note::Resume(polled)),
-            )
-        } else {
-            (
-                Ok(Turn::Start(name, queue, job)),
-                two_notes(picked, Note::Start(polled)),
-            )
-        }
+        let (turn, notes) = self.pick_first();
+        (Ok(turn), notes)
     }
 
     /// Settles the poll of the job that is out. If the job told no time of its own, `spent` nanoseconds count.
@@ -214,7 +210,8 @@ impl<J: Task, A: Allocator + Clone> Core<J, A> {
 
     /// What the core tells of itself in numbers, with one entry for each queue by number.
     pub fn stats(&self) -> (CoreStats, ArrayVec<QueueStats, 256>)
-        ensures core { result.0 ≡ core_stats self.now }
+        ensures core { result.0 ≡ core_stats self.now result.0.drained }
+        ensures drained { IsTrue result.0.drained ↔ IsDrained self.now }
         ensures count { array_vec_len result.1 ≡ queue_count self.now.queues }
         ensures queues { (queue : ℕ) → queue < queue_count self.now.queues → slice_get result.1.items queue ≡ Some (queue_stats queue self.now) }
     {

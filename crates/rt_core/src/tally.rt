@@ -19,6 +19,8 @@ pub struct Tally {
     pub time: u128,
     /// Its jobs that are done.
     pub finished: u64,
+    /// Its jobs that a pick handed back.
+    pub returned: u64,
 }
 
 impl Tally {
@@ -28,6 +30,7 @@ impl Tally {
         selected: 0,
         time: 0,
         finished: 0,
+        returned: 0,
     };
 
     /// After a poll of this time under these shares, with so many more jobs done.
@@ -48,6 +51,7 @@ impl Tally {
             selected: self.selected,
             time: self.time + u128::from(clamped(time)),
             finished: self.finished + done,
+            returned: self.returned,
         }
     }
 }

@@ -1,6 +1,6 @@
 //! What a pick and a settled poll came to.
 
-use rt_ids::{JobId, QueueNo};
+use rt_ids::{JobId, Order, QueueNo, Reason};
 
 /// What a pick came to.
 #[derive(PartialEq, Eq, Debug, Drop)]
@@ -9,6 +9,8 @@ pub enum Turn<J> {
     Start(JobId, QueueNo, J),
     /// The job is out for a further poll.
     Resume(JobId, QueueNo, J),
+    /// The job is handed back, in its order.
+    Back(JobId, Reason, Order<J>),
     /// No queue has work.
     Idle,
 }

@@ -1,6 +1,6 @@
 -- What a core does with an order that is delivered to it, case by case, told in one form.
 use Rattle.std.proofs.Common.{◌≡◌, inl, ℕ, ◌+◌, ◌<◌, ◌≤◌, Bool, true, false, List, [], ◌∷◌, ◌++◌, length, refl, sym, ◌∙◌, ap, subst, arith, add-zero, cond}
-use Rattle.std.specs.Prelude.{◌==◌, Option, Some, None, is_some, All, reverse}
+use Rattle.std.specs.Prelude.{◌==◌, ◌≢◌, Option, Some, None, is_some, All, reverse, nat_le}
 use Rattle.std.proofs.lemmas.Bool.{eqb-true, eqb-false, le-leb, lt-leb}
 use Rattle.std.proofs.lemmas.List.{append-nil, length-append}
 use Rattle.std.proofs.lemmas.List.Elements.{All-cons, All-nil}
@@ -10,15 +10,16 @@ use Rattle.rt_ids.specs.declared.note.Note.{Note}
 use Rattle.rt_ids.specs.declared.note.Note.TheVariants as writes
 use Rattle.rt_ids.specs.declared.order.Order.{Order}
 use Rattle.rt_ids.specs.declared.order.Order.TheVariants.{Job, Create, SetShares}
-use Rattle.rt_ids.specs.declared.order.Reason.TheVariants as why
+use Rattle.rt_ids.specs.declared.order.Mode.{Mode}
+use Rattle.rt_ids.specs.declared.order.Reason.{Reason}
 use Rattle.rt_ids.specs.declared.order.Answer.{Answer}
 use Rattle.rt_ids.specs.declared.order.Answer.TheVariants as answers
 use Rattle.rt_ids.specs.Journal.{Journal, EachNote, with_last}
 use Rattle.rt_ids.specs.Assembly.{IsPrefix}
-use Rattle.rt_ids.specs.Filters.{accepted_orders, collected_outcomes, delivered_names, given_outcomes}
-use Rattle.rt_ids.specs.Outstanding.{outstanding_count}
+use Rattle.rt_ids.specs.Filters.{delivered_names, given_outcomes}
 use Rattle.rt_ids.specs.Work.{number_if}
-use Rattle.rt_ids.specs.Commands.{created_count, refusal, IsAnswer, has_effect, effect_note}
+use Rattle.rt_ids.specs.Commands.{created_count, refusal, IsAnswer, IsCreationAnswer, has_effect}
+use Rattle.rt_ids.specs.Closing.{core_mode}
 use Rattle.rt_ids.specs.Lawful.{IsNextDelivered}
 use Rattle.rt_ids.proofs.Told.{length-with_last_if}
 use Rattle.rt_taskqueue.specs.Queues.{queue_count, waiting_of, held_count}
@@ -34,8 +35,8 @@ use Rattle.rt_journal.specs.Agreement.{IsKept}
 use Rattle.rt_ids.specs.Joining.{DeliversAs}
 pub use Rattle.rt_journal.specs.Ends.{KeepsLists}
 use Rattle.rt_journal.specs.Recorded.{RecordedView, terms_at, sum_upto, delivered_count, given_count}
-use Rattle.rt_journal.proofs.Kept.{open_core}
-use Rattle.rt_journal.proofs.KeptDeliveries.{kept-took, refusal-exists, refusal-missing}
+use Rattle.rt_journal.proofs.KeptModes.{refusal-agrees}
+use Rattle.rt_journal.proofs.KeptDeliveries.{kept-took}
 use Rattle.rt_journal.proofs.KeptAnswers.{kept-back, kept-answered}
 use Rattle.rt_journal.proofs.KeptCommands.{kept-created, kept-weighed}
 use Rattle.rt_journal.proofs.Sums.{sum_upto-at_most_one}
@@ -89,12 +90,13 @@ module _ {J T : Type 0} (old : RecordedView J T) (name : JobId)
     outstanding = λ core. refl;
     collected = λ core. refl;
     given = λ sender. ([], append-nil (given_outcomes sender journal));
+    gates = λ sender. refl;
   }
 
-  -- a job enters its queue
-  pub enters_queue : (queue : ℕ) (job : J) → Enters old.core name queue job core → IsCarriedOut old name (Job queue job) core (writes.Took name queue ∷ [])
-  enters_queue queue job enters = record {
-    kept = kept-took (terms_at old) old.core core name queue job journal kept next sender enters;
+  -- a job that isn't refused enters its queue
+  pub enters_queue : (queue : ℕ) (job : J) → refusal queue journal ≡ None → Enters old.core name queue job core → IsCarriedOut old name (Job queue job) core (writes.Took name queue ∷ [])
+  enters_queue queue job accepted enters = record {
+    kept = kept-took (terms_at old) old.core core name queue job journal kept next sender enters accepted;
     number = ap (λ core. core.core) enters.rest;
     cores = ap (λ core. core.cores) enters.rest;
     room = enters.line.same_room;
@@ -113,9 +115,6 @@ module _ {J T : Type 0} (old : RecordedView J T) (name : JobId)
     where
       inside : inside_count core ≡ held_count core.queues + number_if (is_some old.core.out)
       inside = ap (λ out. held_count core.queues + number_if (is_some out)) (ap (λ core. core.out) enters.rest)
-
-      accepted : refusal queue journal ≡ None
-      accepted = refusal-exists journal kept.closes_nothing queue (omega (arith, enters.exists, kept.agrees.last))
 
       line_now : (other : ℕ) (test : Bool) → (other == queue) ≡ test → waiting_of other core.queues ≡ waiting_of other old.core.queues ++ cond test ((name, false, job) ∷ []) []
       line_now other true one =
@@ -139,15 +138,15 @@ module _ {J T : Type 0} (old : RecordedView J T) (name : JobId)
     alone_line : (queue : ℕ) → waiting_of queue core.queues ≡ waiting_of queue old.core.queues ++ []
     alone_line queue = ap (λ core. waiting_of queue core.queues) counts ∙ sym (append-nil (waiting_of queue old.core.queues))
 
-    -- a job for a queue that isn't there goes back
-    pub goes_back : (queue : ℕ) (job : J) → queue_count old.core.queues ≤ queue → IsCarriedOut old name (Job queue job) core (writes.Back name why.NoQueue ∷ [])
-    goes_back queue job missing = record {
-      kept = kept-back (terms_at old) old.core core name journal kept next sender counts queue missing;
+    -- a job that is refused goes back
+    pub goes_back : (queue : ℕ) (job : J) (reason : Reason) → refusal queue journal ≡ Some reason → IsCarriedOut old name (Job queue job) core (writes.Back name reason ∷ [])
+    goes_back queue job reason refused = record {
+      kept = kept-back (terms_at old) old.core core name journal kept next sender counts queue reason refused;
       number = ap (λ core. core.core) counts;
       cores = ap (λ core. core.cores) counts;
       room = ap (λ core. core.queues.room) counts;
       out = ap (λ core. core.out) counts;
-      lists = record { accepted = λ core. refl; outstanding = λ core. refl; collected = λ core. refl; given = λ from. prefix-with_last (given_outcomes from journal) _ };
+      lists = record { accepted = λ core. refl; outstanding = λ core. refl; collected = λ core. refl; given = λ from. prefix-with_last (given_outcomes from journal) _; gates = λ from. refl };
       delivered = counted_one;
       held = omega (arith, ap inside_count counts, given_more);
       polls = λ which. no_polls which journal;
@@ -159,11 +158,8 @@ module _ {J T : Type 0} (old : RecordedView J T) (name : JobId)
       few = omega arith;
     }
       where
-        refused : refusal queue journal ≡ Some why.NoQueue
-        refused = refusal-missing journal queue (omega (arith, missing, kept.agrees.last))
-
-        given_more : sum_upto (given_count (writes.Back name why.NoQueue ∷ journal)) old.core.cores ≤ sum_upto (given_count journal) old.core.cores + 1
-        given_more = sum_upto-at_most_one (given_count journal) (given_count (writes.Back name why.NoQueue ∷ journal)) name.from
+        given_more : sum_upto (given_count (writes.Back name reason ∷ journal)) old.core.cores ≤ sum_upto (given_count journal) old.core.cores + 1
+        given_more = sum_upto-at_most_one (given_count journal) (given_count (writes.Back name reason ∷ journal)) name.from
             (λ from. length-with_last_if (given_outcomes from journal) _ (name.from == from)) old.core.cores
 
     -- a command is answered, and nothing else is done
@@ -175,7 +171,7 @@ module _ {J T : Type 0} (old : RecordedView J T) (name : JobId)
       cores = ap (λ core. core.cores) counts;
       room = ap (λ core. core.queues.room) counts;
       out = ap (λ core. core.out) counts;
-      lists = record { accepted = λ core. refl; outstanding = λ core. refl; collected = λ core. refl; given = λ from. prefix-with_last (given_outcomes from journal) _ };
+      lists = record { accepted = λ core. refl; outstanding = λ core. refl; collected = λ core. refl; given = λ from. prefix-with_last (given_outcomes from journal) _; gates = λ from. refl };
       delivered = counted_one;
       held = omega (arith, ap inside_count counts, answered_more answer);
       polls = λ which. no_polls which journal;
@@ -196,7 +192,7 @@ module _ {J T : Type 0} (old : RecordedView J T) (name : JobId)
     cores = ap (λ core. core.cores) creates.rest;
     room = creates.added.same_room;
     out = ap (λ core. core.out) creates.rest;
-    lists = record { accepted = λ core. refl; outstanding = λ core. refl; collected = λ core. refl; given = λ from. prefix-with_last (given_outcomes from journal) _ };
+    lists = record { accepted = λ core. refl; outstanding = λ core. refl; collected = λ core. refl; given = λ from. prefix-with_last (given_outcomes from journal) _; gates = λ from. refl };
     delivered = counted_one;
     held = omega (arith, inside, answered_more (answers.Created queue));
     polls = λ which. no_polls_twice which journal;
@@ -225,7 +221,7 @@ module _ {J T : Type 0} (old : RecordedView J T) (name : JobId)
     cores = ap (λ core. core.cores) weighs.rest;
     room = weighs.shares.same_room;
     out = ap (λ core. core.out) weighs.rest;
-    lists = record { accepted = λ core. refl; outstanding = λ core. refl; collected = λ core. refl; given = λ from. prefix-with_last (given_outcomes from journal) _ };
+    lists = record { accepted = λ core. refl; outstanding = λ core. refl; collected = λ core. refl; given = λ from. prefix-with_last (given_outcomes from journal) _; gates = λ from. refl };
     delivered = counted_one;
     held = omega (arith, inside, answered_more answers.SharesSet);
     polls = λ which. no_polls_twice which journal;
@@ -246,11 +242,18 @@ module _ {J T : Type 0} (old : RecordedView J T) (name : JobId)
           ∙ ap (λ held. held + number_if (is_some old.core.out)) weighs.shares.same_held
 
   -- a creation that is refused, by why
-  full_answer : queue_count old.core.queues ≡ 256 → (weight : ℕ) → IsAnswer (Create weight) answers.TooMany journal
-  full_answer count weight = rw (open_core journal kept.closes_nothing, le-leb 255 (created_count journal) (omega (arith, count, kept.agrees.last))) refl
+  closed_answer : old.core.mode ≢ None → (weight : ℕ) → IsAnswer (Create weight) answers.CoreClosing journal
+  closed_answer closed weight = by_mode (core_mode journal) (λ none. closed (kept.agrees.closing.mode ∙ none))
+    where
+      by_mode : (mode : Option Mode) → mode ≢ None → IsCreationAnswer mode (nat_le 255 (created_count journal)) (created_count journal + 1) answers.CoreClosing
+      by_mode None some = absurd (some refl)
+      by_mode (Some mode) some = refl
 
-  memory_answer : queue_count old.core.queues < 256 → (weight : ℕ) → IsAnswer (Create weight) answers.NoMemory journal
-  memory_answer count weight = rw (open_core journal kept.closes_nothing, lt-leb 255 (created_count journal) (omega (arith, count, kept.agrees.last))) (inl refl)
+  full_answer : old.core.mode ≡ None → queue_count old.core.queues ≡ 256 → (weight : ℕ) → IsAnswer (Create weight) answers.TooMany journal
+  full_answer never count weight = rw (sym kept.agrees.closing.mode ∙ never, le-leb 255 (created_count journal) (omega (arith, count, kept.agrees.last))) refl
+
+  memory_answer : old.core.mode ≡ None → queue_count old.core.queues < 256 → (weight : ℕ) → IsAnswer (Create weight) answers.NoMemory journal
+  memory_answer never count weight = rw (sym kept.agrees.closing.mode ∙ never, lt-leb 255 (created_count journal) (omega (arith, count, kept.agrees.last))) (inl refl)
 
   missing_answer : (queue weight : ℕ) → queue_count old.core.queues ≤ queue → IsAnswer (SetShares queue weight) answers.NoQueue journal
   missing_answer queue weight missing = rw (lt-leb queue (created_count journal) (omega (arith, missing, kept.agrees.last))) refl
@@ -261,20 +264,23 @@ module _ {J T : Type 0} (old : RecordedView J T) (name : JobId)
   -- whatever the core does with the order
   pub carries_out : (order : Order J) → IsSpelledOrder (without_job order) → (delivered : Delivered J) (written : List (Note T)) →
       CarriesOut old.core name order delivered core written → IsCarriedOut old name order core (reverse written)
-  carries_out (Job queue job) spelled Took written does = subst (Done (Job queue job)) (sym does.1) (enters_queue queue job does.0)
+  carries_out (Job queue job) spelled Took written does = subst (Done (Job queue job)) (sym does.2) (enters_queue queue job (sym (refusal-agrees old.core journal kept.agrees.closing kept.agrees.last queue) ∙ does.0) does.1)
   carries_out (Job queue job) spelled (Back reason back) written does =
-      subst (Done (Job queue job)) (sym (does.4 ∙ ap (λ reason. writes.Back name reason ∷ []) does.1)) (goes_back does.3 queue job does.0)
+      subst (Done (Job queue job)) (sym does.3) (goes_back does.2 queue job reason (sym (refusal-agrees old.core journal kept.agrees.closing kept.agrees.last queue) ∙ does.0))
   carries_out (Job queue job) spelled (Answered answer) written does = absurd does
   carries_out (Create weight) spelled Took written does = absurd does
   carries_out (Create weight) spelled (Back reason back) written does = absurd does
   carries_out (Create weight) spelled (Answered (answers.Created queue)) written does =
       subst (Done (Create weight)) (sym does.3) (creates_queue queue weight spelled does.0 does.1 does.2)
+  carries_out (Create weight) spelled (Answered answers.CoreClosing) written does =
+      let right = closed_answer does.0 weight in
+      subst (Done (Create weight)) (sym does.2) (answers_alone does.1 (Create weight) answers.CoreClosing right refl (answers.CoreClosing, right, refl))
   carries_out (Create weight) spelled (Answered answers.TooMany) written does =
-      let right = full_answer does.0 weight in
-      subst (Done (Create weight)) (sym does.2) (answers_alone does.1 (Create weight) answers.TooMany right refl (answers.TooMany, right, refl))
+      let right = full_answer does.0 does.1 weight in
+      subst (Done (Create weight)) (sym does.3) (answers_alone does.2 (Create weight) answers.TooMany right refl (answers.TooMany, right, refl))
   carries_out (Create weight) spelled (Answered answers.NoMemory) written does =
-      let right = memory_answer does.0 weight in
-      subst (Done (Create weight)) (sym does.2) (answers_alone does.1 (Create weight) answers.NoMemory right refl (answers.NoMemory, right, refl))
+      let right = memory_answer does.0 does.1 weight in
+      subst (Done (Create weight)) (sym does.3) (answers_alone does.2 (Create weight) answers.NoMemory right refl (answers.NoMemory, right, refl))
   carries_out (Create weight) spelled (Answered _) written does = absurd does
   carries_out (SetShares queue weight) spelled Took written does = absurd does
   carries_out (SetShares queue weight) spelled (Back reason back) written does = absurd does

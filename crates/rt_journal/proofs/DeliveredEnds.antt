@@ -1,43 +1,25 @@
 -- The ends of links stay beside a core and its journal as an order is delivered.
-use Rattle.std.proofs.Common.{◌≡◌, ℕ, suc, ◌+◌, ◌*◌, ◌<◌, ◌≤◌, Bool, true, false, List, [], ◌∷◌, ◌++◌, length, refl, sym, ◌∙◌, ap, subst, ◌⊎◌, ⊎_elim, arith, get_or, zero-add}
-use Rattle.std.specs.Prelude.{◌==◌, Option, Some, None, All, slice_get, reverse}
-use Rattle.std.specs.Option.{option_map}
-use Rattle.std.proofs.lemmas.Bool.{eq-eqb, ne_eqb, cases_eq}
+use Rattle.std.proofs.Common.{◌≡◌, ℕ, suc, ◌+◌, ◌<◌, ◌≤◌, List, [], ◌∷◌, length, refl, sym, ◌∙◌, ap, subst, ◌⊎◌, ⊎_elim, arith}
+use Rattle.std.specs.Prelude.{◌==◌, Some, None, slice_get}
+use Rattle.std.proofs.lemmas.Bool.{eq-eqb, ne_eqb}
 use Rattle.std.proofs.lemmas.List.{length-append}
-use Rattle.std.proofs.lemmas.List.Elements.{All-append}
 use Rattle.rt_ids.specs.declared.names.JobId.{JobId}
-use Rattle.rt_ids.specs.declared.note.Note.{Note}
 use Rattle.rt_ids.specs.declared.order.Envelope.{Envelope}
 use Rattle.rt_ids.specs.declared.order.Order.{Order}
-use Rattle.rt_ids.specs.declared.order.Order.TheVariants.{Job}
 use Rattle.rt_ids.specs.declared.order.Outcome.{Outcome}
-use Rattle.rt_ids.specs.Journal.{Journal, EachNote}
 use Rattle.rt_ids.specs.Assembly.{IsPrefix}
 use Rattle.rt_ids.specs.Filters.{given_outcomes}
 use Rattle.rt_ids.specs.Work.{number_if}
-use Rattle.rt_jobs.specs.declared.job.Step.{Step}
-use Rattle.rt_jobs.specs.Steps.{IsSameTask}
-use Rattle.rt_taskqueue.specs.Queues.{waiting_of}
-use Rattle.rt_core.specs.State.{CoreView, JobOut, inside_count, delivered_of}
-use Rattle.rt_core.specs.Deliveries.{Delivers as CarriesOut}
-use Rattle.rt_core.specs.declared.delivery.Delivered.{Delivered}
 use Rattle.rt_link.specs.declared.ends.Inward.{Inward}
-use Rattle.rt_link.specs.Ends.{StartsWith, SoundIn}
+use Rattle.rt_link.specs.Ends.{SoundIn}
 use Rattle.rt_link.specs.Calls.{Takes}
-use Rattle.rt_ids.specs.Lawful.{IsNextDelivered}
-use Rattle.rt_ids.specs.Orders.{IsSpelledOrder, without_job}
-use Rattle.rt_journal.specs.Polls.{polls_made}
-use Rattle.rt_journal.specs.Agreement.{IsKept}
-use Rattle.rt_journal.specs.Recorded.{RecordedView, terms_at, IsRecorded, IsHeld, IsTaken, HasTask, OwesAfter, order_taken, note_taken, sum_upto, delivered_count, given_count}
+use Rattle.rt_journal.specs.Recorded.{RecordedView, desk_of, order_taken, delivered_count, given_count}
 use Rattle.rt_journal.specs.Ends.{IsInOf, KeepsIn, IsSameSeat, named_outcomes}
 use Rattle.rt_journal.specs.Steps.{IsNextIn, Receives}
-use Rattle.rt_journal.proofs.PollsMade.{polls_made-fresh}
-use Rattle.rt_journal.proofs.Sums.{sum_upto-one_more, sum_upto-room}
-use Rattle.rt_journal.proofs.TakenOrders.{order_taken-longer, order_taken-last, order_taken-parts, note_taken-stays, as_sent-stays}
-use Rattle.rt_journal.proofs.CarriedOut.{IsCarriedOut, IsOf, carries_out}
+use Rattle.rt_journal.proofs.TakenOrders.{order_taken-parts}
 use Rattle.rt_journal.proofs.EndsKept.{keeps_in, prefix-along, slice_get-seen}
 use Rattle.rt_journal.specs.Ends.{KeepsOuts}
-use Rattle.rt_journal.proofs.EndsKept.{keeps_outs, sees_more_in}
+use Rattle.rt_journal.proofs.EndsKept.{keeps_outs, sees_more_in, final_of-more}
 
 length-named : {J T : Type 0} (sender core : ℕ) (outcomes : List (ℕ × Outcome J T)) → length (named_outcomes sender core outcomes) ≡ length outcomes
 length-named sender core [] = refl
@@ -79,27 +61,28 @@ module _ {J T : Type 0} (old new : RecordedView J T) (envelope : Envelope J) (ne
   -- the ends of other senders stay
   pub others_keep : (sender : ℕ) → (sender ≡ name.from → ⊥) → KeepsIn sender old new
   others_keep sender other =
-      keeps_in old new seat sender (did.lists.given sender)
+      keeps_in old new seat sender (did.lists.given sender) (did.lists.gates sender)
       (let none : number_if (name.from == sender) ≡ 0 = ap number_if (ne_eqb name.from sender (λ one. other (sym one))) in omega (arith, did.delivered sender, none))
       (λ which order from at. ⊎_elim (λ was. was) (λ last. absurd (other (sym from ∙ ap (λ id. id.from) last.0))) (parts which order at))
 
   -- the sender's ends stay
-  pub outs_keep : (actor cap : ℕ) → KeepsOuts J actor cap old.journal.notes new.journal.notes
-  outs_keep actor cap = keeps_outs J actor cap old.journal.notes new.journal.notes did.lists
+  pub outs_keep : KeepsOuts (desk_of old) (desk_of new)
+  outs_keep = keeps_outs (desk_of old) (desk_of new) (λ i. record { actor = seat.number i; cores = seat.cores i; cap = seat.cap i; journal = new.journal }) did.lists
 
   counted_here : delivered_count new.journal.notes name.from ≡ delivered_count old.journal.notes name.from + 1
   counted_here = did.delivered name.from ∙ ap (λ test. delivered_count old.journal.notes name.from + number_if test) (eq-eqb name.from name.from refl)
 
   -- the end of this sender has one more taken
-  here_keeps : (before after : Inward J T) → IsInOf name.from old before → Takes before after (Some envelope) → IsInOf name.from new after
-  here_keeps before after is takes = record {
+  here_keeps : (before after : Inward J T) → IsInOf name.from old before → Takes before after (Some envelope) → SoundIn after → IsInOf name.from new after
+  here_keeps before after is takes sound = record {
     known = rw seat.cores next.sender;
     from = ap (λ end. end.from) takes.0 ∙ is.from;
     to = ap (λ end. end.to) takes.0 ∙ (is.to ∙ sym seat.number);
     base = ap (λ end. end.base) takes.0 ∙ is.base;
     capacity = ap (λ end. end.capacity) takes.0 ∙ (is.capacity ∙ sym seat.cap);
-    open_gate = ap (λ end. end.shut) takes.0 ∙ is.open_gate;
+    gate = did.lists.gates name.from ∙ (is.gate ∙ final_of-more before after (ap (λ end. end.base) takes.0) (ap (λ end. end.shut) takes.0) takes.1.1);
     taken = counted_here ∙ (ap (λ count. count + 1) is.taken ∙ sym (ap (λ end. end.taken) takes.0));
+    behind = sound.behind;
     given = subst (λ number. IsPrefix (named_outcomes name.from number after.given) (given_outcomes name.from new.journal.notes)) (sym seat.number)
         (subst (λ given. IsPrefix (named_outcomes name.from old.core.core given) (given_outcomes name.from new.journal.notes)) (sym (ap (λ end. end.given) takes.0)) (prefix-along _ _ _ is.given (did.lists.given name.from)));
     orders = λ which order from at. ⊎_elim (was which order from) (last which order) (parts which order at);
@@ -121,14 +104,14 @@ module _ {J T : Type 0} (old new : RecordedView J T) (envelope : Envelope J) (ne
       )
 
   -- the same, in the words of the end
-  pub beside_keeps : (before after : Inward J T) → IsInOf before.from old before → Takes before after (Some envelope) → IsInOf before.from new after
-  beside_keeps before after is takes =
+  pub beside_keeps : (before after : Inward J T) → IsInOf before.from old before → Takes before after (Some envelope) → SoundIn after → IsInOf before.from new after
+  beside_keeps before after is takes sound =
       let from_is : name.from ≡ before.from = ap (λ id. id.from) takes.2 in
-      subst (λ from. IsInOf from new after) from_is (here_keeps before after (subst (λ from. IsInOf from old before) (sym from_is) is) takes)
+      subst (λ from. IsInOf from new after) from_is (here_keeps before after (subst (λ from. IsInOf from old before) (sym from_is) is) takes sound)
 
   pub rest_keep : (before after : Inward J T) → Takes before after (Some envelope) → (sender : ℕ) → (sender ≡ before.from → ⊥) → KeepsIn sender old new
   rest_keep before after takes sender other = others_keep sender (λ one. other (one ∙ ap (λ id. id.from) takes.2))
 
 -- an end that shows nothing more stays beside the same core and journal
 pub nothing_keeps : {J T : Type 0} (view : RecordedView J T) (before after : Inward J T) → IsInOf before.from view before → Takes before after None → IsInOf before.from view after
-nothing_keeps view before after is takes = subst (IsInOf before.from view) (sym takes.0) (sees_more_in before.from view before after.seen takes.1.0 is)
+nothing_keeps view before after is takes = sees_more_in before.from view before after takes.0 takes.1 is

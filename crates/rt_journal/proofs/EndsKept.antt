@@ -1,17 +1,20 @@
 -- The ends of links beside a journal that grows.
 use Rattle.std.proofs.Common.{◌≡◌, ℕ, zero, suc, ◌+◌, ◌≤◌, List, [], ◌∷◌, ◌++◌, length, append_assoc, refl, sym, ◌∙◌, ap, subst, arith}
-use Rattle.std.specs.Prelude.{Some, slice_get}
+use Rattle.std.specs.Prelude.{Some, slice_get, take, Bool, true, false}
+use Rattle.std.proofs.lemmas.List.{length-append, take-append-le}
 use Rattle.rt_ids.specs.declared.names.JobId.{JobId}
 use Rattle.rt_ids.specs.declared.order.Order.{Order}
 use Rattle.rt_ids.specs.Assembly.{IsPrefix}
-use Rattle.rt_ids.specs.Journal.{Journal}
-use Rattle.rt_ids.specs.Filters.{accepted_orders, collected_outcomes, delivered_names, given_outcomes}
-use Rattle.rt_ids.specs.Outstanding.{outstanding_count}
+use Rattle.rt_ids.specs.Filters.{given_outcomes}
 use Rattle.rt_link.specs.declared.ends.Inward.{Inward}
+use Rattle.rt_ids.specs.Closing.{final_count}
+use Rattle.rt_link.specs.declared.ends.Outward.{Outward}
 use Rattle.rt_link.specs.Ends.{StartsWith}
+use Rattle.rt_link.specs.Calls.{SeesMore, final_of}
+use Rattle.rt_journal.specs.Orders.{numbered_orders}
+use Rattle.rt_journal.specs.Submissions.{DeskView}
 use Rattle.rt_journal.specs.Recorded.{RecordedView, order_taken, delivered_count}
-use Rattle.rt_journal.specs.Ends.{IsOutOf, IsInOf, KeepsOuts, KeepsIn, IsSameSeat, named_outcomes}
-use Rattle.rt_journal.proofs.CarriedOut.{KeepsLists}
+use Rattle.rt_journal.specs.Ends.{IsOutOf, IsInOf, KeepsLists, KeepsOuts, KeepsIn, ShowsMore, IsSameSeat, named_outcomes}
 
 pub prefix-along : {A : Type 0} (a b c : List A) → IsPrefix a b → IsPrefix b c → IsPrefix a c
 prefix-along a b c one two = (one.0 ++ two.0, sym (append_assoc a one.0 two.0) ∙ (ap (λ front. front ++ two.0) one.1 ∙ two.1))
@@ -26,22 +29,24 @@ pub slice_get-seen : {A : Type 0} (whole front : List A) → StartsWith whole fr
 slice_get-seen whole front starts place item at = ap (λ list. slice_get list place) starts.1 ∙ slice_get-prefix front starts.0 place item at
 
 -- notes by which nothing is sent and nothing collected leave the sender's ends as they are
-pub keeps_outs : (J : Type 0) {T : Type 0} (actor cap : ℕ) (old new : Journal T) → KeepsLists old new → KeepsOuts J actor cap old new
-keeps_outs J actor cap old new lists = record {
-  each = λ core out credited is. record {
-    from = is.from;
+pub keeps_outs : {J T : Type 0} (old new : DeskView J T) → new ≡ record old { journal = new.journal } → KeepsLists old.journal.notes new.journal.notes → KeepsOuts old new
+keeps_outs old new rest lists core = record {
+  each = λ out credited is. record {
+    known = rw (ap (λ desk. desk.cores) rest) is.known;
+    from = is.from ∙ sym (ap (λ desk. desk.actor) rest);
     to = is.to;
     base = is.base;
-    capacity = is.capacity;
-    open_gate = is.open_gate;
-    accepted = lists.accepted core ∙ is.accepted;
+    capacity = is.capacity ∙ sym (ap (λ desk. desk.cap) rest);
+    accepted = lists.accepted core ∙ (is.accepted ∙ ap (λ actor. numbered_orders actor core 0 out.sent) (sym (ap (λ desk. desk.actor) rest)));
     outstanding = ap (λ count. count + credited) (lists.outstanding core) ∙ is.outstanding;
-    collected = lists.collected core ∙ is.collected;
+    behind = is.behind;
+    collected = lists.collected core ∙ (is.collected ∙ ap (λ actor. named_outcomes actor core (take out.got out.seen)) (sym (ap (λ desk. desk.actor) rest)));
   };
 }
 
 module _ {J T : Type 0} (old new : RecordedView J T) (seat : IsSameSeat old new) (sender : ℕ)
-    (given : IsPrefix (given_outcomes sender old.journal.notes) (given_outcomes sender new.journal.notes)) where
+    (given : IsPrefix (given_outcomes sender old.journal.notes) (given_outcomes sender new.journal.notes))
+    (gates : final_count sender new.journal.notes ≡ final_count sender old.journal.notes) where
   -- a step by which nothing of a sender is delivered leaves the end of that sender as it is
   pub keeps_in : delivered_count new.journal.notes sender ≡ delivered_count old.journal.notes sender →
       ((name : JobId) (order : Order J) → name.from ≡ sender → order_taken new.took name ≡ Some order → order_taken old.took name ≡ Some order) →
@@ -53,8 +58,9 @@ module _ {J T : Type 0} (old new : RecordedView J T) (seat : IsSameSeat old new)
       to = is.to ∙ sym seat.number;
       base = is.base;
       capacity = is.capacity ∙ sym seat.cap;
-      open_gate = is.open_gate;
+      gate = gates ∙ is.gate;
       taken = same ∙ is.taken;
+      behind = is.behind;
       given = subst (λ number. IsPrefix (named_outcomes sender number inward.given) (given_outcomes sender new.journal.notes)) (sym seat.number) (prefix-along _ _ _ is.given given);
       orders = λ name order from at.
           let found = is.orders name order from (back name order from at) in
@@ -62,18 +68,48 @@ module _ {J T : Type 0} (old new : RecordedView J T) (seat : IsSameSeat old new)
     };
   }
 
+-- a gate that is shut stays so, at the same number
+pub final_of-more : {J T : Type 0} (old new : Inward J T) → new.base ≡ old.base → new.shut ≡ old.shut → (old.shut ≡ true → new.seen ≡ old.seen) →
+    final_of old old.shut ≡ final_of new new.shut
+final_of-more old new base shut same = by_gate old.shut refl ∙ ap (final_of new) (sym shut)
+  where
+    by_gate : (test : Bool) → old.shut ≡ test → final_of old test ≡ final_of new test
+    by_gate true closed = rw (base, same closed) refl
+    by_gate false still = refl
+
 -- seeing more changes nothing for the receiver's end
-pub sees_more_in : {J T : Type 0} (sender : ℕ) (view : RecordedView J T) (old : Inward J T) (seen : List (Order J)) → StartsWith seen old.seen →
-    IsInOf sender view old → IsInOf sender view (record old { seen = seen })
-sees_more_in sender view old seen starts is = record {
+pub sees_more_in : {J T : Type 0} (sender : ℕ) (view : RecordedView J T) (old new : Inward J T) → new ≡ record old { seen = new.seen } → SeesMore old new →
+    IsInOf sender view old → IsInOf sender view new
+sees_more_in sender view old new rest more is = record {
   known = is.known;
-  from = is.from;
-  to = is.to;
-  base = is.base;
-  capacity = is.capacity;
-  open_gate = is.open_gate;
-  taken = is.taken;
-  given = is.given;
+  from = ap (λ end. end.from) rest ∙ is.from;
+  to = ap (λ end. end.to) rest ∙ is.to;
+  base = ap (λ end. end.base) rest ∙ is.base;
+  capacity = ap (λ end. end.capacity) rest ∙ is.capacity;
+  gate = is.gate ∙ final_of-more old new (ap (λ end. end.base) rest) (ap (λ end. end.shut) rest) more.1;
+  taken = is.taken ∙ sym (ap (λ end. end.taken) rest);
+  behind = omega (arith, is.behind, ap (λ end. end.taken) rest, ap length more.0.1, length-append old.seen more.0.0);
+  given = subst (λ given. IsPrefix (named_outcomes sender view.core.core given) (given_outcomes sender view.journal.notes)) (sym (ap (λ end. end.given) rest)) is.given;
   orders = λ name order from at.
-      let found = is.orders name order from at in (found.0, found.1, slice_get-seen seen old.seen starts found.0 order found.2);
+      let found = is.orders name order from at in (found.0, found.1, slice_get-seen new.seen old.seen more.0 found.0 order found.2);
+}
+
+-- what was got of a list is got of one that sees more
+take-seen : {A : Type 0} (whole front : List A) → StartsWith whole front → (count : ℕ) → count ≤ length front → take count whole ≡ take count front
+take-seen whole front starts count within = ap (take count) starts.1 ∙ take-append-le count front starts.0 within
+
+-- and for the sender's end
+pub sees_more_out : {J T : Type 0} (core : ℕ) (desk : DeskView J T) (old new : Outward J T) (credited : ℕ) → ShowsMore old new →
+    IsOutOf core desk old credited → IsOutOf core desk new credited
+sees_more_out core desk old new credited more is = record {
+  known = is.known;
+  from = ap (λ end. end.from) more.rest ∙ is.from;
+  to = ap (λ end. end.to) more.rest ∙ is.to;
+  base = ap (λ end. end.base) more.rest ∙ is.base;
+  capacity = ap (λ end. end.capacity) more.rest ∙ is.capacity;
+  accepted = is.accepted ∙ ap (numbered_orders desk.actor core 0) (sym (ap (λ end. end.sent) more.rest));
+  outstanding = is.outstanding ∙ ap length (sym (ap (λ end. end.sent) more.rest));
+  behind = omega (arith, is.behind, ap (λ end. end.got) more.rest, ap length more.seen.1, length-append old.seen more.seen.0);
+  collected = is.collected ∙ ap (named_outcomes desk.actor core)
+      (sym (ap (λ got. take got new.seen) (ap (λ end. end.got) more.rest) ∙ take-seen new.seen old.seen more.seen old.got is.behind));
 }

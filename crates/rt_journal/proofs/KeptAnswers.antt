@@ -1,20 +1,22 @@
 -- What a core tells of itself stays what its journal says, as a job goes back and as a command is answered.
-use Rattle.std.proofs.Common.{◌≡◌, ℕ, ◌≤◌, false, ◌∷◌, length, refl, sym, ◌∙◌, ap, arith}
+use Rattle.std.proofs.Common.{◌≡◌, ℕ, ◌≤◌, false, ◌∷◌, length, refl, sym, ◌∙◌, ap}
+use Rattle.std.specs.Prelude.{Some}
 use Rattle.rt_ids.specs.Terms.{Terms}
 use Rattle.rt_ids.specs.declared.names.JobId.{JobId}
 use Rattle.rt_ids.specs.declared.note.Note.TheVariants as writes
 use Rattle.rt_ids.specs.declared.order.Order.{Order}
-use Rattle.rt_ids.specs.declared.order.Reason.TheVariants as why
+use Rattle.rt_ids.specs.declared.order.Reason.{Reason}
 use Rattle.rt_ids.specs.declared.order.Answer.{Answer}
 use Rattle.rt_ids.specs.Journal.{Journal}
-use Rattle.rt_ids.specs.Commands.{IsAnswer, has_effect}
+use Rattle.rt_ids.specs.Commands.{refusal, IsAnswer, has_effect}
 use Rattle.rt_ids.specs.Lawful.{MayStand, IsNextDelivered}
-use Rattle.rt_taskqueue.specs.Queues.{queue_count, waiting_of, shares_of}
+use Rattle.rt_taskqueue.specs.Queues.{queue_count, waiting_of, shares_of, mode_of}
 use Rattle.rt_core.specs.State.{CoreView, runtime_of}
 use Rattle.rt_core.specs.Deliveries.{CountsAlone}
 use Rattle.rt_journal.specs.Agreement.{Agrees}
 use Rattle.rt_journal.proofs.Kept.{IsKept, plainly_stands, stays_calm, SameJobs, calm_back, calm_answered}
-use Rattle.rt_journal.proofs.KeptDeliveries.{IsCounted, senders_counted, delivered_counted, refusal-missing}
+use Rattle.rt_journal.proofs.KeptDeliveries.{IsCounted, senders_counted, delivered_counted}
+use Rattle.rt_journal.proofs.KeptModes.{SameModes, closing-stays}
 
 -- a delivery that changes nothing but its count
 module _ {J T : Type 0} (terms : Terms) (old new : CoreView J) (name : JobId) (journal : Journal T) (kept : IsKept terms old journal)
@@ -29,6 +31,14 @@ module _ {J T : Type 0} (terms : Terms) (old new : CoreView J) (name : JobId) (j
     the_floor = ap (λ core. core.floor) counts;
     turns_made = ap (λ core. core.turns) counts;
     out = ap (λ core. core.out) counts;
+  }
+
+  modes_stay : SameModes old new
+  modes_stay = record {
+    modes = λ queue. ap (λ core. mode_of queue core.queues) counts;
+    mode = ap (λ core. core.mode) counts;
+    gates = ap (λ core. core.gates) counts;
+    cores = ap (λ core. core.cores) counts;
   }
 
   pub agrees-back : (reason : _) → Agrees new (writes.Back name reason ∷ journal)
@@ -47,6 +57,7 @@ module _ {J T : Type 0} (terms : Terms) (old new : CoreView J) (name : JobId) (j
         weights = λ queue there. ap (λ core. shares_of queue core.queues) counts ∙ kept.agrees.weights queue (rw (← ap (λ core. queue_count core.queues) counts) there);
         out_exists = λ out at. rw (ap (λ core. queue_count core.queues) counts) (kept.agrees.out_exists out (sym (ap (λ core. core.out) counts) ∙ at));
         delivered = delivered_counted terms old new name journal alone_counted kept.agrees;
+        closing = closing-stays old new (writes.Back name reason) journal modes_stay (record { queues = λ queue. refl; core = refl; gates = λ sender. refl }) kept.agrees.closing;
       }
 
   pub agrees-answered : (answer : Answer) → Agrees new (writes.Answered name answer ∷ journal)
@@ -65,16 +76,16 @@ module _ {J T : Type 0} (terms : Terms) (old new : CoreView J) (name : JobId) (j
         weights = λ queue there. ap (λ core. shares_of queue core.queues) counts ∙ kept.agrees.weights queue (rw (← ap (λ core. queue_count core.queues) counts) there);
         out_exists = λ out at. rw (ap (λ core. queue_count core.queues) counts) (kept.agrees.out_exists out (sym (ap (λ core. core.out) counts) ∙ at));
         delivered = delivered_counted terms old new name journal alone_counted kept.agrees;
+        closing = closing-stays old new (writes.Answered name answer) journal modes_stay (record { queues = λ queue. refl; core = refl; gates = λ sender. refl }) kept.agrees.closing;
       }
 
-  -- a job for a queue that doesn't exist goes back
-  pub kept-back : (queue : ℕ) → queue_count old.queues ≤ queue → IsKept terms new (writes.Back name why.NoQueue ∷ journal)
-  kept-back queue missing = record {
+  -- a job that is refused goes back
+  pub kept-back : (queue : ℕ) (reason : Reason) → refusal queue journal ≡ Some reason → IsKept terms new (writes.Back name reason ∷ journal)
+  kept-back queue reason refused = record {
     is_core = kept.is_core;
-    agrees = agrees-back why.NoQueue;
+    agrees = agrees-back reason;
     notes = (
-      plainly_stands terms (writes.Back name why.NoQueue) journal kept.is_core
-          (next, (queue, refusal-missing journal queue (omega (arith, missing, kept.agrees.last)))) kept.no_pick kept.no_answer refl tt,
+      plainly_stands terms (writes.Back name reason) journal kept.is_core (next, (queue, refused)) kept.no_pick kept.no_answer refl tt,
       kept.notes,
     );
     no_pick = refl;

@@ -12,6 +12,7 @@ use Rattle.rt_ids.specs.declared.order.Answer.{Answer}
 use Rattle.rt_ids.specs.declared.order.Answer.TheVariants as answers
 use Rattle.rt_ids.specs.Journal.{Journal, list_told}
 use Rattle.rt_ids.specs.Runtimes.{shares}
+use Rattle.rt_ids.specs.Closing.{core_mode}
 use Rattle.rt_ids.specs.Commands.{created_count, IsAnswer, IsCreationAnswer, queue_created}
 use Rattle.rt_ids.specs.Lawful.{IsNextDelivered}
 use Rattle.rt_ids.proofs.RuntimeSteps.{shares-created, shares-created_elsewhere, shares-set, shares-set_elsewhere}
@@ -19,7 +20,8 @@ use Rattle.rt_taskqueue.specs.Queues.{queue_count, shares_of}
 use Rattle.rt_core.specs.State.{CoreView, no_tally, runtime_of}
 use Rattle.rt_core.specs.Deliveries.{Creates, Weighs, counted}
 use Rattle.rt_journal.specs.Agreement.{Agrees}
-use Rattle.rt_journal.proofs.Kept.{IsKept, open_core, stays_calm, SameJobs, calm_created, calm_weighed}
+use Rattle.rt_journal.proofs.Kept.{IsKept, stays_calm, SameJobs, calm_created, calm_weighed}
+use Rattle.rt_journal.proofs.KeptModes.{closing-stays}
 use Rattle.rt_journal.proofs.KeptAnswers.{agrees-answered, answered_stands}
 
 -- one more at the end, that is what is read past the end, is not seen
@@ -48,6 +50,7 @@ module _ {J T : Type 0} (old new : CoreView J) (queue weight : ℕ) (journal : J
         weights = weights;
         out_exists = λ out at. omega (arith, creates.added.count, agrees.out_exists out (sym (ap (λ core. core.out) creates.rest) ∙ at));
         delivered = λ sender known. ap (λ list. get_or list sender 0) same ∙ agrees.delivered sender (rw (← ap (λ core. core.cores) creates.rest) known);
+        closing = closing-stays old new (writes.Created queue weight) journal (record { modes = creates.added.same_modes; mode = ap (λ core. core.mode) creates.rest; gates = ap (λ core. core.gates) creates.rest; cores = ap (λ core. core.cores) creates.rest }) (record { queues = λ queue. refl; core = refl; gates = λ sender. refl }) agrees.closing;
       }
     where
       jobs : SameJobs old new
@@ -89,6 +92,7 @@ module _ {J T : Type 0} (old new : CoreView J) (queue weight : ℕ) (journal : J
         weights = weights;
         out_exists = λ out at. rw weighs.shares.same_count (agrees.out_exists out (sym (ap (λ core. core.out) weighs.rest) ∙ at));
         delivered = λ sender known. ap (λ list. get_or list sender 0) same ∙ agrees.delivered sender (rw (← ap (λ core. core.cores) weighs.rest) known);
+        closing = closing-stays old new (writes.SharesSet queue weight) journal (record { modes = weighs.shares.same_modes; mode = ap (λ core. core.mode) weighs.rest; gates = ap (λ core. core.gates) weighs.rest; cores = ap (λ core. core.cores) weighs.rest }) (record { queues = λ queue. refl; core = refl; gates = λ sender. refl }) agrees.closing;
       }
     where
       jobs : SameJobs old new
@@ -120,9 +124,9 @@ module _ {J T : Type 0} (terms : Terms) (old new : CoreView J) (name : JobId) (q
   middle = record old { delivered = counted name old }
 
   -- a creation finds a core that isn't closed, and room for one more queue
-  pub creation_answer : (full : Bool) → nat_le 255 (created_count journal) ≡ full → (answer : Answer) → IsCreationAnswer None full (created_count journal + 1) answer →
+  pub creation_answer : core_mode journal ≡ None → (full : Bool) → nat_le 255 (created_count journal) ≡ full → (answer : Answer) → IsCreationAnswer None full (created_count journal + 1) answer →
       IsAnswer (orders.Create weight) answer journal
-  creation_answer full at answer right = rw (open_core journal kept.closes_nothing, at) right
+  creation_answer never full at answer right = rw (never, at) right
 
   pub kept-created : queue ≡ queue_count old.queues → Creates old weight new →
       IsAnswer (orders.Create weight) (answers.Created queue) journal
@@ -132,7 +136,7 @@ module _ {J T : Type 0} (terms : Terms) (old new : CoreView J) (name : JobId) (q
     record {
       is_core = kept.is_core;
       agrees = agrees-created middle new queue weight _ (agrees-answered terms old middle name journal kept next sender refl (answers.Created queue)) number
-          (record { few = creates.few; added = creates.added; rest = creates.rest }) now;
+          (record { is_open = creates.is_open; few = creates.few; added = creates.added; rest = creates.rest }) now;
       notes = (
         record { may_follow = record { next = number ∙ kept.agrees.last; in_range = rw number creates.few; shares = in_range }; turn = refl; effect = refl; writer = kept.is_core },
         (answered_stands terms old middle name journal kept next sender refl (orders.Create weight) (answers.Created queue) right, kept.notes),
@@ -148,7 +152,7 @@ module _ {J T : Type 0} (terms : Terms) (old new : CoreView J) (name : JobId) (q
       few = lt-leb 255 (created_count journal) (omega (arith, creates.few, kept.agrees.last))
 
       right : IsAnswer (orders.Create weight) (answers.Created queue) journal
-      right = creation_answer false few (answers.Created queue) (inr (ap answers.Created (number ∙ kept.agrees.last)))
+      right = creation_answer (sym kept.agrees.closing.mode ∙ creates.is_open) false few (answers.Created queue) (inr (ap answers.Created (number ∙ kept.agrees.last)))
 
   pub kept-weighed : Weighs old queue weight new →
       IsAnswer (orders.SetShares queue weight) answers.SharesSet journal

@@ -1,20 +1,19 @@
 -- What a core tells of itself stays what its journal says, as a submission is delivered.
 use Rattle.std.proofs.Common.{◌≡◌, ℕ, ◌+◌, ◌<◌, ◌≤◌, Bool, true, false, [], ◌∷◌, ◌++◌, length, refl, sym, ◌∙◌, ap, subst, arith, get_or, set, get_or-set_same, get_or-set_other, length-set, cond}
 use Rattle.std.specs.Prelude.{◌==◌, Option, Some, None, is_some, max}
-use Rattle.std.proofs.lemmas.Bool.{eqb-true, eqb-false, le-leb, lt-leb, true≢false}
+use Rattle.std.proofs.lemmas.Bool.{eqb-true, eqb-false, true≢false}
 use Rattle.std.proofs.lemmas.List.{map-append}
 use Rattle.std.proofs.lemmas.List.Elements.{All-append, All-cons, All-nil}
 use Rattle.rt_ids.specs.Terms.{Terms}
 use Rattle.rt_ids.specs.declared.names.JobId.{JobId}
 use Rattle.rt_ids.specs.declared.note.Note.TheVariants as writes
-use Rattle.rt_ids.specs.declared.order.Reason.TheVariants as why
 use Rattle.rt_ids.specs.Names.{same_name}
 use Rattle.rt_ids.specs.Journal.{Journal, EachNote, is_told, with_last}
 use Rattle.rt_ids.specs.Filters.{delivered_names, name_started, if_from}
 use Rattle.rt_ids.specs.Work.{has_work, queue_of}
 use Rattle.rt_ids.specs.Runtimes.{virtual_runtime}
 use Rattle.rt_ids.specs.Lines.{line}
-use Rattle.rt_ids.specs.Commands.{created_count, refusal}
+use Rattle.rt_ids.specs.Commands.{refusal}
 use Rattle.rt_ids.specs.Lawful.{MayFollow, MayStand, IsNextDelivered}
 use Rattle.rt_ids.proofs.Told.{one_longer}
 use Rattle.rt_ids.proofs.Known.{known_of, not_old}
@@ -27,8 +26,8 @@ use Rattle.rt_taskqueue.specs.Queues.{waiting_of}
 use Rattle.rt_core.specs.State.{CoreView, JobOut, no_tally, tally_of, runtime_of, delivered_of, is_working, entry_runtime}
 use Rattle.rt_core.specs.Deliveries.{Enters, counted}
 use Rattle.rt_journal.specs.Agreement.{Agrees, IsJobOut, AreMarked, names_of}
-use Rattle.rt_journal.specs.Yet.{ClosesNothing}
-use Rattle.rt_journal.proofs.Kept.{IsKept, plainly_stands, turns-stays, open_queues, open_core, working}
+use Rattle.rt_journal.proofs.Kept.{IsKept, plainly_stands, turns-stays, working}
+use Rattle.rt_journal.proofs.KeptModes.{SameModes, closing-stays}
 
 -- the next name from its sender is counted
 pub record IsCounted {J T : Type 0} (terms : Terms) (old new : CoreView J) (name : JobId) (journal : Journal T) : Type 0 where
@@ -66,14 +65,6 @@ module _ {J T : Type 0} (terms : Terms) (old new : CoreView J) (name : JobId) (j
           ∙ agrees.delivered sender before
           )
 
-module _ {T : Type 0} (journal : Journal T) where
-  -- a queue that exists refuses nobody, as nothing is closed, and one that doesn't exist refuses all
-  pub refusal-exists : EachNote ClosesNothing journal → (queue : ℕ) → queue ≤ created_count journal → refusal queue journal ≡ None
-  refusal-exists closes queue exists = rw (le-leb queue (created_count journal) exists, open_queues queue journal closes, open_core journal closes)
-
-  pub refusal-missing : (queue : ℕ) → created_count journal < queue → refusal queue journal ≡ Some why.NoQueue
-  refusal-missing queue missing = rw (lt-leb queue (created_count journal) missing)
-
 module _ {T : Type 0} (terms : Terms) (journal : Journal T) (notes : EachNote (MayStand terms) journal) where
   -- who is delivered now has not entered and not started
   pub not_entered : (name other : JobId) → IsNextDelivered terms name journal → is_some (queue_of other journal) ≡ true → same_name other name ≡ false
@@ -88,11 +79,19 @@ module _ {T : Type 0} (terms : Terms) (journal : Journal T) (notes : EachNote (M
       true≢false (sym (same_as_itself name) ∙ not_entered name name next entered)
       )
 
--- a job enters its queue
+-- a job that isn't refused enters its queue
 module _ {J T : Type 0} (terms : Terms) (old new : CoreView J) (name : JobId) (queue : ℕ) (job : J) (journal : Journal T) (kept : IsKept terms old journal)
-    (next : IsNextDelivered terms name journal) (sender : name.from ≤ old.cores) (enters : Enters old name queue job new) where
+    (next : IsNextDelivered terms name journal) (sender : name.from ≤ old.cores) (enters : Enters old name queue job new) (accepted : refusal queue journal ≡ None) where
   took_counted : IsCounted terms old new name journal
   took_counted = record { known = sender; next = next; now = ap (λ core. core.delivered) enters.rest; cores = ap (λ core. core.cores) enters.rest }
+
+  modes_stay : SameModes old new
+  modes_stay = record {
+    modes = enters.line.same_modes;
+    mode = ap (λ core. core.mode) enters.rest;
+    gates = ap (λ core. core.gates) enters.rest;
+    cores = ap (λ core. core.cores) enters.rest;
+  }
 
   took_lines : (other : ℕ) → names_of (waiting_of other new.queues) ≡ line other (writes.Took name queue ∷ journal)
   took_lines other = by_test (other == queue) refl
@@ -166,7 +165,7 @@ module _ {J T : Type 0} (terms : Terms) (old new : CoreView J) (name : JobId) (q
   took_out (Some job) alone = (alone.0, rw (not_entered terms journal kept.notes name job.name next (rw alone.1 refl)) alone.1)
 
   took_follows : MayFollow terms (writes.Took name queue) journal
-  took_follows = (next, refusal-exists journal kept.closes_nothing queue (omega (arith, enters.exists, kept.agrees.last)))
+  took_follows = (next, accepted)
 
   pub kept-took : IsKept terms new (writes.Took name queue ∷ journal)
   kept-took = record {
@@ -184,6 +183,7 @@ module _ {J T : Type 0} (terms : Terms) (old new : CoreView J) (name : JobId) (q
       out = subst (λ out. IsJobOut out (writes.Took name queue ∷ journal)) (sym (ap (λ core. core.out) enters.rest)) (took_out old.out kept.agrees.out);
       out_exists = λ out at. rw enters.line.same_count (kept.agrees.out_exists out (sym (ap (λ core. core.out) enters.rest) ∙ at));
       delivered = delivered_counted terms old new name journal took_counted kept.agrees;
+      closing = closing-stays old new (writes.Took name queue) journal modes_stay (record { queues = λ queue. refl; core = refl; gates = λ sender. refl }) kept.agrees.closing;
     };
     notes = (plainly_stands terms (writes.Took name queue) journal kept.is_core took_follows kept.no_pick kept.no_answer refl tt, kept.notes);
     no_pick = refl;

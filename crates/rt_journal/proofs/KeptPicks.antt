@@ -29,7 +29,8 @@ use Rattle.rt_ids.proofs.WorkOfLines.{right_pick_of_lines}
 use Rattle.rt_taskqueue.specs.Queues.{queue_count, waiting_of, shares_of, no_queue}
 use Rattle.rt_core.specs.State.{CoreView, JobOut, no_tally, tally_of, runtime_of, delivered_of}
 use Rattle.rt_core.specs.Turns.{TakesOut}
-use Rattle.rt_journal.specs.Agreement.{IsJobOut, AreMarked, names_of}
+use Rattle.rt_journal.specs.Agreement.{AgreesOnClosing, IsJobOut, AreMarked, names_of}
+use Rattle.rt_journal.proofs.KeptModes.{SameModes, same_modes, closing-stays}
 use Rattle.rt_journal.specs.Yet.{ClosesNothing, CollectsNothing}
 use Rattle.rt_journal.proofs.Kept.{IsKept, plainly_stands, turns-stays, open_queues, open_core}
 use Rattle.rt_journal.proofs.PollNotes.{poll_note, is_marked, marks-start}
@@ -194,6 +195,24 @@ module _ {J T : Type 0} (terms : Terms) (old new : CoreView J) (name : JobId) (q
   delivered_now false sender known = ap (λ core. delivered_of sender core) takes.rest ∙ kept.agrees.delivered sender (rw (← ap (λ core. core.cores) takes.rest) known)
   delivered_now true sender known = ap (λ core. delivered_of sender core) takes.rest ∙ kept.agrees.delivered sender (rw (← ap (λ core. core.cores) takes.rest) known)
 
+  closing_now : (before : Bool) → AgreesOnClosing new (poll_note name before ∷ picked)
+  closing_now before = by_note before
+    where
+      modes_stay : SameModes old new
+      modes_stay = record {
+        modes = takes.line.same_modes;
+        mode = ap (λ core. core.mode) takes.rest;
+        gates = ap (λ core. core.gates) takes.rest;
+        cores = ap (λ core. core.cores) takes.rest;
+      }
+
+      closing_picked : AgreesOnClosing new picked
+      closing_picked = closing-stays old new (writes.Pick queue runtime) journal modes_stay (record { queues = λ queue. refl; core = refl; gates = λ sender. refl }) kept.agrees.closing
+
+      by_note : (before : Bool) → AgreesOnClosing new (poll_note name before ∷ picked)
+      by_note false = closing-stays new new (writes.Start name) picked (same_modes new) (record { queues = λ queue. refl; core = refl; gates = λ sender. refl }) closing_picked
+      by_note true = closing-stays new new (writes.Resume name) picked (same_modes new) (record { queues = λ queue. refl; core = refl; gates = λ sender. refl }) closing_picked
+
   last_now : (before : Bool) → queue_count new.queues ≡ created_count (poll_note name before ∷ picked) + 1
   last_now false = takes.line.same_count ∙ kept.agrees.last
   last_now true = takes.line.same_count ∙ kept.agrees.last
@@ -234,6 +253,7 @@ module _ {J T : Type 0} (terms : Terms) (old new : CoreView J) (name : JobId) (q
       out = out_now was_started;
       out_exists = one_out;
       delivered = delivered_now was_started;
+      closing = closing_now was_started;
     };
     notes = (poll_stands was_started (sym start_told), (pick_stands left, kept.notes));
     no_pick = no_pick_now was_started;

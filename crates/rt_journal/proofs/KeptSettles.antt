@@ -17,13 +17,14 @@ use Rattle.rt_ids.proofs.JobsOut.{jobs_out-yield, jobs_out-done}
 use Rattle.rt_ids.proofs.LineSteps.{line-yield, line-yield_elsewhere, line-done}
 use Rattle.rt_ids.proofs.Starts.{is_told-alone}
 use Rattle.rt_ids.proofs.RuntimeSteps.{virtual_runtime-yield, virtual_runtime-yield_elsewhere, virtual_runtime-done, virtual_runtime-done_elsewhere, floor-stays}
-use Rattle.rt_taskqueue.specs.Queues.{QueuesView, queue_count, waiting_of, shares_of, ChangesLine}
+use Rattle.rt_taskqueue.specs.Queues.{QueuesView, queue_count, waiting_of, shares_of, mode_of, ChangesLine}
 use Rattle.rt_core.specs.State.{CoreView, JobOut, no_tally, runtime_of}
 use Rattle.rt_core.specs.Turns.{settled_view}
 use Rattle.rt_journal.specs.Agreement.{IsJobOut, AreMarked, names_of}
+use Rattle.rt_journal.proofs.KeptModes.{closing-stays}
 use Rattle.rt_journal.proofs.Kept.{IsKept, plainly_stands, turns-stays}
 
-none≢some : {A : Type 0} (item : A) → None ≡ Some item → ⊥
+pub none≢some : {A : Type 0} (item : A) → None ≡ Some item → ⊥
 none≢some item same = cc
 
 module _ {J T : Type 0} (terms : Terms) (old : CoreView J) (job : JobOut J) (time done : ℕ) (queues : QueuesView J) (journal : Journal T)
@@ -73,6 +74,7 @@ module _ {J T : Type 0} (terms : Terms) (old : CoreView J) (job : JobOut J) (tim
       out = jobs_out-yield job.name time journal is_out.0;
       out_exists = λ out none. absurd (none≢some out none);
       delivered = kept.agrees.delivered;
+      closing = closing-stays old new (writes.Yield job.name time) journal (record { modes = changes.same_modes; mode = refl; gates = refl; cores = refl }) (record { queues = λ queue. refl; core = refl; gates = λ sender. refl }) kept.agrees.closing;
     };
     notes = (plainly_stands terms (writes.Yield job.name time) journal kept.is_core is_out.0 kept.no_pick kept.no_answer refl tt, kept.notes);
     no_pick = refl;
@@ -141,6 +143,7 @@ module _ {J T : Type 0} (terms : Terms) (old : CoreView J) (job : JobOut J) (tim
       out = jobs_out-done job.name time value journal is_out.0;
       out_exists = λ out none. absurd (none≢some out none);
       delivered = kept.agrees.delivered;
+      closing = closing-stays old new (writes.Done job.name time value) journal (record { modes = λ other. ap (λ view. mode_of other view) same; mode = refl; gates = refl; cores = refl }) (record { queues = λ queue. refl; core = refl; gates = λ sender. refl }) kept.agrees.closing;
     };
     notes = (plainly_stands terms (writes.Done job.name time value) journal kept.is_core is_out.0 kept.no_pick kept.no_answer refl tt, kept.notes);
     no_pick = refl;

@@ -1,6 +1,7 @@
 pub mod Sums
 pub mod NumberedOrders
 pub mod Kept
+pub mod KeptModes
 pub mod KeptDeliveries
 pub mod KeptAnswers
 pub mod KeptCommands
@@ -17,3 +18,12 @@ pub mod Received
 pub mod DeliveredEnds
 pub mod Quiet
 pub mod Opened
+pub mod QuietSteps
+pub mod QueuesCreated
+pub mod Picked
+pub mod SettledPolls
+pub mod Wrote
+pub mod Submitted
+pub mod SentNotes
+pub mod DeliveredNames
+pub mod Together

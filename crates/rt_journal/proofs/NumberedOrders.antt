@@ -1,7 +1,11 @@
 -- Lists by place, and the numbered orders of a link.
-use Rattle.std.proofs.Common.{◌≡◌, ℕ, zero, suc, ◌+◌, ◌≤◌, List, [], ◌∷◌, ◌++◌, length, refl, ◌∙◌, ap, arith, get_or, take}
+use Rattle.std.proofs.Common.{◌≡◌, ℕ, zero, suc, ◌+◌, ◌≤◌, Bool, true, false, List, [], ◌∷◌, ◌++◌, length, refl, ◌∙◌, ap, subst, arith, get_or, take, cond}
 use Rattle.std.specs.Prelude.{Some, slice_get, map}
+use Rattle.rt_ids.specs.declared.names.JobId.{JobId}
 use Rattle.rt_ids.specs.declared.order.Order.{Order}
+use Rattle.rt_ids.specs.Assembly.{first_under}
+use Rattle.rt_ids.specs.Names.{same_name}
+use Rattle.rt_ids.proofs.NameLemmas.{one_name, same_as_itself}
 use Rattle.rt_ids.specs.Orders.{without_job}
 use Rattle.rt_journal.specs.Orders.{numbered_orders}
 
@@ -58,3 +62,37 @@ module _ {J : Type 0} (sender core : ℕ) where
   slice_get-numbered before (first ∷ orders) (suc place) order at =
       slice_get-numbered (before + 1) orders place order at
       ∙ ap (λ number. Some (record { from = sender; to = core; number = number }, without_job order)) (omega arith)
+
+-- the order at a place of a link stands first under the name of that place
+pub first_under-numbered : {J : Type 0} (sender core before : ℕ) (orders : List (Order J)) (place : ℕ) (order : Order J) → slice_get orders place ≡ Some order →
+    first_under (record { from = sender; to = core; number = before + place + 1 }) (numbered_orders sender core before orders) ≡ Some (without_job order)
+first_under-numbered sender core before [] place order at = cc
+first_under-numbered {J} sender core before (first ∷ orders) zero order at =
+    let one : first ≡ order = cc in
+    subst (λ number. first_under (record { from = sender; to = core; number = number }) (numbered_orders sender core before (first ∷ orders)) ≡ Some (without_job order)) here (found one)
+  where
+    here : before + 1 ≡ before + 0 + 1
+    here = omega arith
+
+    found : first ≡ order → first_under (record { from = sender; to = core; number = before + 1 }) (numbered_orders sender core before (first ∷ orders)) ≡ Some (without_job order)
+    found one = rw (same_as_itself (record { from = sender; to = core; number = before + 1 })) (ap (λ what. Some (without_job what)) one)
+first_under-numbered {J} sender core before (first ∷ orders) (suc place) order at =
+    passed (same_name name (record { from = sender; to = core; number = before + 1 })) refl (subst is_there later (first_under-numbered sender core (before + 1) orders place order at))
+  where
+    name : JobId
+    name = record { from = sender; to = core; number = before + suc place + 1 }
+
+    later : before + 1 + place + 1 ≡ before + suc place + 1
+    later = omega arith
+
+    is_there : ℕ → Type 0
+    is_there number = first_under (record { from = sender; to = core; number = number }) (numbered_orders sender core (before + 1) orders) ≡ Some (without_job order)
+
+    passed : (test : Bool) → same_name (record { from = sender; to = core; number = before + suc place + 1 }) (record { from = sender; to = core; number = before + 1 }) ≡ test →
+        first_under (record { from = sender; to = core; number = before + suc place + 1 }) (numbered_orders sender core (before + 1) orders) ≡ Some (without_job order) →
+        cond test (Some (without_job first)) (first_under (record { from = sender; to = core; number = before + suc place + 1 }) (numbered_orders sender core (before + 1) orders)) ≡ Some (without_job order)
+    passed false same rest = rest
+    passed true same rest =
+        let number : before + suc place + 1 ≡ before + 1 =
+        ap (λ id. id.number) (one_name (record { from = sender; to = core; number = before + suc place + 1 }) (record { from = sender; to = core; number = before + 1 }) same) in
+        absurd (omega arith)

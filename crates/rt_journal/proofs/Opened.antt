@@ -1,18 +1,22 @@
 -- A core that was just opened, beside a journal without a note.
 use Rattle.std.proofs.Common.{◌≡◌, ℕ, zero, suc, ◌+◌, ◌*◌, ◌<◌, ◌≤◌, [], refl, sym, ap, subst, arith}
-use Rattle.std.specs.Prelude.{Option, Some, None, All}
+use Rattle.std.specs.Prelude.{Option, Some, None, All, replicate, slice_index_or}
 use Rattle.std.proofs.lemmas.List.{length-replicate, get_or-replicate}
 use Rattle.std.proofs.lemmas.List.Elements.{All-nil}
-use Rattle.rt_ids.specs.declared.order.Order.{Order}
 use Rattle.rt_jobs.specs.declared.job.Step.{Step}
-use Rattle.rt_taskqueue.specs.Queues.{waiting_of, shares_of}
+use Rattle.rt_taskqueue.specs.Queues.{waiting_of, shares_of, mode_of}
 use Rattle.rt_core.specs.State.{CoreView, JobOut, runtime_of, opened}
 use Rattle.rt_journal.specs.Agreement.{Agrees, AreMarked, names_of}
-use Rattle.rt_journal.specs.Recorded.{RecordedView, IsRecorded, HasTask, sum_upto, delivered_count, given_count}
+use Rattle.rt_journal.specs.Recorded.{IsRecorded, HasTask, sum_upto, given_count}
 use Rattle.rt_journal.specs.Steps.{opened_beside}
 
 none≢some : {A : Type 0} (item : A) → None ≡ Some item → ⊥
 none≢some item same = cc
+
+none_at : (count place : ℕ) → slice_index_or {A = Option ℕ} (replicate count None) place None ≡ None
+none_at zero place = refl
+none_at (suc count) zero = refl
+none_at (suc count) (suc place) = none_at count place
 
 module _ (J : Type 0) (core cores cap : ℕ) where
   abbrev new_core : CoreView J
@@ -32,6 +36,11 @@ module _ (J : Type 0) (core cores cap : ℕ) where
   first_shares zero first = refl
   first_shares (suc queue) past = absurd (omega (arith, past))
 
+  no_mode : (queue : ℕ) → mode_of queue new_core.queues ≡ None
+  no_mode zero = refl
+  no_mode (suc zero) = refl
+  no_mode (suc (suc queue)) = refl
+
   -- it agrees with a journal without a note
   pub agrees-opened : (T : Type 0) → Agrees {J = J} {T = T} new_core []
   agrees-opened T = record {
@@ -47,6 +56,7 @@ module _ (J : Type 0) (core cores cap : ℕ) where
     out = refl;
     out_exists = λ out none. absurd (none≢some out none);
     delivered = λ sender known. get_or-replicate (cores + 1) sender 0 0 (omega (arith, known));
+    closing = record { modes = no_mode; mode = refl; gate_places = length-replicate (cores + 1) None; gates = λ sender. none_at (cores + 1) sender };
   }
 
 no_sum : (T : Type 0) (last : ℕ) → sum_upto (given_count {T = T} []) last ≡ 0

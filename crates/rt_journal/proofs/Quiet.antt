@@ -1,5 +1,5 @@
 -- Notes by which nothing is delivered: a core beside its journal stays recorded, and the ends of its links stay beside it.
-use Rattle.std.proofs.Common.{◌≡◌, ℕ, ◌+◌, ◌*◌, ◌≤◌, Bool, true, false, List, [], ◌∷◌, length, refl, sym, ◌∙◌, ap, subst, arith, add-zero}
+use Rattle.std.proofs.Common.{◌≡◌, ℕ, ◌+◌, ◌≤◌, Bool, true, false, [], ◌∷◌, length, refl, ap, arith}
 use Rattle.std.specs.Prelude.{Option}
 use Rattle.std.proofs.lemmas.List.{append-nil, length-append}
 use Rattle.rt_ids.specs.declared.names.JobId.{JobId}
@@ -26,29 +26,29 @@ module _ {T : Type 0} (notes : Journal T) where
   -- a creation
   pub quiet-created : (queue weight : ℕ) → IsQuiet notes (writes.Created queue weight ∷ notes)
   quiet-created queue weight = record {
-    lists = record { accepted = λ core. refl; outstanding = λ core. refl; collected = λ core. refl; given = λ sender. ([], append-nil (given_outcomes sender notes)) };
+    lists = record { accepted = λ core. refl; outstanding = λ core. refl; collected = λ core. refl; given = λ sender. ([], append-nil (given_outcomes sender notes)); gates = λ sender. refl };
     delivered = λ sender. refl;
   }
 
   -- a pick, and the note of the poll that begins
   pub quiet-picked : (name : JobId) (queue runtime : ℕ) (was_started : Bool) → IsQuiet notes (poll_note name was_started ∷ writes.Pick queue runtime ∷ notes)
   quiet-picked name queue runtime false = record {
-    lists = record { accepted = λ core. refl; outstanding = λ core. refl; collected = λ core. refl; given = λ sender. ([], append-nil (given_outcomes sender notes)) };
+    lists = record { accepted = λ core. refl; outstanding = λ core. refl; collected = λ core. refl; given = λ sender. ([], append-nil (given_outcomes sender notes)); gates = λ sender. refl };
     delivered = λ sender. refl;
   }
   quiet-picked name queue runtime true = record {
-    lists = record { accepted = λ core. refl; outstanding = λ core. refl; collected = λ core. refl; given = λ sender. ([], append-nil (given_outcomes sender notes)) };
+    lists = record { accepted = λ core. refl; outstanding = λ core. refl; collected = λ core. refl; given = λ sender. ([], append-nil (given_outcomes sender notes)); gates = λ sender. refl };
     delivered = λ sender. refl;
   }
 
   -- a poll that is settled
   pub quiet-settled : (name : JobId) (time : ℕ) (step : Step T) → IsQuiet notes (settle_note name time step ∷ notes)
   quiet-settled name time (steps.Done out) = record {
-    lists = record { accepted = λ core. refl; outstanding = λ core. refl; collected = λ core. refl; given = λ sender. prefix-with_last (given_outcomes sender notes) _ };
+    lists = record { accepted = λ core. refl; outstanding = λ core. refl; collected = λ core. refl; given = λ sender. prefix-with_last (given_outcomes sender notes) _; gates = λ sender. refl };
     delivered = λ sender. refl;
   }
   quiet-settled name time steps.Yield = record {
-    lists = record { accepted = λ core. refl; outstanding = λ core. refl; collected = λ core. refl; given = λ sender. ([], append-nil (given_outcomes sender notes)) };
+    lists = record { accepted = λ core. refl; outstanding = λ core. refl; collected = λ core. refl; given = λ sender. ([], append-nil (given_outcomes sender notes)); gates = λ sender. refl };
     delivered = λ sender. refl;
   }
 
@@ -83,4 +83,4 @@ module _ {T : Type 0} (old new : Journal T) (quiet : IsQuiet old new) (cores cap
 pub ins-quiet : {J T : Type 0} (old new : RecordedView J T) → IsSameSeat old new → IsQuiet old.journal.notes new.journal.notes → new.took ≡ old.took →
     (sender : ℕ) → KeepsIn sender old new
 ins-quiet old new seat quiet took sender =
-    keeps_in old new seat sender (quiet.lists.given sender) (ap length (quiet.delivered sender)) (λ name order from at. rw (← took) at)
+    keeps_in old new seat sender (quiet.lists.given sender) (quiet.lists.gates sender) (ap length (quiet.delivered sender)) (λ name order from at. rw (← took) at)

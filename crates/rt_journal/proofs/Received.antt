@@ -1,6 +1,6 @@
 -- A core beside its journal stays recorded as an order is delivered to it, and the ends of its links stay beside it.
-use Rattle.std.proofs.Common.{◌≡◌, ℕ, suc, ◌+◌, ◌*◌, ◌<◌, ◌≤◌, Bool, true, false, List, [], ◌∷◌, ◌++◌, length, refl, sym, ◌∙◌, ap, subst, ◌⊎◌, ⊎_elim, arith, get_or, zero-add}
-use Rattle.std.specs.Prelude.{◌==◌, Option, Some, None, All, slice_get, reverse}
+use Rattle.std.proofs.Common.{◌≡◌, ℕ, ◌+◌, ◌*◌, ◌<◌, ◌≤◌, Bool, List, [], ◌∷◌, ◌++◌, length, refl, sym, ◌∙◌, ap, subst, ⊎_elim, arith, get_or, zero-add}
+use Rattle.std.specs.Prelude.{◌==◌, Option, Some, None, All, reverse}
 use Rattle.std.specs.Option.{option_map}
 use Rattle.std.proofs.lemmas.Bool.{eq-eqb, ne_eqb, cases_eq}
 use Rattle.std.proofs.lemmas.List.{length-append, length-reverse}
@@ -10,33 +10,28 @@ use Rattle.rt_ids.specs.declared.note.Note.{Note}
 use Rattle.rt_ids.specs.declared.order.Envelope.{Envelope}
 use Rattle.rt_ids.specs.declared.order.Order.{Order}
 use Rattle.rt_ids.specs.declared.order.Order.TheVariants.{Job}
-use Rattle.rt_ids.specs.declared.order.Outcome.{Outcome}
-use Rattle.rt_ids.specs.Journal.{Journal, EachNote}
-use Rattle.rt_ids.specs.Assembly.{IsPrefix}
+use Rattle.rt_ids.specs.Journal.{Journal}
 use Rattle.rt_ids.specs.Filters.{given_outcomes}
 use Rattle.rt_ids.specs.Work.{number_if}
 use Rattle.rt_jobs.specs.declared.job.Step.{Step}
 use Rattle.rt_jobs.specs.Steps.{IsSameTask}
 use Rattle.rt_taskqueue.specs.Queues.{waiting_of}
-use Rattle.rt_core.specs.State.{CoreView, JobOut, inside_count, delivered_of}
+use Rattle.rt_core.specs.State.{CoreView, inside_count, delivered_of}
 use Rattle.rt_core.specs.Deliveries.{Delivers as CarriesOut}
 use Rattle.rt_core.specs.declared.delivery.Delivered.{Delivered}
-use Rattle.rt_link.specs.declared.ends.Inward.{Inward}
-use Rattle.rt_link.specs.Ends.{StartsWith, SoundIn}
-use Rattle.rt_link.specs.Calls.{Takes}
 use Rattle.rt_ids.specs.Lawful.{IsNextDelivered}
 use Rattle.rt_ids.specs.Orders.{IsSpelledOrder, without_job}
 use Rattle.rt_journal.specs.Polls.{polls_made}
 use Rattle.rt_journal.specs.Agreement.{IsKept}
+use Rattle.rt_journal.specs.Submissions.{IsWritten}
 use Rattle.rt_journal.specs.Recorded.{RecordedView, terms_at, IsRecorded, IsHeld, IsTaken, HasTask, OwesAfter, order_taken, note_taken, sum_upto, delivered_count, given_count}
-use Rattle.rt_journal.specs.Ends.{IsInOf, KeepsIn, IsSameSeat, named_outcomes}
+use Rattle.rt_journal.specs.Ends.{IsSameSeat}
 use Rattle.rt_journal.specs.Steps.{IsNextIn, Receives}
 use Rattle.rt_journal.proofs.PollsMade.{polls_made-fresh}
 use Rattle.rt_journal.proofs.Sums.{sum_upto-one_more, sum_upto-room}
 use Rattle.rt_journal.proofs.TakenOrders.{order_taken-longer, order_taken-last, order_taken-parts, note_taken-stays, as_sent-stays}
 use Rattle.rt_journal.proofs.CarriedOut.{IsCarriedOut, IsOf, carries_out}
 use Rattle.rt_journal.proofs.Kept.{open_gates}
-use Rattle.rt_journal.proofs.EndsKept.{keeps_in, prefix-along, slice_get-seen}
 
 module _ {J T : Type 0} {same : J → J → Type 0} {made : J → ℕ} {polls : J → ℕ → Step T → Option ℕ → Type 0} where
   -- a job keeps its task where its order stays under its name and no poll of it is told
@@ -180,6 +175,9 @@ module _ {J T : Type 0} {same : J → J → Type 0} {made : J → ℕ} {polls : 
 
   pub few : length written ≤ 2
   few = omega (arith, done.few, length-reverse written)
+
+  pub written_now : IsWritten (terms_at old) (reverse written ++ old.journal.notes)
+  written_now = record { notes = done.kept.notes; no_pick = done.kept.no_pick; no_answer = done.kept.no_answer; collects_nothing = done.kept.collects_nothing }
 
   module _ (new : RecordedView J T) (is : new ≡ record { cap = old.cap; core = core; journal = record old.journal { notes = reverse written ++ old.journal.notes }; took = old.took ++ envelope ∷ [] }) where
     pub sound_now : IsRecorded same made polls new

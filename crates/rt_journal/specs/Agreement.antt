@@ -7,12 +7,13 @@ use Rattle.rt_ids.specs.Filters.{delivered_names, name_started}
 use Rattle.rt_ids.specs.Work.{queue_of}
 use Rattle.rt_ids.specs.Runtimes.{virtual_runtime, shares, floor}
 use Rattle.rt_ids.specs.Lines.{line, jobs_out}
+use Rattle.rt_ids.specs.Closing.{queue_mode, core_mode, final_count}
 use Rattle.rt_ids.specs.Clauses.{queue_just_picked}
 use Rattle.rt_ids.specs.Commands.{created_count, effect_awaited}
 use Rattle.rt_ids.specs.Lawful.{MayStand}
 use Rattle.rt_ids.specs.Picks.{turns}
-use Rattle.rt_taskqueue.specs.Queues.{queue_count, shares_of, waiting_of}
-use Rattle.rt_core.specs.State.{CoreView, JobOut, runtime_of, delivered_of}
+use Rattle.rt_taskqueue.specs.Queues.{queue_count, shares_of, mode_of, waiting_of}
+use Rattle.rt_core.specs.State.{CoreView, JobOut, runtime_of, delivered_of, gate_of}
 use Rattle.rt_journal.specs.Yet.{ClosesNothing, CollectsNothing}
 
 module _ {J : Type 0} where
@@ -29,6 +30,13 @@ module _ {J T : Type 0} where
   IsJobOut None journal = jobs_out journal ≡ []
   IsJobOut (Some job) journal = (jobs_out journal ≡ job.name ∷ []) × (queue_of job.name journal ≡ Some job.queue)
 
+  -- the modes of the queues and of the core, and the gates, are those of the journal
+  pub record AgreesOnClosing (core : CoreView J) (journal : Journal T) : Type 0 where
+    pub modes : (queue : ℕ) → mode_of queue core.queues ≡ queue_mode queue journal
+    pub mode : core.mode ≡ core_mode journal
+    pub gate_places : length core.gates ≡ core.cores + 1
+    pub gates : (sender : ℕ) → gate_of sender core ≡ final_count sender journal
+
   pub record Agrees (core : CoreView J) (journal : Journal T) : Type 0 where
     pub tallied : length core.tallies ≡ queue_count core.queues
     pub senders : length core.delivered ≡ core.cores + 1
@@ -42,6 +50,7 @@ module _ {J T : Type 0} where
     pub out : IsJobOut core.out journal
     pub out_exists : (job : JobOut J) → core.out ≡ Some job → job.queue < queue_count core.queues
     pub delivered : (sender : ℕ) → sender ≤ core.cores → delivered_of sender core ≡ length (delivered_names sender journal)
+    pub closing : AgreesOnClosing core journal
 
 -- the journal is one of notes that may stand where they stand, with no step half done except a poll, and the core agrees with it;
 -- nothing is closed yet, and nothing collected

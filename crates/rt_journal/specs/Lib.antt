@@ -3,6 +3,9 @@ pub mod Polls
 pub mod Deliveries
 pub mod Yet
 pub mod Agreement
+pub mod Submissions
 pub mod Recorded
 pub mod Ends
 pub mod Steps
+pub mod Turns
+pub mod Together

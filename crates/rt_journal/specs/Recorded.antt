@@ -1,5 +1,5 @@
 -- A core beside its journal and the orders that were delivered to it, as callers see them.
-use Rattle.std.specs.Prelude.{◌≡◌, ℕ, zero, suc, ◌+◌, ◌*◌, ◌≤◌, Bool, Option, Some, None, if◌then◌else◌, List, [], ◌∷◌, length, All}
+use Rattle.std.specs.Prelude.{◌≡◌, ℕ, zero, suc, ◌+◌, ◌*◌, ◌≤◌, Option, Some, None, if◌then◌else◌, List, [], ◌∷◌, length, All}
 use Rattle.std.specs.Option.{option_map}
 use Rattle.rt_ids.specs.declared.names.JobId.{JobId}
 use Rattle.rt_ids.specs.declared.order.Envelope.{Envelope}
@@ -16,6 +16,7 @@ use Rattle.rt_notes.specs.Journals.{JournalView}
 use Rattle.rt_ids.specs.Orders.{without_job}
 use Rattle.rt_journal.specs.Polls.{polls_made}
 use Rattle.rt_journal.specs.Agreement.{IsKept}
+use Rattle.rt_journal.specs.Submissions.{DeskView}
 use Rattle.rt_ids.specs.Joining.{DeliversAs}
 
 -- the capacity of each link, the core, its journal, and the orders that were delivered to it, the oldest first
@@ -28,6 +29,10 @@ pub record RecordedView (J T : Type 0) : Type 0 where
 -- whose journal it is, and what holds of the whole house
 abbrev pub terms_at : {J T : Type 0} → RecordedView J T → Terms
 terms_at view = record { actor = view.core.core; cores = view.core.cores; cap = view.cap }
+
+-- what the same actor says of its submissions
+abbrev pub desk_of : {J T : Type 0} → RecordedView J T → DeskView J T
+desk_of view = record { actor = view.core.core; cores = view.core.cores; cap = view.cap; journal = view.journal }
 
 -- a count of the first actors together, the last one included
 abbrev pub sum_upto : (ℕ → ℕ) → ℕ → ℕ

@@ -1,31 +1,19 @@
 -- What the calls of a core beside its journal do.
-use Rattle.std.specs.Prelude.{◌≡◌, ◌==◌, ℕ, ◌+◌, ◌*◌, ◌-◌, ◌^◌, ◌<◌, ◌≤◌, ◌≢◌, Option, Some, None, unwrap_or, Bool, true, false, List, [], ◌∷◌, ◌++◌, length, Result, Ok, Err}
+use Rattle.std.specs.Prelude.{◌≡◌, ◌==◌, ℕ, ◌+◌, ◌*◌, ◌^◌, ◌<◌, ◌≤◌, Some, None, Bool, true, false, List, [], ◌∷◌, ◌++◌, Result, Ok, Err}
 use Rattle.rt_ids.specs.declared.names.JobId.{JobId}
 use Rattle.rt_ids.specs.declared.note.Note.{Note}
 use Rattle.rt_ids.specs.declared.note.Note.TheVariants as writes
 use Rattle.rt_ids.specs.declared.order.Envelope.{Envelope}
-use Rattle.rt_ids.specs.declared.order.Order.TheVariants.{Job}
-use Rattle.rt_ids.specs.Journal.{Journal, is_told}
-use Rattle.rt_ids.specs.Filters.{name_started}
-use Rattle.rt_ids.specs.Work.{has_work, number_if}
-use Rattle.rt_ids.specs.Lines.{line}
-use Rattle.rt_ids.specs.Picks.{IsRightPick, turns}
-use Rattle.rt_ids.specs.Commands.{created_count, return_reason}
-use Rattle.rt_jobs.specs.declared.job.Step.{Step}
-use Rattle.rt_jobs.specs.Steps.{AfterPoll, IfDone}
+use Rattle.rt_ids.specs.Work.{number_if}
+use Rattle.rt_ids.specs.Commands.{created_count}
 use Rattle.rt_taskqueue.specs.declared.queues.CreateError.{CreateError}
 use Rattle.rt_taskqueue.specs.declared.queues.CreateError.TheVariants.{TooMany, Memory}
-use Rattle.rt_core.specs.State.{JobOut, opened}
-use Rattle.rt_core.specs.declared.turn.Turn.{Turn}
-use Rattle.rt_core.specs.declared.turn.Turn.TheVariants.{Start, Resume, Idle}
-use Rattle.rt_core.specs.declared.turn.PickError.{PickError}
-use Rattle.rt_core.specs.declared.turn.PickError.TheVariants.{Busy, Spent}
+use Rattle.rt_core.specs.State.{opened}
 use Rattle.rt_link.specs.declared.ends.Inward.{Inward}
 use Rattle.rt_link.specs.Calls.{Takes}
 use Rattle.rt_notes.specs.Journals.{JournalView}
-use Rattle.rt_journal.specs.Polls.{polls_made, poll_note, settle_note}
 use Rattle.rt_journal.specs.Deliveries.{IsDelivery}
-use Rattle.rt_journal.specs.Recorded.{RecordedView, order_taken, delivered_count, given_count}
+use Rattle.rt_journal.specs.Recorded.{RecordedView, delivered_count, given_count}
 use Rattle.rt_journal.specs.Ends.{KeepsLists}
 
 module _ {T : Type 0} where
@@ -71,37 +59,6 @@ module _ {J T : Type 0} where
   abbrev pub CreatesQueue : ℕ → RecordedView J T → Result ℕ CreateError → RecordedView J T → Type 0
   CreatesQueue weight old (Ok queue) new =
       (queue ≡ created_count old.journal.notes + 1) × (queue < 256) × (new.journal ≡ with_notes (writes.Created queue weight ∷ []) old.journal)
+      × (new.core.out ≡ old.core.out) × (new.took ≡ old.took)
   CreatesQueue weight old (Err TooMany) new = (created_count old.journal.notes + 1 ≡ 256) × (new ≡ old)
   CreatesQueue weight old (Err Memory) new = (created_count old.journal.notes + 1 < 256) × (new ≡ old)
-
-  -- the right pick takes out the first job of its line
-  pub record IsPick (old : RecordedView J T) (name : JobId) (queue : ℕ) (was_started : Bool) (job : J) (new : RecordedView J T) : Type 0 where
-    pub runtime : ℕ
-    pub right : IsRightPick queue runtime old.journal.notes
-    pub others : List JobId
-    pub first : line queue old.journal.notes ≡ name ∷ others
-    pub kept : return_reason queue old.journal.notes ≡ None
-    pub started : was_started ≡ is_told name_started name old.journal.notes
-    pub journal : new.journal ≡ with_notes (poll_note name was_started ∷ writes.Pick queue runtime ∷ []) old.journal
-    pub out : new.core.out ≡ Some (record { name = name; queue = queue; job = job })
-    pub took : new.took ≡ old.took
-
-  -- what a pick does, by what it answers
-  abbrev pub Picks : RecordedView J T → Result (Turn J) PickError → RecordedView J T → Type 0
-  Picks old (Ok (Start name queue job)) new = IsPick old name queue false job new
-  Picks old (Ok (Resume name queue job)) new = IsPick old name queue true job new
-  Picks old (Ok Idle) new = ((queue : ℕ) → has_work queue old.journal.notes ≡ false) × (new ≡ old)
-  Picks old (Err Busy) new = (old.core.out ≢ None) × (new ≡ old)
-  Picks old (Err Spent) new =
-      (turns old.journal.notes ≡ 2 ^ 64 - 1) × ((queue : ℕ) × (has_work queue old.journal.notes ≡ true)) × (new ≡ old)
-
-  module _ (made : J → ℕ) (polls : J → ℕ → Step T → Option ℕ → Type 0) (answers : J → T → Type 0) where
-    -- the poll of the job that was out is settled: it owes what the order under its name says, counted from the job as it was sent
-    pub record Settles (old : RecordedView J T) (out : JobOut J) (ran : AfterPoll J T) (spent : ℕ) (new : RecordedView J T) : Type 0 where
-      pub sent : J
-      pub task : order_taken old.took out.name ≡ Some (Job out.queue sent)
-      pub owed : polls sent (made sent + polls_made out.name old.journal.notes) ran.step ran.told
-      pub answered : IfDone ran.step (answers sent)
-      pub journal : new.journal ≡ with_notes (settle_note out.name (unwrap_or ran.told spent) ran.step ∷ []) old.journal
-      pub out_now : new.core.out ≡ None
-      pub took : new.took ≡ old.took

@@ -1,16 +1,24 @@
 //! A core beside its journal, over any ends of links.
 
 ghost use Rattle.std.specs.Prelude.{◌≡◌, ℕ, ◌+◌, ◌<◌, ◌≤◌, ◌≢◌, length, IfOk};
+ghost use Rattle.rt_ids.specs.Commands.{IsOpening};
 ghost use Rattle.rt_jobs.specs.Ready.{HasReadyJob};
-ghost use Rattle.rt_journal.specs.Recorded.{IsRecorded};
-ghost use Rattle.rt_journal.specs.Ends.{IsInOf, KeepsIn, KeepsOuts, IsSameSeat};
-ghost use Rattle.rt_journal.specs.Steps.{opened_beside, IsNextIn, Receives, Delivers};
+ghost use Rattle.rt_core.specs.Answers.{IsReadyTurn};
+ghost use Rattle.rt_link.specs.Calls.{Sends};
+ghost use Rattle.rt_journal.specs.Submissions.{Submits, numbered};
+ghost use Rattle.rt_journal.specs.Recorded.{IsRecorded, desk_of};
+ghost use Rattle.rt_journal.specs.Ends.{IsOutOf, IsInOf, KeepsIn, KeepsOut, KeepsOuts, IsSameSeat};
+ghost use Rattle.rt_journal.specs.Steps.{opened_beside, IsNextIn, Receives, Delivers, CreatesQueue};
+ghost use Rattle.rt_journal.specs.Turns.{Picks, IsOut, IsPolled, Settles};
 
-use rt_core::Core;
-use rt_ids::{CoreNo, Envelope};
-use rt_jobs::Task;
-use rt_link::{History, InEnd};
+use crate::desk::RecordedDesk;
+use rt_core::{Core, PickError, Settled, Turn};
+use rt_ids::{ActorNo, CoreNo, Envelope, Order, QueueNo, SendError, Ticket};
+use rt_jobs::{Ran, Task};
+use rt_link::{History, InEnd, OutEnd};
 use rt_notes::Journal;
+use rt_shares::Shares;
+use rt_taskqueue::CreateError;
 use std::alloc::{AllocError, Allocator, Global};
 use std::marker::Model;
 
@@ -20,10 +28,9 @@ use std::marker::Model;
 /// of an end that is received from, and `IsOutOf` of an end that is sent on.
 #[derive(Drop)]
 pub struct Recorded<J: Task<Out = u64>, A: Allocator + Clone = Global> {
-    cap: u16,
     core: Core<J, A>,
-    journal: Journal<u64>,
     took: History<Envelope<J>>,
+    said: RecordedDesk<J>,
 }
 
 impl<J: Task<Out = u64>, A: Allocator + Clone> Model for Recorded<J, A> {
@@ -32,11 +39,14 @@ impl<J: Task<Out = u64>, A: Allocator + Clone> Model for Recorded<J, A> {
 
     ghost Value = { RecordedView J ℕ };
 
-    ghost use Rattle.rt_journal.specs.Recorded.{IsRecorded};
+    ghost use Rattle.std.specs.Prelude.{◌≡◌};
+    ghost use Rattle.rt_journal.specs.Recorded.{IsRecorded, desk_of};
 
-    ghost view = { λ r. record { cap = r.cap; core = r.core; journal = r.journal; took = r.took.items } };
+    ghost view = { λ r. record { cap = r.said.cap; core = r.core; journal = r.said.journal; took = r.took.items } };
 
-    ghost invariant = { λ r. IsRecorded J.SameTask J.made J.Polls (record { cap = r.cap; core = r.core; journal = r.journal; took = r.took.items }) };
+    ghost invariant = { λ r.
+        IsRecorded J.SameTask J.made J.Polls (record { cap = r.said.cap; core = r.core; journal = r.said.journal; took = r.took.items })
+        × (r.said ≡ desk_of (record { cap = r.said.cap; core = r.core; journal = r.said.journal; took = r.took.items })) };
 }
 
 impl<J: Task<Out = u64>, A: Allocator + Clone> Recorded<J, A> {
@@ -54,13 +64,12 @@ impl<J: Task<Out = u64>, A: Allocator + Clone> Recorded<J, A> {
         ensures opened { IfOk result (λ recorded. recorded ≡ opened_beside core cores cap room) }
         ensures sound { IfOk result (λ recorded. IsRecorded J.SameTask J.made J.Polls recorded) }
     {
-        let journal = Journal::try_with_room(alloc, room)?;
+        let said = RecordedDesk::open(alloc, ActorNo(core.0), cores, cap, room)?;
         let core = Core::open(core_alloc, core, cores, cap)?;
         Ok(Recorded {
-            cap,
             core,
-            journal,
             took: History::new(),
+            said,
         })
     }
 
@@ -68,7 +77,43 @@ impl<J: Task<Out = u64>, A: Allocator + Clone> Recorded<J, A> {
     pub fn journal(&self) -> &Journal<u64>
         ensures { result.now ≡ self.now.journal }
     {
-        &self.journal
+        self.said.journal()
+    }
+
+    /// The notes alone.
+    pub fn into_journal(self) -> Journal<u64>
+        ensures { result ≡ self.journal }
+    {
+        let Recorded { said, .. } = self;
+        said.into_journal()
+    }
+
+    /// The core, which tells of itself what the notes say.
+    pub fn core(&self) -> &Core<J, A>
+        ensures { result.now ≡ self.now.core }
+    {
+        &self.core
+    }
+
+    /// Makes a queue before anything else is done.
+    ///
+    /// # Errors
+    ///
+    /// `TooMany` where the core has 256 queues; otherwise `Memory`. Nothing changes.
+    pub fn create(&mut self, shares: Shares) -> Result<QueueNo, CreateError>
+        requires opening { IsOpening self.old.journal.notes }
+        requires room { length self.old.journal.notes < self.old.journal.room }
+        ensures creates { CreatesQueue shares self.old result self.new }
+        ensures ins { (sender : ℕ) → KeepsIn sender self.old self.new }
+        ensures outs { KeepsOuts (desk_of self.old) (desk_of self.new) }
+        ensures seat { IsSameSeat self.old self.new }
+        ensures sound { IsRecorded J.SameTask J.made J.Polls self.new }
+    {
+        // The shares are within their range, which the law of its journal asks.
+        let _in_range = shares.get();
+        let (created, notes) = self.core.create(shares);
+        self.said.write(notes.as_slice());
+        created
     }
 
     /// Takes the next order from this end and carries it out. Whether there was one.
@@ -78,12 +123,12 @@ impl<J: Task<Out = u64>, A: Allocator + Clone> Recorded<J, A> {
         ensures delivers { Delivers self.old (I.inward end.old) self.new (I.inward end.new) result }
         ensures beside { IsInOf (I.inward end.old).from self.new (I.inward end.new) }
         ensures others { (sender : ℕ) → sender ≢ (I.inward end.old).from → KeepsIn sender self.old self.new }
-        ensures outs { KeepsOuts J self.old.core.core self.old.cap self.old.journal.notes self.new.journal.notes }
+        ensures outs { KeepsOuts (desk_of self.old) (desk_of self.new) }
         ensures seat { IsSameSeat self.old self.new }
         ensures sound { IsRecorded J.SameTask J.made J.Polls self.new }
         ensures untouched { I.untouched end.new ≡ I.untouched end.old }
     {
-        let _cap = self.cap;
+        let _said = &self.said;
         match end.take() {
             Some(envelope) => {
                 self.receive(envelope);
@@ -106,6 +151,71 @@ impl<J: Task<Out = u64>, A: Allocator + Clone> Recorded<J, A> {
         let _within_ranges = envelope.order.without_job();
         self.took = self.took.with(&envelope);
         let (_, notes) = self.core.deliver(envelope);
-        self.journal.push_all(notes.as_slice());
+        self.said.write(notes.as_slice());
+    }
+
+    /// Picks the queue of least virtual runtime, then least number, and takes its first job out.
+    ///
+    /// # Errors
+    ///
+    /// `Busy` where a job is out; otherwise `Spent` where all turns are used and a queue has work. Nothing changes.
+    pub fn pick(&mut self) -> Result<Turn<J>, PickError>
+        requires room { length self.old.journal.notes + 2 ≤ self.old.journal.room }
+        ensures picks { Picks self.old result self.new }
+        ensures ready { IsReadyTurn J.done J.CanPoll result }
+        ensures ins { (sender : ℕ) → KeepsIn sender self.old self.new }
+        ensures outs { KeepsOuts (desk_of self.old) (desk_of self.new) }
+        ensures seat { IsSameSeat self.old self.new }
+        ensures sound { IsRecorded J.SameTask J.made J.Polls self.new }
+    {
+        // There are fewer notes than turns that a core can make.
+        let _room = self.said.journal().room();
+        let (picked, notes) = self.core.pick();
+        self.said.write(notes.as_slice());
+        picked
+    }
+
+    /// Settles the poll of the job that is out. If the job told no time of its own, `spent` nanoseconds count.
+    pub fn settle(&mut self, ran: Ran<J>, spent: u64) -> Settled<u64>
+        requires out { IsOut self.old.core.out ran.before }
+        requires polled { IsPolled J.SameTask J.made J.Polls J.Answers ran }
+        requires room { length self.old.journal.notes < self.old.journal.room }
+        ensures settles { Settles J.made J.Polls J.Answers self.old ran spent result self.new }
+        ensures ins { (sender : ℕ) → KeepsIn sender self.old self.new }
+        ensures outs { KeepsOuts (desk_of self.old) (desk_of self.new) }
+        ensures seat { IsSameSeat self.old self.new }
+        ensures sound { IsRecorded J.SameTask J.made J.Polls self.new }
+    {
+        let (settled, notes) = self.core.settle(ran, spent);
+        self.said.write(notes.as_slice());
+        settled
+    }
+
+    /// Sends an order to this core, on the end that is lent, and notes it if it is accepted. A job that is polled may do so.
+    ///
+    /// # Errors
+    ///
+    /// Those of the link: `Closed`, `Full` and `Spent`, tried in this order. The order comes back, and nothing is noted.
+    pub fn submit<O: OutEnd<J>>(
+        &mut self,
+        end: &mut O,
+        to: CoreNo,
+        order: Order<J>,
+    ) -> Result<Ticket, SendError<J>>
+        requires beside { IsOutOf to (desk_of self.old) (O.out end.old) (O.credited end.old) }
+        requires room { length self.old.journal.notes < self.old.journal.room }
+        requires ready { HasReadyJob J.done J.CanPoll order }
+        ensures submits { Submits to order (desk_of self.old) result (desk_of self.new) }
+        ensures sends { Sends (O.out end.old) (O.credited end.old) order (O.out end.new) (numbered result) }
+        ensures credited { O.credited end.new ≡ O.credited end.old }
+        ensures beside { IsOutOf to (desk_of self.new) (O.out end.new) (O.credited end.new) }
+        ensures others { (core : ℕ) → core ≢ to → KeepsOut core (desk_of self.old) (desk_of self.new) }
+        ensures rest { self.new ≡ record self.old { journal = self.new.journal } }
+        ensures ins { (sender : ℕ) → KeepsIn sender self.old self.new }
+        ensures seat { IsSameSeat self.old self.new }
+        ensures sound { IsRecorded J.SameTask J.made J.Polls self.new }
+        ensures untouched { O.untouched end.new ≡ O.untouched end.old }
+    {
+        self.said.submit(end, to, order)
     }
 }

@@ -1,17 +1,18 @@
 -- What one more job, one job less, other shares and one more queue change.
-use Rattle.std.proofs.Common.{◌≡◌, ℕ, zero, suc, ◌+◌, ◌<◌, ◌≤◌, List, [], ◌∷◌, ◌++◌, length, set, Option, refl, sym, ap, ◌∙◌, ⊎_elim, subst, arith}
+use Rattle.std.proofs.Common.{◌≡◌, ℕ, zero, suc, ◌+◌, ◌<◌, ◌≤◌, List, [], ◌∷◌, ◌++◌, length, set, Option, Some, None, refl, sym, ap, ◌∙◌, ⊎_elim, subst, arith}
 use Rattle.std.specs.Prelude.{Bool, IsSome, is_some, count_by}
 use Rattle.std.proofs.lemmas.Bool.{cases_lt, cases_eq}
 use Rattle.std.proofs.lemmas.List.{length_push, length-set, get_or_push, get_or_append_left, get_or_past, get_or-set_same, get_or-set_other}
 use Rattle.std.proofs.lemmas.List.Sums.{sum_by-set, sum_by-cons, sum_by_push}
 use Rattle.slab.specs.Slab.{Slab, get, slab_len}
 use Rattle.rt_ids.specs.declared.names.JobId.{JobId}
+use Rattle.rt_ids.specs.declared.order.Mode.{Mode}
 use Rattle.rt_taskqueue.specs.declared.waiting.Waiting.{Waiting}
 use Rattle.rt_taskqueue.specs.declared.line.Line.{Line}
-use Rattle.rt_taskqueue.specs.Queues.{ChangesLine, ChangesShares, AddsQueue}
+use Rattle.rt_taskqueue.specs.Queues.{ChangesLine, ChangesShares, ChangesMode, AddsQueue}
 use Rattle.rt_taskqueue.specs.Linked.{no_line, line_at, job_count, key_at, chain, IsLinked, IsKept}
 use Rattle.rt_taskqueue.proofs.Links.{ChangesOne}
-use Rattle.rt_taskqueue.proofs.Views.{alone, queue_count-view, shares_of-view, waiting_of-view, held_count-view}
+use Rattle.rt_taskqueue.proofs.Views.{alone, queue_count-view, shares_of-view, mode_of-view, waiting_of-view, held_count-view}
 
 -- one line is written
 pub ChangesOne-set : (lines : List Line) (queue : ℕ) (line : Line) → queue < length lines → ChangesOne (line_at lines) (line_at (set lines queue line)) queue line
@@ -63,11 +64,11 @@ IsLinked-lines {J} entry old new heads tails counts linked = record {
 module _ {J : Type 0} {room line_places : ℕ} {old new : Slab (Waiting J)} {lines : List Line} where
   -- the line of one queue is another, and the others show what they showed
   pub ChangesLine-set : (queue : ℕ) (line : Line) (shows : List (JobId × Bool × J)) → IsKept room line_places old lines → IsKept room line_places new (set lines queue line) → queue < length lines
-      → line.shares ≡ (line_at lines queue).shares → chain (get new) line.head line.count ≡ shows
+      → line.shares ≡ (line_at lines queue).shares → line.mode ≡ (line_at lines queue).mode → chain (get new) line.head line.count ≡ shows
       → ((other : ℕ) → (other ≡ queue → ⊥) → chain (get new) (line_at lines other).head (line_at lines other).count ≡ chain (get old) (line_at lines other).head (line_at lines other).count)
       → slab_len new + length (chain (get old) (line_at lines queue).head (line_at lines queue).count) ≡ slab_len old + length shows
       → ChangesLine (alone room old lines) (alone room new (set lines queue line)) queue shows
-  ChangesLine-set queue line shows was is within weight changed others counted =
+  ChangesLine-set queue line shows was is within weight mode changed others counted =
       let now = ChangesOne-set lines queue line within in
       let after = waiting_of-view room new (set lines queue line) in
       let before = waiting_of-view room old lines in
@@ -75,6 +76,7 @@ module _ {J : Type 0} {room line_places : ℕ} {old new : Slab (Waiting J)} {lin
         changed = after queue ∙ ap (λ (l : Line). chain (get new) l.head l.count) now.changed ∙ changed;
         others = λ other differs. after other ∙ ap (λ (l : Line). chain (get new) l.head l.count) (now.others other differs) ∙ others other differs ∙ sym (before other);
         same_shares = λ other. shares_of-view room new (set lines queue line) other ∙ read-set (λ (l : Line). l.shares) lines queue line within weight other ∙ sym (shares_of-view room old lines other);
+        same_modes = λ other. mode_of-view room new (set lines queue line) other ∙ read-set (λ (l : Line). l.mode) lines queue line within mode other ∙ sym (mode_of-view room old lines other);
         same_count = queue_count-view room new (set lines queue line) ∙ length-set lines queue line ∙ sym (queue_count-view room old lines);
         same_room = refl;
         held = omega (arith, held_count-view is, held_count-view was, counted, ap length (before queue));
@@ -98,9 +100,9 @@ module _ {J : Type 0} {room line_places : ℕ} {jobs : Slab (Waiting J)} {lines 
       }
 
   pub ChangesShares-weighed : (queue : ℕ) (line : Line) → IsKept room line_places jobs lines → queue < length lines
-      → line.head ≡ (line_at lines queue).head → line.tail ≡ (line_at lines queue).tail → line.count ≡ (line_at lines queue).count
+      → line.head ≡ (line_at lines queue).head → line.tail ≡ (line_at lines queue).tail → line.count ≡ (line_at lines queue).count → line.mode ≡ (line_at lines queue).mode
       → ChangesShares (alone room jobs lines) (alone room jobs (set lines queue line)) queue line.shares
-  ChangesShares-weighed queue line kept within head tail count =
+  ChangesShares-weighed queue line kept within head tail count mode =
       let now = ChangesOne-set lines queue line within in
       let after = shares_of-view room jobs (set lines queue line) in
       let before = shares_of-view room jobs lines in
@@ -109,6 +111,27 @@ module _ {J : Type 0} {room line_places : ℕ} {jobs : Slab (Waiting J)} {lines 
       record {
         changed = after queue ∙ ap (λ (l : Line). l.shares) now.changed;
         others = λ other differs. after other ∙ ap (λ (l : Line). l.shares) (now.others other differs) ∙ sym (before other);
+        same_modes = λ other. mode_of-view room jobs (set lines queue line) other ∙ read-set (λ (l : Line). l.mode) lines queue line within mode other ∙ sym (mode_of-view room jobs lines other);
+        same_lines = λ other. waiting_of-view room jobs (set lines queue line) other ∙ read-set (λ (l : Line). chain (get jobs) l.head l.count) lines queue line within same other ∙ sym (waiting_of-view room jobs lines other);
+        same_count = queue_count-view room jobs (set lines queue line) ∙ length-set lines queue line ∙ sym (queue_count-view room jobs lines);
+        same_room = refl;
+        same_held = held_count-view (IsKept-weighed queue line kept within head tail count) ∙ sym (held_count-view kept);
+      }
+
+  -- one queue is closed
+  pub ChangesMode-closed : (queue : ℕ) (line : Line) (mode : Mode) → IsKept room line_places jobs lines → queue < length lines
+      → line.head ≡ (line_at lines queue).head → line.tail ≡ (line_at lines queue).tail → line.count ≡ (line_at lines queue).count → line.shares ≡ (line_at lines queue).shares → line.mode ≡ Some mode
+      → ChangesMode (alone room jobs lines) (alone room jobs (set lines queue line)) queue mode
+  ChangesMode-closed queue line mode kept within head tail count weight closed =
+      let now = ChangesOne-set lines queue line within in
+      let after = mode_of-view room jobs (set lines queue line) in
+      let before = mode_of-view room jobs lines in
+      let same : chain (get jobs) line.head line.count ≡ chain (get jobs) (line_at lines queue).head (line_at lines queue).count =
+      ap (λ key. chain (get jobs) key line.count) head ∙ ap (chain (get jobs) (line_at lines queue).head) count in
+      record {
+        changed = after queue ∙ ap (λ (l : Line). l.mode) now.changed ∙ closed;
+        others = λ other differs. after other ∙ ap (λ (l : Line). l.mode) (now.others other differs) ∙ sym (before other);
+        same_shares = λ other. shares_of-view room jobs (set lines queue line) other ∙ read-set (λ (l : Line). l.shares) lines queue line within weight other ∙ sym (shares_of-view room jobs lines other);
         same_lines = λ other. waiting_of-view room jobs (set lines queue line) other ∙ read-set (λ (l : Line). chain (get jobs) l.head l.count) lines queue line within same other ∙ sym (waiting_of-view room jobs lines other);
         same_count = queue_count-view room jobs (set lines queue line) ∙ length-set lines queue line ∙ sym (queue_count-view room jobs lines);
         same_room = refl;
@@ -130,9 +153,9 @@ module _ {J : Type 0} {room line_places : ℕ} {jobs : Slab (Waiting J)} {lines 
         queues_reserved = kept.queues_reserved;
       }
 
-  pub AddsQueue-created : (line : Line) → IsKept room line_places jobs lines → (length lines ≡ 256 → ⊥) → line.head ≡ 0 → line.tail ≡ 0 → line.count ≡ 0
+  pub AddsQueue-created : (line : Line) → IsKept room line_places jobs lines → (length lines ≡ 256 → ⊥) → line.head ≡ 0 → line.tail ≡ 0 → line.count ≡ 0 → line.mode ≡ None
       → AddsQueue (alone room jobs lines) (alone room jobs (lines ++ line ∷ [])) (length lines) line.shares
-  AddsQueue-created line kept more head tail count =
+  AddsQueue-created line kept more head tail count never =
       let after = shares_of-view room jobs (lines ++ line ∷ []) in
       let before = shares_of-view room jobs lines in
       let same : chain (get jobs) line.head line.count ≡ [] = ap (chain (get jobs) line.head) count in
@@ -141,6 +164,7 @@ module _ {J : Type 0} {room line_places : ℕ} {jobs : Slab (Waiting J)} {lines 
         count = queue_count-view room jobs (lines ++ line ∷ []) ∙ length_push lines line ∙ ap (λ n. n + 1) (sym (queue_count-view room jobs lines));
         given = after (length lines) ∙ ap (λ (l : Line). l.shares) (get_or_push lines line no_line (length lines) refl);
         others = λ other differs. after other ∙ ap (λ (l : Line). l.shares) (line_at-push lines line other differs) ∙ sym (before other);
+        same_modes = λ other. mode_of-view room jobs (lines ++ line ∷ []) other ∙ read-push (λ (l : Line). l.mode) lines line never other ∙ sym (mode_of-view room jobs lines other);
         same_lines = λ other. waiting_of-view room jobs (lines ++ line ∷ []) other ∙ read-push (λ (l : Line). chain (get jobs) l.head l.count) lines line same other ∙ sym (waiting_of-view room jobs lines other);
         same_room = refl;
         same_held = held_count-view (IsKept-created line kept more head tail count) ∙ sym (held_count-view kept);

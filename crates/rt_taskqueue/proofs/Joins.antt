@@ -116,7 +116,7 @@ module _ {J : Type 0} {room line_places : ℕ} {old new : Slab (Waiting J)} {lin
       let before : chain (get new) longer.head was.count ≡ waiting_of queue (alone room old lines) =
       chain-grown (get new) was longer join.key join.grows ∙ chain-kept (get old) (get new) (line_at lines) queue join.keeps ∙ sym (waiting_of-view room old lines queue) in
       let at_tail : shown (get new (key_at (get new) longer.head was.count)) ≡ one ∷ [] = ap (λ key. shown (get new key)) join.grows.last ∙ ap shown join.came in
-      ChangesLine-set queue longer (waiting_of queue (alone room old lines) ++ one ∷ []) kept (IsKept-joined queue last longer kept appends within fits) within appends.shares
+      ChangesLine-set queue longer (waiting_of queue (alone room old lines) ++ one ∷ []) kept (IsKept-joined queue last longer kept appends within fits) within appends.shares appends.mode
       (ap (chain (get new) longer.head) join.grows.count ∙ ap (λ line. line ++ shown (get new (key_at (get new) longer.head was.count))) before ∙ ap (λ line. waiting_of queue (alone room old lines) ++ line) at_tail)
       (λ other differs. chain-kept (get old) (get new) (line_at lines) other join.keeps)
       (omega (arith, join.len, length_push (waiting_of queue (alone room old lines)) one, ap length (waiting_of-view room old lines queue)))

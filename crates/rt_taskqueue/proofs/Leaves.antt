@@ -24,6 +24,7 @@ pub record Leaves {J : Type 0} (old : Slab (Waiting J)) (line : Line) (front : W
   pub tail : rest.tail ≡ line.tail
   pub count : rest.count ≡ line.count - 1
   pub shares : rest.shares ≡ line.shares
+  pub mode : rest.mode ≡ line.mode
 
 shrinks : {J : Type 0} (old new : Slab (Waiting J)) (line : Line) (front : Waiting J) (rest : Line) → Leaves old line front new rest → Shrinks (get old) line rest
 shrinks old new line front rest leaves = record {
@@ -81,7 +82,7 @@ module _ {J : Type 0} {room line_places : ℕ} {old new : Slab (Waiting J)} {lin
       let drops : drop 1 (waiting_of queue (alone room old lines)) ≡ chain (get new) rest.head rest.count = ap (drop 1) was in
       let others = (ChangesOne-set lines queue rest within).others in
       let kept_lines = keeps queue front rest kept leaves within in
-      ChangesLine-set queue rest (drop 1 (waiting_of queue (alone room old lines))) kept (IsKept-left queue front rest kept leaves within) within leaves.shares (sym drops)
+      ChangesLine-set queue rest (drop 1 (waiting_of queue (alone room old lines))) kept (IsKept-left queue front rest kept leaves within) within leaves.shares leaves.mode (sym drops)
       (λ other differs.
       ap (λ (l : Line). chain (get new) l.head l.count) (sym (others other differs))
       ∙ chain-kept (get old) (get new) (line_at (set lines queue rest)) other kept_lines

@@ -5,7 +5,7 @@ use Rattle.std.proofs.lemmas.List.Sums.{sum_by-cons, get_or-le-sum_by}
 use Rattle.slab.specs.Slab.{Slab, get, slab_len, ContainsKey}
 use Rattle.rt_taskqueue.specs.declared.waiting.Waiting.{Waiting}
 use Rattle.rt_taskqueue.specs.declared.line.Line.{Line}
-use Rattle.rt_taskqueue.specs.Queues.{QueueView, QueuesView, queue_count, shares_of, waiting_of, held_count, IsWithinLimits}
+use Rattle.rt_taskqueue.specs.Queues.{QueueView, QueuesView, queue_count, shares_of, mode_of, waiting_of, held_count, IsWithinLimits}
 use Rattle.rt_taskqueue.specs.Linked.{no_line, line_at, job_count, chain, queue_of, IsKept}
 use Rattle.rt_taskqueue.proofs.Chains.{length-chain}
 
@@ -34,6 +34,9 @@ module _ {J : Type 0} where
 
   pub shares_of-view : (room : ℕ) (jobs : Slab (Waiting J)) (lines : List Line) (queue : ℕ) → shares_of queue (alone room jobs lines) ≡ (line_at lines queue).shares
   shares_of-view room jobs lines queue = ap (λ (q : QueueView J). q.shares) (get_or-map_default (queue_of (get jobs)) lines queue no_line)
+
+  pub mode_of-view : (room : ℕ) (jobs : Slab (Waiting J)) (lines : List Line) (queue : ℕ) → mode_of queue (alone room jobs lines) ≡ (line_at lines queue).mode
+  mode_of-view room jobs lines queue = ap (λ (q : QueueView J). q.mode) (get_or-map_default (queue_of (get jobs)) lines queue no_line)
 
   pub waiting_of-view : (room : ℕ) (jobs : Slab (Waiting J)) (lines : List Line) (queue : ℕ) → waiting_of queue (alone room jobs lines) ≡ chain (get jobs) (line_at lines queue).head (line_at lines queue).count
   waiting_of-view room jobs lines queue = ap (λ (q : QueueView J). q.waiting) (get_or-map_default (queue_of (get jobs)) lines queue no_line)

@@ -29,3 +29,4 @@ module _ {J : Type 0} where
     pub tail : longer.tail ≡ key
     pub count : longer.count ≡ line.count + 1
     pub shares : longer.shares ≡ line.shares
+    pub mode : longer.mode ≡ line.mode

@@ -7,9 +7,9 @@ use Rattle.rt_taskqueue.specs.declared.line.Line.{Line}
 use Rattle.rt_taskqueue.specs.Queues.{QueueView}
 use Rattle.rt_taskqueue.specs.Slips.{SlippedView}
 
--- a queue without shares in which no job waits
+-- an open queue without shares in which no job waits
 abbrev pub no_line : Line
-no_line = record { head = 0; tail = 0; count = 0; shares = 0 }
+no_line = record { head = 0; tail = 0; count = 0; shares = 0; mode = None }
 
 -- the queue of a number, or the empty one
 abbrev pub line_at : List Line → ℕ → Line
@@ -42,7 +42,7 @@ module _ {J : Type 0} where
 
   -- a queue, as a caller sees it
   abbrev pub queue_of : (ℕ → Option (Waiting J)) → Line → QueueView J
-  queue_of entry line = record { shares = line.shares; waiting = chain entry line.head line.count }
+  queue_of entry line = record { shares = line.shares; mode = line.mode; waiting = chain entry line.head line.count }
 
   -- the queues that these entries, lines and slips are
   abbrev pub linked_view : ℕ → Slab (Waiting J) → List Line → List (Option ℕ) → SlippedView J

@@ -1,6 +1,7 @@
 -- The task queues of a core with their slips: the words on queues, said of queues each of which has its slip or has given it out.
-use Rattle.std.specs.Prelude.{◌≡◌, ℕ, Bool, true, false, List, [], ◌∷◌, ◌++◌, slice_index_or, slice_set}
+use Rattle.std.specs.Prelude.{◌≡◌, ℕ, Bool, true, false, Option, None, List, [], ◌∷◌, ◌++◌, slice_index_or, slice_set}
 use Rattle.rt_ids.specs.declared.names.JobId.{JobId}
+use Rattle.rt_ids.specs.declared.order.Mode.{Mode}
 use Rattle.rt_taskqueue.specs.Queues.{QueueView, QueuesView}
 use Rattle.rt_taskqueue.specs.Queues as plain
 
@@ -33,6 +34,9 @@ module _ {J : Type 0} where
   abbrev pub shares_of : ℕ → SlippedView J → ℕ
   shares_of queue view = plain.shares_of queue (queues_alone view)
 
+  abbrev pub mode_of : ℕ → SlippedView J → Option Mode
+  mode_of queue view = plain.mode_of queue (queues_alone view)
+
   abbrev pub waiting_of : ℕ → SlippedView J → List (JobId × Bool × J)
   waiting_of queue view = plain.waiting_of queue (queues_alone view)
 
@@ -41,7 +45,7 @@ module _ {J : Type 0} where
 
   -- the first queue, with its slip
   abbrev pub first_queue : ℕ → SlippedView J
-  first_queue room = record { queues = record { shares = 1000; waiting = [] } ∷ []; room = room; slips = true ∷ [] }
+  first_queue room = record { queues = record { shares = 1000; mode = None; waiting = [] } ∷ []; room = room; slips = true ∷ [] }
 
   abbrev pub IsWithinLimits : SlippedView J → Type 0
   IsWithinLimits view = plain.IsWithinLimits (queues_alone view)
@@ -56,7 +60,12 @@ module _ {J : Type 0} where
     pub queues : plain.ChangesShares (queues_alone old) (queues_alone new) queue shares
     pub slips : new.slips ≡ old.slips
 
-  -- a queue with these shares and no job comes after the old ones, with its slip
+  -- only the mode of this queue changes, to this one, and no slip moves
+  pub record ChangesMode (old new : SlippedView J) (queue : ℕ) (mode : Mode) : Type 0 where
+    pub queues : plain.ChangesMode (queues_alone old) (queues_alone new) queue mode
+    pub slips : new.slips ≡ old.slips
+
+  -- an open queue with these shares and no job comes after the old ones, with its slip
   pub record AddsQueue (old new : SlippedView J) (queue shares : ℕ) : Type 0 where
     pub queues : plain.AddsQueue (queues_alone old) (queues_alone new) queue shares
     pub slips : new.slips ≡ old.slips ++ true ∷ []

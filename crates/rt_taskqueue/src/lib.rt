@@ -1,6 +1,7 @@
 //! The task queues of a core: each has its shares and a line of jobs that wait in it.
 #![tactic(auto)]
 
+mod closing;
 // A crate can name the queues in a contract only if the types of their fields are exported.
 #[doc(hidden)]
 pub mod line;
@@ -8,4 +9,5 @@ mod queues;
 #[doc(hidden)]
 pub mod waiting;
 
+pub use closing::closes;
 pub use queues::{CreateError, Queues};

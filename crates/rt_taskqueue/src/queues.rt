@@ -1,10 +1,12 @@
 //! All task queues of a core.
-ghost use Rattle.std.specs.Prelude.{◌≡◌, ◌+◌, ◌<◌, ◌≤◌, ◌↔◌, [], ◌∷◌, ◌++◌, true, false, drop, length, is_some, IsTrue, IfOk, OnErr, IfSome, IfNone, OnSome};
-ghost use Rattle.rt_taskqueue.specs.Slips.{queue_count, shares_of, waiting_of, held_count, has_slip, without_slip, with_slip, first_queue, IsWithinLimits, ChangesLine, ChangesShares, AddsQueue};
+ghost use Rattle.std.specs.Prelude.{◌≡◌, ◌+◌, ◌<◌, ◌≤◌, ◌↔◌, [], ◌∷◌, ◌++◌, true, false, drop, length, None, is_some, IsTrue, IfOk, OnErr, IfSome, IfNone, OnSome};
+ghost use Rattle.rt_taskqueue.specs.Slips.{queue_count, shares_of, mode_of, waiting_of, held_count, has_slip, without_slip, with_slip, first_queue, IsWithinLimits, ChangesLine, ChangesShares, ChangesMode, AddsQueue};
+ghost use Rattle.rt_ids.specs.Closing as spec;
 
+use crate::closing::closes;
 use crate::line::Line;
 use crate::waiting::{Waiting, append};
-use rt_ids::{JobId, QueueNo};
+use rt_ids::{JobId, Mode, QueueNo};
 use rt_shares::Shares;
 use rt_timeline::Slip;
 use slab::Slab;
@@ -110,9 +112,10 @@ impl<J: Drop, A: Allocator + Clone> Queues<J, A> {
         self.jobs.len() < self.room
     }
 
-    /// A job that was never started joins the tail.
+    /// A job that was never started joins the tail of an open queue.
     pub fn admit(&mut self, queue: QueueNo, name: JobId, job: J)
         requires exists { queue < queue_count self.old }
+        requires is_open { mode_of queue self.old ≡ None }
         requires room { held_count self.old < self.old.room }
         ensures joins { ChangesLine self.old self.new queue (waiting_of queue self.old ++ (name, false, job) ∷ []) }
         ensures one_more { held_count self.new ≡ held_count self.old + 1 }
@@ -143,6 +146,7 @@ impl<J: Drop, A: Allocator + Clone> Queues<J, A> {
             tail: line.tail,
             count: line.count - 1,
             shares: line.shares,
+            mode: line.mode,
         };
         Some((front.name, front.started, front.job))
     }
@@ -191,6 +195,30 @@ impl<J: Drop, A: Allocator + Clone> Queues<J, A> {
         ensures limits { IsWithinLimits self.new }
     {
         self.lines[queue.0 as usize].shares = shares;
+    }
+
+    /// Closes this queue. The answer: whether that did anything. The first closing does, and `Return` after `Finish`.
+    pub fn close(&mut self, queue: QueueNo, mode: Mode) -> bool
+        requires exists { queue < queue_count self.old }
+        ensures told { result ≡ spec.closes (mode_of queue self.old) mode }
+        ensures closed { result ≡ true → ChangesMode self.old self.new queue mode }
+        ensures unchanged { result ≡ false → self.new ≡ self.old }
+        ensures limits { IsWithinLimits self.new }
+    {
+        let does = closes(self.mode(queue), mode);
+        if does {
+            self.lines[queue.0 as usize].mode = Some(mode);
+        }
+        does
+    }
+
+    /// How this queue was closed, if it was.
+    pub fn mode(&self, queue: QueueNo) -> Option<Mode>
+        requires exists { queue < queue_count self.now }
+        ensures { result ≡ mode_of queue self.now }
+    {
+        let place = queue.0 as usize;
+        self.lines[place].mode
     }
 
     /// Gives the slip of this queue out, if it is with the queue. Takes no memory.

@@ -1,6 +1,6 @@
 -- What the link and the core answer to a delivery, and what it means to the world.
 use Rattle.std.proofs.Common.{◌≡◌, inl, ℕ, ◌+◌, ◌<◌, ◌≤◌, true, false, List, [], ◌∷◌, length, reverse, refl, sym, ◌∙◌, ap, subst, arith}
-use Rattle.std.specs.Prelude.{Option, Some, slice_get}
+use Rattle.std.specs.Prelude.{◌≢◌, Option, Some, None, slice_get, nat_le}
 use Rattle.std.proofs.lemmas.Bool.{le-leb, lt-leb}
 use Rattle.rt_ids.specs.Orders.{IsSpelledOrder, without_job}
 use Rattle.rt_ids.specs.declared.names.JobId.{JobId}
@@ -8,12 +8,14 @@ use Rattle.rt_ids.specs.declared.note.Note.{Note}
 use Rattle.rt_ids.specs.declared.note.Note.TheVariants as writes
 use Rattle.rt_ids.specs.declared.order.Answer.{Answer}
 use Rattle.rt_ids.specs.declared.order.Answer.TheVariants as answers
+use Rattle.rt_ids.specs.declared.order.Mode.{Mode}
 use Rattle.rt_ids.specs.declared.order.Order.{Order}
 use Rattle.rt_ids.specs.declared.order.Order.TheVariants.{Job, Create, SetShares}
 use Rattle.rt_ids.specs.declared.order.Outcome.{Outcome}
 use Rattle.rt_ids.specs.Journal.{Journal}
 use Rattle.rt_ids.specs.Assembly.{is_command}
-use Rattle.rt_ids.specs.Commands.{created_count, IsAnswer, has_effect}
+use Rattle.rt_ids.specs.Closing.{core_mode}
+use Rattle.rt_ids.specs.Commands.{created_count, IsAnswer, IsCreationAnswer, has_effect}
 use Rattle.rt_jobs.specs.declared.job.Step.{Step}
 use Rattle.rt_jobs.specs.Steps.{IsSameTask}
 use Rattle.rt_link.specs.declared.plain.Whole.{Whole}
@@ -27,7 +29,7 @@ use Rattle.rt_world.specs.Deliveries.{IsDelivery}
 use Rattle.rt_world.specs.Links.{link_at, ChangesLink}
 use Rattle.rt_world.specs.Inside.{terms_in, Parts, core_at, notes_at, IsCoreAtRest}
 use Rattle.rt_world.specs.Tasks.{IsWorld}
-use Rattle.rt_journal.proofs.Kept.{open_core}
+use Rattle.rt_journal.proofs.KeptModes.{refusal-agrees}
 use Rattle.rt_world.proofs.WorldDelivered.{Results}
 use Rattle.rt_world.proofs.RefusedDeliveries.{goes_back, answers_alone}
 use Rattle.rt_world.proofs.CommandDeliveries.{creates_queue, sets_shares}
@@ -57,13 +59,20 @@ module _ {J T : Type 0} (same : J → J → Type 0) (made : J → ℕ) (polls : 
   Comes = Results same made polls fits ready is_same old world sender core there core_there order at number next links changes taken law
 
   -- a creation that is refused, by why
-  full_answer : queue_count view.queues ≡ 256 → (weight : ℕ) → IsAnswer (Create weight) answers.TooMany journal
-  full_answer count weight =
-      rw (open_core journal (world.early core (omega (arith, core_there))).closes_nothing, le-leb 255 (created_count journal) (omega (arith, count, rest.agrees.last))) refl
+  closed_answer : view.mode ≢ None → (weight : ℕ) → IsAnswer (Create weight) answers.CoreClosing journal
+  closed_answer closed weight = by_mode (core_mode journal) (λ none. closed (rest.agrees.closing.mode ∙ none))
+    where
+      by_mode : (mode : Option Mode) → mode ≢ None → IsCreationAnswer mode (nat_le 255 (created_count journal)) (created_count journal + 1) answers.CoreClosing
+      by_mode None some = absurd (some refl)
+      by_mode (Some mode) some = refl
 
-  memory_answer : queue_count view.queues < 256 → (weight : ℕ) → IsAnswer (Create weight) answers.NoMemory journal
-  memory_answer count weight =
-      rw (open_core journal (world.early core (omega (arith, core_there))).closes_nothing, lt-leb 255 (created_count journal) (omega (arith, count, rest.agrees.last))) (inl refl)
+  full_answer : view.mode ≡ None → queue_count view.queues ≡ 256 → (weight : ℕ) → IsAnswer (Create weight) answers.TooMany journal
+  full_answer never count weight =
+      rw (sym rest.agrees.closing.mode ∙ never, le-leb 255 (created_count journal) (omega (arith, count, rest.agrees.last))) refl
+
+  memory_answer : view.mode ≡ None → queue_count view.queues < 256 → (weight : ℕ) → IsAnswer (Create weight) answers.NoMemory journal
+  memory_answer never count weight =
+      rw (sym rest.agrees.closing.mode ∙ never, lt-leb 255 (created_count journal) (omega (arith, count, rest.agrees.last))) (inl refl)
 
   missing_answer : (queue weight : ℕ) → queue_count view.queues ≤ queue → IsAnswer (SetShares queue weight) answers.NoQueue journal
   missing_answer queue weight missing = rw (lt-leb queue (created_count journal) (omega (arith, missing, rest.agrees.last))) refl
@@ -82,23 +91,28 @@ module _ {J T : Type 0} (same : J → J → Type 0) (made : J → ℕ) (polls : 
   pub carried_out : (what : Order J) → order ≡ what → IsSpelledOrder (without_job what) → (delivered : Delivered J) (new : CoreView J) (written : List (Note T)) →
       CarriesOut view name what delivered new written → Comes new (reverse written)
   carried_out (Job queue job) is shares Took new written does =
-      subst (λ notes. Comes new (reverse notes)) (sym does.1)
-      (enters_queue same made polls fits ready is_same old world sender core there core_there order at number next links changes taken law new queue job is does.0)
+      subst (λ notes. Comes new (reverse notes)) (sym does.2)
+      (enters_queue same made polls fits ready is_same old world sender core there core_there order at number next links changes taken law new queue job is
+      (sym (refusal-agrees view journal rest.agrees.closing rest.agrees.last queue) ∙ does.0) does.1)
   carried_out (Job queue job) is shares (Back reason back) new written does =
-      subst (λ notes. Comes new (reverse notes)) (sym (does.4 ∙ ap (λ reason. writes.Back name reason ∷ []) does.1))
-      (goes_back same made polls fits ready is_same old world sender core there core_there order at number next links changes taken law new does.3 queue job is does.0)
+      subst (λ notes. Comes new (reverse notes)) (sym does.3)
+      (goes_back same made polls fits ready is_same old world sender core there core_there order at number next links changes taken law new does.2 queue job reason is
+      (sym (refusal-agrees view journal rest.agrees.closing rest.agrees.last queue) ∙ does.0))
   carried_out (Job queue job) is shares (Answered answer) new written does = absurd does
   carried_out (Create weight) is shares Took new written does = absurd does
   carried_out (Create weight) is shares (Back reason back) new written does = absurd does
   carried_out (Create weight) is shares (Answered (answers.Created queue)) new written does =
       subst (λ notes. Comes new (reverse notes)) (sym does.3)
       (creates_queue same made polls fits ready is_same old world sender core there core_there order at number next links changes taken law new queue weight is shares does.0 does.1 does.2)
+  carried_out (Create weight) is shares (Answered answers.CoreClosing) new written does =
+      let right = closed_answer does.0 weight in
+      refused (Create weight) is answers.CoreClosing right refl (answers.CoreClosing, right, refl) new does.1 written does.2
   carried_out (Create weight) is shares (Answered answers.TooMany) new written does =
-      let right = full_answer does.0 weight in
-      refused (Create weight) is answers.TooMany right refl (answers.TooMany, right, refl) new does.1 written does.2
+      let right = full_answer does.0 does.1 weight in
+      refused (Create weight) is answers.TooMany right refl (answers.TooMany, right, refl) new does.2 written does.3
   carried_out (Create weight) is shares (Answered answers.NoMemory) new written does =
-      let right = memory_answer does.0 weight in
-      refused (Create weight) is answers.NoMemory right refl (answers.NoMemory, right, refl) new does.1 written does.2
+      let right = memory_answer does.0 does.1 weight in
+      refused (Create weight) is answers.NoMemory right refl (answers.NoMemory, right, refl) new does.2 written does.3
   carried_out (Create weight) is shares (Answered _) new written does = absurd does
   carried_out (SetShares queue weight) is shares Took new written does = absurd does
   carried_out (SetShares queue weight) is shares (Back reason back) new written does = absurd does
@@ -112,14 +126,15 @@ module _ {J T : Type 0} (same : J → J → Type 0) (made : J → ℕ) (polls : 
 
   -- at most two notes are written
   pub few_notes : (what : Order J) (delivered : Delivered J) (new : CoreView J) (written : List (Note T)) → CarriesOut view name what delivered new written → length written ≤ 2
-  few_notes (Job queue job) Took new written does = rw does.1 (omega arith)
-  few_notes (Job queue job) (Back reason back) new written does = rw does.4 (omega arith)
+  few_notes (Job queue job) Took new written does = rw does.2 (omega arith)
+  few_notes (Job queue job) (Back reason back) new written does = rw does.3 (omega arith)
   few_notes (Job queue job) (Answered answer) new written does = absurd does
   few_notes (Create weight) Took new written does = absurd does
   few_notes (Create weight) (Back reason back) new written does = absurd does
   few_notes (Create weight) (Answered (answers.Created queue)) new written does = rw does.3 (omega arith)
-  few_notes (Create weight) (Answered answers.TooMany) new written does = rw does.2 (omega arith)
-  few_notes (Create weight) (Answered answers.NoMemory) new written does = rw does.2 (omega arith)
+  few_notes (Create weight) (Answered answers.CoreClosing) new written does = rw does.2 (omega arith)
+  few_notes (Create weight) (Answered answers.TooMany) new written does = rw does.3 (omega arith)
+  few_notes (Create weight) (Answered answers.NoMemory) new written does = rw does.3 (omega arith)
   few_notes (Create weight) (Answered _) new written does = absurd does
   few_notes (SetShares queue weight) Took new written does = absurd does
   few_notes (SetShares queue weight) (Back reason back) new written does = absurd does

@@ -22,6 +22,7 @@ use Rattle.rt_world.specs.Links.{row_of, link_at, no_link, AreFresh}
 use Rattle.rt_world.specs.Inside.{terms_in, Parts, notes_at, world_of, IsEarly, IsCoreAtRest, IsLinkBetween, AreOpened, AreEmpty}
 use Rattle.rt_world.specs.Tasks.{HasTask, IsWorld}
 use Rattle.rt_journal.specs.Agreement.{AreMarked, names_of}
+use Rattle.rt_journal.proofs.Opened.{agrees-opened}
 use Rattle.rt_world.specs.Opening.{IsFresh}
 use Rattle.rt_world.proofs.Hollow.{world_lists}
 use Rattle.rt_world.proofs.WorldViews.{journal_at-world, sent_at-world}
@@ -38,32 +39,10 @@ module _ (J : Type 0) (core cores cap : ℕ) where
   no_line (suc zero) = refl
   no_line (suc (suc queue)) = refl
 
-  no_runtime : (queue : ℕ) → runtime_of queue new_core ≡ 0
-  no_runtime zero = refl
-  no_runtime (suc zero) = refl
-  no_runtime (suc (suc queue)) = refl
-
-  first_shares : (queue : ℕ) → queue < 1 → shares_of queue new_core.queues ≡ 1000
-  first_shares zero first = refl
-  first_shares (suc queue) past = absurd (omega (arith, past))
-
   -- a core that was just opened is at rest over a journal without a note
   pub rests_at_opening : (T : Type 0) → IsCoreAtRest {J = J} {T = T} core cores cap new_core []
   rests_at_opening T = record {
-    agrees = record {
-      tallied = refl;
-      senders = length-replicate (cores + 1) 0;
-      last = refl;
-      lines = λ queue. ap names_of (no_line queue);
-      marks = λ queue. subst (AreMarked {J = J} {T = T} []) (sym (no_line queue)) (All-nil _);
-      runtimes = no_runtime;
-      weights = first_shares;
-      the_floor = refl;
-      turns = refl;
-      out = refl;
-      out_exists = λ out none. absurd (none≢some out none);
-      delivered = λ sender known. get_or-replicate (cores + 1) sender 0 0 (omega (arith, known));
-    };
+    agrees = agrees-opened J core cores cap T;
     free = refl;
     cores_are = refl;
     room = refl;

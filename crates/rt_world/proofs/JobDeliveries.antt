@@ -30,7 +30,7 @@ use Rattle.rt_world.specs.Links.{link_at, ChangesLink}
 use Rattle.rt_world.specs.Inside.{terms_in, Parts, core_at, notes_at, world_of, IsCoreAtRest}
 use Rattle.rt_world.specs.Tasks.{OwesAfter, HasTask, IsWorld}
 use Rattle.rt_journal.proofs.Kept.{IsKept}
-use Rattle.rt_journal.proofs.KeptDeliveries.{kept-took, refusal-exists}
+use Rattle.rt_journal.proofs.KeptDeliveries.{kept-took}
 use Rattle.rt_journal.proofs.PollsMade.{polls_made-fresh}
 use Rattle.rt_world.proofs.WorldViews.{journal_at-world}
 use Rattle.rt_world.proofs.WorldAfter.{after, notes_now}
@@ -85,13 +85,13 @@ module _ {J T : Type 0} (same : J → J → Type 0) (made : J → ℕ) (polls : 
   Results = delivered.Results same made polls fits ready is_same old world sender core there core_there order at number next links changes taken law
 
   -- a job enters its queue
-  module _ (after_core : CoreView J) (queue : ℕ) (job : J) (is : order ≡ Job queue job) (enters : Enters view name queue job after_core) where
+  module _ (after_core : CoreView J) (queue : ℕ) (job : J) (is : order ≡ Job queue job) (accepted : refusal queue journal ≡ None) (enters : Enters view name queue job after_core) where
     abbrev took : Journal T
     took = writes.Took name queue ∷ journal
 
     took_done : IsCarriedOut after_core took
     took_done = record {
-      kept_after = kept-took (terms_in core old) view after_core name queue job journal kept is_next its_sender enters;
+      kept_after = kept-took (terms_in core old) view after_core name queue job journal kept is_next its_sender enters accepted;
       free = ap (λ core. core.out) enters.rest;
       cores_same = ap (λ core. core.cores) enters.rest;
       room_same = enters.line.same_room;
@@ -163,6 +163,3 @@ module _ {J T : Type 0} (same : J → J → Type 0) (made : J → ℕ) (polls : 
           world_after (sent name (Job queue tt) (sent_as (Job queue job) is), journal_sent) tasks_took,
           subst (λ what. IsDelivery name what journal (writes.Took name queue ∷ [])) (sym is) (ap (λ reason. entry_note name queue reason ∷ []) (sym accepted)),
         )
-      where
-        accepted : refusal queue journal ≡ None
-        accepted = refusal-exists journal kept.closes_nothing queue (omega (arith, enters.exists, rest.agrees.last))

@@ -7,7 +7,7 @@ use Rattle.rt_ids.specs.declared.note.Note.TheVariants as writes
 use Rattle.rt_ids.specs.declared.order.Order.{Order}
 use Rattle.rt_ids.specs.declared.order.Order.TheVariants.{Job}
 use Rattle.rt_ids.specs.declared.order.Outcome.{Outcome}
-use Rattle.rt_ids.specs.declared.order.Reason.TheVariants as why
+use Rattle.rt_ids.specs.declared.order.Reason.{Reason}
 use Rattle.rt_ids.specs.declared.order.Answer.{Answer}
 use Rattle.rt_ids.specs.Journal.{Journal}
 use Rattle.rt_ids.specs.Assembly.{order_of, is_command}
@@ -27,7 +27,6 @@ use Rattle.rt_world.specs.Links.{link_at, ChangesLink}
 use Rattle.rt_world.specs.Inside.{terms_in, Parts, core_at, notes_at, world_of, IsCoreAtRest}
 use Rattle.rt_world.specs.Tasks.{IsWorld}
 use Rattle.rt_journal.proofs.Kept.{IsKept}
-use Rattle.rt_journal.proofs.KeptDeliveries.{refusal-missing}
 use Rattle.rt_journal.proofs.KeptAnswers.{kept-back, kept-answered}
 use Rattle.rt_world.proofs.NextDelivery as next_delivery
 use Rattle.rt_world.proofs.WorldDelivered as delivered
@@ -87,31 +86,28 @@ module _ {J T : Type 0} (same : J → J → Type 0) (made : J → ℕ) (polls : 
     inside_alone : inside_count after_core ≤ inside_count view + 1
     inside_alone = let equal : inside_count after_core ≡ inside_count view = ap inside_count counts in omega (arith, equal)
 
-    pub goes_back : (queue : ℕ) (job : J) → order ≡ Job queue job → queue_count view.queues ≤ queue → Results after_core (writes.Back name why.NoQueue ∷ [])
-    goes_back queue job is missing =
+    pub goes_back : (queue : ℕ) (job : J) (reason : Reason) → order ≡ Job queue job → refusal queue journal ≡ Some reason → Results after_core (writes.Back name reason ∷ [])
+    goes_back queue job reason is refused =
         let sent =
         delivered.stays_sent same made polls fits ready is_same old world sender core there core_there order at number next links changes taken law
-        after_core (writes.Back name why.NoQueue ∷ journal) done in
+        after_core (writes.Back name reason ∷ journal) done in
         let journal_sent =
         delivered.journal_sent same made polls fits ready is_same old world sender core there core_there order at number next links changes taken law
-        after_core (writes.Back name why.NoQueue ∷ journal) done in
+        after_core (writes.Back name reason ∷ journal) done in
         let tasks =
         delivered.tasks_same same made polls fits ready is_same old world sender core there core_there order at number next links changes taken law
-        after_core (writes.Back name why.NoQueue ∷ journal) done in
+        after_core (writes.Back name reason ∷ journal) done in
         let world_after =
         delivered.delivered_world same made polls fits ready is_same old world sender core there core_there order at number next links changes taken law
-        after_core (writes.Back name why.NoQueue ∷ journal) done in (
+        after_core (writes.Back name reason ∷ journal) done in (
           world_after ((queue, sent name (Job queue tt) (sent_as (Job queue job) is), refused), journal_sent)
               (tasks lines_alone was_polls),
-          subst (λ what. IsDelivery name what journal (writes.Back name why.NoQueue ∷ [])) (sym is) (ap (λ reason. entry_note name queue reason ∷ []) (sym refused)),
+          subst (λ what. IsDelivery name what journal (writes.Back name reason ∷ [])) (sym is) (ap (λ reason. entry_note name queue reason ∷ []) (sym refused)),
         )
       where
-        refused : refusal queue journal ≡ Some why.NoQueue
-        refused = refusal-missing journal queue (omega (arith, missing, rest.agrees.last))
-
-        done : IsCarriedOut after_core (writes.Back name why.NoQueue ∷ journal)
+        done : IsCarriedOut after_core (writes.Back name reason ∷ journal)
         done = record {
-          kept_after = kept-back (terms_in core old) view after_core name journal kept is_next its_sender counts queue missing;
+          kept_after = kept-back (terms_in core old) view after_core name journal kept is_next its_sender counts queue reason refused;
           free = ap (λ core. core.out) counts;
           cores_same = ap (λ core. core.cores) counts;
           room_same = ap (λ core. core.queues.room) counts;

@@ -16,6 +16,7 @@ use Rattle.rt_world.specs.State.{without_job}
 use Rattle.rt_world.specs.Links.{link_at, ChangesLink}
 use Rattle.rt_world.specs.Inside.{terms_in, Parts, core_at, notes_at, IsEarly, IsCoreAtRest, IsLinkBetween}
 use Rattle.rt_world.specs.Tasks.{IsWorld}
+use Rattle.rt_journal.proofs.KeptModes.{same_modes, closing-stays}
 use Rattle.rt_journal.proofs.Kept.{plainly_stands, stays_calm, calm_sent, SameJobs}
 use Rattle.rt_journal.proofs.NumberedOrders.{length-numbered}
 use Rattle.rt_journal.proofs.AllOutstanding.{outstanding-accepted}
@@ -90,6 +91,7 @@ module _ {J T : Type 0} (same : J → J → Type 0) (made : J → ℕ) (polls : 
           out = calm.out;
           out_exists = was.agrees.out_exists;
           delivered = was.agrees.delivered;
+          closing = closing-stays view view (writes.Sent name (without_job order)) journal (same_modes view) (record { queues = λ queue. refl; core = refl; gates = λ sender. refl }) was.agrees.closing;
         };
         free = was.free;
         cores_are = was.cores_are;

@@ -1,6 +1,6 @@
 -- What a creation before the first event does to a world at rest.
 use Rattle.std.proofs.Common.{◌≡◌, ℕ, ◌+◌, ◌<◌, ◌≤◌, List, [], ◌∷◌, ◌++◌, length, reverse, sym, ◌∙◌, ap, subst, arith, get_or, set}
-use Rattle.std.specs.Prelude.{Option, Result, Ok, Err, map}
+use Rattle.std.specs.Prelude.{Option, None, Result, Ok, Err, map}
 use Rattle.std.proofs.lemmas.List.{get_or_default, set-get_or, map-set}
 use Rattle.rt_shares.specs.Charge.{InRange}
 use Rattle.rt_ids.specs.declared.note.Note.{Note}
@@ -20,10 +20,22 @@ use Rattle.rt_world.specs.State.{journal_at, noted}
 use Rattle.rt_world.specs.Inside.{Parts, core_at, notes_at, journal_view, world_of}
 use Rattle.rt_world.specs.Tasks.{IsWorld}
 use Rattle.rt_world.specs.Opening.{IsUnbegun, CreatesAtOpening}
+use Rattle.rt_journal.proofs.KeptModes.{core_is_open}
 use Rattle.rt_world.proofs.WorldViews.{journal_at-world}
 use Rattle.rt_world.proofs.WorldAfter.{after}
 use Rattle.rt_world.proofs.WorldCreated.{world_created}
 use Rattle.rt_world.proofs.JournalsNoted.{IsNoted, borrowed_is, noted_is}
+
+-- the core that the call borrows isn't closed
+pub open_core_at : {J T : Type 0} (same : J → J → Type 0) (made : J → ℕ) (polls : J → ℕ → Step T → Option ℕ → Type 0)
+    (fits : Order J → Outcome J T → Type 0) (ready : Order J → Type 0)
+    (old : Parts J T) (world : IsWorld same made polls fits ready old) (core : ℕ) (core_there : core < old.cores)
+    (view : CoreView J) (view_is : view ≡ get_or old.inside core view) → view.mode ≡ None
+open_core_at same made polls fits ready old world core core_there view view_is =
+    let viewed : core_at core old.inside ≡ view =
+    get_or_default old.inside core (opened 0 0 0 0) view (omega (arith, world.all_there.cores_are, core_there)) ∙ sym view_is in
+    ap (λ core. core.mode) (sym viewed)
+    ∙ core_is_open (core_at core old.inside) (notes_at core old.journals) (world.at_rest core core_there).agrees.closing (world.early core (omega (arith, core_there))).closes_nothing
 
 module _ {J T : Type 0} (same : J → J → Type 0) (made : J → ℕ) (polls : J → ℕ → Step T → Option ℕ → Type 0)
     (fits : Order J → Outcome J T → Type 0) (ready : Order J → Type 0)

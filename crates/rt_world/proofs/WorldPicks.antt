@@ -1,11 +1,12 @@
 -- What a core of a world at rest answers to a pick: the job that it takes out, or what the actor is told.
 use Rattle.std.proofs.Common.{◌≡◌, ℕ, ◌-◌, ◌^◌, ◌<◌, Bool, true, false, List, [], ◌∷◌, refl, sym, ◌∙◌, ap, subst, arith, get_or, set}
-use Rattle.std.specs.Prelude.{Option, None, Result, Ok, Err}
+use Rattle.std.specs.Prelude.{Option, Some, None, Result, Ok, Err}
 use Rattle.std.proofs.lemmas.List.{get_or_default, set-get_or}
 use Rattle.rt_ids.specs.declared.names.JobId.{JobId}
 use Rattle.rt_ids.specs.declared.note.Note.{Note}
 use Rattle.rt_ids.specs.declared.note.Note.TheVariants as writes
 use Rattle.rt_ids.specs.declared.order.Order.{Order}
+use Rattle.rt_ids.specs.declared.order.Order.TheVariants.{Job, Create, SetShares}
 use Rattle.rt_ids.specs.declared.order.Outcome.{Outcome}
 use Rattle.rt_ids.specs.Lawful.{IsLawful}
 use Rattle.rt_ids.specs.Lines.{line}
@@ -15,18 +16,21 @@ use Rattle.rt_ids.proofs.WorkOfLines.{no_work, work_of_line}
 use Rattle.rt_jobs.specs.declared.job.Step.{Step}
 use Rattle.rt_taskqueue.specs.Queues.{waiting_of}
 use Rattle.rt_core.specs.declared.turn.Turn.{Turn}
+use Rattle.rt_core.specs.declared.turn.Turn.TheVariants.{Start, Resume, Back, Idle}
 use Rattle.rt_core.specs.declared.turn.PickError.{PickError}
 use Rattle.rt_core.specs.declared.turn.PickError.TheVariants.{Busy}
 use Rattle.rt_core.specs.State.{CoreView, runtime_of, opened}
+use Rattle.rt_core.specs.Closing.{return_reason}
 use Rattle.rt_core.specs.Turns.{TakesOut, Picks}
 use Rattle.rt_world.specs.declared.event.Reply.{Reply}
 use Rattle.rt_world.specs.declared.event.Reply.TheVariants as reply
 use Rattle.rt_world.specs.State.{journal_at}
 use Rattle.rt_world.specs.Turns.{Turns}
-use Rattle.rt_world.specs.PickedJobs.{turn_of, TookOut, TookNone}
+use Rattle.rt_world.specs.PickedJobs.{turn_of, TookOut, TookNone, HandsNothingBack}
 use Rattle.rt_world.specs.Inside.{terms_in, Parts, core_at, notes_at, world_of, IsCoreAtRest}
 use Rattle.rt_world.specs.Tasks.{IsWorld}
 use Rattle.rt_journal.specs.Agreement.{names_of}
+use Rattle.rt_journal.proofs.KeptModes.{hands_nothing_back}
 use Rattle.rt_journal.proofs.PollNotes.{poll_note}
 use Rattle.rt_world.proofs.WorldViews.{journal_at-world}
 
@@ -43,8 +47,8 @@ module _ {J T : Type 0} (old : CoreView J) (new : CoreView J) (written : List (N
   taken picked picks out = by_start out.was_started (subst (λ picked. Picks old picked new written) out.turn picks)
     where
       by_start : (was_started : Bool) → Picks old (Ok (turn_of was_started out.name out.queue job)) new written → IsTaken old job new written
-      by_start false picks = record { name = out.name; queue = out.queue; was_started = false; takes = picks.0; notes = picks.1 }
-      by_start true picks = record { name = out.name; queue = out.queue; was_started = true; takes = picks.0; notes = picks.1 }
+      by_start false picks = record { name = out.name; queue = out.queue; was_started = false; takes = picks.0; notes = picks.2 }
+      by_start true picks = record { name = out.name; queue = out.queue; was_started = true; takes = picks.0; notes = picks.2 }
 
 module _ {J T : Type 0} (same : J → J → Type 0) (made : J → ℕ) (polls : J → ℕ → Step T → Option ℕ → Type 0)
     (fits : Order J → Outcome J T → Type 0) (ready : Order J → Type 0)
@@ -67,6 +71,27 @@ module _ {J T : Type 0} (same : J → J → Type 0) (made : J → ℕ) (polls : 
   -- no job of a core at rest is out
   pub not_busy : picked ≡ Err Busy → ⊥
   not_busy busy = (subst (λ picked. Picks view picked new written) busy picks).0 free
+
+  -- nothing is closed, so no job is handed back
+  nobody_returns : (queue : ℕ) → return_reason queue view ≡ None
+  nobody_returns queue =
+      ap (return_reason queue) (sym viewed)
+      ∙ hands_nothing_back (core_at core old.inside) (notes_at core old.journals) rest.agrees.closing (world.early core (omega (arith, core_there))).closes_nothing queue
+
+  pub nothing_back : HandsNothingBack picked
+  nothing_back = by_turn picked picks
+    where
+      none≢some : {A : Type 0} {item : A} → None ≡ Some item → ⊥
+      none≢some same = cc
+
+      by_turn : (picked : Result (Turn J) PickError) → Picks view picked new written → HandsNothingBack picked
+      by_turn (Ok (Back name reason (Job queue job))) picks = none≢some (sym (nobody_returns queue) ∙ picks.1)
+      by_turn (Ok (Back name reason (Create weight))) picks = picks
+      by_turn (Ok (Back name reason (SetShares queue weight))) picks = picks
+      by_turn (Ok (Start name queue job)) picks = tt
+      by_turn (Ok (Resume name queue job)) picks = tt
+      by_turn (Ok Idle) picks = tt
+      by_turn (Err error) picks = tt
 
   lines : (queue : ℕ) → names_of (waiting_of queue view.queues) ≡ line queue (notes_at core old.journals)
   lines queue = subst (λ view. names_of (waiting_of queue view.queues) ≡ line queue (notes_at core old.journals)) viewed (rest.agrees.lines queue)

@@ -2,7 +2,7 @@
 use Rattle.std.specs.Prelude.{◌≡◌, ℕ, Bool, true, false, Result, Ok, Err}
 use Rattle.rt_ids.specs.declared.names.JobId.{JobId}
 use Rattle.rt_core.specs.declared.turn.Turn.{Turn}
-use Rattle.rt_core.specs.declared.turn.Turn.TheVariants.{Start, Resume, Idle}
+use Rattle.rt_core.specs.declared.turn.Turn.TheVariants.{Start, Resume, Back, Idle}
 use Rattle.rt_core.specs.declared.turn.PickError.{PickError}
 use Rattle.rt_core.specs.declared.turn.PickError.TheVariants.{Spent}
 use Rattle.rt_world.specs.declared.event.Reply.{Reply}
@@ -20,6 +20,11 @@ module _ {J : Type 0} where
     pub queue : ℕ
     pub was_started : Bool
     pub turn : picked ≡ Ok (turn_of was_started name queue job)
+
+  -- the pick hands no job back
+  abbrev pub HandsNothingBack : Result (Turn J) PickError → Type 0
+  HandsNothingBack (Ok (Back name reason order)) = ⊥
+  HandsNothingBack picked = Unit {0}
 
   -- the pick took no job out, which the reply says: no queue has work, or all turns are used
   abbrev pub TookNone : Result (Turn J) PickError → Reply J → Type 0

@@ -1,8 +1,8 @@
 //! What a delivery does, by its order.
-ghost use Rattle.std.specs.Prelude.{◌≡◌, ◌↔◌, ℕ, ◌+◌, ◌<◌, ◌≤◌, true, false, IsTrue};
+ghost use Rattle.std.specs.Prelude.{◌≡◌, ◌↔◌, ℕ, ◌+◌, ◌<◌, ◌≤◌, true, false, None, IsTrue};
 ghost use Rattle.rt_ids.specs.declared.order.Order.TheVariants as orders;
 ghost use Rattle.rt_jobs.specs.Ready.{IsReady};
-ghost use Rattle.rt_taskqueue.specs.Queues.{queue_count};
+ghost use Rattle.rt_taskqueue.specs.Queues.{queue_count, mode_of};
 ghost use Rattle.rt_core.specs.State.{is_working, inside_count, IsBounded};
 ghost use Rattle.rt_core.specs.Deliveries.{Delivers, CountsAlone, Enters};
 
@@ -12,7 +12,7 @@ use crate::notes::{Notes, one_note, two_notes};
 use crate::out::is_of_queue;
 use crate::ready::enter;
 use crate::tally::place;
-use rt_ids::{Answer, JobId, Note, Order, QueueNo, Reason};
+use rt_ids::{Answer, JobId, Note, Order, QueueNo};
 use rt_jobs::Task;
 use rt_shares::{Shares, placed};
 use rt_taskqueue::CreateError;
@@ -25,7 +25,7 @@ impl<J: Task, A: Allocator + Clone> Core<J, A> {
         ensures counts { CountsAlone self.old name.now self.new }
         ensures bounded { IsBounded self.new }
     {
-        self.delivered[usize::from(name.from.0)] = name.number;
+        self.senders.count(usize::from(name.from.0), name.number);
     }
 
     /// Whether there is a queue of this number.
@@ -57,21 +57,38 @@ impl<J: Task, A: Allocator + Clone> Core<J, A> {
         ensures delivers { Delivers self.old name (orders.Job queue job) result.0 self.new result.1.items }
         ensures bounded { IsBounded self.new }
     {
-        if !self.has_queue(queue) {
-            self.count(&name);
-            let back = Note::Back(name, Reason::NoQueue);
-            return (
-                Delivered::Back(Reason::NoQueue, Order::Job(queue, job)),
-                one_note(back),
-            );
+        match self.refusal(queue) {
+            Some(reason) => {
+                self.count(&name);
+                let back = Note::Back(name, reason);
+                (
+                    Delivered::Back(reason, Order::Job(queue, job)),
+                    one_note(back),
+                )
+            }
+            None => {
+                let took = Note::Took(name, queue);
+                self.take_in(name, queue, job);
+                (Delivered::Took, one_note(took))
+            }
         }
-        let took = Note::Took(name, queue);
+    }
+
+    /// A job enters an open queue.
+    fn take_in(&mut self, name: JobId, queue: QueueNo, job: J)
+        requires room { inside_count self.old < self.old.queues.room }
+        requires sender { name.from ≤ self.old.cores }
+        requires ready { IsReady J.done J.CanPoll job }
+        requires exists { queue < queue_count self.old.queues }
+        requires is_open { mode_of queue self.old.queues ≡ None }
+        ensures enters { Enters self.old name queue job self.new }
+        ensures bounded { IsBounded self.new }
+    {
         if self.has_work(queue) {
             self.join(name, queue, job);
-            return (Delivered::Took, one_note(took));
+        } else {
+            self.activate(name, queue, job);
         }
-        self.activate(name, queue, job);
-        (Delivered::Took, one_note(took))
     }
 
     /// A job enters a queue that has work.
@@ -80,11 +97,12 @@ impl<J: Task, A: Allocator + Clone> Core<J, A> {
         requires sender { name.from ≤ self.old.cores }
         requires ready { IsReady J.done J.CanPoll job }
         requires exists { queue < queue_count self.old.queues }
+        requires is_open { mode_of queue self.old.queues ≡ None }
         requires work { is_working queue self.old ≡ true }
         ensures enters { Enters self.old name queue job self.new }
         ensures bounded { IsBounded self.new }
     {
-        self.delivered[usize::from(name.from.0)] = name.number;
+        self.senders.count(usize::from(name.from.0), name.number);
         self.queues.admit(queue, name, job);
         self.inside += 1;
     }
@@ -95,11 +113,12 @@ impl<J: Task, A: Allocator + Clone> Core<J, A> {
         requires sender { name.from ≤ self.old.cores }
         requires ready { IsReady J.done J.CanPoll job }
         requires exists { queue < queue_count self.old.queues }
+        requires is_open { mode_of queue self.old.queues ≡ None }
         requires idle { is_working queue self.old ≡ false }
         ensures enters { Enters self.old name queue job self.new }
         ensures bounded { IsBounded self.new }
     {
-        self.delivered[usize::from(name.from.0)] = name.number;
+        self.senders.count(usize::from(name.from.0), name.number);
         self.queues.admit(queue, name, job);
         self.inside += 1;
         let tally = &mut self.tallies[place(queue)];
@@ -116,6 +135,26 @@ impl<J: Task, A: Allocator + Clone> Core<J, A> {
     where
         J::Out: Copy,
         requires { name.from ≤ self.old.cores }
+        ensures delivers { Delivers self.old name (orders.Create shares) result.0 self.new result.1.items }
+        ensures bounded { IsBounded self.new }
+    {
+        if self.is_closed() {
+            self.count(&name);
+            let answered = Note::Answered(name, Answer::CoreClosing);
+            return (
+                Delivered::Answered(Answer::CoreClosing),
+                one_note(answered),
+            );
+        }
+        self.create_open(name, shares)
+    }
+
+    /// Makes a queue in an open core, or answers why there is none.
+    fn create_open(&mut self, name: JobId, shares: Shares) -> (Delivered<J>, Notes<J::Out>)
+    where
+        J::Out: Copy,
+        requires sender { name.from ≤ self.old.cores }
+        requires is_open { self.old.mode ≡ None }
         ensures delivers { Delivers self.old name (orders.Create shares) result.0 self.new result.1.items }
         ensures bounded { IsBounded self.new }
     {
@@ -155,7 +194,7 @@ impl<J: Task, A: Allocator + Clone> Core<J, A> {
             let answered = Note::Answered(name, Answer::NoQueue);
             return (Delivered::Answered(Answer::NoQueue), one_note(answered));
         }
-        self.delivered[usize::from(name.from.0)] = name.number;
+        self.senders.count(usize::from(name.from.0), name.number);
         self.queues.set_shares(queue, shares);
         let answered = Note::Answered(name, Answer::SharesSet);
         (

@@ -1,7 +1,8 @@
 //! What a core tells of itself in numbers.
-ghost use Rattle.std.specs.Prelude.{◌≡◌, ℕ, ◌<◌, Some, slice_get};
+ghost use Rattle.std.specs.Prelude.{◌≡◌, ◌↔◌, ℕ, ◌<◌, Some, IsTrue, slice_get};
 ghost use Rattle.arrayvec.specs.ArrayVec.{array_vec_len};
 ghost use Rattle.rt_taskqueue.specs.Queues.{queue_count};
+ghost use Rattle.rt_core.specs.Closing.{IsDrained};
 ghost use Rattle.rt_core.specs.Figures.{core_stats, queue_stats};
 
 use super::Core;
@@ -13,13 +14,14 @@ use std::alloc::Allocator;
 
 impl<J: Task, A: Allocator + Clone> Core<J, A> {
     pub(super) fn core_stats(&self) -> CoreStats
-        ensures { result ≡ core_stats self.now }
+        ensures core { result ≡ core_stats self.now result.drained }
+        ensures drained { IsTrue result.drained ↔ IsDrained self.now }
     {
         CoreStats {
             turns: self.turns,
             floor: self.floor,
             held: self.inside as u64,
-            drained: false,
+            drained: self.is_drained(),
         }
     }
 
@@ -35,7 +37,7 @@ impl<J: Task, A: Allocator + Clone> Core<J, A> {
             virtual_runtime: tally.runtime,
             waiting: self.queues.count(queue) as u64,
             finished: tally.finished,
-            returned: 0,
+            returned: tally.returned,
         }
     }
 

@@ -1,16 +1,17 @@
 //! A job goes out to be polled, and comes back.
-ghost use Rattle.std.specs.Prelude.{◌≡◌, ℕ, ◌-◌, ◌^◌, ◌<◌, [], IsSome, None};
+ghost use Rattle.std.specs.Prelude.{◌≡◌, ℕ, ◌-◌, ◌^◌, ◌<◌, [], length, IsSome, None};
 ghost use Rattle.rt_jobs.specs.Ready.{IsReady};
-ghost use Rattle.rt_taskqueue.specs.Queues.{waiting_of};
+ghost use Rattle.rt_taskqueue.specs.Queues.{queue_count, waiting_of};
 ghost use Rattle.rt_core.specs.State.{runtime_of, IsBounded};
 ghost use Rattle.rt_core.specs.Turns.{TakesOut};
-ghost use Rattle.rt_core.specs.Steps.{YieldsOut, FinishesOut};
+ghost use Rattle.rt_core.specs.Inside.{FitsTurns};
+ghost use Rattle.rt_core.specs.Steps.{IsOut, IsOutOf, LeavesOut, YieldsOut, ReturnsOut, FinishesOut};
 
 use super::Core;
 use crate::out::Out;
 use crate::ready::enter;
-use crate::tally::place;
-use rt_ids::{JobId, Key};
+use crate::tally::{Tally, place};
+use rt_ids::{JobId, Key, QueueNo};
 use rt_jobs::Task;
 use std::alloc::Allocator;
 use std::snapshot::Snapshot;
@@ -22,6 +23,8 @@ impl<J: Task, A: Allocator + Clone> Core<J, A> {
         requires turns { self.old.turns < 2 ^ 64 - 1 }
         requires work { (queue : ℕ) × (waiting_of queue self.old.queues ≡ [] → ⊥) }
         ensures takes { TakesOut self.old result.1 result.0.queue result.2 result.3 self.new }
+        ensures exists { result.0.queue < queue_count self.new.queues }
+        ensures tallied { result.0.queue < length self.old.tallies }
         ensures at { result.0.vr ≡ runtime_of result.0.queue self.old }
         ensures ready { IsReady J.done J.CanPoll result.3 }
         ensures bounded { IsBounded self.new }
@@ -73,18 +76,49 @@ impl<J: Task, A: Allocator + Clone> Core<J, A> {
         ensures finishes { FinishesOut self.old result time self.new }
         ensures bounded { IsBounded self.new }
     {
-        let Some(out) = self.out.take() else {
-            unreachable!()
-        };
-        let queue = out.queue;
+        let (name, queue) = self.who_is_out();
         let shares = self.queues.shares(queue);
         let tally = self.tallies[place(queue)].charged(time, &shares, 1);
+        self.let_go(queue, tally);
+        name
+    }
+
+    /// The job that was out is handed back.
+    pub(super) fn hand_back(&mut self)
+        requires { IsSome self.old.out }
+        ensures returns { ReturnsOut self.old self.new }
+        ensures bounded { IsBounded self.new }
+    {
+        let (_, queue) = self.who_is_out();
+        let mut tally = self.tallies[place(queue)];
+        tally.returned += 1;
+        self.let_go(queue, tally);
+    }
+
+    /// The job that is out, and its queue.
+    fn who_is_out(&self) -> (JobId, QueueNo)
+        requires { IsSome self.now.out }
+        ensures { IsOut self.now result.0 result.1 }
+    {
+        let Some(out) = &self.out else {
+            unreachable!()
+        };
+        (out.name, out.queue)
+    }
+
+    /// The job that was out leaves for good, and its queue has this tally from then on. The queue may be picked again if a job waits in it.
+    fn let_go(&mut self, queue: QueueNo, tally: Tally)
+        requires out { IsOutOf self.old queue }
+        requires fits { FitsTurns self.old.turns 0 tally }
+        ensures leaves { LeavesOut self.old queue tally self.new }
+        ensures bounded { IsBounded self.new }
+    {
+        self.out = None;
         self.tallies[place(queue)] = tally;
         self.inside -= 1;
         if self.queues.is_empty(queue) {
-            return out.name;
+            return;
         }
         enter(&mut self.queues, &mut self.ready, queue, tally.runtime);
-        out.name
     }
 }

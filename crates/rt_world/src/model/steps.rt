@@ -7,7 +7,7 @@ ghost use Rattle.rt_world.specs.State.{journal_at};
 ghost use Rattle.rt_world.specs.Sends.{Sends};
 ghost use Rattle.rt_world.specs.Deliveries.{Delivers};
 ghost use Rattle.rt_world.specs.Turns.{Turns};
-ghost use Rattle.rt_world.specs.PickedJobs.{TookOut, TookNone};
+ghost use Rattle.rt_world.specs.PickedJobs.{TookOut, TookNone, HandsNothingBack};
 
 use super::World;
 use crate::event::Reply;
@@ -79,13 +79,15 @@ impl<J: Job + Task<Out = u64>, A: Allocator + Clone> World<J, A> {
 
 // The job that a pick took out, or what the actor is told where it took none.
 fn job_or_reply<J: Drop>(picked: Result<Turn<J>, PickError>) -> Result<J, Reply<J>>
-    requires { picked ≢ Err Busy }
+    requires free { picked ≢ Err Busy }
+    requires kept { HandsNothingBack picked }
     ensures job { IfOk result (TookOut picked) }
     ensures reply { IfErr result (TookNone picked) }
 {
     match picked {
         Ok(Turn::Start(_, _, job)) => Ok(job),
         Ok(Turn::Resume(_, _, job)) => Ok(job),
+        Ok(Turn::Back(_, _, _)) => unreachable!(),
         Ok(Turn::Idle) => Err(Reply::Idle),
         Err(PickError::Spent) => Err(Reply::Spent),
         Err(PickError::Busy) => unreachable!(),

@@ -15,7 +15,7 @@ use Rattle.rt_core.proofs.one_core.Core.activate.Goals as goal
 pub enter-requires : goal.enter-requires
 enter-requires g c =
     let inside = c.self.inside in
-    let old = core_view inside.core inside.cores (queues_alone inside.queues) inside.tallies.items inside.floor inside.turns (job_out inside.out) inside.delivered.items in
+    let old = core_view inside.core inside.cores (queues_alone inside.queues) inside.tallies.items inside.floor inside.turns (job_out inside.out) inside.senders inside.mode in
     let idle = subst (λ (view : CoreView g.row.J.Denot). is_working c.args.queue view ≡ false) (sym c.self.view_is) c.requires.idle in
     let exists = subst (λ (view : CoreView g.row.J.Denot). c.args.queue < queue_count view.queues) (sym c.self.view_is) c.requires.exists in
     let none = c.self.invariant.listed.at c.args.queue ∙ idle_entry old c.args.queue idle in
@@ -31,7 +31,7 @@ invariant_of-self g c =
     let inside = c.self.inside in
     let core = c.self.invariant in
     let back = sym c.self.view_is in
-    let polls = unsettled_count (core_view inside.core inside.cores (queues_alone inside.queues) inside.tallies.items inside.floor inside.turns (job_out inside.out) inside.delivered.items) in
+    let polls = unsettled_count (core_view inside.core inside.cores (queues_alone inside.queues) inside.tallies.items inside.floor inside.turns (job_out inside.out) inside.senders inside.mode) in
     let idle = subst (λ (view : CoreView g.row.J.Denot). is_working c.args.queue view ≡ false) back c.requires.idle in
     let room = subst (λ (view : CoreView g.row.J.Denot). inside_count view < view.queues.room) back c.requires.room in
     let exists = subst (λ (view : CoreView g.row.J.Denot). c.args.queue < queue_count view.queues) back c.requires.exists in
@@ -39,15 +39,15 @@ invariant_of-self g c =
     let within : c.args.queue < length inside.tallies.items = omega (arith, core.counted.tallies, exists) in
     let there : c.place.result < length inside.tallies.items = omega (arith, c.place.ensures) in
     let was = c.index_mut-tally.result.now in
-    let tally : Tally = record { runtime = c.placed-vr.result; selected = was.selected; time = was.time; finished = was.finished } in
+    let tally : Tally = record { runtime = c.placed-vr.result; selected = was.selected; time = was.time; finished = was.finished; returned = was.returned } in
     let before : FitsTurns inside.turns polls was =
     subst (FitsTurns inside.turns polls) (sym c.index_mut-tally.ensures.value) (core.turns.tallies c.place.result was there) in
     let fits : FitsTurns inside.turns polls tally =
     subst (λ runtime. FitsTurns inside.turns polls (record was { runtime = runtime })) (sym c.placed-vr.ensures) (placed_fits inside.turns polls inside.floor was false before core.turns.floor) in
     let joins = c.admit.ensures.joins in
-    let none = core.listed.at c.args.queue ∙ idle_entry (core_view inside.core inside.cores (queues_alone inside.queues) inside.tallies.items inside.floor inside.turns (job_out inside.out) inside.delivered.items) c.args.queue idle in
+    let none = core.listed.at c.args.queue ∙ idle_entry (core_view inside.core inside.cores (queues_alone inside.queues) inside.tallies.items inside.floor inside.turns (job_out inside.out) inside.senders inside.mode) c.args.queue idle in
     let lacks = LacksQueue-from_none c.args.queue inside.ready.keys none in
-    rw (c.enter.ensures.keys, c.enter.ensures.given) (record {
+    rw (c.count.ensures, c.enter.ensures.keys, c.enter.ensures.given) (record {
       counted = IsCounted-enters _ _ _ _ _ c.args.queue c.args.name c.args.job c.admit.ensures.joins.queues c.admit.ensures.limits space refl refl (length-set _ _ _) (length-set _ _ _) core.counted;
       listed = IsListed-activates _ _ _ (record { vr = c.placed-vr.result; queue = c.args.queue }) tally c.args.name c.args.job c.admit.ensures.joins.queues refl
           (ap (λ at. slice_set inside.tallies.items at tally) c.place.ensures) within refl idle core.listed;

@@ -1,10 +1,10 @@
-use Rattle.std.proofs.Common.{List, [], ◌∷◌, refl, ◌∙◌, ap, subst, arith, length, length-append}
+use Rattle.std.proofs.Common.{◌≡◌, List, [], ◌∷◌, None, refl, sym, ◌∙◌, ap, subst, arith, length, length-append}
 use Rattle.std.specs.Prelude.{slice_index_or}
 use Rattle.std.proofs.lemmas.List.Elements.{All-push}
 use Rattle.rt_taskqueue.specs.Queues.{queue_count, AddsQueue}
 use Rattle.rt_core.specs.declared.tally.Tally.{Tally}
 use Rattle.rt_taskqueue.specs.Slips.{queues_alone}
-use Rattle.rt_core.specs.State.{no_tally}
+use Rattle.rt_core.specs.State.{CoreView, no_tally}
 use Rattle.rt_core.specs.Inside.{core_view, job_out, unsettled_count, FitsTurns}
 use Rattle.rt_core.proofs.Fits.{no_tally_fits, IsBounded-from_turns}
 use Rattle.rt_core.proofs.Parts.{IsPollable-same}
@@ -17,7 +17,7 @@ pub invariant_of-self : goal.invariant_of-self
 invariant_of-self g c =
     let inside = c.self.inside in
     let core = c.self.invariant in
-    let polls = unsettled_count (core_view inside.core inside.cores (queues_alone inside.queues) inside.tallies.items inside.floor inside.turns (job_out inside.out) inside.delivered.items) in
+    let polls = unsettled_count (core_view inside.core inside.cores (queues_alone inside.queues) inside.tallies.items inside.floor inside.turns (job_out inside.out) inside.senders inside.mode) in
     let adds = c.in-Ok.ensures.created.queues in
     let items = c.push_reserved.ensures.items in
     record {
@@ -26,7 +26,7 @@ invariant_of-self g c =
       listed = IsListed-same _ _ _ adds.same_lines refl
           (λ queue. ap (λ (tallies : List Tally). (slice_index_or tallies queue no_tally).runtime) items ∙ ap (λ (tally : Tally). tally.runtime) (get_or-push_default inside.tallies.items no_tally queue)) core.listed;
       slipped =
-          let none = core.listed.at (queue_count (queues_alone inside.queues)) ∙ nothing_past (core_view inside.core inside.cores (queues_alone inside.queues) inside.tallies.items inside.floor inside.turns (job_out inside.out) inside.delivered.items) in
+          let none = core.listed.at (queue_count (queues_alone inside.queues)) ∙ nothing_past (core_view inside.core inside.cores (queues_alone inside.queues) inside.tallies.items inside.floor inside.turns (job_out inside.out) inside.senders inside.mode) in
           KeepsSlips-same _ _ _ _ _ adds.count c.in-Ok.ensures.created.slips (KeepsSlips-created _ _ _ none core.slipped);
       pollable = IsPollable-same _ _ _ _ adds.same_lines core.pollable;
       turns = record {
@@ -42,9 +42,10 @@ returns-in-Ok-clause-creates g c =
     rw (← c.self.view_is) (
       adds.number,
       record {
+        is_open = subst (λ (view : CoreView g.row.J.Denot). view.mode ≡ None) (sym c.self.view_is) c.requires.is_open;
         few = omega (arith, adds.count, c.try_create.ensures.limits.few_queues);
         added = subst (λ queue. AddsQueue (queues_alone inside.queues) (queues_alone c.try_create.new.self) queue c.args.shares) adds.number adds;
-        rest = λ i. core_view inside.core inside.cores (queues_alone c.try_create.new.self) (c.push_reserved.ensures.items i) inside.floor inside.turns (job_out inside.out) inside.delivered.items;
+        rest = λ i. core_view inside.core inside.cores (queues_alone c.try_create.new.self) (c.push_reserved.ensures.items i) inside.floor inside.turns (job_out inside.out) inside.senders inside.mode;
       },
       refl,
       c.one_note.ensures,
@@ -54,8 +55,8 @@ pub returns-in-Ok-clause-bounded : goal.returns-in-Ok-clause-bounded
 returns-in-Ok-clause-bounded g c =
     let inside = c.self.inside in
     let core = c.self.invariant in
-    let polls = unsettled_count (core_view inside.core inside.cores (queues_alone inside.queues) inside.tallies.items inside.floor inside.turns (job_out inside.out) inside.delivered.items) in
-    IsBounded-from_turns (core_view inside.core inside.cores (queues_alone c.try_create.new.self) c.push_reserved.new.self.items inside.floor inside.turns (job_out inside.out) inside.delivered.items) (record {
+    let polls = unsettled_count (core_view inside.core inside.cores (queues_alone inside.queues) inside.tallies.items inside.floor inside.turns (job_out inside.out) inside.senders inside.mode) in
+    IsBounded-from_turns (core_view inside.core inside.cores (queues_alone c.try_create.new.self) c.push_reserved.new.self.items inside.floor inside.turns (job_out inside.out) inside.senders inside.mode) (record {
       tallies = rw c.push_reserved.ensures.items (All-push (FitsTurns inside.turns polls) inside.tallies.items no_tally core.turns.tallies (no_tally_fits inside.turns polls inside.floor core.turns.floor));
       floor = core.turns.floor;
     })
@@ -64,7 +65,7 @@ pub returns-in-Err-clause-bounded : goal.returns-in-Err-clause-bounded
 returns-in-Err-clause-bounded g c =
     let inside = c.self.inside in
     let core = c.self.invariant in
-    IsBounded-from_turns (core_view inside.core inside.cores (queues_alone c.try_create.new.self) inside.tallies.items inside.floor inside.turns (job_out inside.out) inside.delivered.items) (record {
+    IsBounded-from_turns (core_view inside.core inside.cores (queues_alone c.try_create.new.self) inside.tallies.items inside.floor inside.turns (job_out inside.out) inside.senders inside.mode) (record {
       tallies = core.turns.tallies;
       floor = core.turns.floor;
     })

@@ -1,24 +1,11 @@
-use Rattle.std.proofs.Common.{subst, arith}
-use Rattle.rt_core.specs.Deliveries.{CreatesQueue}
-use Rattle.rt_core.proofs.Outcomes.{same_cores, delivers_created}
+use Rattle.std.proofs.Common.{◌∙◌, sym, rules}
+use Rattle.rt_core.proofs.Outcomes.{none_if_not, not_none}
 use Rattle.rt_core.proofs.one_core.Core.deliver_create.Goals as goal
 
-pub count-requires : goal.count-requires
-count-requires g c =
-    let same = same_cores c.args.self.now c.args.shares c.create-made.result.0 c.create-made.new.self c.create-made.result.1.items c.create-made.ensures.creates in
-    omega (arith, c.requires, same)
+pub returns-then-is_closed-clause-delivers : goal.returns-then-is_closed-clause-delivers
+returns-then-is_closed-clause-delivers g c =
+    (not_none c.args.self.now.mode (sym c.is_closed.ensures ∙ c.if-is_closed.true), c.count.ensures.counts, c.one_note.ensures)
 
-pub returns-in-Ok-clause-delivers : goal.returns-in-Ok-clause-delivers
-returns-in-Ok-clause-delivers g c =
-    let made = subst (λ made. CreatesQueue c.args.self.now c.args.shares made c.create-made.new.self c.create-made.result.1.items) c.in-Ok.is c.create-made.ensures.creates in
-    let both = delivers_created c.args.self.now c.args.shares c.create-made.new.self c.count.new.self c.args.name made.1 made.2 c.count.ensures.counts in
-    (made.0, both.0, both.1, c.two_notes-notes.ensures)
-
-pub returns-in-Ok-clause-bounded : goal.returns-in-Ok-clause-bounded
-returns-in-Ok-clause-bounded g c = c.count.ensures.bounded
-
-pub returns-in-Err-TooMany-clause-bounded : goal.returns-in-Err-TooMany-clause-bounded
-returns-in-Err-TooMany-clause-bounded g c = c.count.ensures.bounded
-
-pub returns-in-Err-Memory-clause-bounded : goal.returns-in-Err-Memory-clause-bounded
-returns-in-Err-Memory-clause-bounded g c = c.count.ensures.bounded
+pub create_open-requires : goal.create_open-requires
+create_open-requires g c =
+    (search rules, (c.requires, none_if_not c.args.self.now.mode (sym c.is_closed.ensures ∙ c.if-is_closed.false)))

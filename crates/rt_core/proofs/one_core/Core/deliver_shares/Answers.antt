@@ -1,6 +1,7 @@
-use Rattle.std.proofs.Common.{◌<◌, refl, sym, subst, rules, length-set}
+use Rattle.std.proofs.Common.{◌<◌, refl, sym, ap, subst, rules, length-set}
 use Rattle.rt_taskqueue.specs.Queues.{queue_count}
 use Rattle.rt_taskqueue.specs.Slips.{queues_alone}
+use Rattle.rt_core.specs.Senders.{SendersView}
 use Rattle.rt_core.specs.State.{CoreView}
 use Rattle.rt_core.specs.Inside.{core_view, job_out}
 use Rattle.rt_core.proofs.Fits.{IsBounded-from_turns}
@@ -14,22 +15,23 @@ pub invariant_of-self : goal.invariant_of-self
 invariant_of-self g c =
     let core = c.self.invariant in
     let given = c.set_shares.ensures.given.queues in
-    record {
+    rw c.count-2.ensures (record {
       counted = IsCounted-weighs _ _ _ _ _ c.args.queue c.args.shares given c.set_shares.ensures.limits refl refl refl (length-set _ _ _) core.counted;
       listed = IsListed-same _ _ _ given.same_lines refl (λ queue. refl) core.listed;
       slipped = KeepsSlips-same _ _ _ _ _ given.same_count c.set_shares.ensures.given.slips core.slipped;
       pollable = IsPollable-same _ _ _ _ given.same_lines core.pollable;
       turns = record { tallies = core.turns.tallies; floor = core.turns.floor };
-    }
+    })
 
 pub returns-clause-delivers : goal.returns-clause-delivers
 returns-clause-delivers g c =
     let inside = c.self.inside in
     let exists : c.args.queue < queue_count (queues_alone inside.queues) =
     subst (λ (view : CoreView g.row.J.Denot). c.args.queue < queue_count view.queues) (sym c.self.view_is) (c.has_queue.ensures.0 c.if-not-has_queue.false) in
+    let gates = ap (λ (senders : SendersView). senders.gates) c.count-2.ensures in
     rw (← c.self.view_is) (
-      record { exists = exists; shares = c.set_shares.ensures.given.queues; rest = refl },
-      (let v = c.name.view_is in search rules),
+      record { exists = exists; shares = c.set_shares.ensures.given.queues; rest = λ i. core_view inside.core inside.cores (queues_alone c.set_shares.new.self) inside.tallies.items inside.floor inside.turns (job_out inside.out) (record { delivered = c.count-2.new.self.delivered; gates = gates i }) inside.mode },
+      (let v = c.name.view_is in let counted = ap (λ (senders : SendersView). senders.delivered) c.count-2.ensures in search rules),
       c.two_notes.ensures,
     )
 
@@ -37,7 +39,7 @@ pub returns-clause-bounded : goal.returns-clause-bounded
 returns-clause-bounded g c =
     let inside = c.self.inside in
     let core = c.self.invariant in
-    IsBounded-from_turns (core_view inside.core inside.cores (queues_alone c.set_shares.new.self) inside.tallies.items inside.floor inside.turns (job_out inside.out) inside.delivered.items) (record {
+    IsBounded-from_turns (core_view inside.core inside.cores (queues_alone c.set_shares.new.self) inside.tallies.items inside.floor inside.turns (job_out inside.out) inside.senders inside.mode) (record {
       tallies = core.turns.tallies;
       floor = core.turns.floor;
     })

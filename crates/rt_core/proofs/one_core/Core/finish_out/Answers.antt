@@ -1,204 +1,29 @@
-use Rattle.std.proofs.Common.{◌≡◌, ◌<◌, true, length, Option, Some, None, refl, sym, ◌∙◌, ap, subst, arith, length-set}
-use Rattle.std.specs.Prelude.{is_some, slice_index_or, slice_set}
-use Rattle.rt_ids.specs.Work.{number_if}
-use Rattle.rt_taskqueue.specs.Queues.{waiting_of, shares_of}
+use Rattle.std.proofs.Common.{◌≡◌, ◌<◌, List, length, None, ◌∙◌, ap, subst, arith}
+use Rattle.std.specs.Prelude.{slice_index_or}
+use Rattle.rt_taskqueue.specs.Queues.{shares_of}
 use Rattle.rt_taskqueue.specs.Slips.{queues_alone}
-use Rattle.rt_core.specs.State.{JobOut, is_any}
-use Rattle.rt_core.specs.Inside.{core_view, job_out, unsettled_count, FitsTurns}
-use Rattle.rt_core.proofs.Fits.{IsBounded-from_turns}
-use Rattle.rt_core.proofs.Charging.{charge_written, charge_fits}
-use Rattle.std.proofs.lemmas.Bool.{true≢false}
-use Rattle.rt_core.proofs.Counting.{IsCounted-finishes, some_inside}
-use Rattle.rt_core.proofs.Entries.{is_any-from_some}
-use Rattle.rt_core.proofs.Listed.{LacksQueue-from_none}
-use Rattle.rt_core.proofs.Parts.{IsPollable-same}
-use Rattle.rt_core.proofs.Settling.{out_entry, IsListed-again, IsWithinTurns-settles}
-use Rattle.rt_core.proofs.SlipsKept.{KeepsSlips-inserted, slip_there}
+use Rattle.rt_core.specs.declared.tally.Tally.{Tally}
+use Rattle.rt_core.specs.State.{CoreView}
+use Rattle.rt_core.specs.Inside.{core_view, job_out}
+use Rattle.rt_core.proofs.Charging.{charge_written}
+use Rattle.rt_core.proofs.Counting.{some_inside}
 use Rattle.rt_core.proofs.one_core.Core.finish_out.Goals as goal
-
-pub returns-then-is_empty-clause-finishes : goal.returns-then-is_empty-clause-finishes
-returns-then-is_empty-clause-finishes g c =
-    let inside = c.self.inside in
-    let core = c.self.invariant in
-    let old = core_view inside.core inside.cores (queues_alone inside.queues) inside.tallies.items inside.floor inside.turns (job_out inside.out) inside.delivered.items in
-    let out : JobOut g.row.J.Denot = record { name = c.in-Some.out.name; queue = c.in-Some.out.queue; job = c.in-Some.out.job.value } in
-    let was_out : job_out inside.out ≡ Some out = ap job_out (sym c.take.ensures.value ∙ c.in-Some.is) in
-    let free : job_out c.take.new.self ≡ None = ap job_out c.take.ensures.after in
-    let exists = some_inside old inside.inside inside.room inside.tallies.cap out was_out core.counted in
-    let within : out.queue < length inside.tallies.items = omega (arith, core.counted.tallies, exists.1) in
-    let there : c.place.result < length inside.tallies.items = omega (arith, c.place.ensures) in
-    let was = c.index.result.now in
-    let written = charge_written inside.tallies.items c.place.result c.place-2.result out.queue was c.charged-tally.result c.args.time c.shares-shares.result (shares_of out.queue (queues_alone inside.queues)) 1
-    c.place.ensures c.place-2.ensures there c.index.ensures c.charged-tally.ensures.value c.shares-shares.ensures in
-    rw (← c.self.view_is) (record {
-      out = out;
-      was_out = was_out;
-      named = refl;
-      rest = λ i. core_view inside.core inside.cores (queues_alone inside.queues) (written i) inside.floor inside.turns (free i) inside.delivered.items;
-    })
-
-pub enter-requires : goal.enter-requires
-enter-requires g c =
-    let inside = c.self.inside in
-    let core = c.self.invariant in
-    let old = core_view inside.core inside.cores (queues_alone inside.queues) inside.tallies.items inside.floor inside.turns (job_out inside.out) inside.delivered.items in
-    let out : JobOut g.row.J.Denot = record { name = c.in-Some.out.name; queue = c.in-Some.out.queue; job = c.in-Some.out.job.value } in
-    let was_out : job_out inside.out ≡ Some out = ap job_out (sym c.take.ensures.value ∙ c.in-Some.is) in
-    let exists = some_inside old inside.inside inside.room inside.tallies.cap out was_out core.counted in
-    let none = core.listed.at out.queue ∙ out_entry old out was_out in
-    record {
-      exists = exists.1;
-      slip = slip_there _ _ inside.ready.keys out.queue exists.1 none core.slipped;
-      absent = LacksQueue-from_none out.queue inside.ready.keys none;
-    }
-
-pub invariant_of-self-2 : goal.invariant_of-self-2
-invariant_of-self-2 g c =
-    let inside = c.self.inside in
-    let core = c.self.invariant in
-    let old = core_view inside.core inside.cores (queues_alone inside.queues) inside.tallies.items inside.floor inside.turns (job_out inside.out) inside.delivered.items in
-    let out : JobOut g.row.J.Denot = record { name = c.in-Some.out.name; queue = c.in-Some.out.queue; job = c.in-Some.out.job.value } in
-    let was_out : job_out inside.out ≡ Some out = ap job_out (sym c.take.ensures.value ∙ c.in-Some.is) in
-    let free : job_out c.take.new.self ≡ None = ap job_out c.take.ensures.after in
-    let exists = some_inside old inside.inside inside.room inside.tallies.cap out was_out core.counted in
-    let within : out.queue < length inside.tallies.items = omega (arith, core.counted.tallies, exists.1) in
-    let there : c.place.result < length inside.tallies.items = omega (arith, c.place.ensures) in
-    let was = c.index.result.now in
-    let one : unsettled_count old ≡ 1 = ap (λ (held : Option (JobOut g.row.J.Denot)). number_if (is_some held)) was_out in
-    let before : FitsTurns inside.turns 1 was =
-    subst (FitsTurns inside.turns 1) (sym c.index.ensures) (subst (λ polls. FitsTurns inside.turns polls (slice_index_or inside.tallies.items c.place.result was)) one (core.turns.tallies c.place.result was there)) in
-    let charged = c.charged-tally.ensures in
-    let fits : FitsTurns inside.turns 0 c.charged-tally.result =
-    charge_fits inside.turns was c.charged-tally.result c.args.time c.shares-shares.result 1 before charged.value charged.charge charged.clamped (omega arith) in
-    let tallies = ap (λ at. slice_set inside.tallies.items at c.charged-tally.result) c.place-2.ensures in
-    let any : is_any (waiting_of out.queue (queues_alone inside.queues)) ≡ true =
-    is_any-from_some (waiting_of out.queue (queues_alone inside.queues)) (λ none. true≢false (sym (c.is_empty.ensures.1 none) ∙ c.if-is_empty.false)) in
-    let lacks = LacksQueue-from_none out.queue inside.ready.keys (core.listed.at out.queue ∙ out_entry old out was_out) in
-    rw (c.enter.ensures.keys, c.enter.ensures.given) (record {
-      counted = IsCounted-finishes old _ inside.inside _ _ out refl refl was_out free (length-set _ _ _) refl core.counted;
-      listed = IsListed-again old _ inside.ready.keys out c.charged-tally.result was_out free (λ other apart. refl) tallies core.listed within any;
-      slipped = KeepsSlips-inserted _ _ _ (record { vr = c.charged-tally.result.runtime; queue = out.queue }) exists.1 lacks core.slipped;
-      pollable = IsPollable-same _ _ old _ (λ other. refl) core.pollable;
-      turns = IsWithinTurns-settles old _ out c.place-2.result c.charged-tally.result was_out free refl refl refl fits core.turns;
-    })
 
 pub returns-clause-finishes : goal.returns-clause-finishes
 returns-clause-finishes g c =
     let inside = c.self.inside in
     let core = c.self.invariant in
-    let old = core_view inside.core inside.cores (queues_alone inside.queues) inside.tallies.items inside.floor inside.turns (job_out inside.out) inside.delivered.items in
-    let out : JobOut g.row.J.Denot = record { name = c.in-Some.out.name; queue = c.in-Some.out.queue; job = c.in-Some.out.job.value } in
-    let was_out : job_out inside.out ≡ Some out = ap job_out (sym c.take.ensures.value ∙ c.in-Some.is) in
-    let free : job_out c.take.new.self ≡ None = ap job_out c.take.ensures.after in
-    let exists = some_inside old inside.inside inside.room inside.tallies.cap out was_out core.counted in
-    let within : out.queue < length inside.tallies.items = omega (arith, core.counted.tallies, exists.1) in
-    let there : c.place.result < length inside.tallies.items = omega (arith, c.place.ensures) in
+    let old = c.args.self.now in
+    let view = core_view inside.core inside.cores (queues_alone inside.queues) inside.tallies.items inside.floor inside.turns (job_out inside.out) inside.senders inside.mode in
+    let who = c.who_is_out-name.ensures in
+    let out = who.0 in
+    let exists = some_inside view inside.inside inside.room inside.tallies.cap out (ap (λ (v : CoreView g.row.J.Denot). v.out) c.self.view_is ∙ who.1) core.counted in
+    let tallies_are = ap (λ (v : CoreView g.row.J.Denot). v.tallies) c.self.view_is in
     let was = c.index.result.now in
-    let written = charge_written inside.tallies.items c.place.result c.place-2.result out.queue was c.charged-tally.result c.args.time c.shares-shares.result (shares_of out.queue (queues_alone inside.queues)) 1
-    c.place.ensures c.place-2.ensures there c.index.ensures c.charged-tally.ensures.value c.shares-shares.ensures in
-    rw (← c.self.view_is, c.enter.ensures.given) (record {
-      out = out;
-      was_out = was_out;
-      named = refl;
-      rest = λ i. core_view inside.core inside.cores (queues_alone inside.queues) (written i) inside.floor inside.turns (free i) inside.delivered.items;
-    })
-
-pub shares-shares-requires : goal.shares-shares-requires
-shares-shares-requires g c =
-    let inside = c.self.inside in
-    let core = c.self.invariant in
-    let old = core_view inside.core inside.cores (queues_alone inside.queues) inside.tallies.items inside.floor inside.turns (job_out inside.out) inside.delivered.items in
-    let out : JobOut g.row.J.Denot = record { name = c.in-Some.out.name; queue = c.in-Some.out.queue; job = c.in-Some.out.job.value } in
-    let was_out : job_out inside.out ≡ Some out = ap job_out (sym c.take.ensures.value ∙ c.in-Some.is) in
-    let exists = some_inside old inside.inside inside.room inside.tallies.cap out was_out core.counted in
-    record { exists = exists.1 }
-
-pub index-requires : goal.index-requires
-index-requires g c =
-    let inside = c.self.inside in
-    let core = c.self.invariant in
-    let old = core_view inside.core inside.cores (queues_alone inside.queues) inside.tallies.items inside.floor inside.turns (job_out inside.out) inside.delivered.items in
-    let out : JobOut g.row.J.Denot = record { name = c.in-Some.out.name; queue = c.in-Some.out.queue; job = c.in-Some.out.job.value } in
-    let was_out : job_out inside.out ≡ Some out = ap job_out (sym c.take.ensures.value ∙ c.in-Some.is) in
-    let exists = some_inside old inside.inside inside.room inside.tallies.cap out was_out core.counted in
-    omega (arith, core.counted.tallies, exists.1, c.place.ensures, inside.tallies.ok.0)
-
-pub charged-tally-requires : goal.charged-tally-requires
-charged-tally-requires g c =
-    let inside = c.self.inside in
-    let core = c.self.invariant in
-    let old = core_view inside.core inside.cores (queues_alone inside.queues) inside.tallies.items inside.floor inside.turns (job_out inside.out) inside.delivered.items in
-    let out : JobOut g.row.J.Denot = record { name = c.in-Some.out.name; queue = c.in-Some.out.queue; job = c.in-Some.out.job.value } in
-    let was_out : job_out inside.out ≡ Some out = ap job_out (sym c.take.ensures.value ∙ c.in-Some.is) in
-    let exists = some_inside old inside.inside inside.room inside.tallies.cap out was_out core.counted in
-    let within : out.queue < length inside.tallies.items = omega (arith, core.counted.tallies, exists.1) in
-    let there : c.place.result < length inside.tallies.items = omega (arith, c.place.ensures) in
-    let was = c.index.result.now in
-    let one : unsettled_count old ≡ 1 = ap (λ (held : Option (JobOut g.row.J.Denot)). number_if (is_some held)) was_out in
-    let before : FitsTurns inside.turns 1 was =
-    subst (FitsTurns inside.turns 1) (sym c.index.ensures) (subst (λ polls. FitsTurns inside.turns polls (slice_index_or inside.tallies.items c.place.result was)) one (core.turns.tallies c.place.result was there)) in
-    record {
-      runtime = omega (arith, before.runtime, c.self.ranges);
-      time = omega (arith, before.time, c.self.ranges);
-      finished = omega (arith, before.finished, c.self.ranges);
-    }
-
-pub index_mut-requires : goal.index_mut-requires
-index_mut-requires g c =
-    let inside = c.self.inside in
-    let core = c.self.invariant in
-    let old = core_view inside.core inside.cores (queues_alone inside.queues) inside.tallies.items inside.floor inside.turns (job_out inside.out) inside.delivered.items in
-    let out : JobOut g.row.J.Denot = record { name = c.in-Some.out.name; queue = c.in-Some.out.queue; job = c.in-Some.out.job.value } in
-    let was_out : job_out inside.out ≡ Some out = ap job_out (sym c.take.ensures.value ∙ c.in-Some.is) in
-    let exists = some_inside old inside.inside inside.room inside.tallies.cap out was_out core.counted in
-    omega (arith, core.counted.tallies, exists.1, c.place-2.ensures, inside.tallies.ok.0)
-
-pub is_empty-requires : goal.is_empty-requires
-is_empty-requires g c =
-    let inside = c.self.inside in
-    let core = c.self.invariant in
-    let old = core_view inside.core inside.cores (queues_alone inside.queues) inside.tallies.items inside.floor inside.turns (job_out inside.out) inside.delivered.items in
-    let out : JobOut g.row.J.Denot = record { name = c.in-Some.out.name; queue = c.in-Some.out.queue; job = c.in-Some.out.job.value } in
-    let was_out : job_out inside.out ≡ Some out = ap job_out (sym c.take.ensures.value ∙ c.in-Some.is) in
-    let exists = some_inside old inside.inside inside.room inside.tallies.cap out was_out core.counted in
-    record { exists = exists.1 }
-
-pub returns-then-is_empty-clause-bounded : goal.returns-then-is_empty-clause-bounded
-returns-then-is_empty-clause-bounded g c =
-    let inside = c.self.inside in
-    let core = c.self.invariant in
-    let old = core_view inside.core inside.cores (queues_alone inside.queues) inside.tallies.items inside.floor inside.turns (job_out inside.out) inside.delivered.items in
-    let out : JobOut g.row.J.Denot = record { name = c.in-Some.out.name; queue = c.in-Some.out.queue; job = c.in-Some.out.job.value } in
-    let was_out : job_out inside.out ≡ Some out = ap job_out (sym c.take.ensures.value ∙ c.in-Some.is) in
-    let exists = some_inside old inside.inside inside.room inside.tallies.cap out was_out core.counted in
-    let free : job_out c.take.new.self ≡ None = ap job_out c.take.ensures.after in
-    let within : out.queue < length inside.tallies.items = omega (arith, core.counted.tallies, exists.1) in
-    let there : c.place.result < length inside.tallies.items = omega (arith, c.place.ensures) in
-    let was = c.index.result.now in
-    let one : unsettled_count old ≡ 1 = ap (λ (held : Option (JobOut g.row.J.Denot)). number_if (is_some held)) was_out in
-    let before : FitsTurns inside.turns 1 was =
-    subst (FitsTurns inside.turns 1) (sym c.index.ensures) (subst (λ polls. FitsTurns inside.turns polls (slice_index_or inside.tallies.items c.place.result was)) one (core.turns.tallies c.place.result was there)) in
-    let charged = c.charged-tally.ensures in
-    let fits : FitsTurns inside.turns 0 c.charged-tally.result =
-    charge_fits inside.turns was c.charged-tally.result c.args.time c.shares-shares.result 1 before charged.value charged.charge charged.clamped (omega arith) in
-    IsBounded-from_turns (core_view inside.core inside.cores (queues_alone inside.queues) (slice_set inside.tallies.items c.place-2.result c.charged-tally.result) inside.floor inside.turns (job_out c.take.new.self) inside.delivered.items) (IsWithinTurns-settles old (core_view inside.core inside.cores (queues_alone inside.queues) (slice_set inside.tallies.items c.place-2.result c.charged-tally.result) inside.floor inside.turns (job_out c.take.new.self) inside.delivered.items) out c.place-2.result c.charged-tally.result was_out free refl refl refl fits core.turns)
-
-pub returns-clause-bounded : goal.returns-clause-bounded
-returns-clause-bounded g c =
-    let inside = c.self.inside in
-    let core = c.self.invariant in
-    let old = core_view inside.core inside.cores (queues_alone inside.queues) inside.tallies.items inside.floor inside.turns (job_out inside.out) inside.delivered.items in
-    let out : JobOut g.row.J.Denot = record { name = c.in-Some.out.name; queue = c.in-Some.out.queue; job = c.in-Some.out.job.value } in
-    let was_out : job_out inside.out ≡ Some out = ap job_out (sym c.take.ensures.value ∙ c.in-Some.is) in
-    let exists = some_inside old inside.inside inside.room inside.tallies.cap out was_out core.counted in
-    let free : job_out c.take.new.self ≡ None = ap job_out c.take.ensures.after in
-    let within : out.queue < length inside.tallies.items = omega (arith, core.counted.tallies, exists.1) in
-    let there : c.place.result < length inside.tallies.items = omega (arith, c.place.ensures) in
-    let was = c.index.result.now in
-    let one : unsettled_count old ≡ 1 = ap (λ (held : Option (JobOut g.row.J.Denot)). number_if (is_some held)) was_out in
-    let before : FitsTurns inside.turns 1 was =
-    subst (FitsTurns inside.turns 1) (sym c.index.ensures) (subst (λ polls. FitsTurns inside.turns polls (slice_index_or inside.tallies.items c.place.result was)) one (core.turns.tallies c.place.result was there)) in
-    let charged = c.charged-tally.ensures in
-    let fits : FitsTurns inside.turns 0 c.charged-tally.result =
-    charge_fits inside.turns was c.charged-tally.result c.args.time c.shares-shares.result 1 before charged.value charged.charge charged.clamped (omega arith) in
-    IsBounded-from_turns (core_view inside.core inside.cores (queues_alone inside.queues) (slice_set inside.tallies.items c.place-2.result c.charged-tally.result) inside.floor inside.turns (job_out c.take.new.self) inside.delivered.items) (IsWithinTurns-settles old (core_view inside.core inside.cores (queues_alone inside.queues) (slice_set inside.tallies.items c.place-2.result c.charged-tally.result) inside.floor inside.turns (job_out c.take.new.self) inside.delivered.items) out c.place-2.result c.charged-tally.result was_out free refl refl refl fits core.turns)
+    let within : c.place.result < length old.tallies = omega (arith, core.counted.tallies, exists.1, who.3, c.place.ensures, ap length tallies_are) in
+    let read = subst (λ (tallies : List Tally). was ≡ slice_index_or tallies c.place.result was) tallies_are c.index.ensures in
+    let queue = c.who_is_out-name.result.1 in
+    let shares = c.shares-shares.ensures ∙ ap (λ (v : CoreView g.row.J.Denot). shares_of queue v.queues) c.self.view_is ∙ ap (λ number. shares_of number old.queues) who.3 in
+    let written = charge_written old.tallies c.place.result queue out.queue was c.charged-tally.result c.args.time c.shares-shares.result (shares_of out.queue old.queues) 1
+    (c.place.ensures ∙ who.3) who.3 within read c.charged-tally.ensures.value shares in
+    record { out = out; was_out = who.1; named = who.2; rest = c.let_go.ensures.leaves ∙ (λ i. record old { tallies = written i; out = None }) }

@@ -12,10 +12,10 @@ invariant_of-self g c =
     let room = subst (λ (view : CoreView g.row.J.Denot). inside_count view < view.queues.room) back c.requires.room in
     let space : c.self.inside.inside < c.self.inside.room = omega (arith, old.counted.all_inside, old.counted.same_room, room) in
     let joins = c.admit.ensures.joins in
-    record {
+    rw c.count.ensures (record {
       counted = IsCounted-enters _ _ _ _ _ c.args.queue c.args.name c.args.job joins.queues c.admit.ensures.limits space refl refl refl (length-set _ _ _) old.counted;
       listed = IsListed-joins _ _ _ c.args.queue c.args.name c.args.job joins.queues refl refl work old.listed;
       slipped = KeepsSlips-same _ _ _ _ _ joins.queues.same_count joins.slips old.slipped;
       pollable = IsPollable-pushed _ _ _ _ c.args.queue c.args.name false c.args.job joins.queues c.requires.ready old.pollable;
       turns = record { tallies = old.turns.tallies; floor = old.turns.floor };
-    }
+    })

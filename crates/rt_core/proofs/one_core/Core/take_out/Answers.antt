@@ -19,7 +19,7 @@ use Rattle.rt_core.proofs.one_core.Core.take_out.Goals as goal
 pub pop_front-requires : goal.pop_front-requires
 pop_front-requires g c =
     let inside = c.self.inside in
-    let old = core_view inside.core inside.cores (queues_alone inside.queues) inside.tallies.items inside.floor inside.turns (job_out inside.out) inside.delivered.items in
+    let old = core_view inside.core inside.cores (queues_alone inside.queues) inside.tallies.items inside.floor inside.turns (job_out inside.out) inside.senders inside.mode in
     let free : job_out inside.out ≡ None = subst (λ (view : CoreView g.row.J.Denot). view.out ≡ None) (sym c.self.view_is) c.requires.free in
     let later = c.take_least.new.self.keys in
     let are = c.in-Some.ensures.least in
@@ -30,7 +30,7 @@ put_slip-requires g c =
     let inside = c.self.inside in
     let core = c.self.invariant in
     let key = c.in-Some.key in
-    let old = core_view inside.core inside.cores (queues_alone inside.queues) inside.tallies.items inside.floor inside.turns (job_out inside.out) inside.delivered.items in
+    let old = core_view inside.core inside.cores (queues_alone inside.queues) inside.tallies.items inside.floor inside.turns (job_out inside.out) inside.senders inside.mode in
     let free : job_out inside.out ≡ None = subst (λ (view : CoreView g.row.J.Denot). view.out ≡ None) (sym c.self.view_is) c.requires.free in
     let later = c.take_least.new.self.keys in
     let are = c.in-Some.ensures.least in
@@ -48,7 +48,7 @@ invariant_of-self g c =
     let core = c.self.invariant in
     let key = c.in-Some.key in
     let name = c.in-Some-pop_front.name in
-    let old = core_view inside.core inside.cores (queues_alone inside.queues) inside.tallies.items inside.floor inside.turns (job_out inside.out) inside.delivered.items in
+    let old = core_view inside.core inside.cores (queues_alone inside.queues) inside.tallies.items inside.floor inside.turns (job_out inside.out) inside.senders inside.mode in
     let free : job_out inside.out ≡ None = subst (λ (view : CoreView g.row.J.Denot). view.out ≡ None) (sym c.self.view_is) c.requires.free in
     let later = c.take_least.new.self.keys in
     let are = c.in-Some.ensures.least in
@@ -62,7 +62,7 @@ invariant_of-self g c =
     let there : c.place.result < length inside.tallies.items = omega (arith, c.place.ensures) in
     let none : unsettled_count old ≡ 0 = ap (λ (held : Option (JobOut g.row.J.Denot)). number_if (is_some held)) free in
     let was = c.index_mut.result.now in
-    let tally : Tally = record { runtime = was.runtime; selected = was.selected + 1; time = was.time; finished = was.finished } in
+    let tally : Tally = record { runtime = was.runtime; selected = was.selected + 1; time = was.time; finished = was.finished; returned = was.returned } in
     let before : FitsTurns inside.turns 0 was =
     subst (FitsTurns inside.turns 0) (sym c.index_mut.ensures.value) (subst (λ polls. FitsTurns inside.turns polls (slice_index_or inside.tallies.items c.place.result was)) none (core.turns.tallies c.place.result was there)) in
     let low : key.vr ≤ inside.turns * 2 ^ 50 =
@@ -85,7 +85,7 @@ returns-clause-takes g c =
     let inside = c.self.inside in
     let core = c.self.invariant in
     let key = c.in-Some.key in
-    let old = core_view inside.core inside.cores (queues_alone inside.queues) inside.tallies.items inside.floor inside.turns (job_out inside.out) inside.delivered.items in
+    let old = core_view inside.core inside.cores (queues_alone inside.queues) inside.tallies.items inside.floor inside.turns (job_out inside.out) inside.senders inside.mode in
     let free : job_out inside.out ≡ None = subst (λ (view : CoreView g.row.J.Denot). view.out ≡ None) (sym c.self.view_is) c.requires.free in
     let later = c.take_least.new.self.keys in
     let are = c.in-Some.ensures.least in
@@ -104,7 +104,7 @@ returns-clause-takes g c =
       first = head;
       line = subst (λ line. ChangesLine (queues_alone inside.queues) (queues_alone c.pop_front.new.self) key.queue line) (ap (drop 1) head) c.in-Some-pop_front.ensures.rest.queues;
       rest = λ i. core_view inside.core inside.cores (queues_alone c.pop_front.new.self) (tallies i) (floor i) (inside.turns + 1)
-          (Some (record { name = c.in-Some-pop_front.name; queue = key.queue; job = c.of-as_it_was.ensures i })) inside.delivered.items;
+          (Some (record { name = c.in-Some-pop_front.name; queue = key.queue; job = c.of-as_it_was.ensures i })) inside.senders inside.mode;
     })
 
 pub returns-clause-ready : goal.returns-clause-ready
@@ -119,7 +119,7 @@ returns-clause-bounded g c =
     let core = c.self.invariant in
     let key = c.in-Some.key in
     let name = c.in-Some-pop_front.name in
-    let old = core_view inside.core inside.cores (queues_alone inside.queues) inside.tallies.items inside.floor inside.turns (job_out inside.out) inside.delivered.items in
+    let old = core_view inside.core inside.cores (queues_alone inside.queues) inside.tallies.items inside.floor inside.turns (job_out inside.out) inside.senders inside.mode in
     let free : job_out inside.out ≡ None = subst (λ (view : CoreView g.row.J.Denot). view.out ≡ None) (sym c.self.view_is) c.requires.free in
     let later = c.take_least.new.self.keys in
     let are = c.in-Some.ensures.least in
@@ -129,12 +129,36 @@ returns-clause-bounded g c =
     let there : c.place.result < length inside.tallies.items = omega (arith, c.place.ensures) in
     let none : unsettled_count old ≡ 0 = ap (λ (held : Option (JobOut g.row.J.Denot)). number_if (is_some held)) free in
     let was = c.index_mut.result.now in
-    let tally : Tally = record { runtime = was.runtime; selected = was.selected + 1; time = was.time; finished = was.finished } in
+    let tally : Tally = record { runtime = was.runtime; selected = was.selected + 1; time = was.time; finished = was.finished; returned = was.returned } in
     let before : FitsTurns inside.turns 0 was =
     subst (FitsTurns inside.turns 0) (sym c.index_mut.ensures.value) (subst (λ polls. FitsTurns inside.turns polls (slice_index_or inside.tallies.items c.place.result was)) none (core.turns.tallies c.place.result was there)) in
     let low : key.vr ≤ inside.turns * 2 ^ 50 =
     let fits = (tally_fits old key.queue core.turns).runtime in
     let is = first_runtime old inside.ready.keys key later are core.listed in
     omega arith in
-    let view = core_view inside.core inside.cores (queues_alone inside.queues) (slice_set inside.tallies.items c.place.result tally) c.max-self-inside.result (inside.turns + 1) (Some out) inside.delivered.items in
+    let view = core_view inside.core inside.cores (queues_alone inside.queues) (slice_set inside.tallies.items c.place.result tally) c.max-self-inside.result (inside.turns + 1) (Some out) inside.senders inside.mode in
     IsBounded-from_turns view (IsWithinTurns-picks old view out c.place.result key.vr tally free refl refl c.max-self-inside.ensures low refl (picked_fits inside.turns was before) core.turns)
+
+pub returns-clause-exists : goal.returns-clause-exists
+returns-clause-exists g c =
+    let inside = c.self.inside in
+    let core = c.self.invariant in
+    let key = c.in-Some.key in
+    let old = core_view inside.core inside.cores (queues_alone inside.queues) inside.tallies.items inside.floor inside.turns (job_out inside.out) inside.senders inside.mode in
+    let free : job_out inside.out ≡ None = subst (λ (view : CoreView g.row.J.Denot). view.out ≡ None) (sym c.self.view_is) c.requires.free in
+    let later = c.take_least.new.self.keys in
+    let are = c.in-Some.ensures.least in
+    let exists = exists_if_waiting (queues_alone inside.queues) key.queue (first_waits old inside.ready.keys key later are core.listed free) in
+    rw c.put_slip.ensures (omega (arith, exists, c.in-Some-pop_front.ensures.rest.queues.same_count))
+
+pub returns-clause-tallied : goal.returns-clause-tallied
+returns-clause-tallied g c =
+    let inside = c.self.inside in
+    let core = c.self.invariant in
+    let key = c.in-Some.key in
+    let old = core_view inside.core inside.cores (queues_alone inside.queues) inside.tallies.items inside.floor inside.turns (job_out inside.out) inside.senders inside.mode in
+    let free : job_out inside.out ≡ None = subst (λ (view : CoreView g.row.J.Denot). view.out ≡ None) (sym c.self.view_is) c.requires.free in
+    let later = c.take_least.new.self.keys in
+    let are = c.in-Some.ensures.least in
+    let exists = exists_if_waiting (queues_alone inside.queues) key.queue (first_waits old inside.ready.keys key later are core.listed free) in
+    rw (← c.self.view_is) (omega (arith, exists, core.counted.tallies))

@@ -19,7 +19,7 @@ pub enter-requires : goal.enter-requires
 enter-requires g c =
     let inside = c.self.inside in
     let core = c.self.invariant in
-    let old = core_view inside.core inside.cores (queues_alone inside.queues) inside.tallies.items inside.floor inside.turns (job_out inside.out) inside.delivered.items in
+    let old = core_view inside.core inside.cores (queues_alone inside.queues) inside.tallies.items inside.floor inside.turns (job_out inside.out) inside.senders inside.mode in
     let out : JobOut g.row.J.Denot = record { name = c.in-Some.out.name; queue = c.in-Some.out.queue; job = c.in-Some.out.job.value } in
     let was_out : job_out inside.out ≡ Some out = ap job_out (sym c.take.ensures.value ∙ c.in-Some.is) in
     let exists = some_inside old inside.inside inside.room inside.tallies.cap out was_out core.counted in
@@ -35,7 +35,7 @@ pub invariant_of-self : goal.invariant_of-self
 invariant_of-self g c =
     let inside = c.self.inside in
     let core = c.self.invariant in
-    let old = core_view inside.core inside.cores (queues_alone inside.queues) inside.tallies.items inside.floor inside.turns (job_out inside.out) inside.delivered.items in
+    let old = core_view inside.core inside.cores (queues_alone inside.queues) inside.tallies.items inside.floor inside.turns (job_out inside.out) inside.senders inside.mode in
     let out : JobOut g.row.J.Denot = record { name = c.in-Some.out.name; queue = c.in-Some.out.queue; job = c.in-Some.out.job.value } in
     let was_out : job_out inside.out ≡ Some out = ap job_out (sym c.take.ensures.value ∙ c.in-Some.is) in
     let free : job_out c.take.new.self ≡ None = ap job_out c.take.ensures.after in
@@ -66,7 +66,7 @@ pub returns-clause-yields : goal.returns-clause-yields
 returns-clause-yields g c =
     let inside = c.self.inside in
     let core = c.self.invariant in
-    let old = core_view inside.core inside.cores (queues_alone inside.queues) inside.tallies.items inside.floor inside.turns (job_out inside.out) inside.delivered.items in
+    let old = core_view inside.core inside.cores (queues_alone inside.queues) inside.tallies.items inside.floor inside.turns (job_out inside.out) inside.senders inside.mode in
     let out : JobOut g.row.J.Denot = record { name = c.in-Some.out.name; queue = c.in-Some.out.queue; job = c.in-Some.out.job.value } in
     let was_out : job_out inside.out ≡ Some out = ap job_out (sym c.take.ensures.value ∙ c.in-Some.is) in
     let free : job_out c.take.new.self ≡ None = ap job_out c.take.ensures.after in
@@ -81,14 +81,14 @@ returns-clause-yields g c =
       was_out = was_out;
       named = refl;
       line = c.push_back.ensures.joins.queues;
-      rest = λ i. core_view inside.core inside.cores (queues_alone c.push_back.new.self) (written i) inside.floor inside.turns (free i) inside.delivered.items;
+      rest = λ i. core_view inside.core inside.cores (queues_alone c.push_back.new.self) (written i) inside.floor inside.turns (free i) inside.senders inside.mode;
     })
 
 pub shares-shares-requires : goal.shares-shares-requires
 shares-shares-requires g c =
     let inside = c.self.inside in
     let core = c.self.invariant in
-    let old = core_view inside.core inside.cores (queues_alone inside.queues) inside.tallies.items inside.floor inside.turns (job_out inside.out) inside.delivered.items in
+    let old = core_view inside.core inside.cores (queues_alone inside.queues) inside.tallies.items inside.floor inside.turns (job_out inside.out) inside.senders inside.mode in
     let out : JobOut g.row.J.Denot = record { name = c.in-Some.out.name; queue = c.in-Some.out.queue; job = c.in-Some.out.job.value } in
     let was_out : job_out inside.out ≡ Some out = ap job_out (sym c.take.ensures.value ∙ c.in-Some.is) in
     let exists = some_inside old inside.inside inside.room inside.tallies.cap out was_out core.counted in
@@ -98,7 +98,7 @@ pub index-requires : goal.index-requires
 index-requires g c =
     let inside = c.self.inside in
     let core = c.self.invariant in
-    let old = core_view inside.core inside.cores (queues_alone inside.queues) inside.tallies.items inside.floor inside.turns (job_out inside.out) inside.delivered.items in
+    let old = core_view inside.core inside.cores (queues_alone inside.queues) inside.tallies.items inside.floor inside.turns (job_out inside.out) inside.senders inside.mode in
     let out : JobOut g.row.J.Denot = record { name = c.in-Some.out.name; queue = c.in-Some.out.queue; job = c.in-Some.out.job.value } in
     let was_out : job_out inside.out ≡ Some out = ap job_out (sym c.take.ensures.value ∙ c.in-Some.is) in
     let exists = some_inside old inside.inside inside.room inside.tallies.cap out was_out core.counted in
@@ -108,7 +108,7 @@ pub charged-tally-requires : goal.charged-tally-requires
 charged-tally-requires g c =
     let inside = c.self.inside in
     let core = c.self.invariant in
-    let old = core_view inside.core inside.cores (queues_alone inside.queues) inside.tallies.items inside.floor inside.turns (job_out inside.out) inside.delivered.items in
+    let old = core_view inside.core inside.cores (queues_alone inside.queues) inside.tallies.items inside.floor inside.turns (job_out inside.out) inside.senders inside.mode in
     let out : JobOut g.row.J.Denot = record { name = c.in-Some.out.name; queue = c.in-Some.out.queue; job = c.in-Some.out.job.value } in
     let was_out : job_out inside.out ≡ Some out = ap job_out (sym c.take.ensures.value ∙ c.in-Some.is) in
     let exists = some_inside old inside.inside inside.room inside.tallies.cap out was_out core.counted in
@@ -128,7 +128,7 @@ pub index_mut-requires : goal.index_mut-requires
 index_mut-requires g c =
     let inside = c.self.inside in
     let core = c.self.invariant in
-    let old = core_view inside.core inside.cores (queues_alone inside.queues) inside.tallies.items inside.floor inside.turns (job_out inside.out) inside.delivered.items in
+    let old = core_view inside.core inside.cores (queues_alone inside.queues) inside.tallies.items inside.floor inside.turns (job_out inside.out) inside.senders inside.mode in
     let out : JobOut g.row.J.Denot = record { name = c.in-Some.out.name; queue = c.in-Some.out.queue; job = c.in-Some.out.job.value } in
     let was_out : job_out inside.out ≡ Some out = ap job_out (sym c.take.ensures.value ∙ c.in-Some.is) in
     let exists = some_inside old inside.inside inside.room inside.tallies.cap out was_out core.counted in
@@ -138,7 +138,7 @@ pub push_back-requires : goal.push_back-requires
 push_back-requires g c =
     let inside = c.self.inside in
     let core = c.self.invariant in
-    let old = core_view inside.core inside.cores (queues_alone inside.queues) inside.tallies.items inside.floor inside.turns (job_out inside.out) inside.delivered.items in
+    let old = core_view inside.core inside.cores (queues_alone inside.queues) inside.tallies.items inside.floor inside.turns (job_out inside.out) inside.senders inside.mode in
     let out : JobOut g.row.J.Denot = record { name = c.in-Some.out.name; queue = c.in-Some.out.queue; job = c.in-Some.out.job.value } in
     let was_out : job_out inside.out ≡ Some out = ap job_out (sym c.take.ensures.value ∙ c.in-Some.is) in
     let exists = some_inside old inside.inside inside.room inside.tallies.cap out was_out core.counted in
@@ -149,7 +149,7 @@ pub returns-clause-bounded : goal.returns-clause-bounded
 returns-clause-bounded g c =
     let inside = c.self.inside in
     let core = c.self.invariant in
-    let old = core_view inside.core inside.cores (queues_alone inside.queues) inside.tallies.items inside.floor inside.turns (job_out inside.out) inside.delivered.items in
+    let old = core_view inside.core inside.cores (queues_alone inside.queues) inside.tallies.items inside.floor inside.turns (job_out inside.out) inside.senders inside.mode in
     let out : JobOut g.row.J.Denot = record { name = c.in-Some.out.name; queue = c.in-Some.out.queue; job = c.in-Some.out.job.value } in
     let was_out : job_out inside.out ≡ Some out = ap job_out (sym c.take.ensures.value ∙ c.in-Some.is) in
     let exists = some_inside old inside.inside inside.room inside.tallies.cap out was_out core.counted in
@@ -163,4 +163,4 @@ returns-clause-bounded g c =
     let charged = c.charged-tally.ensures in
     let fits : FitsTurns inside.turns 0 c.charged-tally.result =
     charge_fits inside.turns was c.charged-tally.result c.args.time c.shares-shares.result 0 before charged.value charged.charge charged.clamped (omega arith) in
-    IsBounded-from_turns (core_view inside.core inside.cores (queues_alone inside.queues) (slice_set inside.tallies.items c.place-2.result c.charged-tally.result) inside.floor inside.turns (job_out c.take.new.self) inside.delivered.items) (IsWithinTurns-settles old (core_view inside.core inside.cores (queues_alone inside.queues) (slice_set inside.tallies.items c.place-2.result c.charged-tally.result) inside.floor inside.turns (job_out c.take.new.self) inside.delivered.items) out c.place-2.result c.charged-tally.result was_out free refl refl refl fits core.turns)
+    IsBounded-from_turns (core_view inside.core inside.cores (queues_alone inside.queues) (slice_set inside.tallies.items c.place-2.result c.charged-tally.result) inside.floor inside.turns (job_out c.take.new.self) inside.senders inside.mode) (IsWithinTurns-settles old (core_view inside.core inside.cores (queues_alone inside.queues) (slice_set inside.tallies.items c.place-2.result c.charged-tally.result) inside.floor inside.turns (job_out c.take.new.self) inside.senders inside.mode) out c.place-2.result c.charged-tally.result was_out free refl refl refl fits core.turns)

@@ -27,7 +27,7 @@ invariant_of-self g c =
     let lines = inside.lines.items in
     let line = c.index-line.result.now in
     let front = c.remove-front.result in
-    let rest : Line = record { head = front.next; tail = line.tail; count = line.count - 1; shares = line.shares } in
+    let rest : Line = record { head = front.next; tail = line.tail; count = line.count - 1; shares = line.shares; mode = line.mode } in
     let exists = exists-view inside.room inside.jobs lines (ap queues_alone c.self.view_is) c.requires.exists in
     let here = line_read lines c.queue.inside.0 c.args.queue line (omega (arith, exists, c.queue.view_is)) c.index-line.ensures c.queue.view_is in
     let leaves_line : Leaves inside.jobs line front c.remove-front.new.self rest = record {
@@ -40,6 +40,7 @@ invariant_of-self g c =
       tail = refl;
       count = refl;
       shares = refl;
+      mode = refl;
     } in
     let leaves = subst (λ (l : Line). Leaves inside.jobs l front c.remove-front.new.self rest) (sym here) leaves_line in
     rw c.queue.view_is (
@@ -53,7 +54,7 @@ returns g c =
     let lines = inside.lines.items in
     let line = c.index-line.result.now in
     let front = c.remove-front.result in
-    let rest : Line = record { head = front.next; tail = line.tail; count = line.count - 1; shares = line.shares } in
+    let rest : Line = record { head = front.next; tail = line.tail; count = line.count - 1; shares = line.shares; mode = line.mode } in
     let exists = exists-view inside.room inside.jobs lines (ap queues_alone c.self.view_is) c.requires.exists in
     let here = line_read lines c.queue.inside.0 c.args.queue line (omega (arith, exists, c.queue.view_is)) c.index-line.ensures c.queue.view_is in
     let leaves_line : Leaves inside.jobs line front c.remove-front.new.self rest = record {
@@ -66,6 +67,7 @@ returns g c =
       tail = refl;
       count = refl;
       shares = refl;
+      mode = refl;
     } in
     let leaves = subst (λ (l : Line). Leaves inside.jobs l front c.remove-front.new.self rest) (sym here) leaves_line in
     let fewer = held_count-left c.args.queue front rest c.self.invariant.0 leaves exists in

@@ -39,7 +39,8 @@ returns g c =
     let head = ap (λ (l : Line). l.head) (sym here) in
     let tail = ap (λ (l : Line). l.tail) (sym here) in
     let count = ap (λ (l : Line). l.count) (sym here) in
+    let mode = ap (λ (l : Line). l.mode) (sym here) in
     rw (← c.self.view_is, c.queue.view_is) (record {
-      given = record { queues = ChangesShares-weighed c.args.queue line c.self.invariant.0 exists head tail count; slips = refl };
+      given = record { queues = ChangesShares-weighed c.args.queue line c.self.invariant.0 exists head tail count mode; slips = refl };
       limits = IsWithinLimits-view (IsKept-weighed c.args.queue line c.self.invariant.0 exists head tail count);
     })

@@ -45,9 +45,10 @@ returns-clause-created g c =
     let tail = ap (λ (l : Line). l.tail) c.empty.ensures in
     let count = ap (λ (l : Line). l.count) c.empty.ensures in
     let counted : c.len-count.result ≡ length c.self.inside.lines.items = omega (arith, c.self.inside.lines.ok.0) in
+    let never = ap (λ (l : Line). l.mode) c.empty.ensures in
     rw (c.push_reserved.ensures.items, c.push_reserved-2.ensures.items, ← c.self.view_is, counted) (record {
       queues = subst (λ shares. AddsQueue (alone inside.room inside.jobs lines) (alone inside.room inside.jobs (lines ++ c.empty.result ∷ [])) (length lines) shares) weight
-          (AddsQueue-created c.empty.result c.self.invariant.0 (λ e. c.if-count-eq-MOST_QUEUES.false (counted ∙ e)) head tail count);
+          (AddsQueue-created c.empty.result c.self.invariant.0 (λ e. c.if-count-eq-MOST_QUEUES.false (counted ∙ e)) head tail count never);
       slips = map_is_some-push c.self.inside.slips.items c.in-Ok.slip;
     })
 

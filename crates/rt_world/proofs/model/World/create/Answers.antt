@@ -2,8 +2,13 @@ use Rattle.std.proofs.Common.{◌<◌, length, sym, ap, subst, arith}
 use Rattle.rt_shares.specs.Charge.{InRange}
 use Rattle.rt_world.specs.State.{journal_at}
 use Rattle.rt_world.specs.Opening.{IsUnbegun}
-use Rattle.rt_world.proofs.WorldCreates.{creation_room, world_now, creates_now}
+use Rattle.rt_world.proofs.WorldCreates.{open_core_at, creation_room, world_now, creates_now}
 use Rattle.rt_world.proofs.model.World.create.Goals as goal
+
+pub create-made-requires : goal.create-made-requires
+create-made-requires g c =
+    let there : c.core.inside.0 < c.self.inside.cores = omega (arith, c.core.view_is, c.requires.core, ap (λ world. world.cores) c.self.view_is) in
+    (omega arith, open_core_at _ _ _ _ _ _ c.self.invariant.1 c.core.inside.0 there c.index_mut.result.now c.index_mut.ensures.value)
 
 pub push_all-requires : goal.push_all-requires
 push_all-requires g c =

@@ -3,14 +3,17 @@ use Rattle.std.proofs.lemmas.Result.{IfOk-at_ok, IfErr-at_err}
 use Rattle.rt_world.specs.State.{journal_at}
 use Rattle.rt_world.specs.PickedJobs.{TookOut, TookNone}
 use Rattle.rt_world.proofs.TurnsLeft.{turn_left}
-use Rattle.rt_world.proofs.WorldPicks.{not_busy, no_turn, world_stays}
+use Rattle.rt_world.proofs.WorldPicks.{not_busy, nothing_back, no_turn, world_stays}
 use Rattle.rt_world.proofs.WorldPolled.{first_room, task_out, second_room, world_now, poll_now}
 use Rattle.rt_world.proofs.model.World.turn.Goals as goal
 
 pub job_or_reply-requires : goal.job_or_reply-requires
 job_or_reply-requires g c =
     let there : c.core.inside.0 < c.self.inside.cores = omega (arith, c.core.view_is, c.requires.core, ap (λ world. world.cores) c.self.view_is) in
-    not_busy _ _ _ _ _ _ c.self.invariant.1 c.core.inside.0 there c.index_mut.result.now c.index_mut.ensures.value c.pick-picked.result.0 c.pick-picked.new.self c.pick-picked.result.1.items c.pick-picked.ensures.picks
+    record {
+      free = not_busy _ _ _ _ _ _ c.self.invariant.1 c.core.inside.0 there c.index_mut.result.now c.index_mut.ensures.value c.pick-picked.result.0 c.pick-picked.new.self c.pick-picked.result.1.items c.pick-picked.ensures.picks;
+      kept = nothing_back _ _ _ _ _ _ c.self.invariant.1 c.core.inside.0 there c.index_mut.result.now c.index_mut.ensures.value c.pick-picked.result.0 c.pick-picked.new.self c.pick-picked.result.1.items c.pick-picked.ensures.picks;
+    }
 
 pub invariant_of-self : goal.invariant_of-self
 invariant_of-self g c =

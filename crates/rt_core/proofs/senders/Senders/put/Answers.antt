@@ -1,0 +1,24 @@
+use Rattle.std.proofs.Common.{◌≡◌, ◌+◌, ◌<◌, ◌≤◌, length, set, get_or, map, ap, sym, ◌∙◌, arith, length-set}
+use Rattle.std.specs.Prelude.{slice_set}
+use Rattle.std.proofs.lemmas.List.{map-set}
+use Rattle.std.proofs.lemmas.List.Sums.{sum_by-set}
+use Rattle.rt_core.specs.declared.senders.Sender.{Sender}
+use Rattle.rt_core.specs.Senders.{is_awaited, awaited_count}
+use Rattle.rt_core.proofs.Awaited.{awaited-few, within-view}
+use Rattle.rt_core.proofs.senders.Senders.put.Goals as goal
+
+pub overflow_add-self : goal.overflow_add-self
+overflow_add-self g c =
+    let senders = c.self.inside.senders.items in
+    let was = c.index.result.now in
+    let within = within-view senders c.args.sender c.self.view_is c.requires in
+    let counted = sum_by-set is_awaited senders c.args.sender c.args.is was within in
+    let here = ap is_awaited c.index.ensures in
+    let few = awaited-few (set senders c.args.sender c.args.is) in
+    omega (arith, counted, here, few, c.self.invariant, c.awaited-before.ensures, c.awaited-after.ensures, length-set senders c.args.sender c.args.is, c.self.inside.senders.ok.0)
+
+pub returns : goal.returns
+returns g c =
+    let senders = c.self.inside.senders.items in
+    rw (← c.self.view_is)
+    (λ i. record { delivered = map-set (λ (s : Sender). s.delivered) senders c.args.sender c.args.is i; gates = map-set (λ (s : Sender). s.gate) senders c.args.sender c.args.is i })

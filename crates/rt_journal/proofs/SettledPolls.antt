@@ -1,0 +1,253 @@
+-- A core beside its journal settles the poll of the job that is out.
+use Rattle.std.proofs.Common.{◌≡◌, ℕ, zero, suc, ◌+◌, ◌<◌, ◌≤◌, Bool, true, false, List, [], ◌∷◌, ◌++◌, length, reverse, refl, sym, ◌∙◌, ap, subst, arith, add-zero, get_or}
+use Rattle.std.specs.Prelude.{◌==◌, Option, Some, None, All, is_some, unwrap_or}
+use Rattle.std.proofs.lemmas.Bool.{eqb-true, eqb-false, false_from_ne_true, or_parts}
+use Rattle.std.proofs.lemmas.List.{length-append}
+use Rattle.std.proofs.lemmas.List.Elements.{All-append, All-cons, All-nil}
+use Rattle.rt_ids.specs.declared.names.JobId.{JobId}
+use Rattle.rt_ids.specs.declared.note.Note.{Note}
+use Rattle.rt_ids.specs.declared.note.Note.TheVariants as writes
+use Rattle.rt_ids.specs.Names.{same_name, is_name}
+use Rattle.rt_ids.specs.Journal.{Journal}
+use Rattle.rt_ids.specs.Lines.{jobs_out, name_settled}
+use Rattle.rt_ids.specs.Work.{number_if}
+use Rattle.rt_ids.proofs.JobsOut.{alone_out}
+use Rattle.rt_ids.proofs.LineDistinct.{apart_of}
+use Rattle.rt_ids.proofs.NameLemmas.{among, same_as_itself}
+use Rattle.rt_jobs.specs.declared.job.Step.{Step}
+use Rattle.rt_jobs.specs.declared.job.Step.TheVariants as steps
+use Rattle.rt_jobs.specs.Steps.{AfterPoll, IsSameTask, IfDone, OnYield, OwesOn}
+use Rattle.rt_taskqueue.specs.Queues.{waiting_of, held_count, ChangesLine}
+use Rattle.rt_core.specs.declared.turn.Settled.{Settled}
+use Rattle.rt_core.specs.declared.turn.Settled.TheVariants.{Yielded, Finished}
+use Rattle.rt_core.specs.State.{CoreView, JobOut, inside_count}
+use Rattle.rt_core.specs.Answers.{IsTaskOut}
+use Rattle.rt_core.specs.Turns.{settled_view}
+use Rattle.rt_core.specs.Turns.{Settles as CoreSettles}
+use Rattle.rt_journal.specs.Agreement.{IsJobOut, names_of}
+use Rattle.rt_journal.specs.Polls.{polls_made, settle_note}
+use Rattle.rt_journal.specs.Recorded.{RecordedView, terms_at, IsRecorded, HasTask, OwesAfter, sum_upto, given_count}
+use Rattle.rt_journal.specs.Turns.{IsOut, IsPolled, Settles, TellsStep}
+use Rattle.rt_journal.proofs.Kept.{IsKept}
+use Rattle.rt_journal.proofs.KeptSettles.{none≢some, kept-yield, kept-done}
+use Rattle.rt_journal.proofs.PollNotes.{other_way}
+use Rattle.rt_journal.proofs.Received.{task_stays}
+use Rattle.rt_journal.proofs.Quiet.{quiet-settled, as_sent-settled}
+use Rattle.rt_journal.proofs.Sums.{sum_upto-at_most_one}
+use Rattle.rt_ids.proofs.Told.{length-with_last_if}
+use Rattle.rt_ids.specs.Filters.{given_outcomes}
+use Rattle.rt_journal.proofs.QuietSteps.{stepped, IsQuietStep}
+
+-- whoever waits is another than one who isn't among them
+among-place : {J : Type 0} (name : JobId) (waiting : List (JobId × Bool × J)) → among name (names_of waiting) ≡ false →
+    (place : ℕ) (default : JobId × Bool × J) → place < length waiting → same_name name (get_or waiting place default).0 ≡ false
+among-place name [] apart place default within = absurd (omega arith)
+among-place name (entry ∷ rest) apart zero default within = (or_parts (same_name name entry.0) (among name (names_of rest)) apart).0
+among-place name (entry ∷ rest) apart (suc place) default within =
+    among-place name rest (or_parts (same_name name entry.0) (among name (names_of rest)) apart).1 place default (omega arith)
+
+settled_name : {T : Type 0} (name : JobId) (time : ℕ) (step : Step T) → name_settled (settle_note name time step) ≡ Some name
+settled_name name time (steps.Done out) = refl
+settled_name name time steps.Yield = refl
+
+-- the job that is out is the one that was polled
+pub its_job_out : {J : Type 0} (who : Option (JobOut J)) (out : JobOut J) → who ≡ Some out → (job : J) → IsOut who job → out.job ≡ job
+its_job_out who out at job is = subst (λ who. IsOut who job) at is
+
+pub task_out : {J : Type 0} {same : J → J → Type 0} → IsSameTask same → (who : Option (JobOut J)) (job : J) → IsOut who job → IsTaskOut same who job
+task_out is_same None job is = absurd is
+task_out {same = same} is_same (Some out) job is = subst (same out.job) is (is_same.itself out.job)
+
+module _ {J T : Type 0} {same : J → J → Type 0} {made : J → ℕ} {polls : J → ℕ → Step T → Option ℕ → Type 0} {answers : J → T → Type 0} (is_same : IsSameTask same)
+    (answers_same : (a b : J) (out : T) → same a b → answers a out → answers b out)
+    (old : RecordedView J T) (recorded : IsRecorded same made polls old) (out : JobOut J) (was_out : old.core.out ≡ Some out)
+    (core : CoreView J) (ran : AfterPoll J T) (its_job : out.job ≡ ran.before) (polled : IsPolled same made polls answers ran) (spent : ℕ) where
+  abbrev time : ℕ
+  time = unwrap_or ran.told spent
+
+  abbrev written : List (Note T)
+  written = settle_note out.name time ran.step ∷ []
+
+  abbrev longer : Journal T
+  longer = written ++ old.journal.notes
+
+  is_out : jobs_out old.journal.notes ≡ out.name ∷ []
+  is_out = (subst (λ job. IsJobOut job old.journal.notes) was_out recorded.kept.agrees.out).0
+
+  -- the job that is out waits nowhere
+  apart : (queue : ℕ) → among out.name (names_of (waiting_of queue old.core.queues)) ≡ false
+  apart queue =
+      ap (among out.name) (recorded.kept.agrees.lines queue)
+      ∙ false_from_ne_true _ ((apart_of (terms_at old) old.journal.notes recorded.kept.notes).not_waiting queue out.name (alone_out out.name old.journal.notes is_out))
+
+  polls_now : (which : JobId) → polls_made which longer ≡ polls_made which old.journal.notes + number_if (same_name which out.name)
+  polls_now which = ap (λ settled. polls_made which old.journal.notes + number_if (is_name which settled)) (settled_name out.name time ran.step)
+
+  -- who wasn't polled keeps its task and its count
+  still_waiting : (queue : ℕ) → All (λ entry. HasTask same made polls old.took longer queue entry.0 entry.2) (waiting_of queue old.core.queues)
+  still_waiting queue place default within =
+      let entry = get_or (waiting_of queue old.core.queues) place default in
+      let other : same_name entry.0 out.name ≡ false = other_way out.name entry.0 (among-place out.name (waiting_of queue old.core.queues) (apart queue) place default within) in
+      task_stays (λ order at. at) (polls_now entry.0 ∙ (ap (λ test. polls_made entry.0 old.journal.notes + number_if test) other ∙ add-zero (polls_made entry.0 old.journal.notes)))
+      (recorded.waiting queue place default within)
+
+  its_task : HasTask same made polls old.took old.journal.notes out.queue out.name out.job
+  its_task = recorded.out out was_out
+
+  -- the job that was polled has its task still, with one more poll
+  task_now : ran.step ≡ steps.Yield → HasTask same made polls old.took longer out.queue out.name ran.job
+  task_now yields = record {
+    sent = its_task.sent;
+    task = its_task.task;
+    same_task = is_same.along its_task.sent out.job ran.job its_task.same_task (subst (λ job. same job ran.job) (sym its_job) (subst (λ step. OnYield step (same ran.before ran.job)) yields polled.same_task));
+    owes = subst (λ count. OwesAfter same made polls its_task.sent count ran.job) (sym one_more) owes_on;
+  }
+    where
+      one_more : polls_made out.name longer ≡ polls_made out.name old.journal.notes + 1
+      one_more = polls_now out.name ∙ ap (λ test. polls_made out.name old.journal.notes + number_if test) (same_as_itself out.name)
+
+      assoc : (a b : ℕ) → a + 1 + b ≡ a + (1 + b)
+      assoc a b = omega arith
+
+      on : OwesOn made polls out.job ran.job
+      on = subst (λ job. OwesOn made polls job ran.job) (sym its_job) (subst (λ step. OnYield step (OwesOn made polls ran.before ran.job)) yields polled.later)
+
+      owes_on : OwesAfter same made polls its_task.sent (polls_made out.name old.journal.notes + 1) ran.job
+      owes_on more step told owed_now =
+          let first : polls out.job (made out.job + (1 + more)) step told = subst (λ place. polls out.job place step told) (assoc (made out.job) more) (on more step told owed_now) in
+          subst (λ place. polls its_task.sent (made its_task.sent + place) step told) (sym (assoc (polls_made out.name old.journal.notes) more)) (its_task.owes (1 + more) step told first)
+
+  inside_old : inside_count old.core ≡ held_count old.core.queues + 1
+  inside_old = ap (λ job. held_count old.core.queues + number_if (is_some job)) was_out
+
+  -- the job yields
+  module _ (yields : ran.step ≡ steps.Yield) (changes : ChangesLine old.core.queues core.queues out.queue (waiting_of out.queue old.core.queues ++ (out.name, true, ran.job) ∷ []))
+      (is : core ≡ settled_view old.core out time 0 core.queues) where
+    abbrev TaskNow : ℕ → JobId × Bool × J → Type 0
+    TaskNow queue entry = HasTask same made polls old.took longer queue entry.0 entry.2
+
+    waiting_now : (queue : ℕ) → All (TaskNow queue) (waiting_of queue core.queues)
+    waiting_now queue = by_test (queue == out.queue) refl
+      where
+        by_test : (test : Bool) → (queue == out.queue) ≡ test → All (TaskNow queue) (waiting_of queue core.queues)
+        by_test true one =
+            let here : queue ≡ out.queue = eqb-true queue out.queue one in
+            subst (λ at. All (TaskNow at) (waiting_of at core.queues)) (sym here)
+            (subst (All (TaskNow out.queue)) (sym changes.changed)
+            (All-append (TaskNow out.queue) (waiting_of out.queue old.core.queues) ((out.name, true, ran.job) ∷ []) (still_waiting out.queue)
+            (All-cons (TaskNow out.queue) (out.name, true, ran.job) [] (task_now yields) (All-nil (TaskNow out.queue)))))
+        by_test false away = subst (All (TaskNow queue)) (sym (changes.others queue (eqb-false queue out.queue away))) (still_waiting queue)
+
+    same_inside : inside_count core ≡ inside_count old.core
+    same_inside =
+        let now : inside_count core ≡ held_count core.queues + 0 = ap (λ job. held_count core.queues + number_if (is_some job)) (ap (λ core. core.out) is) in
+        omega (arith, now, inside_old, changes.held, length-append (waiting_of out.queue old.core.queues) ((out.name, true, ran.job) ∷ []))
+
+    pub yielded : IsQuietStep old core written same made polls
+    yielded = record {
+      kept = subst (λ step. IsKept (terms_at old) core (settle_note out.name time step ∷ old.journal.notes)) (sym yields)
+          (subst (λ core_now. IsKept (terms_at old) core_now (writes.Yield out.name time ∷ old.journal.notes)) (sym is)
+          (kept-yield (terms_at old) old.core out time 0 core.queues old.journal.notes recorded.kept was_out ran.job changes));
+      number = ap (λ core. core.core) is;
+      cores = ap (λ core. core.cores) is;
+      room = changes.same_room;
+      quiet = quiet-settled old.journal.notes out.name time ran.step;
+      fewer = subst (λ step. inside_count core + sum_upto (given_count (settle_note out.name time step ∷ old.journal.notes)) old.core.cores
+          ≤ inside_count old.core + sum_upto (given_count old.journal.notes) old.core.cores) (sym yields) (omega (arith, same_inside));
+      as_sent = as_sent-settled old.journal.notes _ out.name time ran.step recorded.as_sent;
+      waiting = waiting_now;
+      out = λ job at. absurd (none≢some job (sym (ap (λ core. core.out) is) ∙ at));
+    }
+
+  -- the job is done
+  module _ (answer : T) (ends : ran.step ≡ steps.Done answer) (is : core ≡ settled_view old.core out time 1 old.core.queues) where
+    one_fewer : inside_count core + 1 ≡ inside_count old.core
+    one_fewer = let now : inside_count core ≡ held_count old.core.queues + 0 = ap inside_count is in omega (arith, now, inside_old)
+
+    given_more : sum_upto (given_count (writes.Done out.name time answer ∷ old.journal.notes)) old.core.cores ≤ sum_upto (given_count old.journal.notes) old.core.cores + 1
+    given_more = sum_upto-at_most_one (given_count old.journal.notes) (given_count (writes.Done out.name time answer ∷ old.journal.notes)) out.name.from
+        (λ from. length-with_last_if (given_outcomes from old.journal.notes) _ (out.name.from == from)) old.core.cores
+
+    pub ended : IsQuietStep old core written same made polls
+    ended = record {
+      kept = subst (λ step. IsKept (terms_at old) core (settle_note out.name time step ∷ old.journal.notes)) (sym ends)
+          (subst (λ core_now. IsKept (terms_at old) core_now (writes.Done out.name time answer ∷ old.journal.notes)) (sym is)
+          (kept-done (terms_at old) old.core out time 1 old.core.queues old.journal.notes recorded.kept was_out answer refl));
+      number = ap (λ core. core.core) is;
+      cores = ap (λ core. core.cores) is;
+      room = ap (λ core. core.queues.room) is;
+      quiet = quiet-settled old.journal.notes out.name time ran.step;
+      fewer = subst (λ step. inside_count core + sum_upto (given_count (settle_note out.name time step ∷ old.journal.notes)) old.core.cores
+          ≤ inside_count old.core + sum_upto (given_count old.journal.notes) old.core.cores) (sym ends) (omega (arith, one_fewer, given_more));
+      as_sent = as_sent-settled old.journal.notes _ out.name time ran.step recorded.as_sent;
+      waiting = λ queue. subst (λ queues. All (λ entry. HasTask same made polls old.took longer queue entry.0 entry.2) (waiting_of queue queues)) (sym (ap (λ core. core.queues) is)) (still_waiting queue);
+      out = λ job at. absurd (none≢some job (sym (ap (λ core. core.out) is) ∙ at));
+    }
+
+  -- whatever the step
+  module _ (settled : Settled T) (notes : List (Note T)) (settles : CoreSettles old.core out ran spent ran.step settled core notes) where
+    notes_are : notes ≡ written
+    notes_are = by_step ran.step settled settles
+      where
+        by_step : (step : Step T) (settled : Settled T) → CoreSettles old.core out ran spent step settled core notes → notes ≡ settle_note out.name time step ∷ []
+        by_step (steps.Done value) (Finished answer) settles = settles.2
+        by_step (steps.Done value) Yielded settles = absurd settles
+        by_step steps.Yield (Finished answer) settles = absurd settles
+        by_step steps.Yield Yielded settles = settles.2
+
+    pub few-settled : length notes ≤ 1
+    few-settled = omega (arith, ap length notes_are)
+
+    pub step-settled : IsQuietStep old core (reverse notes) same made polls
+    step-settled = subst (λ notes. IsQuietStep old core (reverse notes) same made polls) (sym notes_are) (by_step ran.step refl settled settles)
+      where
+        by_step : (step : Step T) → ran.step ≡ step → (settled : Settled T) → CoreSettles old.core out ran spent step settled core notes → IsQuietStep old core written same made polls
+        by_step (steps.Done value) ends (Finished answer) settles = ended value ends settles.1
+        by_step (steps.Done value) ends Yielded settles = absurd settles
+        by_step steps.Yield yields (Finished answer) settles = absurd settles
+        by_step steps.Yield yields Yielded settles = yielded yields settles.0 settles.1
+
+    out_now : core.out ≡ None
+    out_now = by_step ran.step settled settles
+      where
+        by_step : (step : Step T) (settled : Settled T) → CoreSettles old.core out ran spent step settled core notes → core.out ≡ None
+        by_step (steps.Done value) (Finished answer) settles = ap (λ core. core.out) settles.1
+        by_step (steps.Done value) Yielded settles = absurd settles
+        by_step steps.Yield (Finished answer) settles = absurd settles
+        by_step steps.Yield Yielded settles = ap (λ core. core.out) settles.1
+
+    tells : TellsStep ran.step settled
+    tells = by_step ran.step settled settles
+      where
+        by_step : (step : Step T) (settled : Settled T) → CoreSettles old.core out ran spent step settled core notes → TellsStep step settled
+        by_step (steps.Done value) (Finished answer) settles = ap Finished settles.0
+        by_step (steps.Done value) Yielded settles = absurd settles
+        by_step steps.Yield (Finished answer) settles = absurd settles
+        by_step steps.Yield Yielded settles = refl
+
+    answered : IfDone ran.step (answers its_task.sent)
+    answered = by_step ran.step polled.answered
+      where
+        by_step : (step : Step T) → IfDone step (answers ran.before) → IfDone step (answers its_task.sent)
+        by_step (steps.Done value) right =
+            answers_same out.job its_task.sent value (is_same.back its_task.sent out.job its_task.same_task) (subst (λ job. answers job value) (sym its_job) right)
+        by_step steps.Yield right = tt
+
+    owed : polls its_task.sent (made its_task.sent + polls_made out.name old.journal.notes) ran.step ran.told
+    owed = subst (λ place. polls its_task.sent place ran.step ran.told) (ap (λ count. made its_task.sent + count) (add-zero (polls_made out.name old.journal.notes)))
+        (its_task.owes 0 ran.step ran.told (subst (λ place. polls out.job place ran.step ran.told) (sym (add-zero (made out.job)))
+        (subst (λ job. polls job (made job) ran.step ran.told) (sym its_job) polled.owed)))
+
+    pub settles-now : Settles made polls answers old ran spent settled (stepped old core (reverse notes))
+    settles-now = record {
+      out = out;
+      was_out = was_out;
+      sent = its_task.sent;
+      task = its_task.task;
+      owed = owed;
+      answered = answered;
+      tells = tells;
+      journal = ap (λ notes. record old.journal { notes = reverse notes ++ old.journal.notes }) notes_are;
+      out_now = out_now;
+      took = refl;
+    }

@@ -1,0 +1,218 @@
+-- Actors that are recorded each by itself are joined, where the ends of their links are.
+use Rattle.std.proofs.Common.{◌≡◌, ℕ, ◌+◌, ◌<◌, ◌≤◌, Bool, true, false, List, [], ◌∷◌, length, refl, sym, ◌∙◌, ap, subst, ⊎_elim, arith}
+use Rattle.std.specs.Prelude.{Option, Some, None, take, drop, slice_get}
+use Rattle.std.specs.Option.{option_map}
+use Rattle.std.proofs.lemmas.Bool.{cases_lt}
+use Rattle.std.proofs.lemmas.List.{length-append, map-append, take-append-drop}
+use Rattle.std.proofs.lemmas.Option.{same_Some}
+use Rattle.rt_ids.specs.Terms.{Terms, terms_of}
+use Rattle.rt_ids.specs.declared.names.JobId.{JobId}
+use Rattle.rt_ids.specs.declared.note.Note.{Note}
+use Rattle.rt_ids.specs.declared.note.Note.TheVariants as writes
+use Rattle.rt_ids.specs.declared.order.Order.{Order}
+use Rattle.rt_ids.specs.declared.order.Outcome.{Outcome}
+use Rattle.rt_ids.specs.Assembly.{Assembly, IsPrefix, journal_of, names_of, first_under, order_of}
+use Rattle.rt_ids.specs.Closing.{final_count}
+use Rattle.rt_ids.specs.Filters.{accepted_orders, delivered_names, given_outcomes, collected_outcomes}
+use Rattle.rt_ids.specs.Joining.{AreJoined, LinksAgree, DeliversAs, DeliversAsSent}
+use Rattle.rt_ids.specs.Journal.{Journal, EachNote}
+use Rattle.rt_ids.specs.Lawful.{IsLawful, MayStand, MayWrite}
+use Rattle.rt_ids.specs.Lines.{jobs_out}
+use Rattle.rt_ids.specs.Orders.{without_job}
+use Rattle.rt_jobs.specs.declared.job.Step.{Step}
+use Rattle.rt_link.specs.declared.ends.Outward.{Outward}
+use Rattle.rt_link.specs.declared.ends.Inward.{Inward}
+use Rattle.rt_link.specs.Ends.{Joined}
+use Rattle.rt_link.specs.Calls.{final_of}
+use Rattle.rt_journal.specs.Agreement.{IsJobOut}
+use Rattle.rt_journal.specs.Orders.{numbered_orders}
+use Rattle.rt_journal.specs.Submissions.{DeskView, terms_of_desk}
+use Rattle.rt_journal.specs.Recorded.{RecordedView, terms_at, note_taken, order_taken}
+use Rattle.rt_journal.specs.Ends.{IsOutOf, IsInOf, name_of, named_outcomes}
+use Rattle.rt_journal.specs.Together.{AreTogether, IsAssemblyOf}
+use Rattle.rt_journal.proofs.DeliveredNames.{names_from, names_from-prefix, names_of-numbered, delivered_numbered}
+use Rattle.rt_journal.proofs.EndsKept.{prefix-along, slice_get-seen}
+use Rattle.rt_journal.proofs.NumberedOrders.{length-numbered, first_under-numbered}
+use Rattle.rt_journal.proofs.TakenOrders.{as_sent-stays}
+
+-- an actor that is no core polls nothing and carries nothing out
+module _ {T : Type 0} (terms : Terms) (outside : terms.cores ≤ terms.actor) where
+  nobody_out : (journal : Journal T) → EachNote (MayStand terms) journal → jobs_out journal ≡ []
+  nobody_out [] notes = refl
+  nobody_out (note ∷ before) notes = by_note note notes.0.writer (nobody_out before notes.1)
+    where
+      by_note : (note : Note T) → MayWrite terms note → jobs_out before ≡ [] → jobs_out (note ∷ before) ≡ []
+      by_note (writes.Sent name order) writer rest = rest
+      by_note (writes.Collected name outcome) writer rest = rest
+      by_note (writes.Redeemed name outcome) writer rest = rest
+      by_note (writes.Detached name) writer rest = rest
+      by_note _ writer rest = absurd (omega (arith, writer, outside))
+
+  nothing_delivered : (under : JobId → Option (Order (Unit {0}))) (journal : Journal T) → EachNote (MayStand terms) journal → EachNote (DeliversAs under) journal
+  nothing_delivered under [] notes = tt
+  nothing_delivered under (note ∷ before) notes = (by_note note notes.0.writer, nothing_delivered under before notes.1)
+    where
+      by_note : (note : Note T) → MayWrite terms note → DeliversAs under note before
+      by_note (writes.Sent name order) writer = tt
+      by_note (writes.Collected name outcome) writer = tt
+      by_note (writes.Redeemed name outcome) writer = tt
+      by_note (writes.Detached name) writer = tt
+      by_note _ writer = absurd (omega (arith, writer, outside))
+
+-- outcomes that are the beginning of others are so under their names
+named-prefix : {J T : Type 0} (sender core : ℕ) (front whole : List (ℕ × Outcome J T)) → IsPrefix front whole → IsPrefix (named_outcomes sender core front) (named_outcomes sender core whole)
+named-prefix sender core front whole starts = (named_outcomes sender core starts.0, sym (map-append _ front starts.0) ∙ ap (named_outcomes sender core) starts.1)
+
+module _ {J T : Type 0} {same : J → J → Type 0} {made : J → ℕ} {polls : J → ℕ → Step T → Option ℕ → Type 0}
+    (cores cap : ℕ) (desk : ℕ → DeskView J T) (core : ℕ → RecordedView J T) (out : ℕ → ℕ → Outward J T) (credited : ℕ → ℕ → ℕ) (inward : ℕ → ℕ → Inward J T) (assembly : Assembly T)
+    (are : AreTogether same made polls cores cap desk core out credited inward) (is : IsAssemblyOf cores cap desk assembly) where
+  abbrev notes_at : ℕ → Journal T
+  notes_at actor = (desk actor).journal.notes
+
+  numbers : (d : ℕ) → d < cores → (core d).core.core ≡ d
+  numbers d there = ap (λ desk. desk.actor) (sym (are.desks d there)) ∙ ap (λ terms. terms.actor) (are.actors d (omega (arith, there)))
+
+  notes_are : (d : ℕ) → d < cores → notes_at d ≡ (core d).journal.notes
+  notes_are d there = ap (λ desk. desk.journal.notes) (are.desks d there)
+
+  lawful_at : (actor : ℕ) → actor ≤ cores → IsLawful (terms_of_desk (desk actor)) (notes_at actor)
+  lawful_at actor there = ⊎_elim inside outside (cases_lt actor cores)
+    where
+      inside : actor < cores → IsLawful (terms_of_desk (desk actor)) (notes_at actor)
+      inside within = subst (λ desk. IsLawful (terms_of_desk desk) desk.journal.notes) (sym (are.desks actor within)) (record {
+        notes = (are.recorded actor within).kept.notes;
+        no_pick = (are.recorded actor within).kept.no_pick;
+        no_answer = (are.recorded actor within).kept.no_answer;
+        nobody_out = subst (λ out. IsJobOut out (core actor).journal.notes) (are.at_rest actor within) (are.recorded actor within).kept.agrees.out;
+      })
+
+      outside : cores ≤ actor → IsLawful (terms_of_desk (desk actor)) (notes_at actor)
+      outside past =
+          let one : cores ≡ actor = omega (arith, past, there) in
+          subst (λ actor. IsLawful (terms_of_desk (desk actor)) (notes_at actor)) one (record {
+            notes = are.outside.notes;
+            no_pick = are.outside.no_pick;
+            no_answer = are.outside.no_answer;
+            nobody_out = nobody_out (terms_of_desk (desk cores)) (omega (arith, ap (λ terms. terms.actor) (are.actors cores (omega arith)), ap (λ terms. terms.cores) (are.actors cores (omega arith)))) (notes_at cores) are.outside.notes;
+          })
+
+  terms_are : (actor : ℕ) → actor ≤ cores → terms_of actor assembly ≡ terms_of_desk (desk actor)
+  terms_are actor there = (λ i. record { actor = actor; cores = is.cores_are i; cap = is.cap_is i }) ∙ sym (are.actors actor there)
+
+  lawful : (actor : ℕ) → actor ≤ assembly.cores → IsLawful (terms_of actor assembly) (journal_of actor assembly)
+  lawful actor known =
+      let there : actor ≤ cores = omega (arith, known, is.cores_are) in
+      subst (λ terms. IsLawful terms (journal_of actor assembly)) (sym (terms_are actor there))
+      (subst (IsLawful (terms_of_desk (desk actor))) (sym (is.each actor there)) (lawful_at actor there))
+
+  module _ (sender d : ℕ) (there : sender ≤ cores) (d_there : d < cores) where
+    outs : IsOutOf d (desk sender) (out sender d) (credited sender d)
+    outs = are.outs sender d there d_there
+
+    ins : IsInOf sender (core d) (inward sender d)
+    ins = are.ins sender d there d_there
+
+    link : Joined (out sender d) (inward sender d)
+    link = are.joined sender d there d_there
+
+    sender_is : (desk sender).actor ≡ sender
+    sender_is = ap (λ terms. terms.actor) (are.actors sender there)
+
+    accepted_are : accepted_orders d (notes_at sender) ≡ numbered_orders sender d 0 (out sender d).sent
+    accepted_are = outs.accepted ∙ ap (λ at. numbered_orders at d 0 (out sender d).sent) sender_is
+
+    accepted_count : length (accepted_orders d (notes_at sender)) ≡ length (out sender d).sent
+    accepted_count = ap length accepted_are ∙ length-numbered sender d 0 (out sender d).sent
+
+    seen_within : length (inward sender d).seen ≤ length (out sender d).sent
+    seen_within = omega (arith, ap length link.orders.1, length-append (inward sender d).seen link.orders.0)
+
+    delivered_are : delivered_names sender (core d).journal.notes ≡ names_from sender d 0 (inward sender d).taken
+    delivered_are =
+        delivered_numbered (terms_at (core d)) sender (core d).journal.notes (are.recorded d d_there).kept.notes
+        ∙ (ap (names_from sender (core d).core.core 0) ins.taken ∙ ap (λ at. names_from sender at 0 (inward sender d).taken) (numbers d d_there))
+
+    delivery : IsPrefix (delivered_names sender (notes_at d)) (names_of (accepted_orders d (notes_at sender)))
+    delivery =
+        subst (λ notes. IsPrefix (delivered_names sender notes) (names_of (accepted_orders d (notes_at sender)))) (sym (notes_are d d_there))
+        (subst (λ front. IsPrefix front (names_of (accepted_orders d (notes_at sender)))) (sym delivered_are)
+        (subst (IsPrefix (names_from sender d 0 (inward sender d).taken)) (sym (ap names_of accepted_are ∙ names_of-numbered sender d 0 (out sender d).sent))
+        (names_from-prefix sender d (inward sender d).taken (length (out sender d).sent) (omega (arith, ins.behind, seen_within)))))
+
+    collection : IsPrefix (collected_outcomes d (notes_at sender)) (given_outcomes sender (notes_at d))
+    collection =
+        subst (λ notes. IsPrefix (collected_outcomes d (notes_at sender)) (given_outcomes sender notes)) (sym (notes_are d d_there))
+        (subst (λ front. IsPrefix front (given_outcomes sender (core d).journal.notes)) (sym (outs.collected ∙ ap (λ at. named_outcomes at d got) sender_is))
+        (prefix-along (named_outcomes sender d got) (named_outcomes sender d (inward sender d).given) (given_outcomes sender (core d).journal.notes)
+        (named-prefix sender d got (inward sender d).given (prefix-along got (out sender d).seen (inward sender d).given seen_got (link.outcomes.0, sym link.outcomes.1)))
+        (subst (λ at. IsPrefix (named_outcomes sender at (inward sender d).given) (given_outcomes sender (core d).journal.notes)) (numbers d d_there) ins.given)))
+      where
+        got : List (ℕ × Outcome J T)
+        got = take (out sender d).got (out sender d).seen
+
+        seen_got : IsPrefix got (out sender d).seen
+        seen_got = (drop (out sender d).got (out sender d).seen, take-append-drop (out sender d).got (out sender d).seen)
+
+    gate : (count : ℕ) → final_count sender (notes_at d) ≡ Some count → count ≡ length (accepted_orders d (notes_at sender))
+    gate count told = by_gate (inward sender d).shut refl (sym ins.gate ∙ (ap (final_count sender) (sym (notes_are d d_there)) ∙ told))
+      where
+        by_gate : (shut : Bool) → (inward sender d).shut ≡ shut → final_of (inward sender d) shut ≡ Some count → count ≡ length (accepted_orders d (notes_at sender))
+        by_gate false still final = cc
+        by_gate true closed final =
+            let all : length (inward sender d).seen ≡ length (out sender d).sent = ap length (link.final closed) in
+            omega (arith, same_Some ((inward sender d).base + length (inward sender d).seen) count final, ins.base, accepted_count, all)
+
+  -- what a core took under a name is what was accepted under it
+  sent_under : (d : ℕ) → d < cores → (name : JobId) (what : Order (Unit {0})) → note_taken (core d).took name ≡ Some what → order_of name assembly ≡ Some what
+  sent_under d there name what at = by_order (order_taken (core d).took name) refl at
+    where
+      by_order : (found : Option (Order J)) → order_taken (core d).took name ≡ found → option_map without_job found ≡ Some what → order_of name assembly ≡ Some what
+      by_order None none at = cc
+      by_order (Some order) here at =
+          let known = (are.recorded d there).taken name order here in
+          let from : name.from ≤ cores = omega (arith, known.sender, ap (λ desk. desk.cores) (sym (are.desks d there)), ap (λ terms. terms.cores) (are.actors d (omega (arith, there)))) in
+          let found = (are.ins name.from d from there).orders name order refl here in
+          let place_is : found.0 ≡ 0 + found.0 = omega arith in
+          let its_name : name ≡ name_of name.from d (0 + found.0 + 1) = found.1 ∙ (λ i. name_of name.from (numbers d there i) (place_is i + 1)) in
+          let sent : slice_get (out name.from d).sent found.0 ≡ Some order = slice_get-seen (out name.from d).sent (inward name.from d).seen (are.joined name.from d from there).orders found.0 order found.2 in
+          let to : name.to ≡ d = ap (λ id. id.to) its_name in
+          ap (λ core. first_under name (accepted_orders core (journal_of name.from assembly))) to
+          ∙ (ap (λ notes. first_under name (accepted_orders d notes)) (is.each name.from from)
+          ∙ (ap (first_under name) (accepted_are name.from d from there)
+          ∙ (ap (λ name. first_under name (numbered_orders name.from d 0 (out name.from d).sent)) its_name
+          ∙ (first_under-numbered name.from d 0 (out name.from d).sent found.0 order sent ∙ at))))
+
+  as_sent : (actor : ℕ) → actor ≤ cores → EachNote (DeliversAsSent assembly) (notes_at actor)
+  as_sent actor there = ⊎_elim inside outside (cases_lt actor cores)
+    where
+      inside : actor < cores → EachNote (DeliversAsSent assembly) (notes_at actor)
+      inside within =
+          subst (EachNote (DeliversAsSent assembly)) (sym (notes_are actor within))
+          (as_sent-stays (note_taken (core actor).took) (λ name. order_of name assembly) (sent_under actor within) (core actor).journal.notes (are.recorded actor within).as_sent)
+
+      outside : cores ≤ actor → EachNote (DeliversAsSent assembly) (notes_at actor)
+      outside past =
+          let terms = are.actors actor there in
+          nothing_delivered (terms_of_desk (desk actor)) (omega (arith, past, ap (λ terms. terms.actor) terms, ap (λ terms. terms.cores) terms)) (λ name. order_of name assembly) (notes_at actor) (lawful_at actor there).notes
+
+  links : LinksAgree assembly
+  links = record {
+    deliveries = λ sender d known d_known.
+        let there : sender ≤ cores = omega (arith, known, is.cores_are) in
+        let d_there : d < cores = omega (arith, d_known, is.cores_are) in
+        rw (is.each d (omega (arith, d_there)), is.each sender there) (delivery sender d there d_there);
+    collections = λ sender d known d_known.
+        let there : sender ≤ cores = omega (arith, known, is.cores_are) in
+        let d_there : d < cores = omega (arith, d_known, is.cores_are) in
+        rw (is.each d (omega (arith, d_there)), is.each sender there) (collection sender d there d_there);
+    gates = λ sender d known d_known count told.
+        let there : sender ≤ cores = omega (arith, known, is.cores_are) in
+        let d_there : d < cores = omega (arith, d_known, is.cores_are) in
+        gate sender d there d_there count (ap (final_count sender) (sym (is.each d (omega (arith, d_there)))) ∙ told) ∙ ap (λ notes. length (accepted_orders d notes)) (sym (is.each sender there));
+    as_sent = λ actor known.
+        let there : actor ≤ cores = omega (arith, known, is.cores_are) in
+        rw (is.each actor there) (as_sent actor there);
+  }
+
+  pub together_joined : AreJoined assembly
+  together_joined = record { journals = is.count ∙ ap (λ cores. cores + 1) (sym is.cores_are); lawful = lawful; links = links }

@@ -1,0 +1,63 @@
+-- What a call of a recorded core knows after its core made a step and its desk wrote the notes.
+use Rattle.std.proofs.Common.{◌≡◌, ℕ, List, ◌++◌, reverse, sym, ◌∙◌, ap, subst}
+use Rattle.std.specs.Prelude.{Option}
+use Rattle.rt_ids.specs.declared.note.Note.{Note}
+use Rattle.rt_ids.specs.declared.order.Envelope.{Envelope}
+use Rattle.rt_jobs.specs.declared.job.Step.{Step}
+use Rattle.rt_core.specs.State.{CoreView}
+use Rattle.rt_journal.specs.Submissions.{DeskView, IsWritten, terms_of_desk, desk_with}
+use Rattle.rt_journal.specs.Recorded.{RecordedView, IsRecorded, desk_of, terms_at}
+use Rattle.rt_journal.specs.Ends.{KeepsIn, KeepsOuts, IsSameSeat}
+use Rattle.rt_journal.proofs.QuietSteps.{stepped, IsQuietStep, recorded_step, seat_step, ins_step, outs_step, written_step}
+
+module _ {J T : Type 0} where
+  -- the view of these parts
+  abbrev pub view_of : CoreView J → List (Envelope J) → DeskView J T → RecordedView J T
+  view_of core took said = record { cap = said.cap; core = core; journal = said.journal; took = took }
+
+  -- the desk is the one of its core
+  pub desk_is : (said : DeskView J T) (core : CoreView J) (took : List (Envelope J)) → said.actor ≡ core.core → said.cores ≡ core.cores → said ≡ desk_of (view_of core took said)
+  desk_is said core took actor cores = λ i. record { actor = actor i; cores = cores i; cap = said.cap; journal = said.journal }
+
+  -- the notes that may stand behind the journal may be written by its desk
+  pub may_write : (core : CoreView J) (took : List (Envelope J)) (said : DeskView J T) → said ≡ desk_of (view_of core took said) → (notes slice : List (Note T)) → slice ≡ notes →
+      IsWritten (terms_at (view_of core took said)) (reverse notes ++ said.journal.notes) → IsWritten (terms_of_desk said) (reverse slice ++ said.journal.notes)
+  may_write core took said is notes slice slice_is written =
+      subst (λ terms. IsWritten terms (reverse slice ++ said.journal.notes)) (sym (ap terms_of_desk is))
+      (subst (λ notes. IsWritten (terms_at (view_of core took said)) (reverse notes ++ said.journal.notes)) (sym slice_is) written)
+
+module _ {J T : Type 0} {same : J → J → Type 0} {made : J → ℕ} {polls : J → ℕ → Step T → Option ℕ → Type 0}
+    (core : CoreView J) (took : List (Envelope J)) (said : DeskView J T)
+    (invariant : IsRecorded same made polls (view_of core took said) × (said ≡ desk_of (view_of core took said)))
+    (after : CoreView J) (notes slice : List (Note T)) (slice_is : slice ≡ notes) (step : IsQuietStep (view_of core took said) after (reverse notes) same made polls) where
+  abbrev old : RecordedView J T
+  old = view_of core took said
+
+  pub quiet_written : IsWritten (terms_of_desk said) (reverse slice ++ said.journal.notes)
+  quiet_written = may_write core took said invariant.1 notes slice slice_is (written_step old invariant.0 after (reverse notes) step)
+
+  module _ (said_now : DeskView J T) (wrote : said_now ≡ desk_with (reverse slice) said) where
+    now_written : said_now ≡ desk_with (reverse notes) said
+    now_written = wrote ∙ ap (λ notes. desk_with (reverse notes) said) slice_is
+
+    pub now_is : view_of after took said_now ≡ stepped old after (reverse notes)
+    now_is = ap (view_of after took) now_written
+
+    pub quiet_sound : IsRecorded same made polls (view_of after took said_now)
+    quiet_sound = subst (IsRecorded same made polls) (sym now_is) (recorded_step old invariant.0 after (reverse notes) step)
+
+    pub quiet_invariant : IsRecorded same made polls (view_of after took said_now) × (said_now ≡ desk_of (view_of after took said_now))
+    quiet_invariant = (
+      quiet_sound,
+      desk_is said_now after took (ap (λ desk. desk.actor) now_written ∙ (ap (λ desk. desk.actor) invariant.1 ∙ sym step.number))
+          (ap (λ desk. desk.cores) now_written ∙ (ap (λ desk. desk.cores) invariant.1 ∙ sym step.cores)),
+    )
+
+    pub quiet_seat : IsSameSeat old (view_of after took said_now)
+    quiet_seat = subst (IsSameSeat old) (sym now_is) (seat_step old invariant.0 after (reverse notes) step)
+
+    pub quiet_ins : (sender : ℕ) → KeepsIn sender old (view_of after took said_now)
+    quiet_ins sender = subst (KeepsIn sender old) (sym now_is) (ins_step old invariant.0 after (reverse notes) step sender)
+
+    pub quiet_outs : KeepsOuts (desk_of old) (desk_of (view_of after took said_now))
+    quiet_outs = subst (λ view. KeepsOuts (desk_of old) (desk_of view)) (sym now_is) (outs_step old invariant.0 after (reverse notes) step)

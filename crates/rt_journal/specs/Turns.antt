@@ -1,0 +1,81 @@
+-- What the two parts of a turn do: a pick, and a settled poll.
+use Rattle.std.specs.Prelude.{◌≡◌, ℕ, ◌+◌, ◌-◌, ◌^◌, ◌<◌, ◌≢◌, Option, Some, None, unwrap_or, Bool, true, false, List, [], ◌∷◌, Result, Ok, Err}
+use Rattle.rt_ids.specs.declared.names.JobId.{JobId}
+use Rattle.rt_ids.specs.declared.note.Note.TheVariants as writes
+use Rattle.rt_ids.specs.declared.order.Order.TheVariants.{Job}
+use Rattle.rt_ids.specs.Journal.{is_told}
+use Rattle.rt_ids.specs.Filters.{name_started}
+use Rattle.rt_ids.specs.Work.{has_work}
+use Rattle.rt_ids.specs.Lines.{line}
+use Rattle.rt_ids.specs.Picks.{IsRightPick, turns}
+use Rattle.rt_ids.specs.Commands.{return_reason}
+use Rattle.rt_jobs.specs.declared.job.Step.{Step}
+use Rattle.rt_jobs.specs.declared.job.Step.TheVariants as step
+use Rattle.rt_jobs.specs.Steps.{AfterPoll, IfDone, OnYield, OwesOn}
+use Rattle.rt_core.specs.State.{JobOut}
+use Rattle.rt_core.specs.declared.turn.Turn.{Turn}
+use Rattle.rt_core.specs.declared.turn.Turn.TheVariants.{Start, Resume, Back, Idle}
+use Rattle.rt_core.specs.declared.turn.PickError.{PickError}
+use Rattle.rt_core.specs.declared.turn.PickError.TheVariants.{Busy, Spent}
+use Rattle.rt_core.specs.declared.turn.Settled.{Settled}
+use Rattle.rt_core.specs.declared.turn.Settled.TheVariants.{Yielded, Finished}
+use Rattle.rt_journal.specs.Polls.{polls_made, poll_note, settle_note}
+use Rattle.rt_journal.specs.Recorded.{RecordedView, order_taken}
+use Rattle.rt_journal.specs.Steps.{with_notes}
+
+-- the job that is out is this one
+abbrev pub IsOut : {J : Type 0} → Option (JobOut J) → J → Type 0
+IsOut None job = ⊥
+IsOut (Some out) job = out.job ≡ job
+
+-- what a poll owed, what may answer it, and what it leaves of its job
+pub record IsPolled {J T : Type 0} (same : J → J → Type 0) (made : J → ℕ) (polls : J → ℕ → Step T → Option ℕ → Type 0) (answers : J → T → Type 0) (ran : AfterPoll J T) : Type 0 where
+  pub owed : polls ran.before (made ran.before) ran.step ran.told
+  pub answered : IfDone ran.step (answers ran.before)
+  pub same_task : OnYield ran.step (same ran.before ran.job)
+  pub later : OnYield ran.step (OwesOn made polls ran.before ran.job)
+
+-- what the caller of a settled poll is told is the poll's step
+abbrev pub TellsStep : {T : Type 0} → Step T → Settled T → Type 0
+TellsStep step.Yield settled = settled ≡ Yielded
+TellsStep (step.Done out) settled = settled ≡ Finished out
+
+module _ {J T : Type 0} where
+  -- the right pick takes out the first job of its line
+  pub record IsPick (old : RecordedView J T) (name : JobId) (queue : ℕ) (was_started : Bool) (job : J) (new : RecordedView J T) : Type 0 where
+    pub nobody_out : old.core.out ≡ None
+    pub turn_left : turns old.journal.notes < 2 ^ 64 - 1
+    pub runtime : ℕ
+    pub right : IsRightPick queue runtime old.journal.notes
+    pub others : List JobId
+    pub first : line queue old.journal.notes ≡ name ∷ others
+    pub kept : return_reason queue old.journal.notes ≡ None
+    pub started : was_started ≡ is_told name_started name old.journal.notes
+    pub journal : new.journal ≡ with_notes (poll_note name was_started ∷ writes.Pick queue runtime ∷ []) old.journal
+    pub out : new.core.out ≡ Some (record { name = name; queue = queue; job = job })
+    pub took : new.took ≡ old.took
+
+  -- what a pick does, by what it answers
+  abbrev pub Picks : RecordedView J T → Result (Turn J) PickError → RecordedView J T → Type 0
+  Picks old (Ok (Start name queue job)) new = IsPick old name queue false job new
+  Picks old (Ok (Resume name queue job)) new = IsPick old name queue true job new
+  -- nothing is closed yet, so no job is handed back
+  Picks old (Ok (Back name reason order)) new = ⊥
+  Picks old (Ok Idle) new = ((queue : ℕ) → has_work queue old.journal.notes ≡ false) × (new ≡ old)
+  Picks old (Err Busy) new = (old.core.out ≢ None) × (new ≡ old)
+  Picks old (Err Spent) new =
+      (turns old.journal.notes ≡ 2 ^ 64 - 1) × ((queue : ℕ) × (has_work queue old.journal.notes ≡ true)) × (new ≡ old)
+
+  module _ (made : J → ℕ) (polls : J → ℕ → Step T → Option ℕ → Type 0) (answers : J → T → Type 0) where
+    -- the poll of the job that was out is settled: it owes what the order under its name says, counted from the job as it was sent
+    pub record Settles (old : RecordedView J T) (ran : AfterPoll J T) (spent : ℕ) (settled : Settled T) (new : RecordedView J T) : Type 0 where
+      pub out : JobOut J
+      pub was_out : old.core.out ≡ Some out
+      pub sent : J
+      pub task : order_taken old.took out.name ≡ Some (Job out.queue sent)
+      pub owed : polls sent (made sent + polls_made out.name old.journal.notes) ran.step ran.told
+      pub answered : IfDone ran.step (answers sent)
+      pub tells : TellsStep ran.step settled
+      pub journal : new.journal ≡ with_notes (settle_note out.name (unwrap_or ran.told spent) ran.step ∷ []) old.journal
+      pub out_now : new.core.out ≡ None
+      pub took : new.took ≡ old.took
