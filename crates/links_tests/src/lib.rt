@@ -1,12 +1,8 @@
-//! Tests of jobs, links, rings and desks over their public calls.
+//! Tests of links and rings over their public calls.
 #![tactic(auto)]
 
 #[cfg(test)]
 mod boxed;
-#[cfg(test)]
-mod desks;
-#[cfg(test)]
-mod jobs;
 #[cfg(test)]
 mod life;
 #[cfg(test)]

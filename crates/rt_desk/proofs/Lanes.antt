@@ -1,5 +1,5 @@
 -- What a lane knows of its numbers, and that a send keeps it.
-use Rattle.std.proofs.Common.{◌≡◌, ◌≢◌, ◌⊎◌, inl, inr, ℕ, ◌+◌, ◌<◌, ◌≤◌, true, List, [], ◌∷◌, ◌++◌, length, length-append, Option, Some, None, Ok, Err, refl, sym, ap, subst, ◌∙◌, arith}
+use Rattle.std.proofs.Common.{◌≡◌, Bool, ◌≢◌, ◌⊎◌, inl, inr, ℕ, ◌+◌, ◌<◌, ◌≤◌, true, List, [], ◌∷◌, ◌++◌, length, length-append, Option, Some, None, Ok, Err, refl, sym, ap, subst, ◌∙◌, arith}
 use Rattle.std.specs.Prelude.{slice_get}
 use Rattle.std.proofs.lemmas.Bool.Decides.{eqb_tells}
 use Rattle.rt_ids.specs.declared.order.Order.{Order}
@@ -88,26 +88,30 @@ module _ {J T : Type 0} (fits : Order J → Outcome J T → Type 0) where
   IsLaneOf-accepted lane new out later credited after order number l same sends adds room count last =
       subst (λ k. IsLaneOf fits new later k) (sym same) (IsLaneOf-sent lane new out later credited order number l sends adds room count last)
 
+  -- to see the gate shut changes nothing of a lane
+  pub IsLaneOf-closed : (lane : Lane J T) (out : Outward J T) (credited : ℕ) (closed : Bool) → IsLaneOf fits lane out credited → IsLaneOf fits lane (record out { closed = closed }) credited
+  IsLaneOf-closed lane out credited closed l = record {
+    room = l.room;
+    count = l.count;
+    last = l.last;
+    sound = record { numbered = l.sound.numbered; room = l.sound.room; credits = l.sound.credits; behind = l.sound.behind; within = l.sound.within };
+    named = l.named;
+    standing = λ n. λ entry. λ there. Stands-closed n entry (l.standing n entry there);
+    gone = λ n. λ sent. λ none. let had = l.gone n sent none in (had.0, record { place = had.1.place; got = had.1.got; is = had.1.is });
+    outstanding = l.outstanding;
+    kept = l.kept;
+  }
+    where
+      Stands-closed : (n : ℕ) (entry : Entry J T) → Stands out n entry → Stands (record out { closed = closed }) n entry
+      Stands-closed n Pending stands = stands
+      Stands-closed n Detached stands = stands
+      Stands-closed n (Collected outcome) stands = (stands.0, record { place = stands.1.place; got = stands.1.got; is = stands.1.is })
+
   -- a send that is refused
   pub IsLaneOf-refused : (lane : Lane J T) (out later : Outward J T) (credited : ℕ) (order : Order J) (error : SendError J) → IsLaneOf fits lane out credited
       → Sends out credited order later (Err error) → IsLaneOf fits lane later credited
   IsLaneOf-refused lane out later credited order (Closed back final) l sends =
-      subst (λ o. IsLaneOf fits lane o credited) (sym sends.2) record {
-        room = l.room;
-        count = l.count;
-        last = l.last;
-        sound = subst (λ o. SoundOut o credited) sends.2 (SoundOut-Sends out later credited order (Err (Closed back final)) l.sound sends);
-        named = l.named;
-        standing = λ n. λ entry. λ there. Stands-closed n entry (l.standing n entry there);
-        gone = λ n. λ sent. λ none. let had = l.gone n sent none in (had.0, record { place = had.1.place; got = had.1.got; is = had.1.is });
-        outstanding = l.outstanding;
-        kept = l.kept;
-      }
-    where
-      Stands-closed : (n : ℕ) (entry : Entry J T) → Stands out n entry → Stands (record out { closed = true }) n entry
-      Stands-closed n Pending stands = stands
-      Stands-closed n Detached stands = stands
-      Stands-closed n (Collected outcome) stands = (stands.0, record { place = stands.1.place; got = stands.1.got; is = stands.1.is })
+      subst (λ o. IsLaneOf fits lane o credited) (sym sends.2) (IsLaneOf-closed lane out credited true l)
   IsLaneOf-refused lane out later credited order (Full back) l sends = subst (λ o. IsLaneOf fits lane o credited) (sym sends.3) l
   IsLaneOf-refused lane out later credited order (Spent back) l sends = subst (λ o. IsLaneOf fits lane o credited) (sym sends.4) l
   IsLaneOf-refused lane out later credited order (NoCore back) l sends = absurd sends

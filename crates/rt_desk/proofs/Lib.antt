@@ -6,3 +6,4 @@ pub mod Collections
 pub mod Collected
 pub mod Gathered
 pub mod Cores
+pub mod Received

@@ -3,6 +3,7 @@
 ghost use Rattle.std.specs.Prelude.{◌≡◌, ◌↔◌, ◌<◌, ◌≤◌, ℕ, length, Option, Err, IfOk, IfSome, OnErr, IsTrue, slice_get};
 ghost use Rattle.rt_ids.specs.declared.names.TicketError.TheVariants.{Unknown};
 ghost use Rattle.rt_ids.specs.declared.order.SendError.TheVariants.{NoCore};
+ghost use Rattle.rt_ids.specs.Outcomes.{IsSpelledOutcome};
 ghost use Rattle.rt_jobs.specs.Ready.{HasReadyJob};
 ghost use Rattle.rt_link.specs.Calls.{Sends};
 ghost use Rattle.rt_link.specs.Fits.{Fits};
@@ -190,6 +191,7 @@ impl<J: Task> Desk<J> {
         requires ends { AreEndsOf (Fits J.SameTask J.Answers) O.out O.credited self.old ends.old }
         requires core { core < length self.old.lanes }
         ensures ends { AreEndsOf (Fits J.SameTask J.Answers) O.out O.credited self.new ends.new }
+        ensures spelled { IfSome result (λ told. IsSpelledOutcome told.1) }
         ensures collects { AtCore self.old self.new ends.old ends.new core (λ lane later end now.
             (O.untouched now ≡ O.untouched end) × (found : Option (ℕ × Outcome J J.Out)) × (result ≡ told_of self.old.actor core found)
             × CollectsNext lane later (O.out end) (O.out now) (O.credited end) (O.credited now) found) }
@@ -210,6 +212,7 @@ impl<J: Task> Desk<J> {
         requires ends { AreEndsOf (Fits J.SameTask J.Answers) O.out O.credited self.old ends.old }
         requires core { core < length self.old.lanes }
         ensures ends { AreEndsOf (Fits J.SameTask J.Answers) O.out O.credited self.new ends.new }
+        ensures spelled { IfSome result (λ told. IsSpelledOutcome told.1) }
         ensures collects { AtCore self.old self.new ends.old ends.new core (λ lane later end now.
             (O.untouched now ≡ O.untouched end) × (found : Option (ℕ × Outcome J J.Out)) × (result ≡ told_of from to found)
             × CollectsNext lane later (O.out end) (O.out now) (O.credited end) (O.credited now) found) }

@@ -1,13 +1,14 @@
 //! The submissions of one actor to one core.
 
-ghost use Rattle.std.specs.Prelude.{◌≡◌, ◌↔◌, ℕ, Option, is_some, IfOk, IsTrue, OnErr};
+ghost use Rattle.std.specs.Prelude.{◌≡◌, ◌↔◌, ℕ, Option, is_some, IfOk, IfSome, IsTrue, OnErr};
+ghost use Rattle.rt_ids.specs.Outcomes.{IsSpelledOutcome};
 ghost use Rattle.rt_jobs.specs.Ready.{HasReadyJob};
 ghost use Rattle.rt_link.specs.Calls.{Sends};
 ghost use Rattle.rt_link.specs.Fits.{Fits};
 ghost use Rattle.rt_desk.specs.Held.{at, count_of, Adds};
 ghost use Rattle.rt_desk.specs.Lanes.{fresh_lane, IsGiven, IsLaneOf, IsJustGot, IsGot, FitsSent};
 ghost use Rattle.rt_desk.specs.Steps.{CollectsNext, CollectsAll, Keeps, Redeems, Detaches, StandsAs};
-ghost use Rattle.rt_desk.specs.Told.{outcome_note, told_of};
+ghost use Rattle.rt_desk.specs.Told.{told_of};
 ghost use Rattle.rt_desk.specs.declared.entry.Entry.TheVariants.{Pending};
 
 use crate::entry::{Entry, Standing};
@@ -38,17 +39,6 @@ impl<J: Task> Model for Lane<J> {
     ghost use Rattle.std.specs.Prelude.{◌≤◌};
 
     ghost invariant = { λ l. l.count ≤ l.last };
-}
-
-/// An outcome as a note tells it, without the job that it hands back.
-fn note_of<J, T: Copy>(outcome: &Outcome<J, T>) -> OutcomeNote<T>
-    ensures { result ≡ outcome_note outcome.now }
-{
-    match outcome {
-        Outcome::Finished(out) => OutcomeNote::Finished(*out),
-        Outcome::Returned(reason, _) => OutcomeNote::Returned(*reason),
-        Outcome::Answered(answer) => OutcomeNote::Answered(*answer),
-    }
 }
 
 impl<J: Task> Lane<J> {
@@ -133,13 +123,14 @@ impl<J: Task> Lane<J> {
         requires { IsLaneOf (Fits J.SameTask J.Answers) self.old (O.out end.old) (O.credited end.old) }
         ensures lane { IsLaneOf (Fits J.SameTask J.Answers) self.new (O.out end.new) (O.credited end.new) }
         ensures untouched { O.untouched end.new ≡ O.untouched end.old }
+        ensures spelled { IfSome result (λ told. IsSpelledOutcome told.1) }
         ensures collects { (found : Option (ℕ × Outcome J J.Out)) × (result ≡ told_of from to found)
             × CollectsNext self.old self.new (O.out end.old) (O.out end.new) (O.credited end.old) (O.credited end.new) found }
     {
         let Some((number, outcome)) = end.collect() else {
             return None;
         };
-        let told = note_of(&outcome);
+        let told = outcome.note();
         self.keep(end, number, outcome);
         Some((JobId { from, to, number }, told))
     }

@@ -1,5 +1,6 @@
 pub mod Steps
 pub mod Ready
+pub mod Posts
 pub mod Same
 pub mod Scripts
 pub mod Kept

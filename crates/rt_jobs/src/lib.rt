@@ -1,4 +1,4 @@
-//! Tasks, jobs, and one poll of a job.
+//! Tasks, jobs, one poll of a job, and what a job may ask for while it is polled.
 #![tactic(auto)]
 
 pub mod any;
@@ -8,6 +8,7 @@ pub mod example;
 pub mod job;
 pub mod once;
 pub mod poll;
+pub mod post;
 pub mod script;
 
 pub use any::{AnyJob, OnceBox, Polled, Range, Within, once_job, polled_job};
@@ -16,4 +17,5 @@ pub use called::{Called, OnceOf};
 pub use job::{Job, Ran, Step, Task};
 pub use once::Once;
 pub use poll::Poll;
+pub use post::{NoPost, Post};
 pub use script::{MOST_POLLS, ScriptJob};

@@ -1,17 +1,15 @@
 -- A world without its lists is refused, and a world at rest has them.
-use Rattle.std.proofs.Common.{◌≡◌, ℕ, [], length, ◌⊎◌, ⊎_elim, ◌∙◌, ap, arith}
+use Rattle.std.proofs.Common.{◌≡◌, ℕ, ◌+◌, [], length, ◌⊎◌, ⊎_elim, ◌∙◌, ap, arith}
 use Rattle.std.specs.Prelude.{Option, map}
 use Rattle.std.proofs.lemmas.List.{length-map}
-use Rattle.rt_ids.specs.declared.order.Order.{Order}
-use Rattle.rt_ids.specs.declared.order.Outcome.{Outcome}
 use Rattle.rt_jobs.specs.declared.job.Step.{Step}
 use Rattle.rt_world.specs.State.{WorldView}
 use Rattle.rt_world.specs.Links.{row_of}
-use Rattle.rt_world.specs.Inside.{Parts, world_of}
-use Rattle.rt_world.specs.Tasks.{IsWorld}
+use Rattle.rt_world.specs.Inside.{Parts, desks, world_of, IsWorld}
 use Rattle.rt_world.specs.Opening.{HasAllLists}
 use Rattle.rt_world.specs.Hollow.{HollowIsRefused}
 use Rattle.rt_journal.proofs.NumberedOrders.{get_or-map}
+use Rattle.rt_world.proofs.Desks.{desk_count}
 
 no_lists : {J T : Type 0} (world : WorldView J T) → (world.journals ≡ []) ⊎ (world.sent ≡ []) → HasAllLists world → ⊥
 no_lists world hollow lists =
@@ -20,11 +18,10 @@ no_lists world hollow lists =
 pub hollow_refused : (J T : Type 0) → HollowIsRefused J T
 hollow_refused J T cores cap room world hollow = ((λ fresh. no_lists world hollow fresh.lists), (λ unbegun. no_lists world hollow unbegun.lists))
 
-module _ {J T : Type 0} (same : J → J → Type 0) (made : J → ℕ) (polls : J → ℕ → Step T → Option ℕ → Type 0)
-    (fits : Order J → Outcome J T → Type 0) (ready : Order J → Type 0) (parts : Parts J T) (world : IsWorld same made polls fits ready parts) where
+module _ {J T : Type 0} {same : J → J → Type 0} {made : J → ℕ} {polls : J → ℕ → Step T → Option ℕ → Type 0} (parts : Parts J T) (world : IsWorld same made polls parts) where
   pub world_lists : HasAllLists (world_of parts)
   world_lists = record {
-    journals_are = length-map parts.journals (λ journal. journal.notes) ∙ world.all_there.journals_are;
+    journals_are = length-map (desks parts) (λ desk. desk.journal.notes) ∙ (desk_count parts ∙ ap (λ count. count + 1) world.all_there.cores_are);
     senders_are = length-map parts.links (map (λ link. link.sent)) ∙ world.all_there.rows_are;
     links_are = λ sender known.
         ap length (get_or-map (map (λ link. link.sent)) parts.links sender [])

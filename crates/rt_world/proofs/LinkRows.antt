@@ -1,8 +1,10 @@
 -- Rows of links, of which one link changes.
 use Rattle.std.proofs.Common.{◌≡◌, ◌≢◌, ℕ, ◌<◌, List, [], length, get_or, set, map, sym, ap, ◌∙◌, subst, ⊎_elim, arith}
 use Rattle.std.proofs.lemmas.Bool.{cases_eq}
-use Rattle.std.proofs.lemmas.List.{get_or-map, get_or_default, length-map, length-set, map-set, get_or-set_same, get_or-set_other}
+use Rattle.std.proofs.lemmas.List.{get_or-map, get_or_default, length-map, length-set, map-set, get_or-set_same, get_or-set_other, set-get_or}
+use Rattle.rt_ids.specs.declared.order.Order.{Order}
 use Rattle.rt_link.specs.declared.plain.Whole.{Whole}
+use Rattle.rt_journal.proofs.NumberedOrders as by_place
 use Rattle.rt_world.specs.Links.{no_link, row_of, link_at, ChangesLink}
 
 module _ {J T : Type 0} (links : List (List (Whole J T))) (s d : ℕ) (link : Whole J T) where
@@ -10,13 +12,13 @@ module _ {J T : Type 0} (links : List (List (Whole J T))) (s d : ℕ) (link : Wh
   abbrev pub with_link : List (List (Whole J T))
   with_link = set links s (set (row_of s links) d link)
 
-  pub row_of-with_link : s < length links → row_of s with_link ≡ set (row_of s links) d link
+  row_of-with_link : s < length links → row_of s with_link ≡ set (row_of s links) d link
   row_of-with_link in_rows = get_or-set_same links s (set (row_of s links) d link) [] in_rows
 
-  pub row_of-with_link_other : (other : ℕ) → other ≢ s → row_of other with_link ≡ row_of other links
+  row_of-with_link_other : (other : ℕ) → other ≢ s → row_of other with_link ≡ row_of other links
   row_of-with_link_other other differs = get_or-set_other links s other (set (row_of s links) d link) [] differs
 
-  pub link_at-with_link_other : s < length links → (r e : ℕ) → (r ≡ s → e ≡ d → ⊥) → link_at r e with_link ≡ link_at r e links
+  link_at-with_link_other : s < length links → (r e : ℕ) → (r ≡ s → e ≡ d → ⊥) → link_at r e with_link ≡ link_at r e links
   link_at-with_link_other in_rows r e differs =
       ⊎_elim
       (λ same. subst (λ n. link_at n e with_link ≡ link_at n e links) (sym same)
@@ -38,43 +40,48 @@ module _ {J T : Type 0} (links : List (List (Whole J T))) (s d : ℕ) (link : Wh
             (cases_eq r s);
       }
 
--- what a call does that borrows one row, and one link of that row, and leaves another link there
-pub record IsWrite {J T V : Type 0} (items : V → List (Whole J T)) (rows : List V) (s d : ℕ) (row after_row : V) (before after : Whole J T) : Type 0 where
-  pub in_rows : s < length (map items rows)
-  pub in_row : d < length (row_of s (map items rows))
-  pub row_is : row ≡ get_or rows s row
-  pub link_is : before ≡ get_or (items row) d before
-  pub written : items after_row ≡ set (items row) d after
+  abbrev sent_lists : List (List (Whole J T)) → List (List (List (Order J)))
+  sent_lists = map (map (λ link. link.sent))
 
-module _ {J T V : Type 0} {items : V → List (Whole J T)} {rows : List V} {s d : ℕ} {row after_row : V} {before after : Whole J T} (write : IsWrite items rows s d row after_row before after) where
-  pub row_of-IsWrite : row_of s (map items rows) ≡ items row
-  row_of-IsWrite = get_or-map items rows s row [] (omega (arith, write.in_rows, length-map rows items)) ∙ ap items (sym write.row_is)
+  -- the lists of what was sent, of which the one of this link changed
+  pub sent-with_link : sent_lists with_link ≡ set (sent_lists links) s (set (get_or (sent_lists links) s []) d link.sent)
+  sent-with_link =
+      map-set (map (λ link. link.sent)) links s (set (row_of s links) d link)
+      ∙ ap (set (sent_lists links) s)
+      (
+      map-set (λ link. link.sent) (row_of s links) d link
+      ∙ ap (λ row. set row d link.sent) (sym (by_place.get_or-map (map (λ link. link.sent)) links s []))
+      )
 
-  pub link_at-IsWrite : link_at s d (map items rows) ≡ before
-  link_at-IsWrite =
-      ap (λ links. get_or links d (no_link s d)) row_of-IsWrite
-      ∙ get_or_default (items row) d (no_link s d) before (subst (λ links. d < length links) row_of-IsWrite write.in_row) ∙ sym write.link_is
+  -- a link that has sent what it had sent leaves all lists as they were
+  pub same_sent : link.sent ≡ (link_at s d links).sent → sent_lists with_link ≡ sent_lists links
+  same_sent same =
+      sent-with_link
+      ∙ (
+      ap (set (sent_lists links) s)
+      (
+      ap (set (get_or (sent_lists links) s []) d)
+      (
+      same
+      ∙ (sym (by_place.get_or-map (λ link. link.sent) (row_of s links) d (no_link s d))
+      ∙ ap (λ row. get_or row d []) (sym (by_place.get_or-map (map (λ link. link.sent)) links s [])))
+      )
+      ∙ set-get_or (get_or (sent_lists links) s []) d []
+      )
+      ∙ set-get_or (sent_lists links) s []
+      )
 
-  pub ChangesLink-IsWrite : ChangesLink (map items rows) (map items (set rows s after_row)) s d after
-  ChangesLink-IsWrite =
-      let new : map items (set rows s after_row) ≡ with_link (map items rows) s d after
-      = map-set items rows s after_row ∙ ap (set (map items rows) s) (write.written ∙ ap (λ links. set links d after) (sym row_of-IsWrite)) in
-      subst (λ links. ChangesLink (map items rows) links s d after) (sym new) (ChangesLink-with_link (map items rows) s d after write.in_rows write.in_row)
+-- a row that a call borrows, and a link of that row
+module _ {J T V : Type 0} (items : V → List (Whole J T)) (rows : List V) (s : ℕ) (in_rows : s < length rows) (row : V) (row_is : row ≡ get_or rows s row) where
+  pub row_of-borrowed : row_of s (map items rows) ≡ items row
+  row_of-borrowed = get_or-map items rows s row [] in_rows ∙ ap items (sym row_is)
 
-  -- what is so of the link before and after is so of the link in its rows
-  pub at_link : (P : Whole J T → Whole J T → Type 0) → P before after → P (link_at s d (map items rows)) (link_at s d (map items (set rows s after_row)))
-  at_link P holds = subst (λ old. P old (link_at s d (map items (set rows s after_row)))) (sym link_at-IsWrite) (subst (P before) (sym ChangesLink-IsWrite.changed) holds)
+  -- the link is the one of these two
+  pub link_at-borrowed : (d : ℕ) (before : Whole J T) → d < length (items row) → before ≡ get_or (items row) d before → before ≡ link_at s d (map items rows)
+  link_at-borrowed d before in_row link_is =
+      sym (ap (λ links. get_or links d (no_link s d)) row_of-borrowed ∙ get_or_default (items row) d (no_link s d) before in_row ∙ sym link_is)
 
-  pub ChangesLink-sent : after ≡ record before { sent = after.sent }
-      → ChangesLink (map items rows) (map items (set rows s after_row)) s d
-      (record (link_at s d (map items rows)) { sent = (link_at s d (map items (set rows s after_row))).sent })
-  ChangesLink-sent is =
-      at_link (λ old new. ChangesLink (map items rows) (map items (set rows s after_row)) s d (record old { sent = new.sent }))
-      (subst (ChangesLink (map items rows) (map items (set rows s after_row)) s d) is ChangesLink-IsWrite)
-
-  pub ChangesLink-taken : after ≡ record before { taken = after.taken }
-      → ChangesLink (map items rows) (map items (set rows s after_row)) s d
-      (record (link_at s d (map items rows)) { taken = (link_at s d (map items (set rows s after_row))).taken })
-  ChangesLink-taken is =
-      at_link (λ old new. ChangesLink (map items rows) (map items (set rows s after_row)) s d (record old { taken = new.taken }))
-      (subst (ChangesLink (map items rows) (map items (set rows s after_row)) s d) is ChangesLink-IsWrite)
+  -- and what is left there stands in its place
+  pub rows-with_link : (d : ℕ) (after_row : V) (after : Whole J T) → items after_row ≡ set (items row) d after → map items (set rows s after_row) ≡ with_link (map items rows) s d after
+  rows-with_link d after_row after written =
+      map-set items rows s after_row ∙ ap (set (map items rows) s) (written ∙ ap (λ links. set links d after) (sym row_of-borrowed))

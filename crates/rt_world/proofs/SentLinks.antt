@@ -1,182 +1,174 @@
--- Each link of a world at rest stays between its two ends as an order is accepted.
-use Rattle.std.proofs.Common.{◌≡◌, ℕ, ◌+◌, ◌<◌, ◌≤◌, ◌^◌, Bool, true, false, List, [], ◌∷◌, ◌++◌, length, refl, sym, ◌∙◌, ap, subst, arith, take}
-use Rattle.std.specs.Prelude.{◌==◌, Option, map, ◌&&◌}
-use Rattle.std.proofs.lemmas.Bool.{eqb-true, eqb-false, eq-eqb, ne_eqb, and_parts, true≢false}
-use Rattle.std.proofs.lemmas.List.{append-nil, map-append, length-map}
+-- A send as its world sees it: what the link's sender did on it, and what the sender is told.
+use Rattle.std.proofs.Common.{◌≡◌, ◌≢◌, ℕ, ◌+◌, ◌<◌, ◌≤◌, Bool, true, false, List, [], ◌∷◌, ◌++◌, length, refl, sym, ◌∙◌, ap, subst, arith, get_or, set}
+use Rattle.std.specs.Prelude.{Option, Some, None, Result, Ok, Err, map}
+use Rattle.std.proofs.lemmas.List.{append-nil, set-get_or}
 use Rattle.rt_ids.specs.declared.names.JobId.{JobId}
+use Rattle.rt_ids.specs.declared.note.Note.{Note}
 use Rattle.rt_ids.specs.declared.note.Note.TheVariants as writes
 use Rattle.rt_ids.specs.declared.order.Order.{Order}
-use Rattle.rt_ids.specs.declared.order.Outcome.{Outcome}
-use Rattle.rt_ids.specs.Journal.{Journal}
-use Rattle.rt_ids.specs.Filters.{accepted_orders, delivered_names}
-use Rattle.rt_ids.specs.Assembly.{IsPrefix}
+use Rattle.rt_ids.specs.declared.order.SendError.{SendError}
+use Rattle.rt_ids.specs.declared.order.SendError.TheVariants.{Closed, Full, Spent, NoCore}
+use Rattle.rt_ids.specs.Journal.{Journal, EachNote}
+use Rattle.rt_ids.specs.Closing.{final_count}
+use Rattle.rt_ids.specs.Filters.{accepted_orders}
+use Rattle.rt_ids.specs.Lawful.{IsNextSent}
+use Rattle.rt_ids.specs.Orders.{without_job}
+use Rattle.rt_ids.specs.Outstanding.{outstanding_count}
+use Rattle.rt_ids.specs.Terms.{Terms}
 use Rattle.rt_jobs.specs.declared.job.Step.{Step}
+use Rattle.rt_link.specs.declared.ends.Inward.{Inward}
 use Rattle.rt_link.specs.declared.plain.Whole.{Whole}
-use Rattle.rt_link.specs.Whole.{IsLink}
-use Rattle.rt_world.specs.State.{without_job}
-use Rattle.rt_world.specs.Links.{link_at, ChangesLink}
-use Rattle.rt_world.specs.Inside.{Parts, notes_at, numbered_orders, IsLinkBetween}
-use Rattle.rt_world.specs.Tasks.{IsWorld}
-use Rattle.rt_journal.proofs.NumberedOrders.{length-numbered, numbered-append, take-longer}
-use Rattle.rt_world.proofs.WorldAfter.{after, notes_now, notes_elsewhere}
+use Rattle.rt_link.specs.Calls.{Sends as SendsOn, final_of}
+use Rattle.rt_link.specs.Whole.{out_of, inward_of, gate_number, kept_by_sender}
+use Rattle.rt_journal.specs.Submissions.{DeskView, Submits, numbered, opened_desk, terms_of_desk}
+use Rattle.rt_journal.specs.Ends.{IsOutOf, KeepsOut}
+use Rattle.rt_journal.specs.Yet.{ClosesNothing}
+use Rattle.rt_world.specs.State.{WorldView, journal_at, sent_at, terms_at}
+use Rattle.rt_world.specs.Sends.{Sends, sent_reply}
+use Rattle.rt_world.specs.Links.{row_of, link_at, no_link}
+use Rattle.rt_world.specs.Inside.{Parts, core_at, desks, desk_at, notes_at, seat_of, world_of, IsWorld}
+use Rattle.rt_world.proofs.Desks.{journal_at-world, sent_at-world, journals-noted}
+use Rattle.rt_world.proofs.LinkRows.{with_link, sent-with_link, same_sent}
+use Rattle.rt_world.proofs.LinkSteps.{OnlySent}
 
-module _ {J T : Type 0} (same : J → J → Type 0) (made : J → ℕ) (polls : J → ℕ → Step T → Option ℕ → Type 0)
-    (fits : Order J → Outcome J T → Type 0) (ready : Order J → Type 0)
-    (old : Parts J T) (world : IsWorld same made polls fits ready old) (sender core : ℕ) (there : sender ≤ old.cores) (core_there : core < old.cores)
-    (order : Order J) (number : ℕ) (links : List (List (Whole J T)))
-    (changes : ChangesLink old.links links sender core (link_at sender core links))
-    (sent : (link_at sender core links) ≡ record (link_at sender core old.links) { sent = (link_at sender core old.links).sent ++ order ∷ [] })
-    (credit : length (link_at sender core old.links).sent < old.cap)
-    (next : number ≡ length (link_at sender core old.links).sent + 1) (in_range : number < 2 ^ 63)
-    (law : IsLink fits ready (link_at sender core links)) where
-  abbrev name : JobId
-  name = record { from = sender; to = core; number = number }
+-- no gate is shut where nothing was closed
+nothing_shut : {T : Type 0} (sender : ℕ) (journal : Journal T) → EachNote ClosesNothing journal → final_count sender journal ≡ None
+nothing_shut sender [] notes = refl
+nothing_shut {T} sender (note ∷ before) notes = by_note note notes.0 (nothing_shut sender before notes.1)
+  where
+    by_note : (note : Note T) → ClosesNothing note before → final_count sender before ≡ None → final_count sender (note ∷ before) ≡ None
+    by_note (writes.Shut other count) closes stays = absurd closes
+    by_note _ closes stays = stays
 
-  abbrev journal : Journal T
-  journal = notes_at sender old.journals
+open_end : {J T : Type 0} (inward : Inward J T) (gate : Bool) → final_of inward gate ≡ None → gate ≡ false
+open_end inward true some = cc
+open_end inward false none = refl
 
-  abbrev longer : Journal T
-  longer = writes.Sent name (without_job order) ∷ journal
+-- what the link has sent more
+abbrev pub added : {J : Type 0} → Order J → Result JobId (SendError J) → List (Order J)
+added order (Ok name) = order ∷ []
+added order (Err error) = []
 
-  abbrev new : Parts J T
-  new = after same made polls fits ready old sender longer old.inside links
+-- what a submission says of the sender's desk, and of the link
+pub record IsSubmitted {J T : Type 0} (core : ℕ) (order : Order J) (desk : DeskView J T) (link : Whole J T) (answer : Result JobId (SendError J)) (now : DeskView J T) (after : Whole J T) : Type 0 where
+  pub submits : Submits core order desk answer now
+  pub sends : SendsOn (out_of link) link.credited order (out_of after) (numbered answer)
+  pub credited : after.credited ≡ link.credited
+  pub beside : IsOutOf core now (out_of after) after.credited
+  pub others : (other : ℕ) → other ≢ core → KeepsOut other desk now
+  pub untouched : kept_by_sender after ≡ kept_by_sender link
 
+module _ {J T : Type 0} (core : ℕ) (order : Order J) (desk : DeskView J T) (link : Whole J T) (answer : Result JobId (SendError J)) (now : DeskView J T) (after : Whole J T)
+    (did : IsSubmitted core order desk link answer now after) (open_gate : link.shut ≡ false) where
+  shut_apart : (gate : Bool) → gate ≡ true → gate_number gate ≡ gate_number link.shut → ⊥
+  shut_apart gate shut same = omega (arith, same, ap gate_number shut, ap gate_number open_gate)
+
+  out_is : out_of after ≡ record (out_of link) { sent = link.sent ++ added order answer }
+  out_is = by_answer answer did.sends
+    where
+      by_answer : (answer : Result JobId (SendError J)) → SendsOn (out_of link) link.credited order (out_of after) (numbered answer) →
+          out_of after ≡ record (out_of link) { sent = link.sent ++ added order answer }
+      by_answer (Ok name) sends = sends.4
+      by_answer (Err (Closed back final)) sends =
+          absurd (shut_apart after.shut (ap (λ out. out.closed) sends.2) (ap (λ kept. get_or kept 2 0) did.untouched))
+      by_answer (Err (Full back)) sends = sends.3 ∙ ap (λ orders. record (out_of link) { sent = orders }) (sym (append-nil link.sent))
+      by_answer (Err (Spent back)) sends = sends.4 ∙ ap (λ orders. record (out_of link) { sent = orders }) (sym (append-nil link.sent))
+      by_answer (Err (NoCore back)) sends = absurd sends
+
+  pub sent_is : after.sent ≡ link.sent ++ added order answer
+  sent_is = ap (λ out. out.sent) out_is
+
+  pub only_sent : OnlySent link after
+  only_sent = record {
+    rest = λ i. record {
+      from = ap (λ out. out.from) out_is i;
+      to = ap (λ out. out.to) out_is i;
+      base = ap (λ out. out.base) out_is i;
+      capacity = ap (λ out. out.capacity) out_is i;
+      sent = after.sent;
+      taken = ap (λ kept. get_or kept 0 0) did.untouched i;
+      given = ap (λ out. out.seen) out_is i;
+      got = after.got;
+      credited = after.credited;
+      shut = ap (λ out. out.closed) out_is i;
+    };
+    sent = (added order answer, sent_is);
+    gate = λ shut. let no : true ≡ false = sym shut ∙ open_gate in cc;
+  }
+
+module _ {J T : Type 0} {same : J → J → Type 0} {made : J → ℕ} {polls : J → ℕ → Step T → Option ℕ → Type 0} {old : Parts J T}
+    (world : IsWorld same made polls old) (sender core : ℕ) (there : sender ≤ old.cores) (core_there : core < old.cores) where
   abbrev link : Whole J T
   link = link_at sender core old.links
 
-  is_between : IsLinkBetween sender core old.cap link (accepted_orders core journal) (delivered_names sender (notes_at core old.journals))
-  is_between = world.between sender core there core_there
+  -- no gate is shut by now
+  pub gate_is_open : link.shut ≡ false
+  gate_is_open =
+      open_end (inward_of link) link.shut
+      (sym (world.beside.ins sender core there core_there).gate ∙ nothing_shut sender (core_at core old).journal.notes (world.recorded core core_there).kept.closes_nothing)
 
-  accepted_count : length (accepted_orders core journal) ≡ length link.sent
-  accepted_count = ap length is_between.all_accepted ∙ length-numbered sender core 0 link.sent
+  module _ (order : Order J) (answer : Result JobId (SendError J)) (now : DeskView J T) (after : Whole J T)
+      (did : IsSubmitted core order (desk_at sender old) link answer now after) (journals : List (Journal T))
+      (journals_are : journals ≡ map (λ desk. desk.journal.notes) (set (desks old) sender now)) where
+    abbrev later : WorldView J T
+    later = record (world_of old) { journals = journals; sent = map (map (λ link. link.sent)) (with_link old.links sender core after) }
 
-  -- what each actor noted as accepted, and what each core noted as delivered
-  accepted_here : accepted_orders core (notes_at sender new.journals) ≡ accepted_orders core journal ++ (name, without_job order) ∷ []
-  accepted_here = ap (accepted_orders core) (notes_now same made polls fits ready old world sender there longer old.inside links) ∙ found (eq-eqb core core refl)
-    where
-      found : (core == core) ≡ true → accepted_orders core longer ≡ accepted_orders core journal ++ (name, without_job order) ∷ []
-      found one = rw one
+    terms_are : terms_of_desk (desk_at sender old) ≡ terms_at sender (world_of old)
+    terms_are = ap terms_of_desk (world.all_there.seats_are sender there)
 
-  accepted_there : (other : ℕ) → (other ≡ core → ⊥) → accepted_orders other (notes_at sender new.journals) ≡ accepted_orders other journal
-  accepted_there other away = ap (accepted_orders other) (notes_now same made polls fits ready old world sender there longer old.inside links) ∙ missed (ne_eqb core other (λ one. away (sym one)))
-    where
-      missed : (core == other) ≡ false → accepted_orders other longer ≡ accepted_orders other journal
-      missed one = rw one
+    cap_is : (desk_at sender old).cap ≡ old.cap
+    cap_is = ap (λ terms. terms.cap) terms_are
 
-  accepted_elsewhere : (actor other : ℕ) → (actor ≡ sender → ⊥) → accepted_orders other (notes_at actor new.journals) ≡ accepted_orders other (notes_at actor old.journals)
-  accepted_elsewhere actor other away = ap (accepted_orders other) (notes_elsewhere same made polls fits ready old world sender there longer old.inside links actor away)
+    same_journals : now ≡ desk_at sender old → journals ≡ (world_of old).journals
+    same_journals is =
+        journals_are ∙ ap (map (λ desk. desk.journal.notes)) (ap (set (desks old) sender) is ∙ set-get_or (desks old) sender (opened_desk 0 0 0 0))
 
-  delivered_same : (actor other : ℕ) → delivered_names actor (notes_at other new.journals) ≡ delivered_names actor (notes_at other old.journals)
-  delivered_same actor other = by_test (other == sender) refl
-    where
-      by_test : (test : Bool) → (other == sender) ≡ test → delivered_names actor (notes_at other new.journals) ≡ delivered_names actor (notes_at other old.journals)
-      by_test true one =
-          let here : other ≡ sender = eqb-true other sender one in
-          subst (λ at. delivered_names actor (notes_at at new.journals) ≡ delivered_names actor (notes_at at old.journals)) (sym here)
-          (ap (delivered_names actor) (notes_now same made polls fits ready old world sender there longer old.inside links))
-      by_test false apart = ap (delivered_names actor) (notes_elsewhere same made polls fits ready old world sender there longer old.inside links other (eqb-false other sender apart))
+    nothing_sent : after.sent ≡ link.sent ++ [] → map (map (λ link. link.sent)) (with_link old.links sender core after) ≡ (world_of old).sent
+    nothing_sent is = same_sent old.links sender core after (is ∙ append-nil link.sent)
 
-  pub accepted_prefix : (actor other : ℕ) → IsPrefix (accepted_orders other (notes_at actor old.journals)) (accepted_orders other (notes_at actor new.journals))
-  accepted_prefix actor other = by_actor (actor == sender) refl
-    where
-      by_core : (test : Bool) → (other == core) ≡ test → IsPrefix (accepted_orders other journal) (accepted_orders other (notes_at sender new.journals))
-      by_core true one =
-          let here : other ≡ core = eqb-true other core one in
-          subst (λ at. IsPrefix (accepted_orders at journal) (accepted_orders at (notes_at sender new.journals))) (sym here) ((name, without_job order) ∷ [], sym accepted_here)
-      by_core false apart = ([], append-nil (accepted_orders other journal) ∙ sym (accepted_there other (eqb-false other core apart)))
+    -- the send is the step of its event
+    pub sends_now : Sends sender core order (world_of old) later (sent_reply answer)
+    sends_now = by_answer answer did.submits (sent_is core order (desk_at sender old) link answer now after did gate_is_open) did.sends
+      where
+        here : journal_at sender (world_of old) ≡ notes_at sender old
+        here = journal_at-world old sender
 
-      by_actor : (test : Bool) → (actor == sender) ≡ test → IsPrefix (accepted_orders other (notes_at actor old.journals)) (accepted_orders other (notes_at actor new.journals))
-      by_actor true one =
-          let here : actor ≡ sender = eqb-true actor sender one in
-          subst (λ at. IsPrefix (accepted_orders other (notes_at at old.journals)) (accepted_orders other (notes_at at new.journals))) (sym here) (by_core (other == core) refl)
-      by_actor false apart = ([], append-nil (accepted_orders other (notes_at actor old.journals)) ∙ sym (accepted_elsewhere actor other (eqb-false actor sender apart)))
+        unchanged : now ≡ desk_at sender old → after.sent ≡ link.sent ++ [] → later ≡ world_of old
+        unchanged same_desk same_list =
+            λ i. record { cores = old.cores; cap = old.cap; room = old.room; journals = same_journals same_desk i; sent = nothing_sent same_list i }
 
-  pub sent_prefix : (actor other : ℕ) → IsPrefix (link_at actor other old.links).sent (link_at actor other links).sent
-  sent_prefix actor other = by_test (actor == sender && other == core) refl
-    where
-      by_test : (test : Bool) → (actor == sender && other == core) ≡ test → IsPrefix (link_at actor other old.links).sent (link_at actor other links).sent
-      by_test true one =
-          let both = and_parts (actor == sender) (other == core) one in
-          subst (λ at. IsPrefix (link_at at other old.links).sent (link_at at other links).sent) (sym (eqb-true actor sender both.0))
-          (subst (λ at. IsPrefix (link_at sender at old.links).sent (link_at sender at links).sent) (sym (eqb-true other core both.1)) (order ∷ [], sym (ap (λ link. link.sent) sent)))
-      by_test false apart =
-          ([], append-nil (link_at actor other old.links).sent ∙ sym (ap (λ link. link.sent) (changes.others actor other (not_both apart))))
-        where
-          not_both : (actor == sender && other == core) ≡ false → actor ≡ sender → other ≡ core → ⊥
-          not_both apart one two = true≢false (sym (rw (eq-eqb actor sender one, eq-eqb other core two)) ∙ apart)
-
-  between_here : IsLinkBetween sender core old.cap (link_at sender core links) (accepted_orders core (notes_at sender new.journals)) (delivered_names sender (notes_at core new.journals))
-  between_here =
-      subst (λ accepted. IsLinkBetween sender core old.cap (link_at sender core links) accepted (delivered_names sender (notes_at core new.journals))) (sym accepted_here)
-      (
-      subst (IsLinkBetween sender core old.cap (link_at sender core links) (accepted_orders core journal ++ (name, without_job order) ∷ [])) (sym (delivered_same sender core))
-      (
-      subst (λ now. IsLinkBetween sender core old.cap now (accepted_orders core journal ++ (name, without_job order) ∷ []) (delivered_names sender (notes_at core old.journals))) (sym sent) now_between
-      )
-      )
-    where
-      taken_within : link.taken ≤ length (map (λ order. order.0) (accepted_orders core journal))
-      taken_within =
-          let sent_taken = (world.links_law sender core there core_there).taken_sent in
-          omega (arith, sent_taken, accepted_count, length-map (accepted_orders core journal) (λ order. order.0))
-
-      now_between : IsLinkBetween sender core old.cap (record link { sent = link.sent ++ order ∷ [] }) (accepted_orders core journal ++ (name, without_job order) ∷ [])
-          (delivered_names sender (notes_at core old.journals))
-      now_between = record {
-        from = is_between.from;
-        to = is_between.to;
-        base = is_between.base;
-        capacity = is_between.capacity;
-        open_gate = is_between.open_gate;
-        nothing_redeemed = is_between.nothing_redeemed;
-        all_accepted =
-            ap (λ orders. orders ++ (name, without_job order) ∷ []) is_between.all_accepted
-            ∙ (ap (λ at. numbered_orders sender core 0 link.sent ++ (record { from = sender; to = core; number = at }, without_job order) ∷ []) (omega (arith, next))
-            ∙ sym (numbered-append sender core 0 link.sent order));
-        all_taken = is_between.all_taken;
-        in_order =
-            is_between.in_order
-            ∙ (sym (take-longer link.taken (map (λ order. order.0) (accepted_orders core journal)) name taken_within)
-            ∙ ap (take link.taken) (sym (map-append (λ order. order.0) (accepted_orders core journal) ((name, without_job order) ∷ []))));
-      }
-
-  pub between_now : (actor other : ℕ) → actor ≤ old.cores → other < old.cores →
-      IsLinkBetween actor other old.cap (link_at actor other links) (accepted_orders other (notes_at actor new.journals)) (delivered_names actor (notes_at other new.journals))
-  between_now actor other known other_known = by_test (actor == sender && other == core) refl
-    where
-      by_test : (test : Bool) → (actor == sender && other == core) ≡ test →
-          IsLinkBetween actor other old.cap (link_at actor other links) (accepted_orders other (notes_at actor new.journals)) (delivered_names actor (notes_at other new.journals))
-      by_test true one =
-          let both = and_parts (actor == sender) (other == core) one in
-          subst (λ at. IsLinkBetween at other old.cap (link_at at other links) (accepted_orders other (notes_at at new.journals)) (delivered_names at (notes_at other new.journals))) (sym (eqb-true actor sender both.0))
-          (subst (λ at. IsLinkBetween sender at old.cap (link_at sender at links) (accepted_orders at (notes_at sender new.journals)) (delivered_names sender (notes_at at new.journals))) (sym (eqb-true other core both.1)) between_here)
-      by_test false apart =
-          subst (λ link. IsLinkBetween actor other old.cap link (accepted_orders other (notes_at actor new.journals)) (delivered_names actor (notes_at other new.journals))) (sym (changes.others actor other (not_both apart)))
-          (
-          subst (λ accepted. IsLinkBetween actor other old.cap (link_at actor other old.links) accepted (delivered_names actor (notes_at other new.journals))) (sym (stays (actor == sender) refl))
-          (subst (IsLinkBetween actor other old.cap (link_at actor other old.links) (accepted_orders other (notes_at actor old.journals))) (sym (delivered_same actor other)) (world.between actor other known other_known))
-          )
-        where
-          not_both : (actor == sender && other == core) ≡ false → actor ≡ sender → other ≡ core → ⊥
-          not_both apart one two = true≢false (sym (rw (eq-eqb actor sender one, eq-eqb other core two)) ∙ apart)
-
-          stays : (test : Bool) → (actor == sender) ≡ test → accepted_orders other (notes_at actor new.journals) ≡ accepted_orders other (notes_at actor old.journals)
-          stays true one =
-              let here : actor ≡ sender = eqb-true actor sender one in
-              subst (λ at. accepted_orders other (notes_at at new.journals) ≡ accepted_orders other (notes_at at old.journals)) (sym here)
-              (accepted_there other (not_both apart here))
-          stays false away = accepted_elsewhere actor other (eqb-false actor sender away)
-
-  pub law_now : (actor other : ℕ) → actor ≤ old.cores → other < old.cores → IsLink fits ready (link_at actor other links)
-  law_now actor other known other_known = by_test (actor == sender && other == core) refl
-    where
-      by_test : (test : Bool) → (actor == sender && other == core) ≡ test → IsLink fits ready (link_at actor other links)
-      by_test true one =
-          let both = and_parts (actor == sender) (other == core) one in
-          subst (λ at. IsLink fits ready (link_at at other links)) (sym (eqb-true actor sender both.0))
-          (subst (λ at. IsLink fits ready (link_at sender at links)) (sym (eqb-true other core both.1)) law)
-      by_test false apart =
-          subst (IsLink fits ready) (sym (changes.others actor other (not_both apart))) (world.links_law actor other known other_known)
-        where
-          not_both : (actor == sender && other == core) ≡ false → actor ≡ sender → other ≡ core → ⊥
-          not_both apart one two = true≢false (sym (rw (eq-eqb actor sender one, eq-eqb other core two)) ∙ apart)
+        by_answer : (answer : Result JobId (SendError J)) → Submits core order (desk_at sender old) answer now →
+            after.sent ≡ link.sent ++ added order answer →
+            SendsOn (out_of link) link.credited order (out_of after) (numbered answer) → Sends sender core order (world_of old) later (sent_reply answer)
+        by_answer (Ok name) submits sent sends = (
+          subst (λ terms. IsNextSent terms name (without_job order) (journal_at sender (world_of old))) terms_are
+              (subst (IsNextSent (terms_of_desk (desk_at sender old)) name (without_job order)) (sym here) submits.0),
+          submits.1,
+          λ i. record {
+            cores = old.cores;
+            cap = old.cap;
+            room = old.room;
+            journals = (journals_are ∙ journals-noted old sender now (writes.Sent name (without_job order) ∷ []) (ap (λ desk. desk.journal.notes) submits.2)) i;
+            sent = (
+            sent-with_link old.links sender core after
+            ∙ ap (λ orders. set (world_of old).sent sender (set (get_or (world_of old).sent sender []) core orders))
+            (sent ∙ ap (λ orders. orders ++ order ∷ []) (sym (sent_at-world old sender core)))
+            ) i;
+          },
+        )
+        by_answer (Err (Closed back final)) submits sent sends =
+            let shut : after.shut ≡ true = ap (λ out. out.closed) sends.2 in
+            let same : gate_number after.shut ≡ gate_number link.shut = ap (λ kept. get_or kept 2 0) did.untouched in
+            absurd (omega (arith, same, ap gate_number shut, ap gate_number gate_is_open))
+        by_answer (Err (Full back)) submits sent sends = (
+          submits.0,
+          subst (λ cap. cap ≤ outstanding_count core (journal_at sender (world_of old))) cap_is (subst (λ notes. (desk_at sender old).cap ≤ outstanding_count core notes) (sym here) submits.1),
+          unchanged submits.2 sent,
+        )
+        by_answer (Err (Spent back)) submits sent sends = (
+          submits.0,
+          subst (λ cap. outstanding_count core (journal_at sender (world_of old)) < cap) cap_is (subst (λ notes. outstanding_count core notes < (desk_at sender old).cap) (sym here) submits.1),
+          ap (λ notes. length (accepted_orders core notes)) here ∙ submits.2,
+          unchanged submits.3 sent,
+        )
+        by_answer (Err (NoCore back)) submits sent sends = absurd submits

@@ -1,5 +1,5 @@
 -- What a delivery does: a job enters its queue or goes back, a command is carried out and answered.
-use Rattle.std.specs.Prelude.{◌≡◌, ℕ, ◌+◌, Some, None, slice_get, List, length}
+use Rattle.std.specs.Prelude.{◌≡◌, ℕ, ◌+◌, Bool, true, false, Some, None, slice_get, List, length}
 use Rattle.rt_ids.specs.declared.note.Note.{Note}
 use Rattle.rt_ids.specs.declared.order.Order.{Order}
 use Rattle.rt_ids.specs.Filters.{delivered_names}
@@ -7,6 +7,11 @@ pub use Rattle.rt_journal.specs.Deliveries.{entry_note, with_effect, IsAnswered,
 use Rattle.rt_world.specs.declared.event.Reply.{Reply}
 use Rattle.rt_world.specs.declared.event.Reply.TheVariants as reply
 use Rattle.rt_world.specs.State.{WorldView, journal_at, sent_at, noted}
+
+-- what the core is told: there was an order, or there was none
+abbrev pub taken_reply : {J : Type 0} → Bool → Reply J
+taken_reply true = reply.Noted
+taken_reply false = reply.Empty
 
 module _ {J T : Type 0} where
   -- the place of the next order to be delivered among those that were accepted

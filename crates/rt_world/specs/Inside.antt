@@ -1,95 +1,84 @@
--- What the parts of a world are to each other: each core to its journal, each link to the journals of its two ends.
-use Rattle.std.specs.Prelude.{◌≡◌, ℕ, ◌+◌, ◌*◌, ◌<◌, ◌≤◌, None, false, List, [], length, map, sum, take, slice_index_or}
-use Rattle.rt_ids.specs.declared.names.JobId.{JobId}
-use Rattle.rt_ids.specs.declared.order.Order.{Order}
-use Rattle.rt_ids.specs.Terms.{Terms}
-use Rattle.rt_ids.specs.Journal.{Journal, EachNote}
+-- What the parts of a world are to each other: each actor to its number, and each end of a link to the journal of its actor.
+use Rattle.std.specs.Prelude.{◌≡◌, ℕ, ◌+◌, ◌<◌, ◌≤◌, Option, None, List, [], ◌∷◌, ◌++◌, length, map, slice_index_or}
+use Rattle.rt_ids.specs.Journal.{Journal}
+use Rattle.rt_jobs.specs.declared.job.Step.{Step}
 use Rattle.rt_link.specs.declared.plain.Whole.{Whole}
-use Rattle.rt_core.specs.State.{CoreView, inside_count, opened}
-pub use Rattle.rt_journal.specs.Orders.{numbered_orders}
+use Rattle.rt_link.specs.Whole.{out_of, inward_of}
+use Rattle.rt_journal.specs.Submissions.{DeskView, IsWritten, terms_of_desk, opened_desk}
+use Rattle.rt_journal.specs.Recorded.{RecordedView, IsRecorded, desk_of}
+use Rattle.rt_journal.specs.Steps.{opened_beside}
+use Rattle.rt_journal.specs.Ends.{IsOutOf, IsInOf}
 use Rattle.rt_world.specs.State.{WorldView}
-use Rattle.rt_notes.specs.Journals.{JournalView}
-use Rattle.rt_world.specs.Links.{row_of}
-use Rattle.rt_journal.specs.Agreement.{Agrees}
-use Rattle.rt_journal.specs.Yet.{ClosesNothing, CollectsNothing}
+use Rattle.rt_world.specs.Links.{row_of, link_at}
 
--- the parts of a world: its cores, its links by sender and then by core, its journals by actor
+-- the parts of a world: its cores, each beside its journal; the outside actor; and its links, by sender and then by core
 pub record Parts (J T : Type 0) : Type 0 where
   pub cores : ℕ
   pub cap : ℕ
   pub room : ℕ
-  pub inside : List (CoreView J)
+  pub inside : List (RecordedView J T)
+  pub outside : DeskView J T
   pub links : List (List (Whole J T))
-  pub journals : List (JournalView T)
-
--- whose journal it is, and what holds of the whole house
-abbrev pub terms_in : {J T : Type 0} → ℕ → Parts J T → Terms
-terms_in actor parts = record { actor = actor; cores = parts.cores; cap = parts.cap }
-
-module _ {J : Type 0} where
-  abbrev pub core_at : ℕ → List (CoreView J) → CoreView J
-  core_at core inside = slice_index_or inside core (opened 0 0 0 0)
-
-module _ {T : Type 0} where
-  abbrev pub journal_view : ℕ → List (JournalView T) → JournalView T
-  journal_view actor journals = slice_index_or journals actor (record { notes = []; room = 0 })
-
-  abbrev pub notes_at : ℕ → List (JournalView T) → Journal T
-  notes_at actor journals = (journal_view actor journals).notes
-
-module _ {T : Type 0} where
-  -- nothing is closed yet, and nothing collected
-  pub record IsEarly (journal : Journal T) : Type 0 where
-    pub closes_nothing : EachNote ClosesNothing journal
-    pub collects_nothing : EachNote CollectsNothing journal
 
 module _ {J T : Type 0} where
+  abbrev pub core_at : ℕ → Parts J T → RecordedView J T
+  core_at core parts = slice_index_or parts.inside core (opened_beside 0 0 0 0)
+
+  -- each actor's journal and what it says of its submissions: the cores by number, and then the outside actor
+  abbrev pub desks : Parts J T → List (DeskView J T)
+  desks parts = map desk_of parts.inside ++ parts.outside ∷ []
+
+  abbrev pub desk_at : ℕ → Parts J T → DeskView J T
+  desk_at actor parts = slice_index_or (desks parts) actor (opened_desk 0 0 0 0)
+
+  abbrev pub notes_at : ℕ → Parts J T → Journal T
+  notes_at actor parts = (desk_at actor parts).journal.notes
+
   -- the world that is made of these parts
   abbrev pub world_of : Parts J T → WorldView J T
   world_of parts = record {
     cores = parts.cores;
     cap = parts.cap;
     room = parts.room;
-    journals = map (λ journal. journal.notes) parts.journals;
+    journals = map (λ desk. desk.journal.notes) (desks parts);
     sent = map (map (λ link. link.sent)) parts.links;
   }
 
-  -- a core at rest: it agrees with its journal, which is lawful, and holds no more jobs than were delivered to it
-  pub record IsCoreAtRest (number cores cap : ℕ) (core : CoreView J) (journal : Journal T) : Type 0 where
-    pub agrees : Agrees core journal
-    pub free : core.out ≡ None
-    pub cores_are : core.cores ≡ cores
-    pub room : core.queues.room ≡ (cores + 1) * cap
-    pub inside : inside_count core ≤ sum core.delivered
+  -- the actor of this number, with these notes
+  abbrev pub seat_of : ℕ → Journal T → Parts J T → DeskView J T
+  seat_of actor notes parts =
+      record { actor = actor; cores = parts.cores; cap = parts.cap; journal = record { notes = notes; room = parts.room } }
 
-  -- a link between its sender, who noted these orders as accepted, and its receiver, who noted these names as delivered
-  pub record IsLinkBetween (sender core cap : ℕ) (link : Whole J T) (accepted : List (JobId × Order (Unit {0}))) (delivered : List JobId) : Type 0 where
-    pub from : link.from ≡ sender
-    pub to : link.to ≡ core
-    pub base : link.base ≡ 0
-    pub capacity : link.capacity ≡ cap
-    pub open_gate : link.shut ≡ false
-    pub nothing_redeemed : link.credited ≡ 0
-    pub all_accepted : accepted ≡ numbered_orders sender core 0 link.sent
-    pub all_taken : link.taken ≡ length delivered
-    pub in_order : delivered ≡ take link.taken (map (λ order. order.0) accepted)
-
-  -- there are as many of each part as the numbers say
+  -- there are as many of each part as the numbers say, and each actor has its number
   pub record AreAllThere (parts : Parts J T) : Type 0 where
     pub cores_are : length parts.inside ≡ parts.cores
     pub rows_are : length parts.links ≡ parts.cores + 1
     pub links_are : (sender : ℕ) → sender ≤ parts.cores → length (row_of sender parts.links) ≡ parts.cores
-    pub journals_are : length parts.journals ≡ parts.cores + 1
-    pub rooms_are : (actor : ℕ) → actor ≤ parts.cores → (journal_view actor parts.journals).room ≡ parts.room
+    pub seats_are : (actor : ℕ) → actor ≤ parts.cores → desk_at actor parts ≡ seat_of actor (notes_at actor parts) parts
 
-module _ {J : Type 0} where
+  -- the outside actor's journal is as it should be, and both ends of each link are beside the actors whose they are
+  pub record AreBeside (parts : Parts J T) : Type 0 where
+    pub outs : (sender core : ℕ) → sender ≤ parts.cores → core < parts.cores →
+        IsOutOf core (desk_at sender parts) (out_of (link_at sender core parts.links)) (link_at sender core parts.links).credited
+    pub ins : (sender core : ℕ) → sender ≤ parts.cores → core < parts.cores →
+        IsInOf sender (core_at core parts) (inward_of (link_at sender core parts.links))
+
+module _ {J T : Type 0} (same : J → J → Type 0) (made : J → ℕ) (polls : J → ℕ → Step T → Option ℕ → Type 0) where
+  -- a world at rest: each core is recorded and has no job out, and the ends of its links are beside their actors
+  pub record IsWorld (parts : Parts J T) : Type 0 where
+    pub all_there : AreAllThere parts
+    pub recorded : (core : ℕ) → core < parts.cores → IsRecorded same made polls (core_at core parts)
+    pub at_rest : (core : ℕ) → core < parts.cores → (core_at core parts).core.out ≡ None
+    pub outside : IsWritten (terms_of_desk parts.outside) parts.outside.journal.notes
+    pub beside : AreBeside parts
+
+module _ {J T : Type 0} where
   -- a core of each number, just opened
-  pub record AreOpened (cores cap : ℕ) (inside : List (CoreView J)) : Type 0 where
+  pub record AreOpened (cores cap room : ℕ) (inside : List (RecordedView J T)) : Type 0 where
     pub cores_are : length inside ≡ cores
-    pub each_opened : (core : ℕ) → core < cores → core_at core inside ≡ opened core cores ((cores + 1) * cap) 0
+    pub each_opened : (core : ℕ) → core < cores → slice_index_or inside core (opened_beside 0 0 0 0) ≡ opened_beside core cores cap room
 
-module _ {T : Type 0} where
-  -- a journal of each actor, without a note
-  pub record AreEmpty (cores room : ℕ) (journals : List (JournalView T)) : Type 0 where
-    pub journals_are : length journals ≡ cores + 1
-    pub each_empty : (actor : ℕ) → actor ≤ cores → journal_view actor journals ≡ record { notes = []; room = room }
+-- a list without an item, with the memory for so many
+pub record HasRoomFor {A : Type 0} (count : ℕ) (items : List A) (capacity : ℕ) : Type 0 where
+  pub no_item : items ≡ []
+  pub reserved : count ≤ capacity

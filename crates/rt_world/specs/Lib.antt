@@ -1,12 +1,12 @@
 pub mod State
 pub mod Sends
 pub mod Deliveries
+pub mod OneTurn
 pub mod Turns
 pub mod PickedJobs
 pub mod Runs
 pub mod Links
 pub mod Inside
-pub mod Tasks
 pub mod Opening
 pub mod Determined
 pub mod ScriptRuns

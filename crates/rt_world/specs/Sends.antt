@@ -1,7 +1,9 @@
 -- Events and their actors, and what a send does.
-use Rattle.std.specs.Prelude.{◌≡◌, ℕ, ◌-◌, ◌^◌, ◌<◌, ◌≤◌, [], ◌∷◌, length}
+use Rattle.std.specs.Prelude.{◌≡◌, ℕ, ◌-◌, ◌^◌, ◌<◌, ◌≤◌, [], ◌∷◌, length, Result, Ok, Err}
 use Rattle.rt_ids.specs.declared.note.Note.TheVariants as writes
 use Rattle.rt_ids.specs.declared.order.Order.{Order}
+use Rattle.rt_ids.specs.declared.names.JobId.{JobId}
+use Rattle.rt_ids.specs.declared.order.SendError.{SendError}
 use Rattle.rt_ids.specs.declared.order.SendError.TheVariants.{Full, Spent}
 use Rattle.rt_ids.specs.Filters.{accepted_orders}
 use Rattle.rt_ids.specs.Outstanding.{outstanding_count}
@@ -23,6 +25,11 @@ abbrev pub AreThere : {J : Type 0} → ℕ → Event J → Type 0
 AreThere cores (Send sender core order) = (sender ≤ cores) × (core < cores)
 AreThere cores (Deliver core sender) = (core < cores) × (sender ≤ cores)
 AreThere cores (Turn core spent) = core < cores
+
+-- what the sender is told
+abbrev pub sent_reply : {J : Type 0} → Result JobId (SendError J) → Reply J
+sent_reply (Ok name) = reply.Sent name
+sent_reply (Err error) = reply.NotSent error
 
 module _ {J T : Type 0} where
   -- Send: accepted under the next name of the link; else refused where as many as may be are outstanding, else where the last number was given

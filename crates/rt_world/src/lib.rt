@@ -3,10 +3,8 @@
 
 pub mod event;
 pub mod laws;
-pub mod links;
 pub mod model;
 
 pub use event::{Event, Reply};
-pub use links::Links;
 pub use model::{World, WorldError};
 pub use rt_notes::{Assembly, Journal};

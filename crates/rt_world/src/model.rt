@@ -5,10 +5,10 @@ ghost use Rattle.rt_ids.specs.Joining.{AreJoined};
 ghost use Rattle.rt_ids.specs.Sound.{IsSound};
 ghost use Rattle.rt_world.specs.State.{journal_at, assembly_of};
 
-use crate::links::Links;
-use rt_core::Core;
 use rt_ids::ActorNo;
 use rt_jobs::Task;
+use rt_journal::{Recorded, RecordedDesk};
+use rt_link::PlainLink;
 use rt_notes::{Assembly, Journal};
 use std::alloc::{AllocError, Allocator, Global};
 use std::marker::Model;
@@ -26,9 +26,13 @@ pub struct World<J: Task<Out = u64>, A: Allocator + Clone = Global> {
     cores: u8,
     cap: u16,
     room: u32,
-    inside: Vec<Core<J, A>>,
-    links: Links<J>,
-    journals: Vec<Journal<u64>>,
+    /// The cores by number, each beside its journal.
+    inside: Vec<Recorded<J, A>>,
+    outside: RecordedDesk<J>,
+    /// A row of links for each sender, with a link for each core.
+    links: Vec<Vec<PlainLink<J>>>,
+    /// Without a journal. It has the memory for those that a run ends with.
+    gathered: Vec<Journal<u64>>,
 }
 
 impl<J: Task<Out = u64>, A: Allocator + Clone> Model for World<J, A> {
@@ -37,18 +41,17 @@ impl<J: Task<Out = u64>, A: Allocator + Clone> Model for World<J, A> {
 
     ghost Value = { WorldView J ℕ };
 
-    ghost use Rattle.rt_jobs.specs.Ready.{HasReadyJob};
-    ghost use Rattle.rt_link.specs.Fits.{Fits};
-    ghost use Rattle.rt_world.specs.Inside.{world_of};
+    ghost use Rattle.std.specs.Prelude.{◌+◌, map, vec_items, vec_capacity};
+    ghost use Rattle.rt_world.specs.Inside.{world_of, IsWorld, HasRoomFor};
     ghost use Rattle.rt_world.specs.Opening.{IsConfig};
-    ghost use Rattle.rt_world.specs.Tasks.{IsWorld};
 
-    ghost view = { λ w. world_of (record { cores = w.cores; cap = w.cap; room = w.room; inside = w.inside.items; links = w.links; journals = w.journals.items }) };
+    ghost view = { λ w. world_of (record { cores = w.cores; cap = w.cap; room = w.room; inside = w.inside.items; outside = w.outside; links = map vec_items w.links.items }) };
 
     ghost invariant = { λ w.
         IsConfig w.cores w.cap w.room
-        × IsWorld J.SameTask J.made J.Polls (Fits J.SameTask J.Answers) (HasReadyJob J.done J.CanPoll)
-        (record { cores = w.cores; cap = w.cap; room = w.room; inside = w.inside.items; links = w.links; journals = w.journals.items }) };
+        × IsWorld J.SameTask J.made J.Polls
+        (record { cores = w.cores; cap = w.cap; room = w.room; inside = w.inside.items; outside = w.outside; links = map vec_items w.links.items })
+        × HasRoomFor (w.cores + 1) w.gathered.items (vec_capacity w.gathered) };
 }
 
 /// Why a world can't be opened.
@@ -80,7 +83,12 @@ impl<J: Task<Out = u64>, A: Allocator + Clone> World<J, A> {
         ensures sound { IsSound result }
         ensures joined { AreJoined result }
     {
-        Assembly::of(self.cores, self.cap, self.journals)
+        let mut gathered = self.gathered;
+        for core in self.inside {
+            gathered.push_reserved(core.into_journal());
+        }
+        gathered.push_reserved(self.outside.into_journal());
+        Assembly::of(self.cores, self.cap, gathered)
     }
 
     /// How many cores there are. The outside actor has the number behind them.
@@ -90,11 +98,16 @@ impl<J: Task<Out = u64>, A: Allocator + Clone> World<J, A> {
         self.cores
     }
 
-    /// The notes of one actor.
+    /// The notes of one actor, and the room that they have.
     pub fn journal(&self, actor: ActorNo) -> &Journal<u64>
         requires { actor ≤ self.now.cores }
-        ensures { result.now.notes ≡ journal_at actor self.now }
+        ensures notes { result.now.notes ≡ journal_at actor self.now }
+        ensures room { result.now.room ≡ self.now.room }
     {
-        &self.journals[actor.0 as usize]
+        if actor.0 < self.cores {
+            self.inside[actor.0 as usize].journal()
+        } else {
+            self.outside.journal()
+        }
     }
 }

@@ -34,7 +34,7 @@ impl<J: Task<Out = u64>, A: Allocator + Clone> World<J, A> {
         ensures { IsTrue result ↔ IsNearlyFull actor self.now }
     {
         let needed = 3 * self.cores as u32 * self.cap as u32 + 4;
-        self.journals[actor.0 as usize].free() < needed
+        self.journal(actor).free() < needed
     }
 }
 

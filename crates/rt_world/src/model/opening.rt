@@ -1,17 +1,16 @@
 //! How a world opens, and the queues that it opens with.
 
-ghost use Rattle.std.specs.Prelude.{◌≡◌, ◌↔◌, ◌+◌, ◌*◌, ◌<◌, length, IsTrue, IfOk};
-ghost use Rattle.rt_core.specs.State.{opened};
+ghost use Rattle.std.specs.Prelude.{◌≡◌, ◌↔◌, ◌+◌, ◌*◌, ◌<◌, length, map, vec_items, IsTrue, IfOk};
 ghost use Rattle.rt_world.specs.State.{journal_at};
 ghost use Rattle.rt_world.specs.Opening.{IsConfig, IsUnbegun, Opens, CreatesAtOpening};
-ghost use Rattle.rt_world.specs.Inside.{AreOpened, AreEmpty};
+ghost use Rattle.rt_world.specs.Inside.{AreOpened};
+ghost use Rattle.rt_world.specs.Links.{IsFreshRow, AreFresh};
 
 use super::{World, WorldError};
-use crate::links::Links;
-use rt_core::Core;
-use rt_ids::{CoreNo, QueueNo};
+use rt_ids::{ActorNo, CoreNo, QueueNo};
 use rt_jobs::Task;
-use rt_notes::Journal;
+use rt_journal::{Recorded, RecordedDesk};
+use rt_link::PlainLink;
 use rt_shares::Shares;
 use rt_taskqueue::CreateError;
 use std::alloc::{AllocError, Allocator, Global};
@@ -28,27 +27,50 @@ fn open_cores<J: Task<Out = u64>, A: Allocator + Clone>(
     core_alloc: A,
     cores: u8,
     cap: u16,
-) -> Result<Vec<Core<J, A>>, AllocError>
-    ensures { IfOk result (λ inside. AreOpened cores cap inside.items) }
+    room: u32,
+) -> Result<Vec<Recorded<J, A>>, AllocError>
+    ensures { IfOk result (λ inside. AreOpened cores cap room inside.items) }
 {
     let mut inside = Vec::with_capacity(alloc, cores as usize)?;
     for core in 0..cores {
-        let opened = Core::open(core_alloc.clone()?, CoreNo(core), cores, cap)?;
+        let opened = Recorded::open(alloc, core_alloc.clone()?, CoreNo(core), cores, cap, room)?;
         inside.push_reserved(opened);
     }
     Ok(inside)
 }
 
-fn open_journals(alloc: Global, cores: u8, room: u32) -> Result<Vec<Journal<u64>>, AllocError>
-    ensures { IfOk result (λ journals. AreEmpty cores room journals.items) }
+// A link from each core, and from the outside actor, to each core.
+fn open_links<J: Task>(
+    alloc: Global,
+    cores: u8,
+    cap: u16,
+) -> Result<Vec<Vec<PlainLink<J>>>, AllocError>
+    ensures { IfOk result (λ links. AreFresh cores cap (map vec_items links.items)) }
 {
     let count = cores as usize + 1;
-    let mut journals = Vec::with_capacity(alloc, count)?;
-    for _ in 0..count {
-        let journal = Journal::try_with_room(alloc, room)?;
-        journals.push_reserved(journal);
+    let mut rows = Vec::with_capacity(alloc, count)?;
+    for sender in 0..count {
+        let row = open_row(alloc, ActorNo(sender as u8), cores, cap)?;
+        rows.push_reserved(row);
     }
-    Ok(journals)
+    Ok(rows)
+}
+
+// The links of one sender to the first cores.
+fn open_row<J: Task>(
+    alloc: Global,
+    from: ActorNo,
+    cores: u8,
+    cap: u16,
+) -> Result<Vec<PlainLink<J>>, AllocError>
+    ensures { IfOk result (λ row. IsFreshRow from cores cap row.items) }
+{
+    let mut row = Vec::with_capacity(alloc, cores as usize)?;
+    for core in 0..cores {
+        let link = PlainLink::open(alloc, from, CoreNo(core), cap)?;
+        row.push_reserved(link);
+    }
+    Ok(row)
 }
 
 impl<J: Task<Out = u64>, A: Allocator + Clone> World<J, A> {
@@ -70,16 +92,18 @@ impl<J: Task<Out = u64>, A: Allocator + Clone> World<J, A> {
         if !is_config(cores, cap, room) {
             return Err(WorldError::BadConfig);
         }
-        let links = Links::open(alloc, cores, cap)?;
-        let journals = open_journals(alloc, cores, room)?;
-        let inside = open_cores(alloc, core_alloc, cores, cap)?;
+        let links = open_links(alloc, cores, cap)?;
+        let gathered = Vec::with_capacity(alloc, cores as usize + 1)?;
+        let outside = RecordedDesk::open(alloc, ActorNo(cores), cores, cap, room)?;
+        let inside = open_cores(alloc, core_alloc, cores, cap, room)?;
         Ok(World {
             cores,
             cap,
             room,
             inside,
+            outside,
             links,
-            journals,
+            gathered,
         })
     }
 
@@ -94,11 +118,6 @@ impl<J: Task<Out = u64>, A: Allocator + Clone> World<J, A> {
         requires room { length (journal_at core self.old) < self.old.room }
         ensures { CreatesAtOpening core shares self.old result self.new }
     {
-        let index = core.0 as usize;
-        // The shares are within their range, which the law of the journal asks.
-        let _in_range = shares.get();
-        let (made, notes) = self.inside[index].create(shares);
-        self.journals[index].push_all(notes.as_slice());
-        made
+        self.inside[core.0 as usize].create(shares)
     }
 }

@@ -1,19 +1,21 @@
 //! The three steps: an order is sent, the next one is delivered, a core makes a turn.
 
-ghost use Rattle.std.specs.Prelude.{◌≡◌, ◌≢◌, ◌≤◌, ◌<◌, ◌+◌, length, Err, IfOk, IfErr};
+ghost use Rattle.std.specs.Prelude.{◌≡◌, ◌≢◌, ◌≤◌, ◌<◌, ◌+◌, length, None, Err, IfOk, IfErr};
 ghost use Rattle.rt_core.specs.declared.turn.PickError.TheVariants.{Busy};
 ghost use Rattle.rt_jobs.specs.Ready.{HasReadyJob};
 ghost use Rattle.rt_world.specs.State.{journal_at};
-ghost use Rattle.rt_world.specs.Sends.{Sends};
-ghost use Rattle.rt_world.specs.Deliveries.{Delivers};
+ghost use Rattle.rt_world.specs.Sends.{Sends, sent_reply};
+ghost use Rattle.rt_world.specs.Deliveries.{Delivers, taken_reply};
 ghost use Rattle.rt_world.specs.Turns.{Turns};
+ghost use Rattle.rt_world.specs.OneTurn as one;
 ghost use Rattle.rt_world.specs.PickedJobs.{TookOut, TookNone};
 
 use super::World;
 use crate::event::Reply;
 use rt_core::{PickError, Turn};
-use rt_ids::{ActorNo, CoreNo, JobId, Note, Order, Ticket};
+use rt_ids::{ActorNo, CoreNo, Order, SendError, Ticket};
 use rt_jobs::{Job, Ran, Task};
+use rt_journal::Recorded;
 use std::alloc::Allocator;
 
 impl<J: Task<Out = u64>, A: Allocator + Clone> World<J, A> {
@@ -25,16 +27,13 @@ impl<J: Task<Out = u64>, A: Allocator + Clone> World<J, A> {
         requires ready { HasReadyJob J.done J.CanPoll order }
         ensures { Sends from to order self.old self.new result }
     {
-        let what = order.without_job();
-        match self.links.send(from, to, order) {
-            Ok(number) => {
-                let ticket = Ticket::named(JobId { from, to, number });
-                let note = Note::Sent(ticket.name(), what);
-                self.journals[from.0 as usize].push(note);
-                Reply::Sent(ticket)
-            }
-            Err(error) => Reply::NotSent(error),
+        let row = &mut self.links[from.0 as usize];
+        let link = &mut row[to.0 as usize];
+        if from.0 < self.cores {
+            let actor = &mut self.inside[from.0 as usize];
+            return reply_to(actor.submit(link, to, order));
         }
+        reply_to(self.outside.submit(link, to, order))
     }
 
     /// Takes the next submission of the actor to the core, which carries it out.
@@ -44,15 +43,9 @@ impl<J: Task<Out = u64>, A: Allocator + Clone> World<J, A> {
         requires room { length (journal_at core self.old) + 4 ≤ self.old.room }
         ensures { Delivers core from self.old self.new result }
     {
-        let index = core.0 as usize;
-        let Some(envelope) = self.links.take(from, core) else {
-            return Reply::Empty;
-        };
-        // The queue and the shares of a command are within their ranges, which the law of its journal asks.
-        let _within_ranges = envelope.order.without_job();
-        let (_, notes) = self.inside[index].deliver(envelope);
-        self.journals[index].push_all(notes.as_slice());
-        Reply::Noted
+        let row = &mut self.links[from.0 as usize];
+        let link = &mut row[core.0 as usize];
+        reply_if(self.inside[core.0 as usize].deliver(link))
     }
 }
 
@@ -63,17 +56,42 @@ impl<J: Job + Task<Out = u64>, A: Allocator + Clone> World<J, A> {
         requires room { length (journal_at core self.old) + 4 ≤ self.old.room }
         ensures { Turns J.made J.Polls J.Answers core spent self.old self.new result }
     {
-        let index = core.0 as usize;
-        let (picked, pick_notes) = self.inside[index].pick();
-        let job = match job_or_reply(picked) {
-            Ok(job) => job,
-            Err(reply) => return reply,
-        };
-        let ran = Ran::poll(job);
-        let (_, settle_notes) = self.inside[index].settle(ran, spent);
-        self.journals[index].push_all(pick_notes.as_slice());
-        self.journals[index].push_all(settle_notes.as_slice());
-        Reply::Noted
+        turn_of(&mut self.inside[core.0 as usize], spent)
+    }
+}
+
+// One core picks a queue and polls its first job once.
+fn turn_of<J: Job + Task<Out = u64>, A: Allocator + Clone>(
+    core: &mut Recorded<J, A>,
+    spent: u64,
+) -> Reply<J>
+    requires free { core.old.core.out ≡ None }
+    requires room { length core.old.journal.notes + 3 ≤ core.old.journal.room }
+    ensures turns { one.Turns J.made J.Polls J.Answers spent core.old core.new result }
+    ensures beside { one.StaysBeside J.SameTask J.made J.Polls core.old core.new }
+{
+    let job = match job_or_reply(core.pick()) {
+        Ok(job) => job,
+        Err(reply) => return reply,
+    };
+    drop(core.settle(Ran::poll(job), spent));
+    Reply::Noted
+}
+
+// What the core is told.
+fn reply_if<J>(found: bool) -> Reply<J>
+    ensures { result ≡ taken_reply found }
+{
+    if found { Reply::Noted } else { Reply::Empty }
+}
+
+// What the sender is told.
+fn reply_to<J: Drop>(sent: Result<Ticket, SendError<J>>) -> Reply<J>
+    ensures { result ≡ sent_reply sent }
+{
+    match sent {
+        Ok(ticket) => Reply::Sent(ticket),
+        Err(error) => Reply::NotSent(error),
     }
 }
 

@@ -4,4 +4,4 @@ use Rattle.rt_world.proofs.Hollow.{world_lists}
 use Rattle.rt_world.proofs.model.World.complete.Goals as goal
 
 pub returns : goal.returns
-returns g c = subst (λ world. HasAllLists world) c.self.view_is (world_lists _ _ _ _ _ _ c.self.invariant.1)
+returns g c = subst (λ world. HasAllLists world) c.self.view_is (world_lists _ c.self.invariant.1)

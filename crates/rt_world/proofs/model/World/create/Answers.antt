@@ -1,39 +1,40 @@
-use Rattle.std.proofs.Common.{◌<◌, length, sym, ap, subst, arith}
-use Rattle.rt_shares.specs.Charge.{InRange}
+use Rattle.std.proofs.Common.{◌≡◌, ◌≤◌, ◌<◌, ◌+◌, length, sym, ◌∙◌, ap, subst, arith}
+use Rattle.std.specs.Prelude.{Option, None}
+use Rattle.rt_ids.specs.Commands.{IsOpening}
+use Rattle.rt_journal.specs.Steps.{CreatesQueue}
 use Rattle.rt_world.specs.State.{journal_at}
 use Rattle.rt_world.specs.Opening.{IsUnbegun}
-use Rattle.rt_world.proofs.WorldCreates.{creation_room, world_now, creates_now}
+use Rattle.rt_world.specs.OneTurn as one
+use Rattle.rt_world.proofs.CoreSteps.{viewed, free, journal_is}
+use Rattle.rt_world.proofs.OneTurn.{IsKeptBeside}
+use Rattle.rt_world.proofs.Turning.{quiet_rests, created_stays, creates_now}
 use Rattle.rt_world.proofs.model.World.create.Goals as goal
 
-pub push_all-requires : goal.push_all-requires
-push_all-requires g c =
+pub create-requires : goal.create-requires
+create-requires g c =
     let there : c.core.inside.0 < c.self.inside.cores = omega (arith, c.core.view_is, c.requires.core, ap (λ world. world.cores) c.self.view_is) in
+    let view = viewed c.self.invariant.1 c.core.inside.0 there _ c.index_mut.ensures.value in
     let unbegun = subst (λ world. IsUnbegun world) (sym c.self.view_is) c.requires.unbegun in
-    let in_range : InRange c.args.shares = record { positive = omega (arith, c.get-in_range.ensures.value, c.get-in_range.ensures.positive); bounded = omega (arith, c.get-in_range.ensures.value, c.get-in_range.ensures.bounded) } in
     let room = subst (λ world. length (journal_at c.core.inside.0 world) < world.room) (sym c.self.view_is)
     (subst (λ core. length (journal_at core c.args.self.now) < c.args.self.now.room) (sym c.core.view_is) c.requires.room) in
-    let free = creation_room _ _ _ _ _ _ c.self.invariant.1 c.core.inside.0 there unbegun c.args.shares in_range c.index_mut.result.now c.index_mut.ensures.value
-    c.create-made.result.0 c.create-made.new.self c.create-made.result.1.items c.create-made.ensures.creates c.index_mut-2.result.now c.index_mut-2.ensures.value room in
-    record { free = omega (arith, free, ap length c.as_slice.ensures.value) }
+    let places = free c.self.invariant.1 c.core.inside.0 there 1 (omega (arith, room)) in
+    record {
+      opening = subst (λ notes. IsOpening notes) (journal_is c.self.invariant.1 c.core.inside.0 there ∙ ap (λ at. at.journal.notes) (sym view)) (unbegun.opening c.core.inside.0);
+      room = omega (arith, places, ap (λ at. length at.journal.notes) view, ap (λ at. at.journal.room) view);
+    }
 
 pub invariant_of-self : goal.invariant_of-self
 invariant_of-self g c =
     let there : c.core.inside.0 < c.self.inside.cores = omega (arith, c.core.view_is, c.requires.core, ap (λ world. world.cores) c.self.view_is) in
-    let unbegun = subst (λ world. IsUnbegun world) (sym c.self.view_is) c.requires.unbegun in
-    let in_range : InRange c.args.shares = record { positive = omega (arith, c.get-in_range.ensures.value, c.get-in_range.ensures.positive); bounded = omega (arith, c.get-in_range.ensures.value, c.get-in_range.ensures.bounded) } in (
-      c.self.invariant.0,
-      world_now _ _ _ _ _ _ c.self.invariant.1 c.core.inside.0 there unbegun c.args.shares in_range c.index_mut.result.now c.index_mut.ensures.value
-          c.create-made.result.0 c.create-made.new.self c.create-made.result.1.items c.create-made.ensures.creates c.index_mut-2.result.now c.index_mut-2.ensures.value
-          c.push_all.new.self
-          (record { borrowed = c.index_mut-2.ensures.value; slice = c.as_slice.result.now; slice_is = c.as_slice.ensures.value; pushed = c.push_all.ensures.notes }),
-    )
+    let view = viewed c.self.invariant.1 c.core.inside.0 there _ c.index_mut.ensures.value in
+    let kept = subst (λ at. IsKeptBeside g.J.Task.SameTask g.J.Task.made g.J.Task.Polls at c.create.new.self) view
+    (record { sound = c.create.ensures.sound; seat = c.create.ensures.seat; ins = c.create.ensures.ins; outs = c.create.ensures.outs }) in
+    let creates = subst (λ at. CreatesQueue c.args.shares at c.create.result c.create.new.self) view c.create.ensures.creates in
+    (c.self.invariant.0, quiet_rests c.self.invariant.1 c.core.inside.0 there c.create.new.self (created_stays c.self.invariant.1 c.core.inside.0 there c.create.new.self c.args.shares c.create.result creates kept), c.self.invariant.2)
 
 pub returns : goal.returns
 returns g c =
     let there : c.core.inside.0 < c.self.inside.cores = omega (arith, c.core.view_is, c.requires.core, ap (λ world. world.cores) c.self.view_is) in
-    let unbegun = subst (λ world. IsUnbegun world) (sym c.self.view_is) c.requires.unbegun in
-    let in_range : InRange c.args.shares = record { positive = omega (arith, c.get-in_range.ensures.value, c.get-in_range.ensures.positive); bounded = omega (arith, c.get-in_range.ensures.value, c.get-in_range.ensures.bounded) } in
-    rw (← c.self.view_is, ← c.core.view_is) (creates_now _ _ _ _ _ _ c.self.invariant.1 c.core.inside.0 there unbegun c.args.shares in_range c.index_mut.result.now c.index_mut.ensures.value
-    c.create-made.result.0 c.create-made.new.self c.create-made.result.1.items c.create-made.ensures.creates c.index_mut-2.result.now c.index_mut-2.ensures.value
-    c.push_all.new.self
-    (record { borrowed = c.index_mut-2.ensures.value; slice = c.as_slice.result.now; slice_is = c.as_slice.ensures.value; pushed = c.push_all.ensures.notes }))
+    let view = viewed c.self.invariant.1 c.core.inside.0 there _ c.index_mut.ensures.value in
+    let creates = subst (λ at. CreatesQueue c.args.shares at c.create.result c.create.new.self) view c.create.ensures.creates in
+    rw (← c.self.view_is, ← c.core.view_is) (creates_now c.self.invariant.1 c.core.inside.0 there c.create.new.self c.args.shares c.create.result creates)

@@ -1,89 +1,64 @@
-use Rattle.std.proofs.Common.{◌≡◌, ◌≤◌, ◌<◌, ◌+◌, length, sym, ap, subst, ◌∙◌, ◌++◌, reverse, arith, set, get_or}
-use Rattle.rt_ids.specs.Orders.{IsSpelledOrder}
+use Rattle.std.proofs.Common.{◌≡◌, ◌≤◌, ◌<◌, ◌+◌, length, refl, sym, ap, subst, arith, vec_items}
+use Rattle.std.specs.Prelude.{map}
+use Rattle.std.specs.Vec.{with_item}
 use Rattle.rt_world.specs.State.{journal_at}
-use Rattle.rt_world.proofs.JournalReads.{journal_free, journal_written}
-use Rattle.rt_world.proofs.DeliverSteps.{nothing_links, nothing_step, may_deliver, few, delivered_world, delivered_step}
+use Rattle.rt_world.specs.Inside.{core_at}
+use Rattle.rt_world.specs.Links.{link_at}
+use Rattle.rt_world.proofs.Borrowed.{row_within, link_within, link_here, links_now}
+use Rattle.rt_world.proofs.CoreSteps.{viewed, free}
+use Rattle.rt_world.proofs.Delivering.{IsTakenBy, may_take, delivered_rests, delivers_now}
 use Rattle.rt_world.proofs.model.World.deliver.Goals as goal
 
-pub take-requires-clause-core : goal.take-requires-clause-core
-take-requires-clause-core g c =
-    let world = c.self.invariant.1 in
-    let there = subst (λ w. c.args.from ≤ w.cores) (sym c.self.view_is) c.requires.sender in
-    let core_there = subst (λ w. c.args.core < w.cores) (sym c.self.view_is) c.requires.core in
-    omega (arith, world.all_there.links_are c.args.from there, core_there)
+pub index_mut-row-requires : goal.index_mut-row-requires
+index_mut-row-requires g c =
+    let there : c.from.inside.0 ≤ c.self.inside.cores = omega (arith, c.from.view_is, c.requires.sender, ap (λ world. world.cores) c.self.view_is) in
+    let within = row_within c.self.invariant.1 vec_items c.self.inside.links.items refl c.from.inside.0 there in
+    omega (arith, within, c.self.inside.links.ok.0)
+
+pub index_mut-link-requires : goal.index_mut-link-requires
+index_mut-link-requires g c =
+    let there : c.from.inside.0 ≤ c.self.inside.cores = omega (arith, c.from.view_is, c.requires.sender, ap (λ world. world.cores) c.self.view_is) in
+    let core_there : c.core.inside.0 < c.self.inside.cores = omega (arith, c.core.view_is, c.requires.core, ap (λ world. world.cores) c.self.view_is) in
+    let within = link_within c.self.invariant.1 vec_items c.self.inside.links.items refl c.from.inside.0 there _ c.index_mut-row.ensures.value c.core.inside.0 core_there in
+    omega (arith, within, c.index_mut-row.result.now.ok.0)
+
+pub deliver-requires : goal.deliver-requires
+deliver-requires g c =
+    let there : c.from.inside.0 ≤ c.self.inside.cores = omega (arith, c.from.view_is, c.requires.sender, ap (λ world. world.cores) c.self.view_is) in
+    let core_there : c.core.inside.0 < c.self.inside.cores = omega (arith, c.core.view_is, c.requires.core, ap (λ world. world.cores) c.self.view_is) in
+    let link = link_here c.self.invariant.1 vec_items c.self.inside.links.items refl c.from.inside.0 there _ c.index_mut-row.ensures.value c.core.inside.0 core_there _ c.index_mut-link.ensures.value in
+    let view = viewed c.self.invariant.1 c.core.inside.0 core_there _ c.index_mut.ensures.value in
+    let room = subst (λ world. length (journal_at c.core.inside.0 world) + 4 ≤ world.room) (sym c.self.view_is)
+    (subst (λ core. length (journal_at core c.args.self.now) + 4 ≤ c.args.self.now.room) (sym c.core.view_is) c.requires.room) in
+    let places = free c.self.invariant.1 c.core.inside.0 core_there 4 room in
+    record {
+      beside = may_take c.self.invariant.1 c.from.inside.0 c.core.inside.0 there core_there _ view _ link;
+      room = omega (arith, places, ap (λ at. length at.journal.notes) view, ap (λ at. at.journal.room) view);
+    }
 
 pub invariant_of-self : goal.invariant_of-self
 invariant_of-self g c =
-    let world = c.self.invariant.1 in
-    let there = subst (λ w. c.args.from ≤ w.cores) (sym c.self.view_is) c.requires.sender in
-    let core_there = subst (λ w. c.args.core < w.cores) (sym c.self.view_is) c.requires.core in
-    let links = nothing_links _ _ _ _ _ g.met.J.Task.same_task _ world c.args.from c.args.core there core_there c.take.new.self c.take.ensures.changes c.take.ensures.law c.in_default.ensures.takes in
-    rw links c.self.invariant
-
-pub returns-in_default : goal.returns-in_default
-returns-in_default g c =
-    let world = c.self.invariant.1 in
-    let there = subst (λ w. c.args.from ≤ w.cores) (sym c.self.view_is) c.requires.sender in
-    let core_there = subst (λ w. c.args.core < w.cores) (sym c.self.view_is) c.requires.core in
-    nothing_step _ _ _ _ _ g.met.J.Task.same_task _ world c.args.from c.args.core there core_there c.take.new.self c.take.ensures.changes c.take.ensures.law c.in_default.ensures.takes
-    c.args.self.now c.self.view_is
-
-pub deliver-notes-requires : goal.deliver-notes-requires
-deliver-notes-requires g c =
-    let world = c.self.invariant.1 in
-    let there = subst (λ w. c.args.from ≤ w.cores) (sym c.self.view_is) c.requires.sender in
-    let core_there = subst (λ w. c.args.core < w.cores) (sym c.self.view_is) c.requires.core in
-    let read = subst (λ at. c.index_mut.result.now ≡ get_or c.self.inside.inside.items at c.index_mut.result.now) c.core.view_is c.index_mut.ensures.value in
-    let may = may_deliver _ _ _ _ _ g.met.J.Task.same_task _ world c.args.from c.args.core there core_there c.take.new.self c.take.ensures.changes c.take.ensures.law
-    c.in-Some.envelope c.in-Some.ensures.takes c.index_mut.result.now read in
-    (omega arith, (may.0, (may.1, (may.2, c.in-Some.ensures.ready))))
-
-pub push_all-requires : goal.push_all-requires
-push_all-requires g c =
-    let world = c.self.invariant.1 in
-    let there = subst (λ w. c.args.from ≤ w.cores) (sym c.self.view_is) c.requires.sender in
-    let core_there = subst (λ w. c.args.core < w.cores) (sym c.self.view_is) c.requires.core in
-    let room = subst (λ w. length (journal_at c.args.core w) + 4 ≤ w.room) (sym c.self.view_is) c.requires.room in
-    let read = subst (λ at. c.index_mut.result.now ≡ get_or c.self.inside.inside.items at c.index_mut.result.now) c.core.view_is c.index_mut.ensures.value in
-    let read_notes = subst (λ at. c.index_mut-2.result.now ≡ get_or c.self.inside.journals.items at c.index_mut-2.result.now) c.core.view_is c.index_mut-2.ensures.value in
-    let free = journal_free _ world.all_there c.args.core (omega (arith, core_there)) c.index_mut-2.result.now read_notes 4 room in
-    let written = few _ _ _ _ _ g.met.J.Task.same_task _ world c.args.from c.args.core there core_there c.take.new.self c.take.ensures.changes c.take.ensures.law
-    c.in-Some.envelope c.in-Some.ensures.takes c.index_mut.result.now read (subst IsSpelledOrder c.without_job-within_ranges.ensures.same c.without_job-within_ranges.ensures.spelled)
-    c.deliver-notes.result.0 c.deliver-notes.new.self c.deliver-notes.result.1.items c.deliver-notes.ensures.delivers in
-    record { free = omega (arith, free, written, ap length c.as_slice.ensures.value) }
-
-pub invariant_of-self-2 : goal.invariant_of-self-2
-invariant_of-self-2 g c =
-    let world = c.self.invariant.1 in
-    let there = subst (λ w. c.args.from ≤ w.cores) (sym c.self.view_is) c.requires.sender in
-    let core_there = subst (λ w. c.args.core < w.cores) (sym c.self.view_is) c.requires.core in
-    let read = subst (λ at. c.index_mut.result.now ≡ get_or c.self.inside.inside.items at c.index_mut.result.now) c.core.view_is c.index_mut.ensures.value in
-    let read_notes = subst (λ at. c.index_mut-2.result.now ≡ get_or c.self.inside.journals.items at c.index_mut-2.result.now) c.core.view_is c.index_mut-2.ensures.value in
-    let view = c.index_mut-2.result.now in
-    let inside = ap (λ at. set c.self.inside.inside.items at c.deliver-notes.new.self) c.core.view_is in
-    let journals =
-    ap (λ at. set c.self.inside.journals.items at c.push_all.new.self) c.core.view_is
-    ∙ journal_written _ world.all_there c.args.core (omega (arith, core_there)) view c.push_all.new.self read_notes (reverse c.deliver-notes.result.1.items)
-    (c.push_all.ensures.notes ∙ ap (λ notes. record view { notes = reverse notes ++ view.notes }) c.as_slice.ensures.value) in
-    let rests = delivered_world _ _ _ _ _ g.met.J.Task.same_task _ world c.args.from c.args.core there core_there c.take.new.self c.take.ensures.changes c.take.ensures.law
-    c.in-Some.envelope c.in-Some.ensures.takes c.index_mut.result.now read (subst IsSpelledOrder c.without_job-within_ranges.ensures.same c.without_job-within_ranges.ensures.spelled)
-    c.deliver-notes.result.0 c.deliver-notes.new.self c.deliver-notes.result.1.items c.deliver-notes.ensures.delivers _ inside _ journals in
-    (c.self.invariant.0, rests)
+    let there : c.from.inside.0 ≤ c.self.inside.cores = omega (arith, c.from.view_is, c.requires.sender, ap (λ world. world.cores) c.self.view_is) in
+    let core_there : c.core.inside.0 < c.self.inside.cores = omega (arith, c.core.view_is, c.requires.core, ap (λ world. world.cores) c.self.view_is) in
+    let link = link_here c.self.invariant.1 vec_items c.self.inside.links.items refl c.from.inside.0 there _ c.index_mut-row.ensures.value c.core.inside.0 core_there _ c.index_mut-link.ensures.value in
+    let view = viewed c.self.invariant.1 c.core.inside.0 core_there _ c.index_mut.ensures.value in
+    let links = links_now c.self.invariant.1 vec_items c.self.inside.links.items refl c.from.inside.0 there _ c.index_mut-row.ensures.value c.core.inside.0 core_there
+    (with_item c.index_mut-row.result.now c.core.inside.0 c.deliver.new.end) c.deliver.new.end refl in
+    let did = subst (λ at. IsTakenBy g.J.Task.SameTask g.J.Task.made g.J.Task.Polls at (link_at c.from.inside.0 c.core.inside.0 (map vec_items c.self.inside.links.items)) c.deliver.result c.deliver.new.self c.deliver.new.end) view
+    (subst (λ at. IsTakenBy g.J.Task.SameTask g.J.Task.made g.J.Task.Polls c.index_mut.result.now at c.deliver.result c.deliver.new.self c.deliver.new.end) link
+    (record { delivers = c.deliver.ensures.delivers; beside = c.deliver.ensures.beside; others = c.deliver.ensures.others; outs = c.deliver.ensures.outs; seat = c.deliver.ensures.seat; sound = c.deliver.ensures.sound; untouched = c.deliver.ensures.untouched })) in
+    rw links (c.self.invariant.0, delivered_rests c.self.invariant.1 c.from.inside.0 c.core.inside.0 there core_there c.deliver.result c.deliver.new.self c.deliver.new.end did, c.self.invariant.2)
 
 pub returns : goal.returns
 returns g c =
-    let world = c.self.invariant.1 in
-    let there = subst (λ w. c.args.from ≤ w.cores) (sym c.self.view_is) c.requires.sender in
-    let core_there = subst (λ w. c.args.core < w.cores) (sym c.self.view_is) c.requires.core in
-    let read = subst (λ at. c.index_mut.result.now ≡ get_or c.self.inside.inside.items at c.index_mut.result.now) c.core.view_is c.index_mut.ensures.value in
-    let read_notes = subst (λ at. c.index_mut-2.result.now ≡ get_or c.self.inside.journals.items at c.index_mut-2.result.now) c.core.view_is c.index_mut-2.ensures.value in
-    let view = c.index_mut-2.result.now in
-    let inside = ap (λ at. set c.self.inside.inside.items at c.deliver-notes.new.self) c.core.view_is in
-    let journals =
-    ap (λ at. set c.self.inside.journals.items at c.push_all.new.self) c.core.view_is
-    ∙ journal_written _ world.all_there c.args.core (omega (arith, core_there)) view c.push_all.new.self read_notes (reverse c.deliver-notes.result.1.items)
-    (c.push_all.ensures.notes ∙ ap (λ notes. record view { notes = reverse notes ++ view.notes }) c.as_slice.ensures.value) in
-    delivered_step _ _ _ _ _ g.met.J.Task.same_task _ world c.args.from c.args.core there core_there c.take.new.self c.take.ensures.changes c.take.ensures.law
-    c.in-Some.envelope c.in-Some.ensures.takes c.index_mut.result.now read (subst IsSpelledOrder c.without_job-within_ranges.ensures.same c.without_job-within_ranges.ensures.spelled)
-    c.deliver-notes.result.0 c.deliver-notes.new.self c.deliver-notes.result.1.items c.deliver-notes.ensures.delivers _ inside _ journals
-    c.args.self.now c.self.view_is
+    let there : c.from.inside.0 ≤ c.self.inside.cores = omega (arith, c.from.view_is, c.requires.sender, ap (λ world. world.cores) c.self.view_is) in
+    let core_there : c.core.inside.0 < c.self.inside.cores = omega (arith, c.core.view_is, c.requires.core, ap (λ world. world.cores) c.self.view_is) in
+    let link = link_here c.self.invariant.1 vec_items c.self.inside.links.items refl c.from.inside.0 there _ c.index_mut-row.ensures.value c.core.inside.0 core_there _ c.index_mut-link.ensures.value in
+    let view = viewed c.self.invariant.1 c.core.inside.0 core_there _ c.index_mut.ensures.value in
+    let links = links_now c.self.invariant.1 vec_items c.self.inside.links.items refl c.from.inside.0 there _ c.index_mut-row.ensures.value c.core.inside.0 core_there
+    (with_item c.index_mut-row.result.now c.core.inside.0 c.deliver.new.end) c.deliver.new.end refl in
+    let did = subst (λ at. IsTakenBy g.J.Task.SameTask g.J.Task.made g.J.Task.Polls at (link_at c.from.inside.0 c.core.inside.0 (map vec_items c.self.inside.links.items)) c.deliver.result c.deliver.new.self c.deliver.new.end) view
+    (subst (λ at. IsTakenBy g.J.Task.SameTask g.J.Task.made g.J.Task.Polls c.index_mut.result.now at c.deliver.result c.deliver.new.self c.deliver.new.end) link
+    (record { delivers = c.deliver.ensures.delivers; beside = c.deliver.ensures.beside; others = c.deliver.ensures.others; outs = c.deliver.ensures.outs; seat = c.deliver.ensures.seat; sound = c.deliver.ensures.sound; untouched = c.deliver.ensures.untouched })) in
+    rw (← c.self.view_is, ← c.core.view_is, ← c.from.view_is, c.reply_if.ensures, links)
+    (delivers_now c.self.invariant.1 c.from.inside.0 c.core.inside.0 there core_there c.deliver.result c.deliver.new.self c.deliver.new.end did)

@@ -1,11 +1,91 @@
-use Rattle.std.proofs.Common.{sym, subst}
+use Rattle.std.proofs.Common.{◌≡◌, ◌+◌, ◌≤◌, ◌<◌, [], ◌∷◌, ◌++◌, length, refl, sym, ◌∙◌, ap, subst, arith, ℕ, vec_items, vec_capacity}
+use Rattle.std.specs.Prelude.{map}
+use Rattle.std.proofs.lemmas.Iterator.Adapters.{YieldsList-from_vec}
+use Rattle.std.proofs.lemmas.Iterator.Consumers.{YieldsList-turn, YieldsList-end}
+use Rattle.std.proofs.lemmas.List.{map-id, map-append, length-map}
 use Rattle.rt_ids.specs.Joining.{AreJoined}
 use Rattle.rt_ids.specs.Sound.{IsSound}
+use Rattle.rt_world.specs.State.{assembly_of}
+use Rattle.rt_world.specs.Inside.{Parts, world_of}
+use Rattle.rt_world.proofs.Gathered.{journals_of, gathered_count, gathered_are}
 use Rattle.rt_world.proofs.WorldSound.{world_joined, world_sound}
 use Rattle.rt_world.proofs.model.World.into_assembly.Goals as goal
 
+pub loop-core-init : goal.loop-core-init
+loop-core-init g c = (c.self.invariant.2.no_item, omega (arith, c.self.invariant.2.reserved, ap (λ world. world.cores) c.self.view_is))
+
+pub push_reserved-requires : goal.push_reserved-requires
+push_reserved-requires g c =
+    let all = YieldsList-from_vec {s = c.into_iter-core-iterator.result} c.self.inside.inside.items c.into_iter-core-iterator.ensures.into_iter_gives.0 (c.into_iter-core-iterator.ensures.into_iter_gives.1 ∙ c.self.inside.inside.ok.0) in
+    let turn = YieldsList-turn all c.loop-core.yielded c.loop-core.core-iterator c.loop-core.yielded_by _ c.next.new.self c.in-Some.core c.in-Some.is c.next.ensures.steps in
+    omega (arith, turn.0, c.loop-core.gathered.ok.0, ap length c.loop-core.invariant.0, length-map c.loop-core.yielded (λ core. core.journal), c.loop-core.invariant.1,
+    c.self.invariant.1.all_there.cores_are, ap (λ world. world.cores) c.self.view_is)
+
+pub loop-core-preserved : goal.loop-core-preserved
+loop-core-preserved g c = (
+  c.push_reserved.ensures.items
+  ∙ (ap (λ front. front ++ c.into_journal.result ∷ []) c.loop-core.invariant.0
+  ∙ (ap (λ last. journals_of c.loop-core.yielded ++ last ∷ []) c.into_journal.ensures ∙ sym (map-append (λ core. core.journal) c.loop-core.yielded (c.in-Some.core ∷ [])))),
+  omega (arith, c.loop-core.invariant.1, c.push_reserved.ensures.capacity),
+)
+
+pub push_reserved-requires-2 : goal.push_reserved-requires-2
+push_reserved-requires-2 g c =
+    let all = YieldsList-from_vec {s = c.into_iter-core-iterator.result} c.self.inside.inside.items c.into_iter-core-iterator.ensures.into_iter_gives.0 (c.into_iter-core-iterator.ensures.into_iter_gives.1 ∙ c.self.inside.inside.ok.0) in
+    let end = YieldsList-end all c.loop-core.yielded c.loop-core.core-iterator c.loop-core.yielded_by _ c.next.new.self c.in-None.is c.next.ensures.steps in
+    let yielded_are : c.loop-core.yielded ≡ c.self.inside.inside.items = sym (map-id c.loop-core.yielded) ∙ end.0 in
+    omega (arith, ap length yielded_are, c.loop-core.gathered.ok.0, ap length c.loop-core.invariant.0, length-map c.loop-core.yielded (λ core. core.journal), c.loop-core.invariant.1,
+    c.self.invariant.1.all_there.cores_are, ap (λ world. world.cores) c.self.view_is)
+
+pub of-requires : goal.of-requires
+of-requires g c =
+    let all = YieldsList-from_vec {s = c.into_iter-core-iterator.result} c.self.inside.inside.items c.into_iter-core-iterator.ensures.into_iter_gives.0 (c.into_iter-core-iterator.ensures.into_iter_gives.1 ∙ c.self.inside.inside.ok.0) in
+    let end = YieldsList-end all c.loop-core.yielded c.loop-core.core-iterator c.loop-core.yielded_by _ c.next.new.self c.in-None.is c.next.ensures.steps in
+    let yielded_are : c.loop-core.yielded ≡ c.self.inside.inside.items = sym (map-id c.loop-core.yielded) ∙ end.0 in
+    let items_are : c.push_reserved-2.new.self.items ≡ journals_of c.self.inside.inside.items ++ c.self.inside.outside.journal ∷ [] =
+    c.push_reserved-2.ensures.items
+    ∙ (ap (λ front. front ++ c.into_journal-2.result ∷ []) (c.loop-core.invariant.0 ∙ ap (λ cores. journals_of cores) yielded_are)
+    ∙ ap (λ last. journals_of c.self.inside.inside.items ++ last ∷ []) c.into_journal-2.ensures) in
+    ap length items_are ∙ (gathered_count (record { cores = c.self.inside.cores; cap = c.self.inside.cap; room = c.self.inside.room; inside = c.self.inside.inside.items; outside = c.self.inside.outside; links = map vec_items c.self.inside.links.items }) ∙ ap (λ count. count + 1) c.self.invariant.1.all_there.cores_are)
+
+pub returns-clause-value : goal.returns-clause-value
+returns-clause-value g c =
+    let all = YieldsList-from_vec {s = c.into_iter-core-iterator.result} c.self.inside.inside.items c.into_iter-core-iterator.ensures.into_iter_gives.0 (c.into_iter-core-iterator.ensures.into_iter_gives.1 ∙ c.self.inside.inside.ok.0) in
+    let end = YieldsList-end all c.loop-core.yielded c.loop-core.core-iterator c.loop-core.yielded_by _ c.next.new.self c.in-None.is c.next.ensures.steps in
+    let yielded_are : c.loop-core.yielded ≡ c.self.inside.inside.items = sym (map-id c.loop-core.yielded) ∙ end.0 in
+    let items_are : c.push_reserved-2.new.self.items ≡ journals_of c.self.inside.inside.items ++ c.self.inside.outside.journal ∷ [] =
+    c.push_reserved-2.ensures.items
+    ∙ (ap (λ front. front ++ c.into_journal-2.result ∷ []) (c.loop-core.invariant.0 ∙ ap (λ cores. journals_of cores) yielded_are)
+    ∙ ap (λ last. journals_of c.self.inside.inside.items ++ last ∷ []) c.into_journal-2.ensures) in
+    let parts : Parts g.row.J.Denot ℕ = record { cores = c.self.inside.cores; cap = c.self.inside.cap; room = c.self.inside.room; inside = c.self.inside.inside.items; outside = c.self.inside.outside; links = map vec_items c.self.inside.links.items } in
+    let value : c.of.result ≡ assembly_of (world_of parts) =
+    c.of.ensures ∙ (λ i. record { cores = c.self.inside.cores; cap = c.self.inside.cap; journals = (ap (map (λ journal. journal.notes)) items_are ∙ gathered_are parts) i }) in
+    value ∙ ap (λ world. assembly_of world) c.self.view_is
+
 pub returns-clause-sound : goal.returns-clause-sound
-returns-clause-sound g c = subst IsSound (sym c.of.ensures) (world_sound _ _ _ _ _ _ c.self.invariant.1)
+returns-clause-sound g c =
+    let all = YieldsList-from_vec {s = c.into_iter-core-iterator.result} c.self.inside.inside.items c.into_iter-core-iterator.ensures.into_iter_gives.0 (c.into_iter-core-iterator.ensures.into_iter_gives.1 ∙ c.self.inside.inside.ok.0) in
+    let end = YieldsList-end all c.loop-core.yielded c.loop-core.core-iterator c.loop-core.yielded_by _ c.next.new.self c.in-None.is c.next.ensures.steps in
+    let yielded_are : c.loop-core.yielded ≡ c.self.inside.inside.items = sym (map-id c.loop-core.yielded) ∙ end.0 in
+    let items_are : c.push_reserved-2.new.self.items ≡ journals_of c.self.inside.inside.items ++ c.self.inside.outside.journal ∷ [] =
+    c.push_reserved-2.ensures.items
+    ∙ (ap (λ front. front ++ c.into_journal-2.result ∷ []) (c.loop-core.invariant.0 ∙ ap (λ cores. journals_of cores) yielded_are)
+    ∙ ap (λ last. journals_of c.self.inside.inside.items ++ last ∷ []) c.into_journal-2.ensures) in
+    let parts : Parts g.row.J.Denot ℕ = record { cores = c.self.inside.cores; cap = c.self.inside.cap; room = c.self.inside.room; inside = c.self.inside.inside.items; outside = c.self.inside.outside; links = map vec_items c.self.inside.links.items } in
+    let value : c.of.result ≡ assembly_of (world_of parts) =
+    c.of.ensures ∙ (λ i. record { cores = c.self.inside.cores; cap = c.self.inside.cap; journals = (ap (map (λ journal. journal.notes)) items_are ∙ gathered_are parts) i }) in
+    subst IsSound (sym value) (world_sound parts c.self.invariant.1)
 
 pub returns-clause-joined : goal.returns-clause-joined
-returns-clause-joined g c = subst AreJoined (sym c.of.ensures) (world_joined _ _ _ _ _ _ c.self.invariant.1)
+returns-clause-joined g c =
+    let all = YieldsList-from_vec {s = c.into_iter-core-iterator.result} c.self.inside.inside.items c.into_iter-core-iterator.ensures.into_iter_gives.0 (c.into_iter-core-iterator.ensures.into_iter_gives.1 ∙ c.self.inside.inside.ok.0) in
+    let end = YieldsList-end all c.loop-core.yielded c.loop-core.core-iterator c.loop-core.yielded_by _ c.next.new.self c.in-None.is c.next.ensures.steps in
+    let yielded_are : c.loop-core.yielded ≡ c.self.inside.inside.items = sym (map-id c.loop-core.yielded) ∙ end.0 in
+    let items_are : c.push_reserved-2.new.self.items ≡ journals_of c.self.inside.inside.items ++ c.self.inside.outside.journal ∷ [] =
+    c.push_reserved-2.ensures.items
+    ∙ (ap (λ front. front ++ c.into_journal-2.result ∷ []) (c.loop-core.invariant.0 ∙ ap (λ cores. journals_of cores) yielded_are)
+    ∙ ap (λ last. journals_of c.self.inside.inside.items ++ last ∷ []) c.into_journal-2.ensures) in
+    let parts : Parts g.row.J.Denot ℕ = record { cores = c.self.inside.cores; cap = c.self.inside.cap; room = c.self.inside.room; inside = c.self.inside.inside.items; outside = c.self.inside.outside; links = map vec_items c.self.inside.links.items } in
+    let value : c.of.result ≡ assembly_of (world_of parts) =
+    c.of.ensures ∙ (λ i. record { cores = c.self.inside.cores; cap = c.self.inside.cap; journals = (ap (map (λ journal. journal.notes)) items_are ∙ gathered_are parts) i }) in
+    subst AreJoined (sym value) (world_joined parts c.self.invariant.1)

@@ -1,72 +1,140 @@
-use Rattle.std.proofs.Common.{◌≡◌, ◌≤◌, ◌<◌, ◌+◌, length, refl, sym, ap, subst, ◌∙◌, arith, set, get_or}
-use Rattle.rt_ids.specs.Orders.{IsSpelledOrder}
+use Rattle.std.proofs.Common.{◌≡◌, ◌≤◌, ◌<◌, ◌+◌, length, refl, sym, ◌∙◌, ap, subst, arith, vec_items, get_or, set}
+use Rattle.std.specs.Prelude.{map}
+use Rattle.std.specs.Vec.{with_item}
 use Rattle.rt_world.specs.State.{journal_at}
-use Rattle.rt_world.proofs.JournalReads.{journal_free}
-use Rattle.rt_world.proofs.SendResults.{note_written, accepted_world, accepted_step, refused_links, refused_step}
+use Rattle.rt_ids.specs.declared.order.Order.{Order}
+use Rattle.rt_journal.specs.Recorded.{desk_of}
+use Rattle.rt_world.specs.Links.{link_at}
+use Rattle.rt_world.proofs.Borrowed.{row_within, link_within, link_here, links_now}
+use Rattle.rt_world.proofs.CoreSteps.{viewed, free, desk_is}
+use Rattle.rt_world.proofs.Desks.{journal_at-world}
+use Rattle.rt_world.proofs.Sending.{IsSentOutside, may_send, outside_desk, outside_free, outside_rests, outside_sends}
+use Rattle.rt_world.proofs.CoreSending.{IsSentBy, core_rests, core_sends}
 use Rattle.rt_world.proofs.model.World.send.Goals as goal
 
-pub send-requires-clause-core : goal.send-requires-clause-core
-send-requires-clause-core g c =
-    let world = c.self.invariant.1 in
-    let there = subst (λ w. c.args.from ≤ w.cores) (sym c.self.view_is) c.requires.sender in
-    let core_there = subst (λ w. c.args.to < w.cores) (sym c.self.view_is) c.requires.core in
-    omega (arith, world.all_there.links_are c.args.from there, core_there)
+pub index_mut-row-requires : goal.index_mut-row-requires
+index_mut-row-requires g c =
+    let there : c.from.inside.0 ≤ c.self.inside.cores = omega (arith, c.from.view_is, c.requires.sender, ap (λ world. world.cores) c.self.view_is) in
+    let within = row_within c.self.invariant.1 vec_items c.self.inside.links.items refl c.from.inside.0 there in
+    omega (arith, within, c.self.inside.links.ok.0)
 
-pub push-requires : goal.push-requires
-push-requires g c =
-    let world = c.self.invariant.1 in
-    let there = subst (λ w. c.args.from ≤ w.cores) (sym c.self.view_is) c.requires.sender in
-    let room = subst (λ w. length (journal_at c.args.from w) + 4 ≤ w.room) (sym c.self.view_is) c.requires.room in
-    let read = subst (λ at. c.index_mut.result.now ≡ get_or c.self.inside.journals.items at c.index_mut.result.now) c.from.view_is c.index_mut.ensures.value in
-    let free = journal_free _ world.all_there c.args.from there c.index_mut.result.now read 4 room in
-    record { free = omega (arith, free) }
+pub index_mut-link-requires : goal.index_mut-link-requires
+index_mut-link-requires g c =
+    let there : c.from.inside.0 ≤ c.self.inside.cores = omega (arith, c.from.view_is, c.requires.sender, ap (λ world. world.cores) c.self.view_is) in
+    let to_there : c.to.inside.0 < c.self.inside.cores = omega (arith, c.to.view_is, c.requires.core, ap (λ world. world.cores) c.self.view_is) in
+    let within = link_within c.self.invariant.1 vec_items c.self.inside.links.items refl c.from.inside.0 there _ c.index_mut-row.ensures.value c.to.inside.0 to_there in
+    omega (arith, within, c.index_mut-row.result.now.ok.0)
+
+pub submit-requires : goal.submit-requires
+submit-requires g c =
+    let there : c.from.inside.0 ≤ c.self.inside.cores = omega (arith, c.from.view_is, c.requires.sender, ap (λ world. world.cores) c.self.view_is) in
+    let to_there : c.args.to < c.self.inside.cores = omega (arith, c.requires.core, ap (λ world. world.cores) c.self.view_is) in
+    let link_read = subst (λ at. c.index_mut-link.result.now ≡ get_or c.index_mut-row.result.now.items at c.index_mut-link.result.now) c.to.view_is c.index_mut-link.ensures.value in
+    let link = link_here c.self.invariant.1 vec_items c.self.inside.links.items refl c.from.inside.0 there _ c.index_mut-row.ensures.value c.args.to to_there _ link_read in
+    let sender_there : c.from.inside.0 < c.self.inside.cores = c.if-from-self.true in
+    let view = viewed c.self.invariant.1 c.from.inside.0 sender_there _ c.index_mut-actor.ensures.value in
+    let room = subst (λ world. length (journal_at c.from.inside.0 world) + 4 ≤ world.room) (sym c.self.view_is)
+    (subst (λ actor. length (journal_at actor c.args.self.now) + 4 ≤ c.args.self.now.room) (sym c.from.view_is) c.requires.room) in
+    let places = free c.self.invariant.1 c.from.inside.0 sender_there 4 room in
+    record {
+      beside = may_send c.self.invariant.1 c.from.inside.0 c.args.to there to_there _ (ap desk_of view ∙ sym (desk_is c.self.invariant.1 c.from.inside.0 sender_there)) _ link;
+      room = omega (arith, places, ap (λ at. length at.journal.notes) view, ap (λ at. at.journal.room) view);
+      ready = c.requires.ready;
+    }
 
 pub invariant_of-self : goal.invariant_of-self
 invariant_of-self g c =
-    let world = c.self.invariant.1 in
-    let there = subst (λ w. c.args.from ≤ w.cores) (sym c.self.view_is) c.requires.sender in
-    let core_there = subst (λ w. c.args.to < w.cores) (sym c.self.view_is) c.requires.core in
-    let order = c.args.order in
-    let links = c.send.new.self in
-    let read = subst (λ at. c.index_mut.result.now ≡ get_or c.self.inside.journals.items at c.index_mut.result.now) c.from.view_is c.index_mut.ensures.value in
-    let journals =
-    ap (λ at. set c.self.inside.journals.items at c.push.new.self) c.from.view_is
-    ∙ note_written _ _ _ _ _ _ world c.args.from c.args.to there core_there order links c.send.ensures.changes c.send.ensures.law c.in-Ok.number
-    c.index_mut.result.now c.push.new.self read c.name.result c.without_job-what.result (c.name.ensures ∙ c.named-ticket.ensures)
-    c.without_job-what.ensures.same c.push.ensures.notes in
-    rw journals (
-      c.self.invariant.0,
-      accepted_world _ _ _ _ _ _ world c.args.from c.args.to there core_there order links c.send.ensures.changes c.send.ensures.law c.in-Ok.number c.in-Ok.ensures.sends (subst IsSpelledOrder c.without_job-what.ensures.same c.without_job-what.ensures.spelled),
-    )
+    let there : c.from.inside.0 ≤ c.self.inside.cores = omega (arith, c.from.view_is, c.requires.sender, ap (λ world. world.cores) c.self.view_is) in
+    let to_there : c.args.to < c.self.inside.cores = omega (arith, c.requires.core, ap (λ world. world.cores) c.self.view_is) in
+    let link_read = subst (λ at. c.index_mut-link.result.now ≡ get_or c.index_mut-row.result.now.items at c.index_mut-link.result.now) c.to.view_is c.index_mut-link.ensures.value in
+    let link = link_here c.self.invariant.1 vec_items c.self.inside.links.items refl c.from.inside.0 there _ c.index_mut-row.ensures.value c.args.to to_there _ link_read in
+    let sender_there : c.from.inside.0 < c.self.inside.cores = c.if-from-self.true in
+    let view = viewed c.self.invariant.1 c.from.inside.0 sender_there _ c.index_mut-actor.ensures.value in
+    let links = links_now c.self.invariant.1 vec_items c.self.inside.links.items refl c.from.inside.0 there _ c.index_mut-row.ensures.value c.args.to to_there
+    (with_item c.index_mut-row.result.now c.to.inside.0 c.submit.new.end) c.submit.new.end (ap (λ at. set c.index_mut-row.result.now.items at c.submit.new.end) c.to.view_is) in
+    let did = subst (λ at. IsSentBy g.J.Task.SameTask g.J.Task.made g.J.Task.Polls c.args.to c.args.order at (link_at c.from.inside.0 c.args.to (map vec_items c.self.inside.links.items)) c.submit.result c.submit.new.self c.submit.new.end) view
+    (subst (λ at. IsSentBy g.J.Task.SameTask g.J.Task.made g.J.Task.Polls c.args.to c.args.order c.index_mut-actor.result.now at c.submit.result c.submit.new.self c.submit.new.end) link
+    (record {
+      submitted = record { submits = c.submit.ensures.submits; sends = c.submit.ensures.sends; credited = c.submit.ensures.credited; beside = c.submit.ensures.beside; others = c.submit.ensures.others; untouched = c.submit.ensures.untouched };
+      rest = c.submit.ensures.rest;
+      seat = c.submit.ensures.seat;
+      ins = c.submit.ensures.ins;
+      sound = c.submit.ensures.sound;
+    })) in
+    rw links (c.self.invariant.0, core_rests c.self.invariant.1 c.from.inside.0 c.args.to sender_there to_there c.args.order c.submit.result c.submit.new.self c.submit.new.end did, c.self.invariant.2)
 
-pub invariant_of-self-in-Err : goal.invariant_of-self-in-Err
-invariant_of-self-in-Err g c =
-    let world = c.self.invariant.1 in
-    let there = subst (λ w. c.args.from ≤ w.cores) (sym c.self.view_is) c.requires.sender in
-    let core_there = subst (λ w. c.args.to < w.cores) (sym c.self.view_is) c.requires.core in
-    let links = refused_links _ _ _ _ _ _ world c.args.from c.args.to there core_there c.args.order c.send.new.self c.send.ensures.changes c.send.ensures.law c.in-Err.error c.in-Err.ensures.sends in
-    rw links c.self.invariant
+pub returns-then-from-self : goal.returns-then-from-self
+returns-then-from-self g c =
+    let there : c.from.inside.0 ≤ c.self.inside.cores = omega (arith, c.from.view_is, c.requires.sender, ap (λ world. world.cores) c.self.view_is) in
+    let to_there : c.args.to < c.self.inside.cores = omega (arith, c.requires.core, ap (λ world. world.cores) c.self.view_is) in
+    let link_read = subst (λ at. c.index_mut-link.result.now ≡ get_or c.index_mut-row.result.now.items at c.index_mut-link.result.now) c.to.view_is c.index_mut-link.ensures.value in
+    let link = link_here c.self.invariant.1 vec_items c.self.inside.links.items refl c.from.inside.0 there _ c.index_mut-row.ensures.value c.args.to to_there _ link_read in
+    let sender_there : c.from.inside.0 < c.self.inside.cores = c.if-from-self.true in
+    let view = viewed c.self.invariant.1 c.from.inside.0 sender_there _ c.index_mut-actor.ensures.value in
+    let links = links_now c.self.invariant.1 vec_items c.self.inside.links.items refl c.from.inside.0 there _ c.index_mut-row.ensures.value c.args.to to_there
+    (with_item c.index_mut-row.result.now c.to.inside.0 c.submit.new.end) c.submit.new.end (ap (λ at. set c.index_mut-row.result.now.items at c.submit.new.end) c.to.view_is) in
+    let did = subst (λ at. IsSentBy g.J.Task.SameTask g.J.Task.made g.J.Task.Polls c.args.to c.args.order at (link_at c.from.inside.0 c.args.to (map vec_items c.self.inside.links.items)) c.submit.result c.submit.new.self c.submit.new.end) view
+    (subst (λ at. IsSentBy g.J.Task.SameTask g.J.Task.made g.J.Task.Polls c.args.to c.args.order c.index_mut-actor.result.now at c.submit.result c.submit.new.self c.submit.new.end) link
+    (record {
+      submitted = record { submits = c.submit.ensures.submits; sends = c.submit.ensures.sends; credited = c.submit.ensures.credited; beside = c.submit.ensures.beside; others = c.submit.ensures.others; untouched = c.submit.ensures.untouched };
+      rest = c.submit.ensures.rest;
+      seat = c.submit.ensures.seat;
+      ins = c.submit.ensures.ins;
+      sound = c.submit.ensures.sound;
+    })) in
+    rw (← c.self.view_is, ← c.from.view_is, c.reply_to.ensures, links)
+    (core_sends c.self.invariant.1 c.from.inside.0 c.args.to sender_there to_there c.args.order c.submit.result c.submit.new.self c.submit.new.end did)
 
-pub returns-in-Ok : goal.returns-in-Ok
-returns-in-Ok g c =
-    let world = c.self.invariant.1 in
-    let there = subst (λ w. c.args.from ≤ w.cores) (sym c.self.view_is) c.requires.sender in
-    let core_there = subst (λ w. c.args.to < w.cores) (sym c.self.view_is) c.requires.core in
-    let order = c.args.order in
-    let links = c.send.new.self in
-    let read = subst (λ at. c.index_mut.result.now ≡ get_or c.self.inside.journals.items at c.index_mut.result.now) c.from.view_is c.index_mut.ensures.value in
-    let journals =
-    ap (λ at. set c.self.inside.journals.items at c.push.new.self) c.from.view_is
-    ∙ note_written _ _ _ _ _ _ world c.args.from c.args.to there core_there order links c.send.ensures.changes c.send.ensures.law c.in-Ok.number
-    c.index_mut.result.now c.push.new.self read c.name.result c.without_job-what.result (c.name.ensures ∙ c.named-ticket.ensures)
-    c.without_job-what.ensures.same c.push.ensures.notes in
-    accepted_step _ _ _ _ _ _ world c.args.from c.args.to there core_there order links c.send.ensures.changes c.send.ensures.law c.in-Ok.number c.in-Ok.ensures.sends (subst IsSpelledOrder c.without_job-what.ensures.same c.without_job-what.ensures.spelled)
-    c.args.self.now c.self.view_is c.args.order refl _ journals c.named-ticket.result c.named-ticket.ensures
+pub submit-requires-2 : goal.submit-requires-2
+submit-requires-2 g c =
+    let there : c.from.inside.0 ≤ c.self.inside.cores = omega (arith, c.from.view_is, c.requires.sender, ap (λ world. world.cores) c.self.view_is) in
+    let to_there : c.args.to < c.self.inside.cores = omega (arith, c.requires.core, ap (λ world. world.cores) c.self.view_is) in
+    let link_read = subst (λ at. c.index_mut-link.result.now ≡ get_or c.index_mut-row.result.now.items at c.index_mut-link.result.now) c.to.view_is c.index_mut-link.ensures.value in
+    let link = link_here c.self.invariant.1 vec_items c.self.inside.links.items refl c.from.inside.0 there _ c.index_mut-row.ensures.value c.args.to to_there _ link_read in
+    let is_last : c.from.inside.0 ≡ c.self.inside.cores = omega (arith, there, c.if-from-self.false) in
+    let room = subst (λ world. length (journal_at c.from.inside.0 world) + 4 ≤ world.room) (sym c.self.view_is)
+    (subst (λ actor. length (journal_at actor c.args.self.now) + 4 ≤ c.args.self.now.room) (sym c.from.view_is) c.requires.room) in
+    let desk = outside_desk c.self.invariant.1 c.from.inside.0 is_last in
+    let places = outside_free c.self.invariant.1 c.from.inside.0 is_last 4 room in
+    record {
+      beside = may_send c.self.invariant.1 c.from.inside.0 c.args.to there to_there _ (sym desk) _ link;
+      room = omega (arith, places);
+      ready = c.requires.ready;
+    }
 
-pub returns-in-Err : goal.returns-in-Err
-returns-in-Err g c =
-    let world = c.self.invariant.1 in
-    let there = subst (λ w. c.args.from ≤ w.cores) (sym c.self.view_is) c.requires.sender in
-    let core_there = subst (λ w. c.args.to < w.cores) (sym c.self.view_is) c.requires.core in
-    refused_step _ _ _ _ _ _ world c.args.from c.args.to there core_there c.args.order c.send.new.self c.send.ensures.changes c.send.ensures.law
-    c.in-Err.error c.in-Err.ensures.sends c.args.self.now c.self.view_is c.args.order refl
+pub invariant_of-self-2 : goal.invariant_of-self-2
+invariant_of-self-2 g c =
+    let there : c.from.inside.0 ≤ c.self.inside.cores = omega (arith, c.from.view_is, c.requires.sender, ap (λ world. world.cores) c.self.view_is) in
+    let to_there : c.args.to < c.self.inside.cores = omega (arith, c.requires.core, ap (λ world. world.cores) c.self.view_is) in
+    let link_read = subst (λ at. c.index_mut-link.result.now ≡ get_or c.index_mut-row.result.now.items at c.index_mut-link.result.now) c.to.view_is c.index_mut-link.ensures.value in
+    let link = link_here c.self.invariant.1 vec_items c.self.inside.links.items refl c.from.inside.0 there _ c.index_mut-row.ensures.value c.args.to to_there _ link_read in
+    let is_last : c.from.inside.0 ≡ c.self.inside.cores = omega (arith, there, c.if-from-self.false) in
+    let links = links_now c.self.invariant.1 vec_items c.self.inside.links.items refl c.from.inside.0 there _ c.index_mut-row.ensures.value c.args.to to_there
+    (with_item c.index_mut-row.result.now c.to.inside.0 c.submit-2.new.end) c.submit-2.new.end (ap (λ at. set c.index_mut-row.result.now.items at c.submit-2.new.end) c.to.view_is) in
+    let did = subst (λ at. IsSentOutside c.args.to c.args.order c.self.inside.outside at c.submit-2.result c.submit-2.new.self c.submit-2.new.end) link
+    (record {
+      submitted = record { submits = c.submit-2.ensures.submits; sends = c.submit-2.ensures.sends; credited = c.submit-2.ensures.credited; beside = c.submit-2.ensures.beside; others = c.submit-2.ensures.others; untouched = c.submit-2.ensures.untouched };
+      rest = c.submit-2.ensures.rest;
+      room = c.submit-2.ensures.room;
+      written = c.submit-2.ensures.written;
+    }) in
+    rw links (c.self.invariant.0, outside_rests c.self.invariant.1 c.from.inside.0 c.args.to is_last to_there c.args.order c.submit-2.result c.submit-2.new.self c.submit-2.new.end did, c.self.invariant.2)
+
+pub returns : goal.returns
+returns g c =
+    let there : c.from.inside.0 ≤ c.self.inside.cores = omega (arith, c.from.view_is, c.requires.sender, ap (λ world. world.cores) c.self.view_is) in
+    let to_there : c.args.to < c.self.inside.cores = omega (arith, c.requires.core, ap (λ world. world.cores) c.self.view_is) in
+    let link_read = subst (λ at. c.index_mut-link.result.now ≡ get_or c.index_mut-row.result.now.items at c.index_mut-link.result.now) c.to.view_is c.index_mut-link.ensures.value in
+    let link = link_here c.self.invariant.1 vec_items c.self.inside.links.items refl c.from.inside.0 there _ c.index_mut-row.ensures.value c.args.to to_there _ link_read in
+    let is_last : c.from.inside.0 ≡ c.self.inside.cores = omega (arith, there, c.if-from-self.false) in
+    let links = links_now c.self.invariant.1 vec_items c.self.inside.links.items refl c.from.inside.0 there _ c.index_mut-row.ensures.value c.args.to to_there
+    (with_item c.index_mut-row.result.now c.to.inside.0 c.submit-2.new.end) c.submit-2.new.end (ap (λ at. set c.index_mut-row.result.now.items at c.submit-2.new.end) c.to.view_is) in
+    let did = subst (λ at. IsSentOutside c.args.to c.args.order c.self.inside.outside at c.submit-2.result c.submit-2.new.self c.submit-2.new.end) link
+    (record {
+      submitted = record { submits = c.submit-2.ensures.submits; sends = c.submit-2.ensures.sends; credited = c.submit-2.ensures.credited; beside = c.submit-2.ensures.beside; others = c.submit-2.ensures.others; untouched = c.submit-2.ensures.untouched };
+      rest = c.submit-2.ensures.rest;
+      room = c.submit-2.ensures.room;
+      written = c.submit-2.ensures.written;
+    }) in
+    rw (← c.self.view_is, ← c.from.view_is, c.reply_to-2.ensures, links)
+    (outside_sends c.self.invariant.1 c.from.inside.0 c.args.to is_last to_there c.args.order c.submit-2.result c.submit-2.new.self c.submit-2.new.end did)

@@ -1,0 +1,5 @@
+//! Tests of jobs over their public calls.
+#![tactic(auto)]
+
+#[cfg(test)]
+mod jobs;

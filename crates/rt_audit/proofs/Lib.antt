@@ -1,0 +1,2 @@
+pub mod FirstUnder
+pub mod LinkTables

@@ -1,0 +1,4 @@
+pub mod Links
+pub mod Starts
+pub mod Closes
+pub mod Outcomes

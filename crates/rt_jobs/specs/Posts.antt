@@ -1,0 +1,34 @@
+-- What each call of a post adds to its notes. The newest note stands first.
+use Rattle.std.specs.Prelude.{◌≡◌, ℕ, ◌∷◌, Result, Ok, Err}
+use Rattle.rt_ids.specs.declared.names.JobId.{JobId}
+use Rattle.rt_ids.specs.declared.names.TicketError.{TicketError}
+use Rattle.rt_ids.specs.declared.note.Note.TheVariants.{Sent, Redeemed, Detached}
+use Rattle.rt_ids.specs.declared.order.Order.{Order}
+use Rattle.rt_ids.specs.declared.order.Outcome.{Outcome}
+use Rattle.rt_ids.specs.declared.order.SendError.{SendError}
+use Rattle.rt_ids.specs.declared.order.SendError.TheVariants as refused
+use Rattle.rt_ids.specs.Journal.{Journal}
+use Rattle.rt_ids.specs.Orders.{without_job}
+use Rattle.rt_ids.specs.Outcomes.{outcome_note}
+
+-- the order that comes back
+abbrev pub order_back : {J : Type 0} → SendError J → Order J
+order_back (refused.Closed order last) = order
+order_back (refused.Full order) = order
+order_back (refused.Spent order) = order
+order_back (refused.NoCore order) = order
+
+-- an order that is accepted is noted under the name of its ticket; one that is refused comes back, and nothing is noted
+abbrev pub NotesSubmit : {J T : Type 0} → Journal T → ℕ → Order J → Result JobId (SendError J) → Journal T → Type 0
+NotesSubmit old to order (Ok name) new = (name.to ≡ to) × (new ≡ Sent name (without_job order) ∷ old)
+NotesSubmit old to order (Err error) new = (order_back error ≡ order) × (new ≡ old)
+
+-- an outcome that is redeemed is noted; a refused ticket isn't
+abbrev pub NotesRedeem : {J T : Type 0} → Journal T → JobId → Result (Outcome J T) TicketError → Journal T → Type 0
+NotesRedeem old name (Ok outcome) new = new ≡ Redeemed name (outcome_note outcome) ∷ old
+NotesRedeem old name (Err error) new = new ≡ old
+
+-- a submission that is detached is noted; a refused ticket isn't
+abbrev pub NotesDetach : {T : Type 0} → Journal T → JobId → Result (Unit {0}) TicketError → Journal T → Type 0
+NotesDetach old name (Ok done) new = new ≡ Detached name ∷ old
+NotesDetach old name (Err error) new = new ≡ old

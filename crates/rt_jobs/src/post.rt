@@ -1,0 +1,84 @@
+//! What a job may ask for while it is polled.
+
+ghost use Rattle.std.specs.Prelude.{◌≡◌, [], Err, IsOk, IfOk};
+ghost use Rattle.rt_ids.specs.declared.names.JobId.{JobId};
+ghost use Rattle.rt_ids.specs.Journal.{Journal};
+ghost use Rattle.rt_ids.specs.declared.order.SendError.TheVariants.{NoCore};
+ghost use Rattle.rt_ids.specs.declared.names.TicketError.TheVariants.{Unknown};
+ghost use Rattle.rt_jobs.specs.Posts.{NotesSubmit, NotesRedeem, NotesDetach};
+ghost use Rattle.rt_jobs.specs.Ready.{HasReadyJob};
+
+use crate::job::Task;
+use rt_ids::{CoreNo, Order, Outcome, SendError, Ticket, TicketError};
+
+/// Submits orders for jobs `J` whose answers are `T`, and asks for their outcomes. It notes what it did.
+///
+/// It is lent to a job for one poll. A refused call leaves no note.
+pub trait Post<J: Task, T> {
+    /// The notes of the actor for whom it submits, the newest first.
+    ghost notes: { Self → Journal T };
+
+    /// The submission of this name waits for its outcome: it can be detached.
+    ghost Waits: { Self → JobId → Type 0 };
+
+    /// Sends an order to a core, under the next number of that link.
+    ///
+    /// # Errors
+    ///
+    /// `NoCore` where there is no such core; otherwise as the link. The order comes back.
+    fn submit(&mut self, to: CoreNo, order: Order<J>) -> Result<Ticket, SendError<J>>
+        requires ready { HasReadyJob J.done J.CanPoll order }
+        ensures noted { NotesSubmit (notes self.old) to order result (notes self.new) }
+        ensures waits { IfOk result (Waits self.new) };
+
+    /// The outcome of a submission, which is gone from then on.
+    ///
+    /// # Errors
+    ///
+    /// `Unknown`, `Gone` and `Pending`, as a desk.
+    fn redeem(&mut self, ticket: Ticket) -> Result<Outcome<J, T>, TicketError>
+        ensures noted { NotesRedeem (notes self.old) ticket result (notes self.new) };
+
+    /// Nobody will ask for the outcome of a submission.
+    ///
+    /// # Errors
+    ///
+    /// `Unknown` and `Gone`, as a desk.
+    fn detach(&mut self, ticket: Ticket) -> Result<(), TicketError>
+        ensures noted { NotesDetach (notes self.old) ticket result (notes self.new) }
+        ensures waits { Waits self.old ticket → IsOk result };
+}
+
+/// A post of an actor that has no links: there is no core for it, and it notes nothing.
+#[derive(Clone, Copy, Debug)]
+pub struct NoPost;
+
+impl<J: Task, T> Post<J, T> for NoPost {
+    ghost use Rattle.std.specs.Prelude.{[]};
+
+    ghost notes = { λ _. [] };
+
+    ghost Waits = { λ _ _. ⊥ };
+
+    fn submit(&mut self, _to: CoreNo, order: Order<J>) -> Result<Ticket, SendError<J>>
+        requires { HasReadyJob J.done J.CanPoll order }
+        ensures no_core { result ≡ Err (NoCore order) }
+        ensures noted { NotesSubmit {T = T} [] _to order result [] }
+    {
+        Err(SendError::NoCore(order))
+    }
+
+    fn redeem(&mut self, _ticket: Ticket) -> Result<Outcome<J, T>, TicketError>
+        ensures unknown { result ≡ Err Unknown }
+        ensures noted { NotesRedeem {T = T} [] _ticket result [] }
+    {
+        Err(TicketError::Unknown)
+    }
+
+    fn detach(&mut self, _ticket: Ticket) -> Result<(), TicketError>
+        ensures unknown { result ≡ Err Unknown }
+        ensures noted { NotesDetach {T = T} [] _ticket result [] }
+    {
+        Err(TicketError::Unknown)
+    }
+}

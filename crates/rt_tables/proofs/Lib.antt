@@ -1,0 +1,3 @@
+pub mod NameLookups
+pub mod ReadJobs
+pub mod Walks

@@ -1,0 +1,3 @@
+pub mod Names
+pub mod Told
+pub mod Jobs

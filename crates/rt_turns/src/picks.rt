@@ -1,0 +1,215 @@
+//! Rule 5: each pick takes the least pair of virtual runtime and number among the queues that have work.
+
+ghost use Rattle.std.specs.Prelude.{◌≡◌, ◌<◌, ◌∷◌, ℕ, IfOk, OnOk, IsTrue, None, Some, [], is_some, true, length, get_or};
+ghost use Rattle.rt_ids.specs.Clauses.{PicksRight, IsRightIfPick};
+ghost use Rattle.rt_ids.specs.Journal.{Journal as Notes, EachNote};
+ghost use Rattle.rt_ids.specs.Keys.{KeyAtMost};
+ghost use Rattle.rt_ids.specs.Picks as spec;
+ghost use Rattle.rt_accounts.specs.Accounts.{fresh_account, has_jobs, greatest_count};
+ghost use Rattle.rt_tables.specs.Names.{known};
+ghost use Rattle.rt_turns.specs.Picks.{KnowsTurns, FitsOut, Follows, out_after, IsAt, IsAtMost};
+
+use rt_accounts::{Account, Accounts, queue_touched};
+use rt_ids::{JobId, Note, QueueNo};
+use rt_notes::Journal;
+use rt_tables::{Jobs, note_at};
+use std::alloc::{AllocError, Global};
+
+/// The jobs, the queues, the job that is out, and the queue of the pick that was just made.
+#[derive(Drop)]
+struct Turns {
+    jobs: Jobs,
+    accounts: Accounts,
+    out: Option<JobId>,
+    picked: Option<QueueNo>,
+}
+
+fn is_same(one: &JobId, other: &JobId) -> bool
+    ensures { IsTrue result → one.now ≡ other.now }
+{
+    one.from.0 == other.from.0 && one.to.0 == other.to.0 && one.number == other.number
+}
+
+/// Whether the first pair of virtual runtime and number stands before the second one, or is it.
+fn is_at_most(runtime: u128, queue: QueueNo, other_runtime: u128, other: usize) -> bool
+    ensures { IsTrue result → KeyAtMost runtime queue other_runtime other }
+{
+    runtime < other_runtime || runtime == other_runtime && queue.0 as usize <= other
+}
+
+/// Whether no queue with work has a lesser pair.
+fn is_least(accounts: &[Account], runtime: u128, queue: QueueNo) -> bool
+    ensures { IsTrue result → (other : ℕ) → IsAtMost runtime queue (get_or accounts.now other fresh_account) other }
+{
+    for (other, account) in accounts.iter().enumerate() {
+        if account.has_jobs() && !is_at_most(runtime, queue, account.virtual_runtime, other) {
+            return false;
+        }
+    }
+    true
+}
+
+/// Whether a note may change which job is out.
+fn fits_out(out: Option<JobId>, note: &Note<u64>) -> bool
+    ensures { IsTrue result → FitsOut out note.now }
+{
+    match *note {
+        Note::Start(_) => out.is_none(),
+        Note::Resume(_) => out.is_none(),
+        Note::Yield(name, _) => is_out(out, &name),
+        Note::Done(name, _, _) => is_out(out, &name),
+        _ => true,
+    }
+}
+
+fn is_out(out: Option<JobId>, name: &JobId) -> bool
+    ensures { IsTrue result → out ≡ Some name.now }
+{
+    match out {
+        Some(out) => is_same(&out, name),
+        None => false,
+    }
+}
+
+/// The job that is out after a note.
+fn out_after(out: Option<JobId>, note: &Note<u64>) -> Option<JobId>
+    ensures { result ≡ out_after out note.now }
+{
+    match *note {
+        Note::Start(name) => Some(name),
+        Note::Resume(name) => Some(name),
+        Note::Yield(_, _) => None,
+        Note::Done(_, _, _) => None,
+        _ => out,
+    }
+}
+
+impl Turns {
+    fn new(alloc: Global) -> Self
+        ensures { KnowsTurns result [] }
+    {
+        Turns {
+            jobs: Jobs::new(alloc),
+            accounts: Accounts::new(),
+            out: None,
+            picked: None,
+        }
+    }
+
+    /// Reads the next note.
+    fn add(&mut self, note: &Note<u64>) -> Result<(), AllocError>
+        ensures { OnOk result ((before : Notes ℕ) → length before < greatest_count → FitsOut self.old.out note.now → KnowsTurns self.old before → KnowsTurns self.new (note.now ∷ before)) }
+    {
+        let queue = queue_touched(note, &self.jobs);
+        self.accounts.add(note, queue);
+        self.jobs.add(note)?;
+        self.out = out_after(self.out, note);
+        self.picked = queue_picked(note);
+        Ok(())
+    }
+}
+
+/// The queue that a note picks.
+fn queue_picked(note: &Note<u64>) -> Option<QueueNo>
+    ensures { (before : Notes ℕ) → result ≡ spec.queue_just_picked (note.now ∷ before) }
+{
+    match *note {
+        Note::Pick(queue, _) => Some(queue),
+        _ => None,
+    }
+}
+
+/// Whether the job is of the queue that was just picked.
+fn is_of_pick(turns: &Turns, name: &JobId) -> bool
+    ensures { IsTrue result → (is_some turns.now.picked ≡ true) × (turns.now.picked ≡ known turns.now.jobs.queues name.now) }
+{
+    let Some(picked) = turns.picked else {
+        return false;
+    };
+    match turns.jobs.queue_of(name) {
+        Some(queue) => picked.0 == queue.0,
+        None => false,
+    }
+}
+
+/// Whether a pick is followed by a turn of its queue, and nothing else is.
+fn is_followed(turns: &Turns, note: &Note<u64>) -> bool
+    ensures { (before : Notes ℕ) → KnowsTurns turns.now before → IsTrue result → Follows note.now before }
+{
+    match *note {
+        Note::Start(name) => is_of_pick(turns, &name),
+        Note::Resume(name) => is_of_pick(turns, &name),
+        Note::Returned(name, _) => is_of_pick(turns, &name),
+        _ => turns.picked.is_none(),
+    }
+}
+
+/// The account of a queue.
+fn account_of(accounts: &Accounts, queue: QueueNo) -> Account
+    ensures { result ≡ get_or accounts.now.queues queue fresh_account }
+{
+    accounts.queues[queue.0 as usize]
+}
+
+/// Whether the queue of this account may be picked at this virtual runtime.
+fn is_at(account: &Account, runtime: u128) -> bool
+    ensures { IsTrue result → IsAt account.now runtime }
+{
+    account.has_jobs() && account.virtual_runtime == runtime && runtime < u128::MAX
+}
+
+/// Whether no job is out, and the queue may be picked at this virtual runtime.
+fn may_pick(turns: &Turns, queue: QueueNo, runtime: u128) -> bool
+    ensures { IsTrue result → (turns.now.out ≡ None) × IsAt (get_or turns.now.accounts.queues queue fresh_account) runtime }
+{
+    let account = account_of(&turns.accounts, queue);
+    turns.out.is_none() && is_at(&account, runtime)
+}
+
+/// Whether a pick takes the least pair, at the virtual runtime of its queue.
+fn is_right_pick(turns: &Turns, queue: QueueNo, runtime: u128) -> bool
+    ensures { (before : Notes ℕ) → KnowsTurns turns.now before → IsTrue result → spec.IsRightPick queue runtime before }
+{
+    may_pick(turns, queue, runtime) && is_least(&turns.accounts.queues, runtime, queue)
+}
+
+fn right_if_pick(turns: &Turns, note: &Note<u64>) -> bool
+    ensures { (before : Notes ℕ) → KnowsTurns turns.now before → IsTrue result → IsRightIfPick note.now before }
+{
+    match *note {
+        Note::Pick(queue, runtime) => is_right_pick(turns, queue, runtime),
+        _ => true,
+    }
+}
+
+/// Whether a pick is right, and a pick is followed by a turn of its queue.
+fn is_in_turn(turns: &Turns, note: &Note<u64>) -> bool
+    ensures { (before : Notes ℕ) → KnowsTurns turns.now before → IsTrue result → IsRightIfPick note.now before × Follows note.now before }
+{
+    right_if_pick(turns, note) && is_followed(turns, note)
+}
+
+/// Whether a note picks, follows a pick and settles as it may.
+fn picks_right(turns: &Turns, note: &Note<u64>) -> bool
+    ensures { (before : Notes ℕ) → KnowsTurns turns.now before → IsTrue result → PicksRight note.now before × FitsOut turns.now.out note.now }
+{
+    is_in_turn(turns, note) && fits_out(turns.out, note)
+}
+
+/// The line of the first note that picks, follows a pick or settles as it may not.
+pub fn picks_fault(alloc: Global, journal: &Journal<u64>) -> Result<Option<usize>, AllocError>
+    ensures { IfOk result (λ line. line ≡ None → EachNote PicksRight journal.now.notes × (spec.queue_just_picked journal.now.notes ≡ None)) }
+{
+    let mut turns = Turns::new(alloc);
+    for place in 0..journal.len() {
+        let note = note_at(journal, place);
+        if !picks_right(&turns, &note) {
+            return Ok(Some(place + 1));
+        }
+        turns.add(&note)?;
+    }
+    if turns.picked.is_some() {
+        return Ok(Some(journal.len()));
+    }
+    Ok(None)
+}

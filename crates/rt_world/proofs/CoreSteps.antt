@@ -1,0 +1,103 @@
+-- A step of one core: what it is in its world.
+use Rattle.std.proofs.Common.{◌≡◌, ◌≢◌, ℕ, ◌+◌, ◌<◌, ◌≤◌, List, [], ◌++◌, length, refl, sym, ◌∙◌, ap, subst, arith, get_or, set, get_or-set_same, get_or-set_other, length-set}
+use Rattle.std.specs.Prelude.{Option, None, map}
+use Rattle.std.proofs.lemmas.List.{get_or_default}
+use Rattle.rt_ids.specs.declared.note.Note.{Note}
+use Rattle.rt_ids.specs.Journal.{Journal}
+use Rattle.rt_jobs.specs.declared.job.Step.{Step}
+use Rattle.rt_link.specs.declared.plain.Whole.{Whole}
+use Rattle.rt_link.specs.Whole.{out_of, inward_of}
+use Rattle.rt_journal.specs.Submissions.{DeskView}
+use Rattle.rt_journal.specs.Recorded.{RecordedView, IsRecorded, desk_of}
+use Rattle.rt_journal.specs.Steps.{opened_beside, with_notes}
+use Rattle.rt_journal.specs.Ends.{IsOutOf, IsInOf, IsSameSeat}
+use Rattle.rt_world.specs.State.{journal_at, noted}
+use Rattle.rt_world.specs.Links.{link_at, ChangesLink}
+use Rattle.rt_world.specs.Inside.{Parts, core_at, desks, desk_at, notes_at, seat_of, world_of, IsWorld}
+use Rattle.rt_world.proofs.Desks.{desk_at-core, desks-core, journal_at-world, journals-noted}
+use Rattle.rt_world.proofs.LinkSteps.{OnlyReceived, OnlySent}
+use Rattle.rt_world.proofs.WorldAfter.{IsStep, new, world_after}
+
+module _ {J T : Type 0} {same : J → J → Type 0} {made : J → ℕ} {polls : J → ℕ → Step T → Option ℕ → Type 0} {old : Parts J T}
+    (world : IsWorld same made polls old) (core : ℕ) (there : core < old.cores) where
+  within : core < length old.inside
+  within = omega (arith, there, world.all_there.cores_are)
+
+  -- the desk of the core says what the core does
+  pub desk_is : desk_at core old ≡ desk_of (core_at core old)
+  desk_is = desk_at-core old core within
+
+  pub notes_are : notes_at core old ≡ (core_at core old).journal.notes
+  notes_are = ap (λ desk. desk.journal.notes) desk_is
+
+  pub journal_is : journal_at core (world_of old) ≡ (core_at core old).journal.notes
+  journal_is = journal_at-world old core ∙ notes_are
+
+  pub room_is : (core_at core old).journal.room ≡ old.room
+  room_is = sym (ap (λ desk. desk.journal.room) desk_is) ∙ ap (λ desk. desk.journal.room) (world.all_there.seats_are core (omega (arith, there)))
+
+  -- the core that a call borrows is the one of this number
+  pub viewed : (view : RecordedView J T) → view ≡ get_or old.inside core view → view ≡ core_at core old
+  viewed view read = read ∙ get_or_default old.inside core view (opened_beside 0 0 0 0) within
+
+  -- notes that have room in the world have room there
+  pub free : (more : ℕ) → length (journal_at core (world_of old)) + more ≤ old.room → length (core_at core old).journal.notes + more ≤ (core_at core old).journal.room
+  free more room = omega (arith, room, ap length journal_is, room_is)
+
+  module _ (now : RecordedView J T) (links : List (List (Whole J T))) where
+    abbrev pub parts_now : Parts J T
+    parts_now = record old { inside = set old.inside core now; links = links }
+
+    -- what the call says of the core afterwards, and of the links
+    pub record DidStep : Type 0 where
+      pub recorded : IsRecorded same made polls now
+      pub at_rest : now.core.out ≡ None
+      pub seat : IsSameSeat (core_at core old) now
+      pub rows_are : length links ≡ length old.links
+      pub links_are : (sender : ℕ) → length (get_or links sender []) ≡ length (get_or old.links sender [])
+      pub received : (sender to : ℕ) → sender ≢ core → OnlyReceived (link_at sender to old.links) (link_at sender to links)
+      pub sent : (sender to : ℕ) → to ≢ core → OnlySent (link_at sender to old.links) (link_at sender to links)
+      pub outs : (to : ℕ) → to < old.cores → IsOutOf to (desk_of now) (out_of (link_at core to links)) (link_at core to links).credited
+      pub ins : (sender : ℕ) → sender ≤ old.cores → IsInOf sender now (inward_of (link_at sender core links))
+
+    core_now : core_at core parts_now ≡ now
+    core_now = get_or-set_same old.inside core now (opened_beside 0 0 0 0) within
+
+    seat_is : IsSameSeat (core_at core old) now → desk_of now ≡ seat_of core now.journal.notes old
+    seat_is seat =
+        let was = sym desk_is ∙ world.all_there.seats_are core (omega (arith, there)) in
+        λ i. record {
+          actor = (seat.number ∙ ap (λ desk. desk.actor) was) i;
+          cores = (seat.cores ∙ ap (λ desk. desk.cores) was) i;
+          cap = (seat.cap ∙ ap (λ desk. desk.cap) was) i;
+          journal = record { notes = now.journal.notes; room = (seat.room ∙ ap (λ desk. desk.journal.room) was) i };
+        }
+
+    step_of : DidStep → IsStep world core (set old.inside core now) old.outside links (desk_of now)
+    step_of did = record {
+      there = omega (arith, there);
+      inside_are = length-set old.inside core now;
+      rows_are = did.rows_are;
+      links_are = did.links_are;
+      desks_are = desks-core old core now within;
+      seat = seat_is did.seat;
+      other_cores = λ other away. get_or-set_other old.inside core other now (opened_beside 0 0 0 0) away;
+      recorded = λ known. subst (IsRecorded same made polls) (sym core_now) did.recorded;
+      at_rest = λ known. ap (λ view. view.core.out) core_now ∙ did.at_rest;
+      written = world.outside;
+      received = did.received;
+      sent = did.sent;
+      outs = did.outs;
+      ins = λ sender known core_known. subst (λ view. IsInOf sender view (inward_of (link_at sender core links))) (sym core_now) (did.ins sender known);
+    }
+
+    -- the world is at rest again
+    pub rests : DidStep → IsWorld same made polls parts_now
+    rests did = world_after world core (set old.inside core now) old.outside links (desk_of now) (step_of did)
+
+    -- its journal is longer by these notes
+    pub journals_now : (notes : List (Note T)) → now.journal ≡ with_notes notes (core_at core old).journal →
+        (world_of parts_now).journals ≡ set (world_of old).journals core (notes ++ journal_at core (world_of old))
+    journals_now notes longer =
+        ap (map (λ desk. desk.journal.notes)) (desks-core old core now within)
+        ∙ journals-noted old core (desk_of now) notes (ap (λ journal. journal.notes) longer ∙ ap (λ before. notes ++ before) (sym notes_are))

@@ -1,0 +1,109 @@
+-- A world as it opens: nothing was noted, and it is at rest.
+use Rattle.std.proofs.Common.{◌≡◌, ℕ, zero, suc, ◌+◌, ◌<◌, ◌≤◌, List, [], length, refl, sym, ◌∙◌, ap, subst, ⊎_elim, arith, get_or}
+use Rattle.std.specs.Prelude.{Option, Some, None}
+use Rattle.std.proofs.lemmas.Bool.{cases_lt}
+use Rattle.std.proofs.lemmas.List.{get_or_past, length-map}
+use Rattle.rt_jobs.specs.declared.job.Step.{Step}
+use Rattle.rt_link.specs.declared.plain.Whole.{Whole}
+use Rattle.rt_link.specs.Whole.{out_of, inward_of, fresh}
+use Rattle.rt_journal.specs.Submissions.{DeskView, IsWritten, opened_desk, terms_of_desk}
+use Rattle.rt_journal.specs.Recorded.{RecordedView, IsRecorded, desk_of}
+use Rattle.rt_journal.specs.Steps.{opened_beside}
+use Rattle.rt_journal.specs.Ends.{IsOutOf, IsInOf}
+use Rattle.rt_journal.proofs.Opened.{recorded-opened}
+use Rattle.rt_world.specs.State.{journal_at, sent_at}
+use Rattle.rt_world.specs.Links.{row_of, link_at, no_link, AreFresh}
+use Rattle.rt_world.specs.Inside.{Parts, core_at, desks, desk_at, world_of, IsWorld, AreOpened}
+use Rattle.rt_world.specs.Opening.{IsFresh}
+use Rattle.rt_world.proofs.Desks.{desk_count, desk_at-core, desk_at-outside, journal_at-world, sent_at-world}
+use Rattle.rt_world.proofs.Hollow.{world_lists}
+
+none≢some : {A : Type 0} (item : A) → None ≡ Some item → ⊥
+none≢some item same = cc
+
+-- the ends of a link that was just opened, beside actors that have noted nothing
+module _ {J T : Type 0} (sender core cores cap room : ℕ) where
+  out_of-opened : core < cores → IsOutOf {J = J} {T = T} core (opened_desk sender cores cap room) (out_of (fresh sender core cap 0)) 0
+  out_of-opened known =
+      record { known = known; from = refl; to = refl; base = refl; capacity = refl; behind = omega arith; accepted = refl; outstanding = refl; collected = refl }
+
+  in_of-opened : sender ≤ cores → IsInOf {J = J} {T = T} sender (opened_beside core cores cap room) (inward_of (fresh sender core cap 0))
+  in_of-opened known = record {
+    known = known;
+    from = refl;
+    to = refl;
+    base = refl;
+    capacity = refl;
+    behind = omega arith;
+    gate = refl;
+    taken = refl;
+    given = ([], refl);
+    orders = λ name order from at. absurd (none≢some order at);
+  }
+
+module _ {J T : Type 0} (same : J → J → Type 0) (made : J → ℕ) (polls : J → ℕ → Step T → Option ℕ → Type 0) (cores cap room : ℕ)
+    (inside : List (RecordedView J T)) (outside : DeskView J T) (links : List (List (Whole J T)))
+    (cores_open : AreOpened cores cap room inside) (outside_open : outside ≡ opened_desk cores cores cap room)
+    (written : IsWritten (terms_of_desk outside) outside.journal.notes) (links_open : AreFresh cores cap links) where
+  abbrev parts : Parts J T
+  parts = record { cores = cores; cap = cap; room = room; inside = inside; outside = outside; links = links }
+
+  desk_is : (actor : ℕ) → actor ≤ cores → desk_at actor parts ≡ opened_desk actor cores cap room
+  desk_is actor known =
+      ⊎_elim
+      (λ below. desk_at-core parts actor (omega (arith, below, cores_open.cores_are)) ∙ ap desk_of (cores_open.each_opened actor below))
+      (λ past.
+      let last : cores ≡ actor = omega (arith, past, known) in
+      desk_at-outside parts actor (cores_open.cores_are ∙ last) ∙ (outside_open ∙ ap (λ number. opened_desk number cores cap room) last))
+      (cases_lt actor cores)
+
+  -- the parts that were just opened make a world at rest
+  pub world_at_opening : IsWorld same made polls parts
+  world_at_opening = record {
+    all_there = record {
+      cores_are = cores_open.cores_are;
+      rows_are = links_open.rows_are;
+      links_are = links_open.cores_are;
+      seats_are = λ actor known. desk_is actor known ∙ ap (λ desk. record { actor = actor; cores = cores; cap = cap; journal = record { notes = desk.journal.notes; room = room } }) (sym (desk_is actor known));
+    };
+    recorded = λ core known. subst (IsRecorded same made polls) (sym (cores_open.each_opened core known)) (recorded-opened same made polls core cores cap room known);
+    at_rest = λ core known. ap (λ view. view.core.out) (cores_open.each_opened core known);
+    outside = written;
+    beside = record {
+      outs = λ sender core known core_known.
+          subst (λ link. IsOutOf core (desk_at sender parts) (out_of link) link.credited) (sym (links_open.each_fresh sender core known core_known))
+          (subst (λ desk. IsOutOf core desk (out_of (fresh sender core cap 0)) 0) (sym (desk_is sender known)) (out_of-opened sender core cores cap room core_known));
+      ins = λ sender core known core_known.
+          subst (λ link. IsInOf sender (core_at core parts) (inward_of link)) (sym (links_open.each_fresh sender core known core_known))
+          (subst (λ view. IsInOf sender view (inward_of (fresh sender core cap 0))) (sym (cores_open.each_opened core core_known)) (in_of-opened sender core cores cap room known));
+    };
+  }
+
+  no_note : (actor : ℕ) → journal_at actor (world_of parts) ≡ []
+  no_note actor =
+      journal_at-world parts actor
+      ∙ ap (λ desk. desk.journal.notes)
+      (
+      ⊎_elim {C = desk_at actor parts ≡ opened_desk (desk_at actor parts).actor (desk_at actor parts).cores (desk_at actor parts).cap (desk_at actor parts).journal.room}
+      (λ known. let is = desk_is actor (omega (arith, known)) in is ∙ ap (λ desk. opened_desk desk.actor desk.cores desk.cap desk.journal.room) (sym is))
+      (λ past. let is = get_or_past (desks parts) actor (opened_desk 0 0 0 0) (omega (arith, past, desk_count parts, cores_open.cores_are)) in is ∙ ap (λ desk. opened_desk desk.actor desk.cores desk.cap desk.journal.room) (sym is))
+      (cases_lt actor (cores + 1))
+      )
+
+  no_order : (sender core : ℕ) → sent_at sender core (world_of parts) ≡ []
+  no_order sender core = sent_at-world parts sender core ∙ ⊎_elim by_sender other_sender (cases_lt sender (cores + 1))
+    where
+      by_sender : sender < cores + 1 → (link_at sender core links).sent ≡ []
+      by_sender known =
+          ⊎_elim (λ core_known. ap (λ link. link.sent) (links_open.each_fresh sender core (omega (arith, known)) core_known))
+          (λ past. ap (λ link. link.sent) (get_or_past (row_of sender links) core (no_link sender core) (omega (arith, past, links_open.cores_are sender (omega (arith, known))))))
+          (cases_lt core cores)
+
+      other_sender : cores + 1 ≤ sender → (link_at sender core links).sent ≡ []
+      other_sender past =
+          ap (λ row. (get_or row core (no_link {J = J} {T = T} sender core)).sent) (get_or_past links sender [] (omega (arith, past, links_open.rows_are)))
+          ∙ ap (λ link. link.sent) (get_or_past [] core (no_link {J = J} {T = T} sender core) (omega arith))
+
+  -- nothing has happened in it
+  pub fresh_at_opening : IsFresh cores cap room (world_of parts)
+  fresh_at_opening = record { cores_are = refl; cap_is = refl; room_is = refl; lists = world_lists parts world_at_opening; no_note = no_note; no_order = no_order }

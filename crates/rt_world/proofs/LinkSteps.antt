@@ -1,0 +1,75 @@
+-- What one end of a plain link does, as the other end sees it.
+use Rattle.std.proofs.Common.{◌≡◌, ◌≢◌, ℕ, ◌<◌, ◌≤◌, Bool, true, List, [], ◌∷◌, ◌++◌, length, refl, sym, ◌∙◌, ap, subst, ⊎_elim, arith}
+use Rattle.std.proofs.lemmas.Bool.{cases_eq}
+use Rattle.std.proofs.lemmas.List.{append-nil, length-append}
+use Rattle.rt_link.specs.declared.plain.Whole.{Whole}
+use Rattle.rt_link.specs.Whole.{out_of, inward_of}
+use Rattle.rt_link.specs.Ends.{StartsWith}
+use Rattle.rt_journal.specs.Submissions.{DeskView}
+use Rattle.rt_journal.specs.Recorded.{RecordedView}
+use Rattle.rt_journal.specs.Ends.{IsOutOf, IsInOf}
+use Rattle.rt_journal.proofs.EndsKept.{sees_more_in, sees_more_out}
+use Rattle.rt_world.specs.Links.{link_at, ChangesLink}
+
+-- a list that is as long as its beginning is the same
+pub as_long : {A : Type 0} (whole front : List A) → StartsWith whole front → length whole ≡ length front → whole ≡ front
+as_long {A} whole front starts same = starts.1 ∙ (ap (λ rest. front ++ rest) (by_rest starts.0 (omega (arith, same, ap length starts.1, length-append front starts.0))) ∙ append-nil front)
+  where
+    by_rest : (rest : List A) → length rest ≡ 0 → rest ≡ []
+    by_rest [] none = refl
+    by_rest (item ∷ rest) some = absurd (omega (arith, some))
+
+module _ {J T : Type 0} where
+  -- the receiver alone did something on the link: what the sender has seen is as much or more
+  pub record OnlyReceived (old new : Whole J T) : Type 0 where
+    pub rest : new ≡ record old { taken = new.taken; given = new.given; shut = new.shut }
+    pub given : StartsWith new.given old.given
+
+  -- the sender alone did something on the link: what the receiver has seen is as much or more, and the same where the gate is shut
+  pub record OnlySent (old new : Whole J T) : Type 0 where
+    pub rest : new ≡ record old { sent = new.sent; got = new.got; credited = new.credited }
+    pub sent : StartsWith new.sent old.sent
+    pub gate : old.shut ≡ true → new.sent ≡ old.sent
+
+  pub received-same : (link : Whole J T) → OnlyReceived link link
+  received-same link = record { rest = refl; given = ([], sym (append-nil link.given)) }
+
+  pub sent-same : (link : Whole J T) → OnlySent link link
+  sent-same link = record { rest = refl; sent = ([], sym (append-nil link.sent)); gate = λ shut. refl }
+
+  -- the end of the other stays beside its actor
+  pub out_stays : (core : ℕ) (desk : DeskView J T) (old new : Whole J T) → OnlyReceived old new →
+      IsOutOf core desk (out_of old) old.credited → IsOutOf core desk (out_of new) new.credited
+  out_stays core desk old new received is =
+      subst (IsOutOf core desk (out_of new)) (sym (ap (λ link. link.credited) received.rest))
+      (sees_more_out core desk (out_of old) (out_of new) old.credited (record { rest = ap out_of received.rest; seen = received.given }) is)
+
+  pub in_stays : (sender : ℕ) (view : RecordedView J T) (old new : Whole J T) → OnlySent old new → IsInOf sender view (inward_of old) → IsInOf sender view (inward_of new)
+  in_stays sender view old new sent is =
+      sees_more_in sender view (inward_of old) (inward_of new) (ap inward_of sent.rest) (sent.sent, sent.gate) is
+
+  -- what is so of each link and itself, and of the one that changed, is so of all links of a world before and after
+  pub each_link : (P : Whole J T → Whole J T → Type 0) → ((link : Whole J T) → P link link) →
+      (old new : List (List (Whole J T))) (s d : ℕ) (link : Whole J T) → ChangesLink old new s d link → P (link_at s d old) link →
+      (r e : ℕ) → P (link_at r e old) (link_at r e new)
+  each_link P same old new s d link changes here r e =
+      ⊎_elim
+      (λ one. ⊎_elim
+      (λ two. subst (λ a. P (link_at a e old) (link_at a e new)) (sym one)
+      (subst (λ b. P (link_at s b old) (link_at s b new)) (sym two) (subst (P (link_at s d old)) (sym changes.changed) here)))
+      (λ away. apart (λ a b. away b)) (cases_eq e d))
+      (λ away. apart (λ a b. away a))
+      (cases_eq r s)
+    where
+      apart : (r ≡ s → e ≡ d → ⊥) → P (link_at r e old) (link_at r e new)
+      apart differs = subst (P (link_at r e old)) (sym (changes.others r e differs)) (same (link_at r e old))
+
+  -- the same, of a link that didn't change
+  pub other_link : (P : Whole J T → Whole J T → Type 0) → ((link : Whole J T) → P link link) →
+      (old new : List (List (Whole J T))) (s d : ℕ) (link : Whole J T) → ChangesLink old new s d link → (r e : ℕ) → (r ≡ s → e ≡ d → ⊥) →
+      P (link_at r e old) (link_at r e new)
+  other_link P same old new s d link changes r e differs = subst (P (link_at r e old)) (sym (changes.others r e differs)) (same (link_at r e old))
+
+  -- no link changed
+  pub no_change : (links : List (List (Whole J T))) (s d : ℕ) → ChangesLink links links s d (link_at s d links)
+  no_change links s d = record { changed = refl; others = λ r e differs. refl; same_rows = refl; same_cores = λ r. refl }

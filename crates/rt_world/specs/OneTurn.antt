@@ -1,0 +1,61 @@
+-- What a turn is to its core and the journal beside it.
+use Rattle.std.specs.Prelude.{◌≡◌, ℕ, ◌+◌, ◌-◌, ◌^◌, ◌<◌, Option, Some, None, true, false, unwrap_or, List, [], ◌∷◌}
+use Rattle.rt_ids.specs.declared.names.JobId.{JobId}
+use Rattle.rt_ids.specs.declared.note.Note.TheVariants as writes
+use Rattle.rt_ids.specs.declared.order.Order.TheVariants.{Job}
+use Rattle.rt_ids.specs.Journal.{is_told}
+use Rattle.rt_ids.specs.Filters.{name_started}
+use Rattle.rt_ids.specs.Work.{has_work}
+use Rattle.rt_ids.specs.Lines.{line}
+use Rattle.rt_ids.specs.Picks.{IsRightPick, turns}
+use Rattle.rt_ids.specs.Commands.{return_reason}
+use Rattle.rt_jobs.specs.declared.job.Step.{Step}
+use Rattle.rt_jobs.specs.Steps.{IfDone}
+use Rattle.rt_journal.specs.Polls.{polls_made, poll_note, settle_note}
+use Rattle.rt_journal.specs.Recorded.{RecordedView, IsRecorded, desk_of, order_taken}
+use Rattle.rt_journal.specs.Steps.{with_notes}
+use Rattle.rt_journal.specs.Ends.{KeepsIn, KeepsOuts, IsSameSeat}
+use Rattle.rt_world.specs.declared.event.Reply.{Reply}
+use Rattle.rt_world.specs.declared.event.Reply.TheVariants as reply
+
+module _ {J T : Type 0} (same : J → J → Type 0) (made : J → ℕ) (polls : J → ℕ → Step T → Option ℕ → Type 0) where
+  -- the core is recorded and has no job out, its seat is the same, and the ends of its links are beside it as before
+  pub record StaysBeside (old new : RecordedView J T) : Type 0 where
+    pub recorded : IsRecorded same made polls new
+    pub at_rest : new.core.out ≡ None
+    pub seat : IsSameSeat old new
+    pub ins : (sender : ℕ) → KeepsIn sender old new
+    pub outs : KeepsOuts (desk_of old) (desk_of new)
+
+module _ {J T : Type 0} (made : J → ℕ) (polls : J → ℕ → Step T → Option ℕ → Type 0) (answers : J → T → Type 0) where
+  -- a turn is left, and the right pick is made: the first job of that line is polled once, and the poll owes what the order under its name says
+  pub record PollsOne (spent : ℕ) (old new : RecordedView J T) : Type 0 where
+    pub turn_left : turns old.journal.notes < 2 ^ 64 - 1
+    pub queue : ℕ
+    pub runtime : ℕ
+    pub right : IsRightPick queue runtime old.journal.notes
+    pub name : JobId
+    pub others : List JobId
+    pub first : line queue old.journal.notes ≡ name ∷ others
+    pub kept : return_reason queue old.journal.notes ≡ None
+    pub job : J
+    pub task : order_taken old.took name ≡ Some (Job queue job)
+    pub step : Step T
+    pub told : Option ℕ
+    pub owed : polls job (made job + polls_made name old.journal.notes) step told
+    pub answered : IfDone step (answers job)
+    pub notes : new.journal
+        ≡ with_notes
+        (
+        settle_note name (unwrap_or told spent) step
+        ∷ poll_note name (is_told name_started name old.journal.notes)
+        ∷ writes.Pick queue runtime ∷ []
+        ) old.journal
+
+  -- a poll; nothing where no queue has work, and nothing where all turns are used
+  abbrev pub Turns : ℕ → RecordedView J T → RecordedView J T → Reply J → Type 0
+  Turns spent old new reply.Noted = PollsOne spent old new
+  Turns spent old new reply.Idle = ((queue : ℕ) → has_work queue old.journal.notes ≡ false) × (new ≡ old)
+  Turns spent old new reply.Spent =
+      (turns old.journal.notes ≡ 2 ^ 64 - 1) × ((queue : ℕ) × (has_work queue old.journal.notes ≡ true)) × (new ≡ old)
+  Turns spent old new _ = ⊥
