@@ -8,7 +8,6 @@ pub mod PollNotes
 pub mod KeptPicks
 pub mod KeptSettles
 pub mod PollsMade
-pub mod TurnNotes
 pub mod AllOutstanding
 pub mod TakenOrders
 pub mod CarriedOut
