@@ -60,8 +60,16 @@ fn an_order_is_told_without_its_job(rt: HostRuntime) {
     let shares = Shares::default();
     let job = is_told(Order::Job(QueueNo(4), 7), Order::Job(QueueNo(4), ()));
     let create = is_told(Order::Create(shares), Order::Create(shares));
+    let close = is_told(
+        Order::Close(QueueNo(4), Mode::Return),
+        Order::Close(QueueNo(4), Mode::Return),
+    );
+    let core = is_told(
+        Order::CloseCore(Mode::Finish),
+        Order::CloseCore(Mode::Finish),
+    );
     assert!(rt;
-        job && create
+        job && create && close && core
             && is_told(
                 Order::SetShares(QueueNo(4), shares),
                 Order::SetShares(QueueNo(4), shares)

@@ -174,6 +174,7 @@ fn answer(order: Order<Number>) -> Outcome<Number, u64>
         Order::Job(_, number) => Outcome::Finished(number.value),
         Order::Create(_) => Outcome::Answered(Answer::TooMany),
         Order::SetShares(_, _) => Outcome::Answered(Answer::SharesSet),
+        Order::Close(_, _) | Order::CloseCore(_) => Outcome::Answered(Answer::Closed),
     }
 }
 

@@ -8,7 +8,7 @@ use Rattle.rt_ids.specs.declared.order.Answer.TheVariants as answers
 use Rattle.rt_ids.specs.declared.order.Mode.{Mode}
 use Rattle.rt_ids.specs.declared.order.Mode.TheVariants.{Finish, Return}
 use Rattle.rt_ids.specs.declared.order.Order.{Order}
-use Rattle.rt_ids.specs.declared.order.Order.TheVariants.{Job, Create, SetShares}
+use Rattle.rt_ids.specs.declared.order.Order.TheVariants.{Job, Create, SetShares, Close, CloseCore}
 use Rattle.rt_ids.specs.declared.order.Reason.{Reason}
 use Rattle.rt_ids.specs.declared.order.Reason.TheVariants as why
 use Rattle.rt_ids.specs.Assembly.{Assembly, journal_of}
@@ -54,6 +54,12 @@ closes_once T (Some Finish) Return changes = refl
 closes_once T (Some Finish) Finish changes = cc
 closes_once T (Some Return) mode changes = cc
 
+-- no closing is answered by a new queue
+not_created : {A : Type 0} {queue : ℕ} (there changes : Bool) → answers.Created queue ≡ cond there (cond changes answers.Closed answers.AlreadyClosed) answers.NoQueue → A
+not_created true true fits = cc
+not_created true false fits = cc
+not_created false changes fits = cc
+
 -- only an open core answers a creation by a queue
 creates_open : {T : Type 0} (order : Order (Unit {0})) (queue : ℕ) (before : Journal T) → IsAnswer order (answers.Created queue) before → core_mode before ≡ None
 creates_open (Job other task) queue before fits = absurd fits
@@ -67,6 +73,9 @@ creates_open (SetShares other weight) queue before fits = by_test (nat_le other 
     by_test : (test : Bool) → answers.Created queue ≡ cond test answers.SharesSet answers.NoQueue → core_mode before ≡ None
     by_test true fits = cc
     by_test false fits = cc
+
+creates_open (Close other mode) queue before fits = not_created (nat_le other (created_count before)) (closes (queue_mode other before) mode) fits
+creates_open (CloseCore mode) queue before fits = not_created true (closes (core_mode before) mode) fits
 
 -- at the opening the core is open
 opening_open : {T : Type 0} (journal : Journal T) → IsOpening journal → core_mode journal ≡ None

@@ -10,13 +10,13 @@ use Rattle.rt_ids.specs.declared.note.OutcomeNote.TheVariants as outcomes
 use Rattle.rt_ids.specs.declared.order.Answer.{Answer}
 use Rattle.rt_ids.specs.declared.order.Answer.TheVariants as answers
 use Rattle.rt_ids.specs.declared.order.Order.{Order}
-use Rattle.rt_ids.specs.declared.order.Order.TheVariants.{Job, Create, SetShares}
+use Rattle.rt_ids.specs.declared.order.Order.TheVariants.{Job, Create, SetShares, Close, CloseCore}
 use Rattle.rt_ids.specs.Assembly.{first_under}
 use Rattle.rt_ids.specs.Filters.{accepted_orders, collected_outcomes, outcome_collected, order_sent}
 use Rattle.rt_ids.specs.Journal.{Journal, EachNote, with_last, is_told}
 use Rattle.rt_ids.specs.Lawful.{MayFollow, MayStand, IsNextSent}
 use Rattle.rt_ids.specs.Names.{is_name}
-use Rattle.rt_ids.specs.Outcomes.{FitsOrder, AnswersCreation, AnswersShares, IsSpelledAnswer, IsSpelledOutcome}
+use Rattle.rt_ids.specs.Outcomes.{FitsOrder, AnswersCreation, AnswersShares, AnswersClosing, AnswersCoreClosing, IsSpelledAnswer, IsSpelledOutcome}
 use Rattle.rt_ids.specs.Outstanding.{name_collected}
 use Rattle.rt_ids.specs.Spelled.{IsOwn}
 use Rattle.rt_ids.specs.Terms.{Terms}
@@ -33,11 +33,23 @@ shares_spelled : (answer : Answer) → AnswersShares answer → IsSpelledAnswer 
 shares_spelled (answers.Created queue) fits = absurd fits
 shares_spelled _ fits = tt
 
+-- so can one of a closing
+closing_spelled : (answer : Answer) → AnswersClosing answer → IsSpelledAnswer answer
+closing_spelled (answers.Created queue) fits = absurd fits
+closing_spelled _ fits = tt
+
+-- of a queue or of the core
+core_closing_spelled : (answer : Answer) → AnswersCoreClosing answer → IsSpelledAnswer answer
+core_closing_spelled (answers.Created queue) fits = absurd fits
+core_closing_spelled _ fits = tt
+
 -- an outcome that fits its order can be spelled
 pub fitting_spelled : {T : Type 0} (order : Order (Unit {0})) (outcome : OutcomeNote T) → FitsOrder order outcome → IsSpelledOutcome outcome
 fitting_spelled (Job queue task) (outcomes.Answered answer) fits = absurd fits
 fitting_spelled (Create weight) (outcomes.Answered answer) fits = creation_spelled answer fits
 fitting_spelled (SetShares queue weight) (outcomes.Answered answer) fits = shares_spelled answer fits
+fitting_spelled (Close queue mode) (outcomes.Answered answer) fits = closing_spelled answer fits
+fitting_spelled (CloseCore mode) (outcomes.Answered answer) fits = core_closing_spelled answer fits
 fitting_spelled order (outcomes.Finished value) fits = tt
 fitting_spelled order (outcomes.Returned reason) fits = tt
 

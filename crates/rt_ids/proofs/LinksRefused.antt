@@ -1,13 +1,14 @@
 -- What each of these orders calls for is something else.
-use Rattle.std.proofs.Common.{◌≡◌, ℕ, inl, inr, [], ◌∷◌, refl, sym, ap, subst, arith}
+use Rattle.std.proofs.Common.{◌≡◌, ℕ, inl, inr, [], ◌∷◌, refl, sym, ◌∙◌, ap, subst, arith}
 use Rattle.std.specs.Prelude.{Option, Some}
 use Rattle.std.proofs.lemmas.Option.{same_Some}
 use Rattle.rt_ids.specs.declared.note.Note.{Note}
 use Rattle.rt_ids.specs.declared.note.Note.TheVariants as notes
 use Rattle.rt_ids.specs.declared.note.OutcomeNote.TheVariants.{Finished}
 use Rattle.rt_ids.specs.declared.order.Answer.TheVariants as answers
+use Rattle.rt_ids.specs.declared.order.Mode.TheVariants.{Finish, Return}
 use Rattle.rt_ids.specs.declared.order.Order.{Order}
-use Rattle.rt_ids.specs.declared.order.Order.TheVariants.{Job, Create}
+use Rattle.rt_ids.specs.declared.order.Order.TheVariants.{Job, Create, Close}
 use Rattle.rt_ids.specs.declared.order.Reason.TheVariants as why
 use Rattle.rt_ids.specs.BadLinks.{LinksAreRefused}
 use Rattle.rt_ids.specs.Commands.{IsAnswer, effect_note, refusal}
@@ -43,6 +44,19 @@ not_600 order sent carried =
     let weight : ◌≡◌ {A = ℕ} 500 600 = given in
     omega arith
 
+-- the first closing of an open queue is not answered as a second one
+not_closed_before : (order : Order (Unit {0})) → Some (Close 0 Finish) ≡ Some order → IsAnswer {T = ℕ} order answers.AlreadyClosed [] → ⊥
+not_closed_before order sent fits =
+    let closing : IsAnswer {T = ℕ} (Close 0 Finish) answers.AlreadyClosed [] = subst (λ one. IsAnswer {T = ℕ} one answers.AlreadyClosed []) (sym (same_Some (Close 0 Finish) order sent)) fits in
+    cc
+
+-- it has one effect
+not_other_effect : (order : Order (Unit {0})) (note : Note ℕ) → Some (Close 0 Finish) ≡ Some order → effect_note {T = ℕ} order answers.Closed ≡ Some note → note ≡ notes.QueueClosed 0 Finish
+not_other_effect order note sent carried =
+    let same = same_Some (Close 0 Finish) order sent in
+    let effect : effect_note {T = ℕ} (Close 0 Finish) answers.Closed ≡ Some note = ap (λ one. effect_note {T = ℕ} one answers.Closed) same ∙ carried in
+    sym (same_Some (notes.QueueClosed 0 Finish) note effect)
+
 -- the answer of the first of these outcomes
 abbrev first_value : Outcomes ℕ → ℕ
 first_value ((name, Finished value) ∷ rest) = value
@@ -53,6 +67,9 @@ links_refused = record {
   answer = λ agree. let sent = (agree.as_sent 0 (omega arith)).1.0 in not_shares sent.0 sent.1 sent.2;
   refusal = λ agree. let sent = (agree.as_sent 0 (omega arith)).0 in not_denied sent.0 sent.1 sent.2;
   effect = λ agree. let sent = (agree.as_sent 0 (omega arith)).0 refl in not_600 sent.0 sent.1 sent.2;
+  closing = λ agree. let sent = (agree.as_sent 0 (omega arith)).0 in not_closed_before sent.0 sent.1 sent.2;
+  mode = λ agree. let sent = (agree.as_sent 0 (omega arith)).0 refl in let effect = not_other_effect sent.0 (notes.QueueClosed 0 Return) sent.1 sent.2 in cc;
+  core = λ agree. let sent = (agree.as_sent 0 (omega arith)).0 refl in let effect = not_other_effect sent.0 (notes.CoreClosed Finish) sent.1 sent.2 in cc;
   count = λ agree. let count : 0 ≡ 1 = agree.gates 1 0 (omega arith) (omega arith) 0 refl in omega arith;
   outcome = λ agree. let given = (agree.collections 1 0 (omega arith) (omega arith)).1 in let value : 8 ≡ 7 = ap first_value given in cc;
 }

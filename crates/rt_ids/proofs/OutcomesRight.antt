@@ -8,7 +8,7 @@ use Rattle.std.specs.Prelude.{Some}
 use Rattle.rt_ids.specs.declared.note.OutcomeNote.{OutcomeNote}
 use Rattle.rt_ids.specs.declared.order.Answer.{Answer}
 use Rattle.rt_ids.specs.declared.order.Order.{Order}
-use Rattle.rt_ids.specs.declared.order.Order.TheVariants.{Job, Create, SetShares}
+use Rattle.rt_ids.specs.declared.order.Order.TheVariants.{Job, Create, SetShares, Close, CloseCore}
 use Rattle.rt_ids.specs.Assembly.{Assembly, first_under, order_of, outcome_of, IsAcceptedCommand}
 use Rattle.rt_ids.specs.Commands.{IsAnswer}
 use Rattle.rt_ids.specs.Clauses.{StandsInOrder, OutcomesRight, name_answered}
@@ -34,6 +34,8 @@ command_answered : {T : Type 0} (assembly : Assembly T) (name : JobId) (order : 
 command_answered assembly name (Job queue task) answer before sent fits = absurd fits
 command_answered assembly name (Create weight) answer before sent fits = rw sent
 command_answered assembly name (SetShares queue weight) answer before sent fits = rw sent
+command_answered assembly name (Close queue mode) answer before sent fits = rw sent
+command_answered assembly name (CloseCore mode) answer before sent fits = rw sent
 
 -- what is collected for the first time stands under its name
 collected_now : {T : Type 0} (name : JobId) (outcome : OutcomeNote T) (before : Journal T) → is_told name_collected name before ≡ false →

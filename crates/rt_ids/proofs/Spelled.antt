@@ -10,10 +10,10 @@ use Rattle.rt_ids.specs.declared.order.Answer.TheVariants as answers
 use Rattle.rt_ids.specs.declared.order.Mode.{Mode}
 use Rattle.rt_ids.specs.declared.order.Mode.TheVariants.{Finish, Return}
 use Rattle.rt_ids.specs.declared.order.Order.{Order}
-use Rattle.rt_ids.specs.declared.order.Order.TheVariants.{Job, Create, SetShares}
+use Rattle.rt_ids.specs.declared.order.Order.TheVariants.{Job, Create, SetShares, Close, CloseCore}
 use Rattle.rt_ids.specs.declared.order.Reason.{Reason}
 use Rattle.rt_ids.specs.declared.order.Reason.TheVariants as why
-use Rattle.rt_ids.specs.Closing.{core_mode}
+use Rattle.rt_ids.specs.Closing.{core_mode, queue_mode, closes}
 use Rattle.rt_ids.specs.Commands.{created_count, queue_created, refusal, reason_if_closed, reason_if_returning, IsAnswer, IsCreationAnswer}
 use Rattle.rt_ids.specs.Journal.{Journal, EachNote, list_told, or_else}
 use Rattle.rt_ids.specs.Lawful.{MayFollow, MayStand, IsTurnOf, IsNextDelivered}
@@ -71,12 +71,20 @@ shares_spelled : (there : Bool) (answer : Answer) → answer ≡ cond there answ
 shares_spelled true answer is = subst (λ one. IsSpelledAnswer one) (sym is) tt
 shares_spelled false answer is = subst (λ one. IsSpelledAnswer one) (sym is) tt
 
+-- something is closed, or was, or there is no such queue
+closing_spelled : (there changes : Bool) (answer : Answer) → answer ≡ cond there (cond changes answers.Closed answers.AlreadyClosed) answers.NoQueue → IsSpelledAnswer answer
+closing_spelled true true answer is = subst (λ one. IsSpelledAnswer one) (sym is) tt
+closing_spelled true false answer is = subst (λ one. IsSpelledAnswer one) (sym is) tt
+closing_spelled false changes answer is = subst (λ one. IsSpelledAnswer one) (sym is) tt
+
 -- what a command may be answered can be spelled
 answer_spelled : {T : Type 0} (order : Order (Unit {0})) (answer : Answer) (before : Journal T) → IsAnswer order answer before → IsSpelledAnswer answer
 answer_spelled (Job queue task) answer before fits = absurd fits
 answer_spelled (Create weight) answer before fits =
     created_spelled (core_mode before) (created_count before) (nat_le 255 (created_count before)) answer refl fits
 answer_spelled (SetShares queue weight) answer before fits = shares_spelled (nat_le queue (created_count before)) answer fits
+answer_spelled (Close queue mode) answer before fits = closing_spelled (nat_le queue (created_count before)) (closes (queue_mode queue before) mode) answer fits
+answer_spelled (CloseCore mode) answer before fits = closing_spelled true (closes (core_mode before) mode) answer fits
 
 module _ {T : Type 0} (terms : Terms) where
   -- a core has 256 queues at most

@@ -3,11 +3,13 @@ use Rattle.std.specs.Prelude.{ℕ, [], ◌∷◌}
 use Rattle.rt_ids.specs.declared.note.Note.TheVariants as notes
 use Rattle.rt_ids.specs.declared.note.OutcomeNote.TheVariants.{Finished}
 use Rattle.rt_ids.specs.declared.order.Answer.TheVariants as answers
-use Rattle.rt_ids.specs.declared.order.Mode.TheVariants.{Finish}
+use Rattle.rt_ids.specs.declared.order.Mode.TheVariants.{Finish, Return}
+use Rattle.rt_ids.specs.declared.order.Order.TheVariants.{Close}
 use Rattle.rt_ids.specs.declared.order.Reason.TheVariants as why
 use Rattle.rt_ids.specs.Assembly.{Assembly}
 use Rattle.rt_ids.specs.BadJournals.{submission, with_journals, one_job, one_command, done}
 use Rattle.rt_ids.specs.Joining.{LinksAgree}
+use Rattle.rt_ids.specs.Journal.{Journal}
 
 -- an order to create a queue is answered, and carried out, as if it set shares
 abbrev pub answered_otherwise : Assembly ℕ
@@ -20,6 +22,22 @@ open_queue_denied = with_journals (notes.Back (submission 1) why.NoQueue ∷ [])
 -- a queue is created with other shares than the command gives it
 abbrev pub created_with_other_shares : Assembly ℕ
 created_with_other_shares = with_journals (notes.Created 1 600 ∷ notes.Answered (submission 1) (answers.Created 1) ∷ []) one_command
+
+-- the outside actor sent a closing of queue 0
+abbrev pub one_closing : Journal ℕ
+one_closing = notes.Sent (submission 1) (Close 0 Finish) ∷ []
+
+-- an open queue is said to be closed already
+abbrev pub closed_before : Assembly ℕ
+closed_before = with_journals (notes.Answered (submission 1) answers.AlreadyClosed ∷ []) one_closing
+
+-- a queue is closed in another mode than the command says
+abbrev pub closed_otherwise : Assembly ℕ
+closed_otherwise = with_journals (notes.QueueClosed 0 Return ∷ notes.Answered (submission 1) answers.Closed ∷ []) one_closing
+
+-- the core is closed in place of a queue
+abbrev pub core_closed_instead : Assembly ℕ
+core_closed_instead = with_journals (notes.CoreClosed Finish ∷ notes.Answered (submission 1) answers.Closed ∷ []) one_closing
 
 -- a gate is shut at another count than that of the accepted orders
 abbrev pub shut_at_another : Assembly ℕ
@@ -34,5 +52,8 @@ pub record LinksAreRefused : Type 0 where
   pub answer : LinksAgree answered_otherwise → ⊥
   pub refusal : LinksAgree open_queue_denied → ⊥
   pub effect : LinksAgree created_with_other_shares → ⊥
+  pub closing : LinksAgree closed_before → ⊥
+  pub mode : LinksAgree closed_otherwise → ⊥
+  pub core : LinksAgree core_closed_instead → ⊥
   pub count : LinksAgree shut_at_another → ⊥
   pub outcome : LinksAgree collected_another → ⊥

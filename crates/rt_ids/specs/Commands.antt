@@ -3,7 +3,7 @@ use Rattle.std.specs.Prelude.{◌≡◌, ◌⊎◌, ℕ, ◌+◌, Bool, true, fa
 use Rattle.rt_ids.specs.declared.note.Note.{Note}
 use Rattle.rt_ids.specs.declared.note.Note.TheVariants as notes
 use Rattle.rt_ids.specs.declared.order.Order.{Order}
-use Rattle.rt_ids.specs.declared.order.Order.TheVariants.{Job, Create, SetShares}
+use Rattle.rt_ids.specs.declared.order.Order.TheVariants.{Job, Create, SetShares, Close, CloseCore}
 use Rattle.rt_ids.specs.declared.order.Mode.{Mode}
 use Rattle.rt_ids.specs.declared.order.Mode.TheVariants.{Return}
 use Rattle.rt_ids.specs.declared.order.Reason.{Reason}
@@ -11,7 +11,7 @@ use Rattle.rt_ids.specs.declared.order.Reason.TheVariants as why
 use Rattle.rt_ids.specs.declared.order.Answer.{Answer}
 use Rattle.rt_ids.specs.declared.order.Answer.TheVariants as answers
 use Rattle.rt_ids.specs.Journal.{Journal, list_told, or_else}
-use Rattle.rt_ids.specs.Closing.{queue_mode, core_mode}
+use Rattle.rt_ids.specs.Closing.{queue_mode, core_mode, closes}
 
 -- the queue that a note says was created
 abbrev pub queue_created : {T : Type 0} → Note T → Option ℕ
@@ -48,6 +48,10 @@ IsCreationAnswer (Some mode) full next answer = answer ≡ answers.CoreClosing
 IsCreationAnswer None true next answer = answer ≡ answers.TooMany
 IsCreationAnswer None false next answer = (answer ≡ answers.NoMemory) ⊎ (answer ≡ answers.Created next)
 
+-- a closing is answered by whether it changes anything
+abbrev pub closing_answer : Option Mode → Mode → Answer
+closing_answer now mode = if closes now mode then answers.Closed else answers.AlreadyClosed
+
 -- what a command may be answered
 abbrev pub IsAnswer : {T : Type 0} → Order (Unit {0}) → Answer → Journal T → Type 0
 IsAnswer (Job queue task) answer before = ⊥
@@ -55,11 +59,16 @@ IsAnswer (Create weight) answer before =
     IsCreationAnswer (core_mode before) (nat_le 255 (created_count before)) (created_count before + 1) answer
 IsAnswer (SetShares queue weight) answer before =
     answer ≡ (if nat_le queue (created_count before) then answers.SharesSet else answers.NoQueue)
+IsAnswer (Close queue mode) answer before =
+    answer ≡ (if nat_le queue (created_count before) then closing_answer (queue_mode queue before) mode else answers.NoQueue)
+IsAnswer (CloseCore mode) answer before = answer ≡ closing_answer (core_mode before) mode
 
 -- the note of what a command did, by its answer
 abbrev pub effect_note : {T : Type 0} → Order (Unit {0}) → Answer → Option (Note T)
 effect_note (Create weight) (answers.Created queue) = Some (notes.Created queue weight)
 effect_note (SetShares queue weight) answers.SharesSet = Some (notes.SharesSet queue weight)
+effect_note (Close queue mode) answers.Closed = Some (notes.QueueClosed queue mode)
+effect_note (CloseCore mode) answers.Closed = Some (notes.CoreClosed mode)
 effect_note _ _ = None
 
 -- whether an answer has an effect

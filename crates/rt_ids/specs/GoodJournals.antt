@@ -1,9 +1,11 @@
--- Two cores that close and are drained, one in each mode, with senders that collect, redeem and detach: the laws refuse the bad journals and not these.
+-- Three cores that close and are drained, one in each mode and one by commands, with senders that collect, redeem and detach: the laws refuse the bad journals and not these.
 use Rattle.std.specs.Prelude.{◌≡◌, ℕ, [], ◌∷◌}
-use Rattle.rt_ids.specs.declared.note.Note.TheVariants.{Took, CoreClosed, Pick, Start, Resume, Yield, Done, Returned, Shut, Collected, Redeemed, Detached}
+use Rattle.rt_ids.specs.declared.note.Note.TheVariants.{Sent, Took, Answered, QueueClosed, CoreClosed, Pick, Start, Resume, Yield, Done, Returned, Shut, Collected, Redeemed, Detached}
 use Rattle.rt_ids.specs.declared.note.OutcomeNote.TheVariants as outcome
+use Rattle.rt_ids.specs.declared.order.Answer.TheVariants.{Closed, AlreadyClosed}
 use Rattle.rt_ids.specs.declared.order.Mode.TheVariants.{Finish, Return}
-use Rattle.rt_ids.specs.declared.order.Reason.TheVariants.{CoreReturned}
+use Rattle.rt_ids.specs.declared.order.Order.TheVariants.{Close, CloseCore}
+use Rattle.rt_ids.specs.declared.order.Reason.TheVariants.{QueueReturned, CoreReturned}
 use Rattle.rt_ids.specs.Assembly.{Assembly, journal_of}
 use Rattle.rt_ids.specs.BadJournals.{submission, with_journals, one_job, two_jobs, both_taken}
 use Rattle.rt_ids.specs.Closing.{IsDrained}
@@ -55,6 +57,32 @@ detached_one =
 abbrev pub returning_core : Assembly ℕ
 returning_core = with_journals both_returned detached_one
 
+-- queue 0 is closed in mode `Return` with a job inside, isn't opened again, and the core is closed
+abbrev pub commanded : Journal ℕ
+commanded =
+    CoreClosed Finish ∷ Answered (submission 4) Closed ∷ Answered (submission 3) AlreadyClosed ∷ QueueClosed 0 Return ∷ Answered (submission 2) Closed ∷
+    Took (submission 1) 0 ∷ []
+
+-- its job is handed back, and its gates are shut
+abbrev pub emptied : Journal ℕ
+emptied = Shut 0 0 ∷ Shut 1 4 ∷ Returned (submission 1) QueueReturned ∷ Pick 0 0 ∷ commanded
+
+-- the sender of the three commands
+abbrev pub commanding : Journal ℕ
+commanding =
+    Sent (submission 4) (CloseCore Finish) ∷ Sent (submission 3) (Close 0 Finish) ∷ Sent (submission 2) (Close 0 Return) ∷ one_job
+
+-- it collects all, redeems the answers that changed something, and detaches the others
+abbrev pub answered_all : Journal ℕ
+answered_all =
+    Detached (submission 1) ∷ Collected (submission 1) (outcome.Returned QueueReturned) ∷
+    Redeemed (submission 4) (outcome.Answered Closed) ∷ Collected (submission 4) (outcome.Answered Closed) ∷
+    Collected (submission 3) (outcome.Answered AlreadyClosed) ∷ Detached (submission 3) ∷
+    Redeemed (submission 2) (outcome.Answered Closed) ∷ Collected (submission 2) (outcome.Answered Closed) ∷ commanding
+
+abbrev pub commanded_core : Assembly ℕ
+commanded_core = with_journals emptied answered_all
+
 -- joined journals whose core 0 is drained, which so are sound, and whose outside actor has nothing outstanding
 pub record IsServed (assembly : Assembly ℕ) : Type 0 where
   pub drained : IsDrained 1 (journal_of 0 assembly)
@@ -62,7 +90,8 @@ pub record IsServed (assembly : Assembly ℕ) : Type 0 where
   pub sound : IsSound assembly
   pub nothing_outstanding : outstanding_count 0 (journal_of 1 assembly) ≡ 0
 
--- both are
+-- all three are
 pub record DrainedIsSound : Type 0 where
   pub finishing : IsServed drained_core
   pub returning : IsServed returning_core
+  pub commanded : IsServed commanded_core

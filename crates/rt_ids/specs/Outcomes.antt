@@ -5,7 +5,7 @@ use Rattle.rt_ids.specs.declared.note.OutcomeNote.TheVariants as notes
 use Rattle.rt_ids.specs.declared.order.Answer.{Answer}
 use Rattle.rt_ids.specs.declared.order.Answer.TheVariants as answers
 use Rattle.rt_ids.specs.declared.order.Order.{Order}
-use Rattle.rt_ids.specs.declared.order.Order.TheVariants.{Job, Create, SetShares}
+use Rattle.rt_ids.specs.declared.order.Order.TheVariants.{Job, Create, SetShares, Close, CloseCore}
 use Rattle.rt_ids.specs.declared.order.Outcome.{Outcome}
 use Rattle.rt_ids.specs.declared.order.Outcome.TheVariants as outcomes
 use Rattle.rt_ids.specs.Limits.{most_queues}
@@ -39,10 +39,25 @@ AnswersShares answers.SharesSet = Unit {0}
 AnswersShares answers.NoQueue = Unit {0}
 AnswersShares _ = ⊥
 
+-- a queue was closed, or was closed before, or there was no such queue
+abbrev pub AnswersClosing : Answer → Type 0
+AnswersClosing answers.Closed = Unit {0}
+AnswersClosing answers.AlreadyClosed = Unit {0}
+AnswersClosing answers.NoQueue = Unit {0}
+AnswersClosing _ = ⊥
+
+-- the core was closed, or was closed before
+abbrev pub AnswersCoreClosing : Answer → Type 0
+AnswersCoreClosing answers.Closed = Unit {0}
+AnswersCoreClosing answers.AlreadyClosed = Unit {0}
+AnswersCoreClosing _ = ⊥
+
 -- an outcome fits its order: a job is done or handed back, and a command gets an answer of its own kind
 abbrev pub FitsOrder : {T : Type 0} → Order (Unit {0}) → OutcomeNote T → Type 0
 FitsOrder (Job queue task) (notes.Finished value) = Unit {0}
 FitsOrder (Job queue task) (notes.Returned reason) = Unit {0}
 FitsOrder (Create weight) (notes.Answered answer) = AnswersCreation answer
 FitsOrder (SetShares queue weight) (notes.Answered answer) = AnswersShares answer
+FitsOrder (Close queue mode) (notes.Answered answer) = AnswersClosing answer
+FitsOrder (CloseCore mode) (notes.Answered answer) = AnswersCoreClosing answer
 FitsOrder _ _ = ⊥

@@ -63,6 +63,10 @@ pub enum Order<J> {
     Create(Shares),
     /// Give a queue these shares.
     SetShares(QueueNo, Shares),
+    /// Close a queue.
+    Close(QueueNo, Mode),
+    /// Close the core.
+    CloseCore(Mode),
 }
 
 impl<J> Order<J> {
@@ -85,6 +89,11 @@ impl<J> Order<J> {
                 let _in_range = shares.get();
                 Order::SetShares(*queue, *shares)
             }
+            Order::Close(queue, mode) => {
+                let _number = queue.0;
+                Order::Close(*queue, *mode)
+            }
+            Order::CloseCore(mode) => Order::CloseCore(*mode),
         }
     }
 }

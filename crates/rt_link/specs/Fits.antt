@@ -1,11 +1,12 @@
 -- When an outcome fits the order that it is given for.
 use Rattle.std.specs.Prelude.{◌≡◌}
 use Rattle.rt_ids.specs.declared.order.Order.{Order}
-use Rattle.rt_ids.specs.declared.order.Order.TheVariants.{Job, Create, SetShares}
+use Rattle.rt_ids.specs.declared.order.Order.TheVariants.{Job, Create, SetShares, Close, CloseCore}
 use Rattle.rt_ids.specs.declared.order.Outcome.{Outcome}
 use Rattle.rt_ids.specs.declared.order.Outcome.TheVariants.{Finished, Returned, Answered}
 use Rattle.rt_ids.specs.declared.order.Answer.{Answer}
 use Rattle.rt_ids.specs.declared.order.Answer.TheVariants as answer
+use Rattle.rt_ids.specs.Outcomes.{AnswersClosing, AnswersCoreClosing}
 
 -- a creation is answered by the new queue, or by one of its three refusals
 abbrev pub AnswersCreation : Answer → Type 0
@@ -33,4 +34,6 @@ module _ {J T : Type 0} (same : J → J → Type 0) (answers : J → T → Type 
   Fits (Job queue job) (Returned reason back) = IsSameJob (Job queue job) back
   Fits (Create shares) (Answered answer) = AnswersCreation answer
   Fits (SetShares queue shares) (Answered answer) = AnswersShares answer
+  Fits (Close queue mode) (Answered answer) = AnswersClosing answer
+  Fits (CloseCore mode) (Answered answer) = AnswersCoreClosing answer
   Fits _ _ = ⊥

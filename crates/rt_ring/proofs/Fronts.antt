@@ -3,7 +3,7 @@ use Rattle.std.proofs.Common.{◌≡◌, ℕ, zero, suc, ◌<◌, List, [], ◌�
 use Rattle.std.specs.Prelude.{slice_get}
 use Rattle.atomic_table.specs.Table.{rest, turned}
 use Rattle.rt_ids.specs.declared.order.Order.{Order}
-use Rattle.rt_ids.specs.declared.order.Order.TheVariants.{Job, Create, SetShares}
+use Rattle.rt_ids.specs.declared.order.Order.TheVariants.{Job, Create, SetShares, Close, CloseCore}
 use Rattle.rt_ids.specs.declared.order.Outcome.{Outcome}
 use Rattle.rt_ids.specs.declared.order.Outcome.TheVariants.{Finished, Returned, Answered}
 use Rattle.rt_ring.specs.declared.board.Label.{Label}
@@ -57,11 +57,15 @@ module _ {J : Type 0} where
   whole_or other (Job queue task) None = other
   whole_or other (Create shares) job = Create shares
   whole_or other (SetShares queue shares) job = SetShares queue shares
+  whole_or other (Close queue mode) job = Close queue mode
+  whole_or other (CloseCore mode) job = CloseCore mode
 
   whole_or-bare : (other order : Order J) → whole_or other (bare order) (job_of order) ≡ order
   whole_or-bare other (Job queue job) = refl
   whole_or-bare other (Create shares) = refl
   whole_or-bare other (SetShares queue shares) = refl
+  whole_or-bare other (Close queue mode) = refl
+  whole_or-bare other (CloseCore mode) = refl
 
 -- what a slot holds is one thing
 module _ {J T : Type 0} where
@@ -83,6 +87,8 @@ module _ {J T : Type 0} where
   outcome_in other (label.Notice number (notice.Returned reason (Job queue task))) (Some job) = (number, Returned reason (Job queue job))
   outcome_in other (label.Notice number (notice.Returned reason (Create shares))) job = (number, Returned reason (Create shares))
   outcome_in other (label.Notice number (notice.Returned reason (SetShares queue shares))) job = (number, Returned reason (SetShares queue shares))
+  outcome_in other (label.Notice number (notice.Returned reason (Close queue mode))) job = (number, Returned reason (Close queue mode))
+  outcome_in other (label.Notice number (notice.Returned reason (CloseCore mode))) job = (number, Returned reason (CloseCore mode))
   outcome_in other (label.Notice number (notice.Answered answer)) job = (number, Answered answer)
   outcome_in other _ _ = other
 
@@ -91,6 +97,8 @@ module _ {J T : Type 0} where
   outcome_in-Back other number (Returned reason (Job queue job)) = refl
   outcome_in-Back other number (Returned reason (Create shares)) = refl
   outcome_in-Back other number (Returned reason (SetShares queue shares)) = refl
+  outcome_in-Back other number (Returned reason (Close queue mode)) = refl
+  outcome_in-Back other number (Returned reason (CloseCore mode)) = refl
   outcome_in-Back other number (Answered answer) = refl
 
   Back-injective : (a b : ℕ × Outcome J T) → Back a.0 a.1 ≡ Back b.0 b.1 → a ≡ b

@@ -3,7 +3,7 @@ use Rattle.std.specs.Prelude.{◌≡◌, ℕ, ◌+◌, ◌*◌, ◌%◌, ◌<◌
 use mathlib.Core.Option as maybe
 use lib.ListN.{get_elem?}
 use Rattle.rt_ids.specs.declared.order.Order.{Order}
-use Rattle.rt_ids.specs.declared.order.Order.TheVariants.{Job, Create, SetShares}
+use Rattle.rt_ids.specs.declared.order.Order.TheVariants.{Job, Create, SetShares, Close, CloseCore}
 use Rattle.rt_ids.specs.declared.order.Outcome.{Outcome}
 use Rattle.rt_ids.specs.declared.order.Outcome.TheVariants.{Finished, Returned, Answered}
 use Rattle.rt_link.specs.declared.plain.Whole.{Whole}
@@ -34,12 +34,16 @@ module _ {J : Type 0} where
   bare (Job queue job) = Job queue tt
   bare (Create shares) = Create shares
   bare (SetShares queue shares) = SetShares queue shares
+  bare (Close queue mode) = Close queue mode
+  bare (CloseCore mode) = CloseCore mode
 
   -- the job of an order, if it has one
   abbrev pub job_of : Order J → Option J
   job_of (Job queue job) = Some job
   job_of (Create shares) = None
   job_of (SetShares queue shares) = None
+  job_of (Close queue mode) = None
+  job_of (CloseCore mode) = None
 
 module _ {J T : Type 0} where
   -- an outcome without a job, with its order's number

@@ -40,6 +40,12 @@ impl<J: Drop, T: Drop> Slot<J, T> {
                     Label::Sent(0, Order::SetShares(queue, shares)),
                 );
             }
+            Order::Close(queue, mode) => {
+                overwrite(&mut self.label, Label::Sent(0, Order::Close(queue, mode)));
+            }
+            Order::CloseCore(mode) => {
+                overwrite(&mut self.label, Label::Sent(0, Order::CloseCore(mode)));
+            }
         }
     }
 
@@ -84,6 +90,8 @@ impl<J: Drop, T: Drop> Slot<J, T> {
             }
             Order::Create(shares) => Order::Create(shares),
             Order::SetShares(queue, shares) => Order::SetShares(queue, shares),
+            Order::Close(queue, mode) => Order::Close(queue, mode),
+            Order::CloseCore(mode) => Order::CloseCore(mode),
         }
     }
 
@@ -140,6 +148,8 @@ fn parted<J>(order: Order<J>) -> (Order<()>, Option<J>)
         Order::Job(queue, job) => (Order::Job(queue, ()), Some(job)),
         Order::Create(shares) => (Order::Create(shares), None),
         Order::SetShares(queue, shares) => (Order::SetShares(queue, shares), None),
+        Order::Close(queue, mode) => (Order::Close(queue, mode), None),
+        Order::CloseCore(mode) => (Order::CloseCore(mode), None),
     }
 }
 

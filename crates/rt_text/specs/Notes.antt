@@ -33,6 +33,8 @@ abbrev pub order_text : Order (Unit {0}) → List ℕ
 order_text (order.Job queue task) = codes "job q" ++ decimal queue
 order_text (order.Create shares) = codes "create " ++ decimal shares
 order_text (order.SetShares queue shares) = codes "shares q" ++ decimal queue ++ codes " " ++ decimal shares
+order_text (order.Close queue closed) = codes "close q" ++ decimal queue ++ codes " " ++ mode_text closed
+order_text (order.CloseCore closed) = codes "closecore " ++ mode_text closed
 
 abbrev pub answer_text : Answer → List ℕ
 answer_text (answer.Created queue) = codes "created q" ++ decimal queue

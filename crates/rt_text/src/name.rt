@@ -3,7 +3,7 @@
 ghost use Rattle.std.specs.Prelude.{Some};
 ghost use Rattle.rt_text.specs.Notes as spec;
 
-use crate::word::reason_word;
+use crate::word::{mode_word, reason_word};
 use rt_ids::{Answer, JobId, Order, OutcomeNote};
 use std::fmt;
 
@@ -51,6 +51,15 @@ impl fmt::Display for OrderText {
                 let queue = queue.0;
                 let shares = shares.get();
                 write!(f, "shares q{queue} {shares}")
+            }
+            Order::Close(queue, mode) => {
+                let queue = queue.0;
+                let mode = mode_word(mode);
+                write!(f, "close q{queue} {mode}")
+            }
+            Order::CloseCore(mode) => {
+                let mode = mode_word(mode);
+                write!(f, "closecore {mode}")
             }
         }
     }
