@@ -1,10 +1,10 @@
 -- What a delivery does: a job enters its queue or goes back, a command is carried out and answered.
-use Rattle.std.specs.Prelude.{◌≡◌, ◌≢◌, ℕ, ◌<◌, ◌≤◌, List, [], ◌∷◌, ◌++◌, slice_set, false, Some, None, Result, Ok, Err}
+use Rattle.std.specs.Prelude.{◌≡◌, ◌≢◌, ℕ, ◌<◌, ◌≤◌, List, [], ◌∷◌, ◌++◌, slice_set, true, false, Some, None, Result, Ok, Err}
 use Rattle.rt_ids.specs.declared.names.JobId.{JobId}
 use Rattle.rt_ids.specs.declared.note.Note.{Note}
 use Rattle.rt_ids.specs.declared.note.Note.TheVariants as notes
 use Rattle.rt_ids.specs.declared.order.Order.{Order}
-use Rattle.rt_ids.specs.declared.order.Order.TheVariants.{Job, Create, SetShares}
+use Rattle.rt_ids.specs.declared.order.Order.TheVariants.{Job, Create, SetShares, Close, CloseCore}
 use Rattle.rt_ids.specs.declared.order.Answer.TheVariants as answers
 use Rattle.rt_taskqueue.specs.declared.queues.CreateError.{CreateError}
 use Rattle.rt_taskqueue.specs.declared.queues.CreateError.TheVariants.{TooMany, Memory}
@@ -12,7 +12,7 @@ use Rattle.rt_taskqueue.specs.Queues.{queue_count, waiting_of, ChangesLine, Chan
 use Rattle.rt_core.specs.declared.delivery.Delivered.{Delivered}
 use Rattle.rt_core.specs.declared.delivery.Delivered.TheVariants.{Took, Back, Answered}
 use Rattle.rt_core.specs.State.{CoreView, no_tally, tally_of, entry_runtime}
-use Rattle.rt_core.specs.Closing.{refusal}
+use Rattle.rt_core.specs.Closing.{refusal, ClosesQueue, ClosesCore}
 
 module _ {J : Type 0} where
   -- the delivery is counted
@@ -76,4 +76,14 @@ module _ {J T : Type 0} where
       × (written ≡ notes.Answered name answers.SharesSet ∷ notes.SharesSet queue weight ∷ [])
   Delivers old name (SetShares queue weight) (Answered answers.NoQueue) new written =
       (queue_count old.queues ≤ queue) × CountsAlone old name new × (written ≡ notes.Answered name answers.NoQueue ∷ [])
+  -- a closing is counted, and then done as by a call, with its note behind the answer
+  Delivers old name (Close queue mode) (Answered answer) new written =
+      (effect : List (Note T)) × ClosesQueue (record old { delivered = counted name old }) queue mode answer new effect
+      × (written ≡ notes.Answered name answer ∷ effect)
+  Delivers old name (CloseCore mode) (Answered answers.Closed) new written =
+      (effect : List (Note T)) × ClosesCore (record old { delivered = counted name old }) mode true new effect
+      × (written ≡ notes.Answered name answers.Closed ∷ effect)
+  Delivers old name (CloseCore mode) (Answered answers.AlreadyClosed) new written =
+      (effect : List (Note T)) × ClosesCore (record old { delivered = counted name old }) mode false new effect
+      × (written ≡ notes.Answered name answers.AlreadyClosed ∷ effect)
   Delivers old name order delivered new written = ⊥

@@ -1,5 +1,5 @@
 //! The notes that one call makes.
-ghost use Rattle.std.specs.Prelude.{◌≡◌, [], ◌∷◌};
+ghost use Rattle.std.specs.Prelude.{◌≡◌, ◌≤◌, [], ◌∷◌, length};
 
 use arrayvec::ArrayVec;
 use rt_ids::Note;
@@ -22,4 +22,13 @@ pub(crate) fn two_notes<T: Copy>(first: Note<T>, second: Note<T>) -> Notes<T>
     notes.push(first);
     notes.push(second);
     notes
+}
+
+/// The note of an answer, and behind it that of its effect, if it has one.
+pub(crate) fn with_effect<T: Copy>(answer: Note<T>, mut effect: Notes<T>) -> Notes<T>
+    requires { length effect.items ≤ 1 }
+    ensures { result.items ≡ answer ∷ effect.items }
+{
+    effect.insert(0, answer);
+    effect
 }

@@ -157,6 +157,8 @@ impl<J: Task, A: Allocator + Clone> Core<J, A> {
             Order::Job(queue, job) => self.deliver_job(name, queue, job),
             Order::Create(shares) => self.deliver_create(name, shares),
             Order::SetShares(queue, shares) => self.deliver_shares(name, queue, shares),
+            Order::Close(queue, mode) => self.deliver_close(name, queue, mode),
+            Order::CloseCore(mode) => self.deliver_close_core(name, mode),
         }
     }
 

@@ -1,5 +1,8 @@
 //! What a delivery does, by its order.
 ghost use Rattle.std.specs.Prelude.{◌≡◌, ◌↔◌, ℕ, ◌+◌, ◌<◌, ◌≤◌, true, false, None, IsTrue};
+ghost use Rattle.rt_core.specs.declared.delivery.Delivered.TheVariants as deliveries;
+ghost use Rattle.rt_ids.specs.declared.note.Note.TheVariants as notes;
+ghost use Rattle.rt_ids.specs.declared.order.Answer.TheVariants as answers;
 ghost use Rattle.rt_ids.specs.declared.order.Order.TheVariants as orders;
 ghost use Rattle.rt_jobs.specs.Ready.{IsReady};
 ghost use Rattle.rt_taskqueue.specs.Queues.{queue_count, mode_of};
@@ -8,11 +11,11 @@ ghost use Rattle.rt_core.specs.Deliveries.{Delivers, CountsAlone, Enters};
 
 use super::Core;
 use crate::delivery::Delivered;
-use crate::notes::{Notes, one_note, two_notes};
+use crate::notes::{Notes, one_note, two_notes, with_effect};
 use crate::out::is_of_queue;
 use crate::ready::enter;
 use crate::tally::place;
-use rt_ids::{Answer, JobId, Note, Order, QueueNo};
+use rt_ids::{Answer, JobId, Mode, Note, Order, QueueNo};
 use rt_jobs::Task;
 use rt_shares::{Shares, placed};
 use rt_taskqueue::CreateError;
@@ -199,4 +202,70 @@ impl<J: Task, A: Allocator + Clone> Core<J, A> {
             two_notes(answered, Note::SharesSet(queue, shares)),
         )
     }
+
+    /// A closing of a queue is counted, and done.
+    pub(super) fn deliver_close(
+        &mut self,
+        name: JobId,
+        queue: QueueNo,
+        mode: Mode,
+    ) -> (Delivered<J>, Notes<J::Out>)
+    where
+        J::Out: Copy,
+        requires { name.from ≤ self.old.cores }
+        ensures delivers { Delivers self.old name (orders.Close queue mode) result.0 self.new result.1.items }
+        ensures bounded { IsBounded self.new }
+    {
+        self.count(&name);
+        let done = self.close_queue(queue, mode);
+        let told = told(&done.0);
+        let note = answered_note(name, &done.0);
+        (told, with_effect(note, done.1))
+    }
+
+    /// So is one of the core.
+    pub(super) fn deliver_close_core(
+        &mut self,
+        name: JobId,
+        mode: Mode,
+    ) -> (Delivered<J>, Notes<J::Out>)
+    where
+        J::Out: Copy,
+        requires { name.from ≤ self.old.cores }
+        ensures delivers { Delivers self.old name (orders.CloseCore mode) result.0 self.new result.1.items }
+        ensures bounded { IsBounded self.new }
+    {
+        self.count(&name);
+        let done = self.close(mode);
+        let answer = closing_answer(done.0);
+        let told = told(&answer);
+        let note = answered_note(name, &answer);
+        (told, with_effect(note, done.1))
+    }
+}
+
+/// What a closing of the core is answered.
+fn closing_answer(closed: bool) -> Answer
+    ensures closed { closed ≡ true → result ≡ answers.Closed }
+    ensures before { closed ≡ false → result ≡ answers.AlreadyClosed }
+{
+    if closed {
+        Answer::Closed
+    } else {
+        Answer::AlreadyClosed
+    }
+}
+
+/// What a delivery of a command tells.
+fn told<J>(answer: &Answer) -> Delivered<J>
+    ensures { result ≡ deliveries.Answered answer.now }
+{
+    Delivered::Answered(*answer)
+}
+
+/// The note of an answer.
+fn answered_note<T>(name: JobId, answer: &Answer) -> Note<T>
+    ensures { result ≡ notes.Answered name answer.now }
+{
+    Note::Answered(name, *answer)
 }
