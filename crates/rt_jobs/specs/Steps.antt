@@ -1,5 +1,6 @@
 -- What a step says.
 use Rattle.std.specs.Prelude.{◌≡◌, ℕ, ◌+◌, Bool, true, false, Option, None}
+use Rattle.rt_ids.specs.Journal.{Journal}
 use Rattle.rt_jobs.specs.declared.job.Step.{Step}
 use Rattle.rt_jobs.specs.declared.job.Step.TheVariants.{Done, Yield}
 
@@ -18,14 +19,27 @@ abbrev pub OnYield : {T : Type 0} → Step T → Type 0 → Type 0
 OnYield (Done out) fact = Unit {0}
 OnYield Yield fact = fact
 
--- after a poll of the old job, each poll of the new one owes what that poll of the old one owed: both are counted alike
-abbrev pub OwesOn : {J T : Type 0} → (J → ℕ) → (J → ℕ → Step T → Option ℕ → Type 0) → J → J → Type 0
-OwesOn {J} {T} made polls old new =
-    (more : ℕ) (step : Step T) (told : Option ℕ) → polls new (made new + more) step told → polls old (made old + 1 + more) step told
+-- what a poll owes: of the job before it, the polls made, the notes of its post before and after, the step and the told time
+abbrev pub Owed : Type 0 → Type 0 → Type 1
+Owed J T = J → ℕ → Journal T → Journal T → Step T → Option ℕ → Type 0
 
--- the only poll of a job: it answers, and states no time of its own
-abbrev pub AnswersAtOnce : {T : Type 0} → Step T → Option ℕ → Type 0
-AnswersAtOnce step told = (is_done_step step ≡ true) × (told ≡ None)
+-- after a poll of the old job, each poll of the new one owes what that poll of the old one owed: both are counted alike
+abbrev pub OwesOn : {J T : Type 0} → (J → ℕ) → Owed J T → J → J → Type 0
+OwesOn {J} {T} made polls old new =
+    (more : ℕ) (before after : Journal T) (step : Step T) (told : Option ℕ)
+    → polls new (made new + more) before after step told → polls old (made old + 1 + more) before after step told
+
+-- a poll that was made with some post owes so
+abbrev pub OwesOnce : {J T : Type 0} → Owed J T → J → ℕ → Step T → Option ℕ → Type 0
+OwesOnce {J} {T} polls job made step told = (before : Journal T) × (after : Journal T) × polls job made before after step told
+
+-- the only poll of a job: it answers, states no time of its own, and leaves its post as it was
+abbrev pub AnswersAtOnce : {T : Type 0} → Journal T → Journal T → Step T → Option ℕ → Type 0
+AnswersAtOnce before after step told = (after ≡ before) × (is_done_step step ≡ true) × (told ≡ None)
+
+-- a poll that leaves its post as it was and states no time of its own
+abbrev pub PostsNothing : {T : Type 0} → Journal T → Journal T → Option ℕ → Type 0
+PostsNothing before after told = (after ≡ before) × (told ≡ None)
 
 -- to have the same task is an equivalence
 pub record IsSameTask {J : Type 0} (same : J → J → Type 0) : Type 0 where

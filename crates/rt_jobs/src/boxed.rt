@@ -8,6 +8,7 @@ ghost use Rattle.rt_jobs.specs.Steps.{IfDone};
 ghost use Rattle.rt_jobs.specs.declared.boxed.Body.TheVariants.{Polled, Once};
 
 use crate::job::{Job, Step, Task};
+use crate::post::Post;
 
 /// Which numbers may answer a job that has a key.
 pub trait Meaning {
@@ -87,6 +88,7 @@ impl<B, C, M: Meaning> BoxedJob<B, C, M> {
 impl<B: Drop, C: Drop, M: Meaning> Task for BoxedJob<B, C, M> {
     ghost use Rattle.std.specs.Prelude.{◌≡◌, ℕ, None};
     ghost use Rattle.rt_jobs.specs.Bodies.{is_ended};
+    ghost use Rattle.rt_jobs.specs.Steps.{PostsNothing};
     ghost use Rattle.rt_jobs.specs.Same.{same_value};
     ghost use Rattle.std.proofs.Common.{subst};
 
@@ -100,7 +102,7 @@ impl<B: Drop, C: Drop, M: Meaning> Task for BoxedJob<B, C, M> {
 
     ghost says = { λ _. None };
 
-    ghost Polls = { λ job made step told. told ≡ None };
+    ghost Polls = { λ job made before after step told. PostsNothing before after told };
 
     ghost Answers = { λ job out. M.answers job.key out };
 
@@ -108,7 +110,7 @@ impl<B: Drop, C: Drop, M: Meaning> Task for BoxedJob<B, C, M> {
 
     ghost answers_same = { λ a b out same here. subst (λ key. M.answers key out) same here };
 
-    ghost polls_same = { λ a b made step told same owed. owed };
+    ghost polls_same = { λ a b made before after step told same owed. owed };
 
     ghost can_poll_same = { λ a b same can. can };
 
@@ -125,7 +127,7 @@ impl<B: Drop, C: Drop, M: Meaning> Task for BoxedJob<B, C, M> {
 }
 
 impl<B: PolledAs<M>, C: CalledAs<M>, M: Meaning> Job for BoxedJob<B, C, M> {
-    fn poll(&mut self) -> Step<u64> {
+    fn poll<P: Post<Self, u64>>(&mut self, _post: &mut P) -> Step<u64> {
         match &mut self.body {
             Body::Polled(job) => {
                 let Some(inside) = job else {

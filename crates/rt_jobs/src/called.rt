@@ -3,6 +3,7 @@
 ghost use Rattle.std.specs.Prelude.{◌≡◌, Some};
 
 use crate::job::{Job, Step, Task};
+use crate::post::Post;
 
 /// A call of a type with a name, whose answers are known by what it is.
 ///
@@ -50,7 +51,7 @@ impl<C: Called> Task for OnceOf<C> {
 
     ghost says = { λ _. None };
 
-    ghost Polls = { λ job made step told. AnswersAtOnce step told };
+    ghost Polls = { λ job made before after step told. AnswersAtOnce before after step told };
 
     ghost Answers = { λ job out. IfSome job.call (λ call. C.gives call out) };
 
@@ -58,7 +59,7 @@ impl<C: Called> Task for OnceOf<C> {
 
     ghost answers_same = { λ a b out same here. subst (λ call. IfSome call (λ c. C.gives c out)) same here };
 
-    ghost polls_same = { λ a b made step told same owed. owed };
+    ghost polls_same = { λ a b made before after step told same owed. owed };
 
     ghost can_poll_same = { λ a b same can. can };
 
@@ -72,7 +73,7 @@ impl<C: Called> Task for OnceOf<C> {
 }
 
 impl<C: Called> Job for OnceOf<C> {
-    fn poll(&mut self) -> Step<C::Out> {
+    fn poll<P: Post<Self, C::Out>>(&mut self, _post: &mut P) -> Step<C::Out> {
         match self.call.take() {
             Some(call) => Step::Done(call.call()),
             None => Step::Yield,

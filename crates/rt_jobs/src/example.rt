@@ -6,6 +6,7 @@
 ghost use Rattle.std.specs.Prelude.{◌≡◌, false, IfOk, IfErr};
 
 use crate::job::{Job, Ran, Step, Task};
+use crate::post::{NoPost, Post};
 
 /// The work of a program.
 #[derive(Debug, Drop)]
@@ -24,6 +25,7 @@ impl Task for Work {
     ghost use Rattle.std.specs.Prelude.{◌≡◌, ◌↔◌, ℕ, None};
     ghost use Rattle.rt_jobs.specs.Example.{MayAnswer, is_ended};
     ghost use Rattle.rt_jobs.specs.Same.{same_answers};
+    ghost use Rattle.rt_jobs.specs.Steps.{PostsNothing};
 
     type Out = u64;
 
@@ -35,7 +37,7 @@ impl Task for Work {
 
     ghost says = { λ _. None };
 
-    ghost Polls = { λ job made step told. told ≡ None };
+    ghost Polls = { λ job made before after step told. PostsNothing before after told };
 
     ghost Answers = { MayAnswer };
 
@@ -43,7 +45,7 @@ impl Task for Work {
 
     ghost answers_same = { λ a b out same here. (same out).0 here };
 
-    ghost polls_same = { λ a b made step told same owed. owed };
+    ghost polls_same = { λ a b made before after step told same owed. owed };
 
     ghost can_poll_same = { λ a b same can. can };
 
@@ -57,7 +59,7 @@ impl Task for Work {
 }
 
 impl Job for Work {
-    fn poll(&mut self) -> Step<u64> {
+    fn poll<P: Post<Self, u64>>(&mut self, _post: &mut P) -> Step<u64> {
         let answer = match self {
             Work::Sum { left, right } => *left as u64 + *right as u64,
             Work::Divisor { left, right } => {
@@ -83,7 +85,7 @@ impl Job for Work {
     }
 }
 
-/// Polls a job until it is done, at most so often. If it isn't done by then, it comes back and can be polled on.
+/// Polls a job until it is done, at most so often, where it can submit nothing. If it isn't done by then, it comes back and can be polled on.
 pub fn drive<J: Job>(job: J, most: u32) -> Result<J::Out, J>
     requires open { J.done job ≡ false }
     requires ready { J.CanPoll job }
@@ -94,7 +96,7 @@ pub fn drive<J: Job>(job: J, most: u32) -> Result<J::Out, J>
 {
     let mut job = job;
     for _polled in 0..most {
-        let (back, step, _told) = Ran::poll(job).into_parts();
+        let (back, step, _told) = Ran::poll(job, &mut NoPost).into_parts();
         match step {
             Step::Done(out) => return Ok(out),
             Step::Yield => job = back,

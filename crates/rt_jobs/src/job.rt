@@ -2,8 +2,10 @@
 
 ghost use Rattle.std.specs.Prelude.{◌≡◌, ℕ, Bool, true, false, Option};
 ghost use Rattle.rt_jobs.specs.declared.job.Step.{Step};
-ghost use Rattle.rt_jobs.specs.Steps.{IfDone, OnYield, OwesOn, is_done_step, IsSameTask};
+ghost use Rattle.rt_ids.specs.Journal.{Journal};
+ghost use Rattle.rt_jobs.specs.Steps.{IfDone, OnYield, OwesOn, OwesOnce, is_done_step, IsSameTask};
 
+use crate::post::Post;
 use std::marker::Model;
 use std::snapshot::Snapshot;
 
@@ -36,8 +38,8 @@ pub trait Task: Drop {
     /// The time that its last poll states of itself.
     ghost says: { Self → Option ℕ };
 
-    /// What a poll owes: of the task, the polls made before, the step and the told time.
-    ghost Polls: { Self → ℕ → Step Self.Out → Option ℕ → Type 0 };
+    /// What a poll owes: of the task, the polls made before, the notes of its post before and after, the step and the told time.
+    ghost Polls: { Self → ℕ → Journal Self.Out → Journal Self.Out → Step Self.Out → Option ℕ → Type 0 };
 
     /// Which answers the task may have.
     ghost Answers: { Self → Self.Out → Type 0 };
@@ -56,18 +58,18 @@ pub trait Task: Drop {
 
     ghost answers_same: { (a b : Self) (out : Self.Out) → SameTask a b → Answers a out → Answers b out };
 
-    ghost polls_same: { (a b : Self) (made : ℕ) (step : Step Self.Out) (told : Option ℕ) → SameTask a b → Polls a made step told → Polls b made step told };
+    ghost polls_same: { (a b : Self) (made : ℕ) (before after : Journal Self.Out) (step : Step Self.Out) (told : Option ℕ) → SameTask a b → Polls a made before after step told → Polls b made before after step told };
 
     ghost can_poll_same: { (a b : Self) → SameTask a b → CanPoll a → CanPoll b };
 }
 
 /// Work that is done in polls.
 pub trait Job: Task {
-    /// One poll. It is the one after those that the job has made, and what the later ones owe stays as it was.
-    fn poll(&mut self) -> Step<Self::Out>
+    /// One poll, which may submit orders at its post. It is the one after those that the job has made, and what the later ones owe stays as it was.
+    fn poll<P: Post<Self, Self::Out>>(&mut self, post: &mut P) -> Step<Self::Out>
         requires open { Self.done self.old ≡ false }
         requires ready { Self.CanPoll self.old }
-        ensures owed { Self.Polls self.old (Self.made self.old) result (Self.says self.new) }
+        ensures owed { Self.Polls self.old (Self.made self.old) (P.notes post.old) (P.notes post.new) result (Self.says self.new) }
         ensures answers { IfDone result (Self.Answers self.old) }
         ensures same { OnYield result (Self.SameTask self.old self.new) }
         ensures later { OnYield result (OwesOn Self.made Self.Polls self.old self.new) }
@@ -86,14 +88,14 @@ pub struct Ran<J: Task> {
 
 impl<J: Task> Model for Ran<J> {
     ghost use Rattle.std.specs.Prelude.{◌≡◌};
-    ghost use Rattle.rt_jobs.specs.Steps.{AfterPoll, IfDone, OnYield, OwesOn, is_done_step};
+    ghost use Rattle.rt_jobs.specs.Steps.{AfterPoll, IfDone, OnYield, OwesOn, OwesOnce, is_done_step};
 
     ghost Value = { AfterPoll J J.Out };
 
     ghost view = { λ r. record { job = r.job; step = r.step; told = r.told; before = r.before.value } };
 
     ghost invariant = { λ r.
-        J.Polls r.before.value (J.made r.before.value) r.step r.told
+        OwesOnce J.Polls r.before.value (J.made r.before.value) r.step r.told
         × IfDone r.step (J.Answers r.before.value)
         × OnYield r.step (J.SameTask r.before.value r.job)
         × OnYield r.step (OwesOn J.made J.Polls r.before.value r.job)
@@ -102,19 +104,19 @@ impl<J: Task> Model for Ran<J> {
 }
 
 impl<J: Job> Ran<J> {
-    /// Polls the job once. No other call makes a `Ran`.
-    pub fn poll(job: J) -> Ran<J>
+    /// Polls the job once, with this post. No other call makes a `Ran`.
+    pub fn poll<P: Post<J, J::Out>>(job: J, post: &mut P) -> Ran<J>
         requires open { J.done job ≡ false }
         requires ready { J.CanPoll job }
         ensures before { result.before ≡ job }
-        ensures owed { J.Polls job (J.made job) result.step result.told }
+        ensures owed { J.Polls job (J.made job) (P.notes post.old) (P.notes post.new) result.step result.told }
         ensures answers { IfDone result.step (J.Answers job) }
         ensures same { OnYield result.step (J.SameTask job result.job) }
         ensures later { OnYield result.step (OwesOn J.made J.Polls job result.job) }
     {
         let before = Snapshot::of(&job);
         let mut job = job;
-        let step = job.poll();
+        let step = job.poll(post);
         let told = job.told();
         Ran {
             job,
@@ -131,7 +133,7 @@ impl<J: Task> Ran<J> {
         ensures job { result.0 ≡ self.job }
         ensures step { result.1 ≡ self.step }
         ensures told { result.2 ≡ self.told }
-        ensures owed { J.Polls self.before (J.made self.before) result.1 result.2 }
+        ensures owed { OwesOnce J.Polls self.before (J.made self.before) result.1 result.2 }
         ensures answers { IfDone result.1 (J.Answers self.before) }
         ensures same { OnYield result.1 (J.SameTask self.before result.0) }
         ensures later { OnYield result.1 (OwesOn J.made J.Polls self.before result.0) }

@@ -3,6 +3,7 @@
 ghost use Rattle.std.specs.Prelude.{◌≡◌, Some};
 
 use crate::job::{Job, Step, Task};
+use crate::post::Post;
 
 /// A job that makes its call at its first poll, and is done. It tells no time of its own.
 ///
@@ -40,7 +41,7 @@ impl<R: Drop, F: FnOnce() -> R + Drop> Task for Once<F> {
 
     ghost says = { λ _. None };
 
-    ghost Polls = { λ job made step told. AnswersAtOnce step told };
+    ghost Polls = { λ job made before after step told. AnswersAtOnce before after step told };
 
     ghost Answers = { λ job out. IfSome job.call (λ f. F.post f out) };
 
@@ -48,7 +49,7 @@ impl<R: Drop, F: FnOnce() -> R + Drop> Task for Once<F> {
 
     ghost answers_same = { λ a b out same here. subst (λ call. IfSome call (λ f. F.post f out)) same here };
 
-    ghost polls_same = { λ a b made step told same owed. owed };
+    ghost polls_same = { λ a b made before after step told same owed. owed };
 
     ghost can_poll_same = { λ a b same can. subst (λ call. ForSome call F.IsAlwaysCallable) same can };
 
@@ -62,7 +63,7 @@ impl<R: Drop, F: FnOnce() -> R + Drop> Task for Once<F> {
 }
 
 impl<R: Drop, F: FnOnce() -> R + Drop> Job for Once<F> {
-    fn poll(&mut self) -> Step<R> {
+    fn poll<P: Post<Self, R>>(&mut self, _post: &mut P) -> Step<R> {
         match self.call.take() {
             Some(call) => Step::Done(call()),
             None => Step::Yield,
