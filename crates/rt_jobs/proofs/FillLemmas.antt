@@ -3,15 +3,20 @@ use Rattle.std.proofs.Common.{◌≡◌, ℕ, List, [], ◌∷◌, ◌++◌, ref
 use Rattle.rt_jobs.specs.declared.poll.Poll.{Poll}
 use Rattle.rt_jobs.specs.declared.poll.Poll.TheVariants as poll
 use Rattle.rt_jobs.specs.declared.poll.Yielding.{Yielding}
+use Rattle.rt_jobs.specs.declared.poll.Yielding.TheVariants as kept
 use Rattle.rt_jobs.specs.Scripts.{script_polls, yielding_poll}
-use Rattle.rt_jobs.specs.Filling.{with_yield, with_last}
+use Rattle.rt_jobs.specs.Filling.{with_poll, with_yield, with_last}
 
--- one more poll that yields is one more that is kept
+-- one more poll is one more that is kept
+pub with_poll-kept : (yields : List Yielding) (more : Yielding) (told value : ℕ) →
+    with_poll (yielding_poll more) (script_polls yields told value) ≡ script_polls (yields ++ more ∷ []) told value
+with_poll-kept [] more told value = refl
+with_poll-kept (first ∷ []) more told value = refl
+with_poll-kept (first ∷ next ∷ rest) more told value = ap (λ polls. yielding_poll first ∷ polls) (with_poll-kept (next ∷ rest) more told value)
+
 pub with_yield-kept : (yields : List Yielding) (time told value : ℕ) →
-    with_yield time (script_polls yields told value) ≡ script_polls (yields ++ record { told = time } ∷ []) told value
-with_yield-kept [] time told value = refl
-with_yield-kept (first ∷ []) time told value = refl
-with_yield-kept (first ∷ next ∷ rest) time told value = ap (λ polls. yielding_poll first ∷ polls) (with_yield-kept (next ∷ rest) time told value)
+    with_yield time (script_polls yields told value) ≡ script_polls (yields ++ kept.Alone time ∷ []) told value
+with_yield-kept yields time = with_poll-kept yields (kept.Alone time)
 
 -- the last poll is kept by itself
 pub with_last-kept : (yields : List Yielding) (time answer told value : ℕ) →
@@ -21,10 +26,13 @@ with_last-kept (first ∷ []) time answer told value = refl
 with_last-kept (first ∷ next ∷ rest) time answer told value = ap (λ polls. yielding_poll first ∷ polls) (with_last-kept (next ∷ rest) time answer told value)
 
 -- the same, where the last poll is in sight
+pub with_poll-end : (early : List Poll) (last more : Poll) → with_poll more (early ++ last ∷ []) ≡ early ++ more ∷ last ∷ []
+with_poll-end [] last more = refl
+with_poll-end (first ∷ []) last more = refl
+with_poll-end (first ∷ next ∷ rest) last more = ap (λ polls. first ∷ polls) (with_poll-end (next ∷ rest) last more)
+
 pub with_yield-end : (early : List Poll) (last : Poll) (time : ℕ) → with_yield time (early ++ last ∷ []) ≡ early ++ poll.Yield time ∷ last ∷ []
-with_yield-end [] last time = refl
-with_yield-end (first ∷ []) last time = refl
-with_yield-end (first ∷ next ∷ rest) last time = ap (λ polls. first ∷ polls) (with_yield-end (next ∷ rest) last time)
+with_yield-end early last time = with_poll-end early last (poll.Yield time)
 
 pub with_last-end : (early : List Poll) (last other : Poll) → with_last other (early ++ last ∷ []) ≡ early ++ other ∷ []
 with_last-end [] last other = refl

@@ -1,12 +1,14 @@
 -- The polls of a script job, by what the job keeps of them.
-use Rattle.std.proofs.Common.{◌≡◌, ℕ, zero, suc, ◌+◌, ◌<◌, ◌≤◌, List, [], ◌∷◌, ◌++◌, length, map, get_or, refl, arith, sym, ◌∙◌, false, eq-eqb}
+use Rattle.std.proofs.Common.{◌≡◌, ℕ, zero, suc, ◌+◌, ◌<◌, ◌≤◌, List, [], ◌∷◌, ◌++◌, length, map, get_or, refl, arith, sym, ap, ◌∙◌, false, eq-eqb}
 use Rattle.std.specs.Prelude.{Some, slice_get, ◌==◌}
 use Rattle.std.proofs.lemmas.Bool.{true≢false}
 use Rattle.rt_jobs.specs.declared.poll.Poll.{Poll}
 use Rattle.rt_jobs.specs.declared.poll.Poll.TheVariants as poll
+use Rattle.rt_ids.specs.Journal.{Journal}
 use Rattle.rt_jobs.specs.declared.poll.Yielding.{Yielding}
+use Rattle.rt_jobs.specs.declared.poll.Yielding.TheVariants as kept
 use Rattle.rt_jobs.specs.declared.job.Step.TheVariants as steps
-use Rattle.rt_jobs.specs.Scripts.{script_polls, yielding_poll, EndsDone, IsScript, Does, IsAnswer, time_told}
+use Rattle.rt_jobs.specs.Scripts.{script_polls, yielding_poll, kept_time, time_of, EndsDone, IsScript, Does, PostsAs, IsAnswer, time_told}
 
 -- one poll more than those that yield
 pub length-script_polls : (yields : List Yielding) (told value : ℕ) → length (script_polls yields told value) ≡ length yields + 1
@@ -16,7 +18,8 @@ length-script_polls (first ∷ rest) told value = omega (arith, length-script_po
 -- the last one is done, and no other
 pub EndsDone-script_polls : (yields : List Yielding) (told value : ℕ) → EndsDone (script_polls yields told value)
 EndsDone-script_polls [] told value = refl
-EndsDone-script_polls (first ∷ rest) told value = EndsDone-script_polls rest told value
+EndsDone-script_polls (kept.Alone time ∷ rest) told value = EndsDone-script_polls rest told value
+EndsDone-script_polls (kept.Submits time core queue ∷ rest) told value = EndsDone-script_polls rest told value
 
 -- what a job keeps are polls that a script job may have
 pub IsScript-script_polls : (yields : List Yielding) (told value : ℕ) → length yields ≤ 63 → IsScript (script_polls yields told value)
@@ -26,21 +29,23 @@ IsScript-script_polls yields told value few =
 -- the answer is that of the last poll
 pub IsAnswer-script_polls : (yields : List Yielding) (told value : ℕ) → IsAnswer (script_polls yields told value) value
 IsAnswer-script_polls [] told value = refl
-IsAnswer-script_polls (first ∷ rest) told value = IsAnswer-script_polls rest told value
+IsAnswer-script_polls (kept.Alone time ∷ rest) told value = IsAnswer-script_polls rest told value
+IsAnswer-script_polls (kept.Submits time core queue ∷ rest) told value = IsAnswer-script_polls rest told value
 
--- a poll that isn't the last yields
-pub Does-yield : (yields : List Yielding) (told value place : ℕ) → place < length yields →
-    Does (slice_get (script_polls yields told value) place) steps.Yield (time_told (script_polls yields told value) (suc place))
-Does-yield [] told value place inside = absurd (omega arith)
-Does-yield (first ∷ rest) told value zero inside = (refl, refl)
-Does-yield (first ∷ rest) told value (suc place) inside = Does-yield rest told value place (omega arith)
+-- a poll that isn't the last yields, and posts as it says
+pub Does-early : (yields : List Yielding) (told value place : ℕ) (blank : Yielding) (before after : Journal ℕ) → place < length yields → PostsAs (get_or yields place blank) before after →
+    Does (slice_get (script_polls yields told value) place) before after steps.Yield (time_told (script_polls yields told value) (suc place))
+Does-early [] told value place blank before after inside posts = absurd (omega arith)
+Does-early (kept.Alone time ∷ rest) told value zero blank before after inside posts = (posts, refl, refl)
+Does-early (kept.Submits time core queue ∷ rest) told value zero blank before after inside posts = (posts, refl, refl)
+Does-early (first ∷ rest) told value (suc place) blank before after inside posts = Does-early rest told value place blank before after (omega arith) posts
 
--- the last poll is done
-pub Does-last : (yields : List Yielding) (told value place : ℕ) → place ≡ length yields →
-    Does (slice_get (script_polls yields told value) place) (steps.Done value) (time_told (script_polls yields told value) (suc place))
-Does-last [] told value place same = rw same (refl, refl)
-Does-last (first ∷ rest) told value zero same = absurd (omega (arith, same))
-Does-last (first ∷ rest) told value (suc place) same = Does-last rest told value place (omega (arith, same))
+-- the last poll is done, and posts nothing
+pub Does-last : (yields : List Yielding) (told value place : ℕ) (before after : Journal ℕ) → place ≡ length yields → after ≡ before →
+    Does (slice_get (script_polls yields told value) place) before after (steps.Done value) (time_told (script_polls yields told value) (suc place))
+Does-last [] told value place before after same quiet = rw same (quiet, refl, refl)
+Does-last (first ∷ rest) told value zero before after same quiet = absurd (omega (arith, same))
+Does-last (first ∷ rest) told value (suc place) before after same quiet = Does-last rest told value place before after (omega (arith, same)) quiet
 
 -- where the job isn't done and no poll that yields is left, the last one is next
 pub last_is_next : (yields : List Yielding) (told value polled : ℕ) → (polled == length (script_polls yields told value)) ≡ false →
@@ -51,11 +56,16 @@ last_is_next yields told value polled undone within past =
     let count : length (script_polls yields told value) ≡ length yields + 1 = length-script_polls yields told value in
     omega arith
 
+-- the time of a poll that is kept
+time_of-kept : (yielding : Yielding) → kept_time yielding ≡ time_of (yielding_poll yielding)
+time_of-kept (kept.Alone time) = refl
+time_of-kept (kept.Submits time core queue) = refl
+
 -- what a poll that yields tells
 pub time_told-yield : (yields : List Yielding) (told value polled place : ℕ) (blank : Yielding) → polled ≡ suc place → place < length yields →
-    Some (get_or yields place blank).told ≡ time_told (script_polls yields told value) polled
+    Some (kept_time (get_or yields place blank)) ≡ time_told (script_polls yields told value) polled
 time_told-yield [] told value polled place blank after inside = absurd (omega arith)
-time_told-yield (first ∷ rest) told value polled zero blank after inside = rw after refl
+time_told-yield (first ∷ rest) told value polled zero blank after inside = rw after (ap Some (time_of-kept first))
 time_told-yield (first ∷ rest) told value polled (suc place) blank after inside =
     rw after (time_told-yield rest told value (suc place) place blank refl (omega arith))
 
@@ -70,11 +80,14 @@ not_empty : {A : Type 0} (items : List A) (last : A) → items ++ last ∷ [] �
 not_empty [] last none = cc
 not_empty (first ∷ rest) last none = cc
 
--- where the last poll yields, none ends the job
-ends_yielding : (early : List Poll) (told : ℕ) → EndsDone (early ++ poll.Yield told ∷ []) → ⊥
-ends_yielding [] told ends = ends
-ends_yielding (poll.Yield time ∷ rest) told ends = ends_yielding rest told ends
-ends_yielding (poll.Done time value ∷ rest) told ends = not_empty rest (poll.Yield told) ends
+-- where the last poll isn't done, none ends the job
+ends_open : (early : List Poll) (last : Poll) → ((told value : ℕ) → ¬ (last ≡ poll.Done told value)) → EndsDone (early ++ last ∷ []) → ⊥
+ends_open [] (poll.Yield told) unlike ends = ends
+ends_open [] (poll.Submit told core queue) unlike ends = ends
+ends_open [] (poll.Done told value) unlike ends = unlike told value refl
+ends_open (poll.Yield time ∷ rest) last unlike ends = ends_open rest last unlike ends
+ends_open (poll.Submit time core queue ∷ rest) last unlike ends = ends_open rest last unlike ends
+ends_open (poll.Done time value ∷ rest) last unlike ends = not_empty rest last ends
 
 -- where an earlier poll is done, the last one isn't the only one
 done_early : (early : List Poll) (last blank : Poll) (place told value : ℕ) → place < length early → get_or early place blank ≡ poll.Done told value →
@@ -82,11 +95,13 @@ done_early : (early : List Poll) (last blank : Poll) (place told value : ℕ) �
 done_early [] last blank place told value inside read ends = absurd (omega arith)
 done_early (poll.Yield time ∷ rest) last blank zero told value inside read ends = cc
 done_early (poll.Yield time ∷ rest) last blank (suc place) told value inside read ends = done_early rest last blank place told value (omega arith) read ends
+done_early (poll.Submit time core queue ∷ rest) last blank zero told value inside read ends = cc
+done_early (poll.Submit time core queue ∷ rest) last blank (suc place) told value inside read ends = done_early rest last blank place told value (omega arith) read ends
 done_early (poll.Done time other ∷ rest) last blank place told value inside read ends = not_empty rest last ends
 
--- polls whose last one yields are none that a script job may have
-pub no_script-yield_last : (polls early : List Poll) (last : Poll) (told : ℕ) → polls ≡ early ++ last ∷ [] → last ≡ poll.Yield told → IsScript polls → ⊥
-no_script-yield_last polls early last told split is script = ends_yielding early told (rw (split, is) at script.ends)
+-- polls whose last one isn't done are none that a script job may have
+pub no_script-open_last : (polls early : List Poll) (last : Poll) → polls ≡ early ++ last ∷ [] → ((told value : ℕ) → ¬ (last ≡ poll.Done told value)) → IsScript polls → ⊥
+no_script-open_last polls early last split unlike script = ends_open early last unlike (rw split at script.ends)
 
 -- nor are polls with an earlier one that is done
 pub no_script-done_early : (polls early : List Poll) (last blank : Poll) (place told value : ℕ) → polls ≡ early ++ last ∷ [] → place < length early →

@@ -1,9 +1,14 @@
 -- What a script job is asked to do, poll by poll.
-use Rattle.std.specs.Prelude.{◌≡◌, ◌≤◌, ℕ, zero, suc, List, [], ◌∷◌, ◌++◌, length, map, Option, Some, None, slice_get}
+use Rattle.std.specs.Prelude.{◌≡◌, ◌⊎◌, ◌≤◌, ℕ, zero, suc, List, [], ◌∷◌, ◌++◌, length, map, Option, Some, None, slice_get}
 use Rattle.std.specs.Option.{option_map}
+use Rattle.rt_ids.specs.declared.names.JobId.{JobId}
+use Rattle.rt_ids.specs.declared.note.Note.TheVariants.{Sent, Detached}
+use Rattle.rt_ids.specs.declared.order.Order.TheVariants.{Job}
+use Rattle.rt_ids.specs.Journal.{Journal}
 use Rattle.rt_jobs.specs.declared.poll.Poll.{Poll}
 use Rattle.rt_jobs.specs.declared.poll.Poll.TheVariants as poll
 use Rattle.rt_jobs.specs.declared.poll.Yielding.{Yielding}
+use Rattle.rt_jobs.specs.declared.poll.Yielding.TheVariants as kept
 use Rattle.rt_jobs.specs.declared.job.Step.{Step}
 use Rattle.rt_jobs.specs.declared.job.Step.TheVariants as steps
 
@@ -14,7 +19,13 @@ pub record Script : Type 0 where
 
 -- the poll that is kept so
 abbrev pub yielding_poll : Yielding → Poll
-yielding_poll kept = poll.Yield kept.told
+yielding_poll (kept.Alone told) = poll.Yield told
+yielding_poll (kept.Submits told core queue) = poll.Submit told core queue
+
+-- the time that it tells
+abbrev pub kept_time : Yielding → ℕ
+kept_time (kept.Alone told) = told
+kept_time (kept.Submits told core queue) = told
 
 -- the polls of a job that keeps these: those that yield, then the last one
 abbrev pub script_polls : List Yielding → ℕ → ℕ → List Poll
@@ -24,6 +35,7 @@ script_polls yields told value = map yielding_poll yields ++ poll.Done told valu
 abbrev pub EndsDone : List Poll → Type 0
 EndsDone [] = ⊥
 EndsDone (poll.Yield told ∷ rest) = EndsDone rest
+EndsDone (poll.Submit told core queue ∷ rest) = EndsDone rest
 EndsDone (poll.Done told value ∷ rest) = rest ≡ []
 
 -- polls that a script job may have: at most 64, and exactly the last one is done
@@ -31,15 +43,26 @@ pub record IsScript (polls : List Poll) : Type 0 where
   pub ends : EndsDone polls
   pub short : length polls ≤ 64
 
--- what a poll does that is written so: it steps and tells its time as its word says; where no word is left there is no poll
-abbrev pub Does : Option Poll → Step ℕ → Option ℕ → Type 0
-Does None step told = ⊥
-Does (Some (poll.Yield time)) step told = (step ≡ steps.Yield) × (told ≡ Some time)
-Does (Some (poll.Done time value)) step told = (step ≡ steps.Done value) × (told ≡ Some time)
+-- a job for this queue of this core is submitted and detached; or it is refused, and nothing is noted
+abbrev pub SubmitsDetached : {T : Type 0} → ℕ → ℕ → Journal T → Journal T → Type 0
+SubmitsDetached core queue before after = ((name : JobId) × (name.to ≡ core) × (after ≡ Detached name ∷ Sent name (Job queue tt) ∷ before)) ⊎ (after ≡ before)
+
+-- what a poll that yields does at its post
+abbrev pub PostsAs : Yielding → Journal ℕ → Journal ℕ → Type 0
+PostsAs (kept.Alone told) before after = after ≡ before
+PostsAs (kept.Submits told core queue) before after = SubmitsDetached core queue before after
+
+-- what a poll does that is written so: it posts, steps and tells its time as its word says; where no word is left there is no poll
+abbrev pub Does : Option Poll → Journal ℕ → Journal ℕ → Step ℕ → Option ℕ → Type 0
+Does None before after step told = ⊥
+Does (Some (poll.Yield time)) before after step told = (after ≡ before) × (step ≡ steps.Yield) × (told ≡ Some time)
+Does (Some (poll.Submit time core queue)) before after step told = SubmitsDetached core queue before after × (step ≡ steps.Yield) × (told ≡ Some time)
+Does (Some (poll.Done time value)) before after step told = (after ≡ before) × (step ≡ steps.Done value) × (told ≡ Some time)
 
 -- the time that a poll tells
 abbrev pub time_of : Poll → ℕ
 time_of (poll.Yield told) = told
+time_of (poll.Submit told core queue) = told
 time_of (poll.Done told value) = told
 
 -- the time that the last poll told, after so many polls
@@ -51,4 +74,5 @@ time_told polls (suc polled) = option_map time_of (slice_get polls polled)
 abbrev pub IsAnswer : List Poll → ℕ → Type 0
 IsAnswer [] out = ⊥
 IsAnswer (poll.Yield told ∷ rest) out = IsAnswer rest out
+IsAnswer (poll.Submit told core queue ∷ rest) out = IsAnswer rest out
 IsAnswer (poll.Done told value ∷ rest) out = out ≡ value

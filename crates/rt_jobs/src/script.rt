@@ -2,11 +2,13 @@
 
 ghost use Rattle.std.specs.Prelude.{◌≡◌, ◌∷◌, [], ◌↔◌, length, IsSome, IfSome};
 ghost use Rattle.rt_jobs.specs.declared.poll.Poll.TheVariants.{Done};
-ghost use Rattle.rt_jobs.specs.Scripts.{IsScript};
+ghost use Rattle.rt_jobs.specs.Scripts.{IsScript, PostsAs};
 
 use crate::job::{Job, Step, Task};
 use crate::poll::{Poll, Yielding};
+use crate::post::Post;
 use arrayvec::ArrayVec;
+use rt_ids::{CoreNo, Order, QueueNo};
 use std::marker::Model;
 
 mod fill;
@@ -84,10 +86,12 @@ impl ScriptJob {
         }
         let mut yields = ArrayVec::new();
         for poll in early {
-            let Poll::Yield(told) = *poll else {
-                return None;
+            let kept = match *poll {
+                Poll::Yield(told) => Yielding::Alone(told),
+                Poll::Submit(told, core, queue) => Yielding::Submits(told, core, queue),
+                Poll::Done(_, _) => return None,
             };
-            yields.push(Yielding { told });
+            yields.push(kept);
         }
         Some(ScriptJob {
             yields,
@@ -122,7 +126,7 @@ impl Task for ScriptJob {
 
     ghost says = { λ job. time_told job.polls job.polled };
 
-    ghost Polls = { λ job made step told. Does (slice_get job.polls made) step told };
+    ghost Polls = { λ job made before after step told. Does (slice_get job.polls made) before after step told };
 
     ghost Answers = { λ job out. IsAnswer job.polls out };
 
@@ -130,7 +134,7 @@ impl Task for ScriptJob {
 
     ghost answers_same = { λ a b out same here. subst (λ polls. IsAnswer polls out) same here };
 
-    ghost polls_same = { λ a b made step told same owed. subst (λ polls. Does (slice_get polls made) step told) same owed };
+    ghost polls_same = { λ a b made before after step told same owed. subst (λ polls. Does (slice_get polls made) before after step told) same owed };
 
     ghost can_poll_same = { λ a b same can. can };
 
@@ -142,7 +146,9 @@ impl Task for ScriptJob {
         if self.polled == 0 {
             None
         } else if self.polled <= self.yields.len() {
-            Some(self.yields[self.polled - 1].told)
+            let place = self.polled - 1;
+            let yielding = self.yields[place];
+            Some(yielding.told())
         } else {
             Some(self.last_told)
         }
@@ -150,14 +156,28 @@ impl Task for ScriptJob {
 }
 
 impl Job for ScriptJob {
-    fn poll(&mut self) -> Step<u64> {
+    fn poll<P: Post<Self, u64>>(&mut self, post: &mut P) -> Step<u64> {
         let yields = self.yields.len();
         let place = self.polled;
         self.polled = place + 1;
-        if place < yields {
-            Step::Yield
-        } else {
-            Step::Done(self.answer)
+        if place >= yields {
+            return Step::Done(self.answer);
         }
+        let yielding = self.yields[place];
+        post_as(yielding, post);
+        Step::Yield
+    }
+}
+
+/// What a poll that yields does at its post: nothing, or it submits the job `d1=0` and detaches it if it is accepted.
+fn post_as<P: Post<ScriptJob, u64>>(yielding: Yielding, post: &mut P)
+    ensures { PostsAs yielding (P.notes post.old) (P.notes post.new) }
+{
+    let Yielding::Submits(_, core, queue) = yielding else {
+        return;
+    };
+    let order = Order::Job(queue, ScriptJob::done(1, 0));
+    if let Ok(ticket) = post.submit(core, order) {
+        let _detached = post.detach(ticket);
     }
 }

@@ -1,11 +1,12 @@
 //! A script job whose polls are written one after another, where it stands.
 
 ghost use Rattle.std.specs.Prelude.{◌≡◌, ◌<◌, length};
-ghost use Rattle.rt_jobs.specs.declared.poll.Poll.TheVariants.{Done};
+ghost use Rattle.rt_jobs.specs.declared.poll.Poll.TheVariants.{Done, Submit};
 ghost use Rattle.rt_jobs.specs.Filling as spec;
 
 use super::ScriptJob;
 use crate::poll::Yielding;
+use rt_ids::{CoreNo, QueueNo};
 
 impl ScriptJob {
     /// One more poll that yields, before the last one. A job has at most 64 polls.
@@ -15,7 +16,17 @@ impl ScriptJob {
         ensures polls { self.new.polls ≡ spec.with_yield told self.old.polls }
         ensures fresh { self.new.polled ≡ 0 }
     {
-        self.yields.push(Yielding { told });
+        self.yields.push(Yielding::Alone(told));
+    }
+
+    /// One more poll that submits and yields, before the last one. A job has at most 64 polls.
+    pub fn add_submit(&mut self, told: u64, core: CoreNo, queue: QueueNo)
+        requires few { length self.old.polls < 64 }
+        requires fresh { self.old.polled ≡ 0 }
+        ensures polls { self.new.polls ≡ spec.with_poll (Submit told core queue) self.old.polls }
+        ensures fresh { self.new.polled ≡ 0 }
+    {
+        self.yields.push(Yielding::Submits(told, core, queue));
     }
 
     /// Another last poll, which tells the time and is done with the value.

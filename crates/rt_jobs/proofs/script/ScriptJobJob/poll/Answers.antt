@@ -1,26 +1,23 @@
-use Rattle.std.proofs.Common.{arith, add-one}
-use Rattle.rt_jobs.proofs.ScriptLemmas.{Does-yield, Does-last, IsAnswer-script_polls, last_is_next}
+use Rattle.std.proofs.Common.{get_or, refl, ap, subst, ◌∙◌, add-one, arith}
+use Rattle.rt_jobs.specs.Scripts.{PostsAs}
+use Rattle.rt_jobs.proofs.ScriptLemmas.{Does-early, Does-last, IsAnswer-script_polls, last_is_next}
 use Rattle.rt_jobs.proofs.script.ScriptJobJob.poll.Goals as goal
-use Rattle.rt_jobs.proofs.script.ScriptJobJob.poll.Goals.{then-place-yields, else-place-yields}
+
+pub returns-then-place-yields-clause-owed : goal.returns-then-place-yields-clause-owed
+returns-then-place-yields-clause-owed g c =
+    let job = c.self.inside in
+    rw (← c.self.view_is, add-one)
+    (Does-last job.yields.items job.last_told job.answer job.polled (g.P.Post.notes c.args.post.now) (g.P.Post.notes c.args.post.now)
+    (last_is_next job.yields.items job.last_told job.answer job.polled (rw (← c.self.view_is) at c.requires.open) c.self.invariant (omega arith)) refl)
+
+pub returns-then-place-yields-clause-answers : goal.returns-then-place-yields-clause-answers
+returns-then-place-yields-clause-answers g c =
+    rw (← c.self.view_is) (IsAnswer-script_polls c.self.inside.yields.items c.self.inside.last_told c.self.inside.answer)
 
 pub returns-clause-owed : goal.returns-clause-owed
-returns-clause-owed c =
+returns-clause-owed g c =
     let job = c.self.inside in
-    elim c.if-place-yields.branch [
-      | then-place-yields w ↦
-          rw (← c.self.view_is, w.result-is, add-one) (Does-yield job.yields.items job.last_told job.answer job.polled (omega arith))
-      | else-place-yields w ↦
-          rw (← c.self.view_is, w.result-is, add-one)
-          (
-          Does-last job.yields.items job.last_told job.answer job.polled
-          (last_is_next job.yields.items job.last_told job.answer job.polled (rw (← c.self.view_is) at c.requires.open) c.self.invariant (omega arith))
-          )
-    ]
-
-pub returns-clause-answers : goal.returns-clause-answers
-returns-clause-answers c =
-    elim c.if-place-yields.branch [
-      | then-place-yields w ↦ rw w.result-is tt
-      | else-place-yields w ↦
-          rw (← c.self.view_is, w.result-is) (IsAnswer-script_polls c.self.inside.yields.items c.self.inside.last_told c.self.inside.answer)
-    ]
+    rw (← c.self.view_is, add-one)
+    (Does-early job.yields.items job.last_told job.answer job.polled c.index-deref-place.result (g.P.Post.notes c.args.post.now) (g.P.Post.notes c.post_as.new.post) (omega arith)
+    (subst (λ yielding. PostsAs yielding (g.P.Post.notes c.args.post.now) (g.P.Post.notes c.post_as.new.post))
+    (c.index-deref-place.is ∙ ap (λ yields. get_or yields job.polled c.index-deref-place.result) c.deref.ensures.0) c.post_as.ensures))
