@@ -8,7 +8,7 @@ ghost use Rattle.rt_jobs.specs.Ranges.{IsWithin};
 use rt_ids::{Order, Outcome, QueueNo, Reason};
 use rt_jobs::example::{Work, drive};
 use rt_jobs::{
-    AnyJob, BoxedJob, Called, Job, MOST_POLLS, Once, OnceBox, OnceOf, Poll, Polled, Ran, Range,
+    AnyJob, BoxedJob, Called, Job, MOST_POLLS, Once, NoPost, OnceBox, OnceOf, Poll, Polled, Ran, Range,
     ScriptJob, Step, Task, once_job, polled_job,
 };
 use std::alloc::{AllocError, Global};
@@ -40,7 +40,7 @@ fn told_times<J: Job>(
     let mut times = Vec::new(alloc);
     let mut job = job;
     for _polled in 0..most {
-        let (back, step, told) = Ran::poll(job).into_parts();
+        let (back, step, told) = Ran::poll(job, &mut NoPost).into_parts();
         times.push(told)?;
         match step {
             Step::Done(out) => return Ok((times, Some(out))),
@@ -52,8 +52,8 @@ fn told_times<J: Job>(
 
 #[test]
 fn sizes(rt: HostRuntime) {
-    assert_eq!(rt; size_of::<ScriptJob>(), 536);
-    assert_eq!(rt; size_of::<Order<ScriptJob>>(), 544);
+    assert_eq!(rt; size_of::<ScriptJob>(), 1040);
+    assert_eq!(rt; size_of::<Order<ScriptJob>>(), 1048);
 }
 
 #[test]
@@ -90,11 +90,11 @@ fn two_words(first: u64, second: u64, value: u64) -> (Option<u64>, Option<u64>, 
     let Some(job) = ScriptJob::try_new(&words) else {
         return (None, None, 0);
     };
-    let (job, step, first_told) = Ran::poll(job).into_parts();
+    let (job, step, first_told) = Ran::poll(job, &mut NoPost).into_parts();
     if let Step::Done(_) = step {
         return (None, None, 0);
     }
-    let (_job, step, second_told) = Ran::poll(job).into_parts();
+    let (_job, step, second_told) = Ran::poll(job, &mut NoPost).into_parts();
     match step {
         Step::Done(out) => (first_told, second_told, out),
         Step::Yield => (None, None, 0),
@@ -164,7 +164,7 @@ fn a_call_with_a_name_once(rt: HostRuntime) {
     let job = OnceOf::new(Plus(3, 4));
     assert!(rt; !job.is_done());
     assert_eq!(rt; job.told(), None);
-    assert!(rt; matches!(plus_step(Ran::poll(job)), Step::Done(7)));
+    assert!(rt; matches!(plus_step(Ran::poll(job, &mut NoPost)), Step::Done(7)));
 }
 
 /// Counts its polls where others can see it, yields so often and then answers 9.
@@ -229,11 +229,11 @@ fn each_poll_of_a_box_is_one_poll(rt: HostRuntime) -> Result<(), Fail> {
     let job = polled_job(inside);
     assert_eq!(rt; job.told(), None);
     assert!(rt; !job.is_done());
-    let job = yielded(&rt, Ran::poll(job));
+    let job = yielded(&rt, Ran::poll(job, &mut NoPost));
     assert_eq!(rt; polls.load(Ordering::SeqCst), 1);
-    let job = yielded(&rt, Ran::poll(job));
+    let job = yielded(&rt, Ran::poll(job, &mut NoPost));
     assert_eq!(rt; polls.load(Ordering::SeqCst), 2);
-    assert!(rt; matches!(any_step(Ran::poll(job)), Step::Done(9)));
+    assert!(rt; matches!(any_step(Ran::poll(job, &mut NoPost)), Step::Done(9)));
     assert_eq!(rt; polls.load(Ordering::SeqCst), 3);
     Ok(())
 }
@@ -258,7 +258,7 @@ fn a_boxed_call_once(rt: HostRuntime) -> Result<(), Fail> {
     let call: Box<dyn FnOnce() -> u64 + Send> = Box::new(rt.alloc(), move || number)?;
     let job = once_job(OnceBox::new(call));
     assert!(rt; !job.is_done());
-    assert!(rt; matches!(any_step(Ran::poll(job)), Step::Done(7)));
+    assert!(rt; matches!(any_step(Ran::poll(job, &mut NoPost)), Step::Done(7)));
     let call: Box<dyn FnOnce() -> u64 + Send> = Box::new(rt.alloc(), || 7)?;
     let only = Range {
         least: 7,
@@ -300,7 +300,7 @@ fn work_step(ran: Ran<Work>) -> Step<u64>
 #[test]
 fn three_kinds_of_work_in_one_type(rt: HostRuntime) -> Result<(), Fail> {
     let sum = Work::Sum { left: 3, right: 4 };
-    assert!(rt; matches!(work_step(Ran::poll(sum)), Step::Done(7)));
+    assert!(rt; matches!(work_step(Ran::poll(sum, &mut NoPost)), Step::Done(7)));
     let divisor = Work::Divisor {
         left: 48,
         right: 36,
