@@ -8,8 +8,8 @@ ghost use Rattle.rt_jobs.specs.Ranges.{IsWithin};
 use rt_ids::{Order, Outcome, QueueNo, Reason};
 use rt_jobs::example::{Work, drive};
 use rt_jobs::{
-    AnyJob, BoxedJob, Called, Job, MOST_POLLS, Once, NoPost, OnceBox, OnceOf, Poll, Polled, Ran, Range,
-    ScriptJob, Step, Task, once_job, polled_job,
+    AnyJob, BoxedJob, Called, Job, MOST_POLLS, NoPost, Once, OnceBox, OnceOf, Poll, Polled, Ran,
+    Range, ScriptJob, Step, Task, once_job, polled_job,
 };
 use std::alloc::{AllocError, Global};
 use std::process::Abort;

@@ -3,3 +3,5 @@
 
 #[cfg(test)]
 mod jobs;
+#[cfg(test)]
+mod posts;
