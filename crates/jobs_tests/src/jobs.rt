@@ -106,18 +106,25 @@ fn the_second_poll_does_the_second_word(rt: HostRuntime) {
     assert_eq!(rt; two_words(3, 4, 5), (Some(3), Some(4), 5));
 }
 
+fn yielding() -> Poll {
+    Poll::Yield(1)
+}
+
+fn done() -> Poll {
+    Poll::Done(1, 2)
+}
+
 #[test]
 fn polls_that_are_no_script(rt: HostRuntime) -> Result<(), Fail> {
-    let (y, d) = (Poll::Yield(1), Poll::Done(1, 2));
     assert!(rt; ScriptJob::try_new(&[]).is_none());
-    assert!(rt; ScriptJob::try_new(&[y]).is_none());
-    assert!(rt; ScriptJob::try_new(&[d, y]).is_none());
-    assert!(rt; ScriptJob::try_new(&[d, d]).is_none());
+    assert!(rt; ScriptJob::try_new(&[yielding()]).is_none());
+    assert!(rt; ScriptJob::try_new(&[done(), yielding()]).is_none());
+    assert!(rt; ScriptJob::try_new(&[done(), done()]).is_none());
     let mut words = Vec::new(rt.alloc());
     for _word in 0..MOST_POLLS {
-        words.push(y)?;
+        words.push(yielding())?;
     }
-    words.push(d)?;
+    words.push(done())?;
     assert!(rt; ScriptJob::try_new(&words).is_none());
     assert!(rt; ScriptJob::try_new(&words[1..]).is_some());
     Ok(())

@@ -42,13 +42,14 @@ impl Post<ScriptJob, u64> for Notebook {
         if self.journal.free() < 2 {
             return Err(SendError::Full(order));
         }
-        let name = JobId {
+        let ticket = Ticket::named(JobId {
             from: ActorNo(0),
             to,
             number: 1,
-        };
-        self.journal.push(Note::Sent(name, order.without_job()));
-        Ok(Ticket::named(name))
+        });
+        self.journal
+            .push(Note::Sent(ticket.name(), order.without_job()));
+        Ok(ticket)
     }
 
     fn redeem(&mut self, ticket: Ticket) -> Result<Outcome<ScriptJob, u64>, TicketError>
