@@ -1,6 +1,6 @@
 //! Jobs that submit while they are polled, at a post that keeps a journal.
 
-ghost use Rattle.std.specs.Prelude.{◌≡◌, ◌<◌, length, IfOk, IsOk};
+ghost use Rattle.std.specs.Prelude.{◌≡◌, ◌<◌, false, length, IfOk, IsOk, IfSome};
 ghost use Rattle.rt_jobs.specs.Posts.{NotesSubmit, NotesRedeem, NotesDetach};
 ghost use Rattle.rt_jobs.specs.Ready.{HasReadyJob};
 
@@ -72,7 +72,9 @@ impl Post<ScriptJob, u64> for Notebook {
 }
 
 /// A job that submits to queue 3 of this core, and then is done.
-fn submits_to(core: u8) -> Option<ScriptJob> {
+fn submits_to(core: u8) -> Option<ScriptJob>
+    ensures { IfSome result (λ job. ⟦<ScriptJob as Task>⟧.done job ≡ false) }
+{
     ScriptJob::try_new(&[Poll::Submit(10, CoreNo(core), QueueNo(3)), Poll::Done(5, 3)])
 }
 
@@ -107,13 +109,20 @@ fn notes_right(alloc: Global) -> bool {
     sent && detached
 }
 
+/// Whether a job that submits to this core is done with 3 where no order is taken.
+fn is_done_by(core: u8) -> bool {
+    match submits_to(core) {
+        Some(job) => matches!(drive(job, 2), Ok(3)),
+        None => false,
+    }
+}
+
 /// A job that submits to another core, to its own, to one that isn't there, and where nothing is accepted.
 #[test]
 fn jobs_that_submit(rt: HostRuntime) -> Result<(), Fail> {
     assert!(rt; leaves(rt.alloc(), 9, 1, 2) && leaves(rt.alloc(), 9, 0, 2));
     assert!(rt; leaves(rt.alloc(), 9, 99, 0) && leaves(rt.alloc(), 1, 1, 0));
     assert!(rt; notes_right(rt.alloc()));
-    let job = submits_to(1).ok_or("no script")?;
-    assert!(rt; matches!(drive(job, 2), Ok(3)));
+    assert!(rt; is_done_by(1));
     Ok(())
 }
