@@ -33,7 +33,8 @@ use Rattle.rt_journal.specs.Agreement.{AgreesOnClosing, IsJobOut, AreMarked, nam
 use Rattle.rt_journal.proofs.KeptModes.{SameModes, same_modes, closing-stays}
 use Rattle.rt_journal.specs.Yet.{ClosesNothing, CollectsNothing}
 use Rattle.rt_journal.proofs.Kept.{IsKept, plainly_stands, turns-stays, open_queues, open_core}
-use Rattle.rt_journal.proofs.PollNotes.{poll_note, is_marked, marks-start}
+use Rattle.rt_journal.specs.Polls.{poll_note}
+use Rattle.rt_journal.proofs.PollNotes.{is_marked, marks-start}
 
 -- a line is empty where there is no such queue
 no_line : {J : Type 0} (queue : ℕ) (core : CoreView J) → queue_count core.queues ≤ queue → waiting_of queue core.queues ≡ []

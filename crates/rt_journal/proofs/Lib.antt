@@ -11,7 +11,6 @@ pub mod KeptSettles
 pub mod KeptClosings
 pub mod KeptReturns
 pub mod PollsMade
-pub mod TurnNotes
 pub mod AllOutstanding
 pub mod TakenOrders
 pub mod CarriedOut

@@ -1,5 +1,5 @@
 -- Lists by place, and the numbered orders of a link.
-use Rattle.std.proofs.Common.{◌≡◌, ℕ, zero, suc, ◌+◌, ◌≤◌, Bool, true, false, List, [], ◌∷◌, ◌++◌, length, refl, ◌∙◌, ap, subst, arith, get_or, take, cond}
+use Rattle.std.proofs.Common.{◌≡◌, ℕ, zero, suc, ◌+◌, Bool, true, false, List, [], ◌∷◌, ◌++◌, length, refl, ◌∙◌, ap, subst, arith, get_or, cond}
 use Rattle.std.specs.Prelude.{Some, slice_get, map}
 use Rattle.rt_ids.specs.declared.names.JobId.{JobId}
 use Rattle.rt_ids.specs.declared.order.Order.{Order}
@@ -15,24 +15,6 @@ get_or-map f [] zero default = refl
 get_or-map f [] (suc place) default = refl
 get_or-map f (item ∷ items) zero default = refl
 get_or-map f (item ∷ items) (suc place) default = get_or-map f items place default
-
--- what a longer list has at the place of a shorter one
-pub slice_get-longer : {A : Type 0} (items : List A) (last item : A) (place : ℕ) → slice_get items place ≡ Some item → slice_get (items ++ last ∷ []) place ≡ Some item
-slice_get-longer [] last item place at = cc
-slice_get-longer (first ∷ items) last item zero at = at
-slice_get-longer (first ∷ items) last item (suc place) at = slice_get-longer items last item place at
-
-pub take-longer : {A : Type 0} (count : ℕ) (items : List A) (last : A) → count ≤ length items → take count (items ++ last ∷ []) ≡ take count items
-take-longer zero items last within = refl
-take-longer (suc count) [] last within = absurd (omega arith)
-take-longer (suc count) (item ∷ items) last within = ap (λ rest. item ∷ rest) (take-longer count items last (omega arith))
-
--- one more is taken
-pub take-one_more : {A : Type 0} (count : ℕ) (items : List A) (item : A) → slice_get items count ≡ Some item → take (suc count) items ≡ take count items ++ item ∷ []
-take-one_more zero [] item at = cc
-take-one_more zero (first ∷ items) item at = let one : first ≡ item = cc in ap (λ head. head ∷ []) one
-take-one_more (suc count) [] item at = cc
-take-one_more (suc count) (first ∷ items) item at = ap (λ rest. first ∷ rest) (take-one_more count items item at)
 
 module _ {J : Type 0} (sender core : ℕ) where
   pub length-numbered : (before : ℕ) (orders : List (Order J)) → length (numbered_orders sender core before orders) ≡ length orders
@@ -50,18 +32,6 @@ module _ {J : Type 0} (sender core : ℕ) where
       numbered-append (before + 1) orders order
       ∙ ap (λ number. numbered_orders sender core (before + 1) orders ++ (record { from = sender; to = core; number = number }, without_job order) ∷ []) (omega arith)
       )
-
-  -- the order at a place has the name of that place
-  pub slice_get-numbered : (before : ℕ) (orders : List (Order J)) (place : ℕ) (order : Order J) → slice_get orders place ≡ Some order →
-      slice_get (numbered_orders sender core before orders) place ≡ Some (record { from = sender; to = core; number = before + place + 1 }, without_job order)
-  slice_get-numbered before [] place order at = cc
-  slice_get-numbered before (first ∷ orders) zero order at =
-      let one : first ≡ order = cc in
-      ap (λ what. Some (record { from = sender; to = core; number = before + 1 }, without_job what)) one
-      ∙ ap (λ number. Some (record { from = sender; to = core; number = number }, without_job order)) (omega arith)
-  slice_get-numbered before (first ∷ orders) (suc place) order at =
-      slice_get-numbered (before + 1) orders place order at
-      ∙ ap (λ number. Some (record { from = sender; to = core; number = number }, without_job order)) (omega arith)
 
 -- the order at a place of a link stands first under the name of that place
 pub first_under-numbered : {J : Type 0} (sender core before : ℕ) (orders : List (Order J)) (place : ℕ) (order : Order J) → slice_get orders place ≡ Some order →

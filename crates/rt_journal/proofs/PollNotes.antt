@@ -3,7 +3,6 @@ use Rattle.std.proofs.Common.{◌≡◌, Bool, true, false, List, [], ◌∷◌,
 use Rattle.std.proofs.lemmas.Bool.{false_from_ne_true, true≢false, or_parts}
 use Rattle.std.proofs.lemmas.List.Elements.{All-cons, All-nil, All-head, All-tail}
 use Rattle.rt_ids.specs.declared.names.JobId.{JobId}
-use Rattle.rt_ids.specs.declared.note.Note.{Note}
 use Rattle.rt_ids.specs.declared.note.Note.TheVariants as writes
 use Rattle.rt_ids.specs.Names.{same_name}
 use Rattle.rt_ids.specs.Journal.{Journal, is_told}
@@ -11,11 +10,6 @@ use Rattle.rt_ids.specs.Filters.{name_started}
 use Rattle.rt_ids.proofs.NameLemmas.{among, one_name, same_as_itself}
 use Rattle.rt_ids.proofs.Starts.{is_told-start_elsewhere}
 use Rattle.rt_journal.specs.Agreement.{AreMarked, names_of}
-
--- the note of a poll
-abbrev pub poll_note : {T : Type 0} → JobId → Bool → Note T
-poll_note name false = writes.Start name
-poll_note name true = writes.Resume name
 
 -- a name that isn't among some is none of them
 pub other_way : (name other : JobId) → same_name name other ≡ false → same_name other name ≡ false

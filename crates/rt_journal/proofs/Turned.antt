@@ -1,15 +1,13 @@
 -- A pick and the settled poll of its job are one turn, told over the journal before it.
-use Rattle.std.proofs.Common.{◌≡◌, ℕ, ◌+◌, Bool, true, false, [], ◌∷◌, refl, sym, ◌∙◌, ap, subst, add-zero}
+use Rattle.std.proofs.Common.{◌≡◌, ℕ, ◌+◌, Bool, true, false, [], ◌∷◌, sym, ◌∙◌, ap, subst, add-zero}
 use Rattle.std.specs.Prelude.{Option, Some, unwrap_or}
 use Rattle.std.proofs.lemmas.Option.{same_Some}
 use Rattle.rt_ids.specs.declared.names.JobId.{JobId}
 use Rattle.rt_ids.specs.declared.note.Note.TheVariants.{Pick}
 use Rattle.rt_ids.specs.declared.order.Order.TheVariants.{Job}
-use Rattle.rt_ids.specs.Journal.{Journal, is_told}
-use Rattle.rt_ids.specs.Filters.{name_started}
+use Rattle.rt_ids.specs.Journal.{Journal}
 use Rattle.rt_jobs.specs.declared.job.Step.{Step}
-use Rattle.rt_jobs.specs.Steps.{AfterPoll, IfDone}
-use Rattle.rt_core.specs.State.{JobOut}
+use Rattle.rt_jobs.specs.Steps.{AfterPoll}
 use Rattle.rt_core.specs.declared.turn.Settled.{Settled}
 use Rattle.rt_journal.specs.Polls.{polls_made, poll_note, settle_note}
 use Rattle.rt_journal.specs.Recorded.{RecordedView, order_taken}
