@@ -141,6 +141,8 @@ fn is_order(order: Order<()>) -> bool
         Order::Job(queue, ()) => is_queue(queue),
         Order::Create(shares) => is_weight(shares),
         Order::SetShares(queue, shares) => is_queue(queue) && is_weight(shares),
+        Order::Close(queue, _) => is_queue(queue),
+        Order::CloseCore(_) => true,
     }
 }
 
