@@ -1,4 +1,4 @@
-use Rattle.std.proofs.Common.{◌≡◌, ◌^◌, sym, ap, ◌∙◌}
+use Rattle.std.proofs.Common.{◌^◌, sym, ap, ◌∙◌}
 use Rattle.rt_desk.specs.Held.{at}
 use Rattle.rt_desk.proofs.Remainders.{at-tree, Adds-tree, shifted, some_trees}
 use Rattle.rt_desk.proofs.rows.Rows.add.Goals as goal

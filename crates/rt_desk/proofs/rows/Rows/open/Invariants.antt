@@ -1,4 +1,4 @@
-use Rattle.std.proofs.Common.{◌≡◌, ◌^◌, ℕ, [], length}
+use Rattle.std.proofs.Common.{◌≡◌, ◌^◌, [], length}
 use Rattle.std.specs.Vec.{vec_capacity}
 use Rattle.rt_desk.specs.Rows.{spread}
 use Rattle.rt_desk.proofs.rows.Rows.open.Given as goal

@@ -1,6 +1,6 @@
-use Rattle.std.proofs.Common.{◌≡◌, ◌^◌, sym, ap, ◌∙◌}
+use Rattle.std.proofs.Common.{◌^◌, sym, ap, ◌∙◌}
 use Rattle.std.specs.Prelude.{None, Some, Option, IfSome, IfNone}
-use Rattle.rt_desk.specs.Held.{at, Removes}
+use Rattle.rt_desk.specs.Held.{at}
 use Rattle.rt_desk.proofs.Remainders.{at-tree, Removes-tree, shifted, some_trees}
 use Rattle.rt_desk.proofs.rows.Rows.remove.Goals as goal
 
