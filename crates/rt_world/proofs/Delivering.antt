@@ -1,26 +1,25 @@
 -- A world at rest stays one as a core takes the next order of a sender.
-use Rattle.std.proofs.Common.{◌≡◌, ◌≢◌, ℕ, zero, suc, ◌+◌, ◌<◌, ◌≤◌, Bool, true, false, List, [], ◌∷◌, ◌++◌, length, refl, sym, ◌∙◌, ap, subst, ⊎_elim, arith, get_or, set}
-use Rattle.std.specs.Prelude.{Option, Some, None, slice_get}
+use Rattle.std.proofs.Common.{◌≡◌, ◌≢◌, ℕ, zero, suc, ◌+◌, ◌<◌, ◌≤◌, Bool, true, false, List, [], ◌∷◌, length, refl, sym, ◌∙◌, ap, subst, ⊎_elim, arith, get_or}
+use Rattle.std.specs.Prelude.{None, slice_get}
 use Rattle.std.proofs.lemmas.Bool.{cases_eq}
 use Rattle.std.proofs.lemmas.List.{set-get_or, append-nil}
 use Rattle.rt_ids.specs.declared.order.Envelope.{Envelope}
-use Rattle.rt_ids.specs.declared.order.Order.{Order}
 use Rattle.rt_ids.specs.Filters.{delivered_names}
-use Rattle.rt_jobs.specs.declared.job.Step.{Step}
+use Rattle.rt_jobs.specs.Steps.{Owed}
 use Rattle.rt_link.specs.declared.plain.Whole.{Whole}
 use Rattle.rt_link.specs.Whole.{out_of, inward_of, kept_by_receiver}
 use Rattle.rt_link.specs.Calls.{SeesMore}
 use Rattle.rt_journal.specs.Recorded.{RecordedView, IsRecorded, desk_of}
 use Rattle.rt_journal.specs.Ends.{IsInOf, IsOutOf, KeepsIn, KeepsOuts, IsSameSeat}
 use Rattle.rt_journal.specs.Steps.{Delivers as DeliversTo}
-use Rattle.rt_world.specs.State.{journal_at, sent_at, noted}
+use Rattle.rt_world.specs.State.{sent_at}
 use Rattle.rt_world.specs.Deliveries.{Delivers, IsDelivery, next_place, taken_reply}
 use Rattle.rt_world.specs.Links.{link_at, ChangesLink}
-use Rattle.rt_world.specs.Inside.{Parts, core_at, desk_at, world_of, IsWorld}
+use Rattle.rt_world.specs.Inside.{Parts, core_at, world_of, IsWorld}
 use Rattle.rt_world.proofs.Desks.{sent_at-world}
 use Rattle.rt_world.proofs.LinkRows.{with_link, ChangesLink-with_link, same_sent}
 use Rattle.rt_world.proofs.LinkSteps.{as_long, OnlyReceived, OnlySent, received-same, sent-same, each_link, other_link, out_stays}
-use Rattle.rt_world.proofs.CoreSteps.{DidStep, desk_is, parts_now, rests, journal_is, journals_now}
+use Rattle.rt_world.proofs.CoreSteps.{desk_is, parts_now, rests, journal_is, journals_now}
 
 slice_get-end : {A : Type 0} (items : List A) (place : ℕ) → length items ≡ place → slice_get items place ≡ None
 slice_get-end [] zero is = refl
@@ -29,7 +28,7 @@ slice_get-end (item ∷ items) zero is = absurd (omega (arith, is))
 slice_get-end (item ∷ items) (suc place) is = slice_get-end items place (omega (arith, is))
 
 -- what a delivery says of the core, and of the link
-pub record IsTakenBy {J T : Type 0} (same : J → J → Type 0) (made : J → ℕ) (polls : J → ℕ → Step T → Option ℕ → Type 0)
+pub record IsTakenBy {J T : Type 0} (same : J → J → Type 0) (made : J → ℕ) (polls : Owed J T)
     (view : RecordedView J T) (link : Whole J T) (found : Bool) (now : RecordedView J T) (after : Whole J T) : Type 0 where
   pub delivers : DeliversTo view (inward_of link) now (inward_of after) found
   pub beside : IsInOf link.from now (inward_of after)
@@ -40,7 +39,7 @@ pub record IsTakenBy {J T : Type 0} (same : J → J → Type 0) (made : J → �
   pub untouched : kept_by_receiver after ≡ kept_by_receiver link
 
 -- the end is beside the core that takes from it
-pub may_take : {J T : Type 0} {same : J → J → Type 0} {made : J → ℕ} {polls : J → ℕ → Step T → Option ℕ → Type 0} {old : Parts J T}
+pub may_take : {J T : Type 0} {same : J → J → Type 0} {made : J → ℕ} {polls : Owed J T} {old : Parts J T}
     (world : IsWorld same made polls old) (sender core : ℕ) → sender ≤ old.cores → core < old.cores → (view : RecordedView J T) → view ≡ core_at core old →
     (link : Whole J T) → link ≡ link_at sender core old.links → IsInOf link.from view (inward_of link)
 may_take {old = old} world sender core there core_there view view_is link link_is =
@@ -51,7 +50,7 @@ may_take {old = old} world sender core there core_there view view_is link link_i
     (subst (λ from. IsInOf from (core_at core old) (inward_of (link_at sender core old.links))) (sym its.from) its)
     )
 
-module _ {J T : Type 0} {same : J → J → Type 0} {made : J → ℕ} {polls : J → ℕ → Step T → Option ℕ → Type 0} {old : Parts J T}
+module _ {J T : Type 0} {same : J → J → Type 0} {made : J → ℕ} {polls : Owed J T} {old : Parts J T}
     (world : IsWorld same made polls old) (sender core : ℕ) (there : sender ≤ old.cores) (core_there : core < old.cores)
     (found : Bool) (now : RecordedView J T) (after : Whole J T)
     (did : IsTakenBy same made polls (core_at core old) (link_at sender core old.links) found now after) where

@@ -19,7 +19,6 @@ use Rattle.rt_world.specs.declared.event.Reply.TheVariants as reply
 use Rattle.rt_world.specs.State.{WorldView, journal_at, sent_at, noted}
 use Rattle.rt_world.specs.Deliveries.{with_effect, IsAnswered, IsDelivery, next_place, Delivers}
 use Rattle.rt_world.specs.Determined.{tells_refusal, WasRefusedSince}
-use Rattle.rt_world.proofs.DeterminedRefusals.{tells-added}
 
 -- a creation has one answer, unless one of two says that there was no memory
 creation_once : (mode : Option Mode) (full : Bool) (next : ℕ) (answer other : Answer) → IsCreationAnswer mode full next answer → IsCreationAnswer mode full next other →

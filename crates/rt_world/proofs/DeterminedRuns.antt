@@ -1,7 +1,6 @@
 -- A run has one result, unless there was no memory for a queue.
 use Rattle.std.proofs.Common.{◌≡◌, ℕ, List, [], ◌∷◌, refl, sym, ◌∙◌, ap, subst, ◌⊎◌, inl, inr, ⊎_elim, arith}
-use Rattle.std.specs.Prelude.{Option}
-use Rattle.rt_jobs.specs.declared.job.Step.{Step}
+use Rattle.rt_jobs.specs.Steps.{Owed}
 use Rattle.rt_world.specs.declared.event.Event.{Event}
 use Rattle.rt_world.specs.declared.event.Event.TheVariants.{Send, Deliver, Turn}
 use Rattle.rt_world.specs.declared.event.Reply.{Reply}
@@ -17,7 +16,7 @@ use Rattle.rt_world.proofs.DeterminedSends.{sends_once}
 use Rattle.rt_world.proofs.DeterminedDeliveries.{delivers_once}
 use Rattle.rt_world.proofs.DeterminedTurns.{turns_once}
 
-module _ {J T : Type 0} (made : J → ℕ) (polls : J → ℕ → Step T → Option ℕ → Type 0) (answers : J → T → Type 0) where
+module _ {J T : Type 0} (made : J → ℕ) (polls : Owed J T) (answers : J → T → Type 0) where
   module _ (event : Event J) (old new : WorldView J T) (answer : Reply J) where
     -- an actor of the event doesn't exist
     record IsNoActor : Type 0 where

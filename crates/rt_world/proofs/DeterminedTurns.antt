@@ -12,6 +12,7 @@ use Rattle.rt_ids.specs.Picks.{IsRightPick, turns}
 use Rattle.rt_ids.specs.Runtimes.{virtual_runtime}
 use Rattle.rt_ids.specs.Work.{has_work}
 use Rattle.rt_jobs.specs.declared.job.Step.{Step}
+use Rattle.rt_jobs.specs.Steps.{Owed}
 use Rattle.rt_world.specs.declared.event.Reply.{Reply}
 use Rattle.rt_world.specs.declared.event.Reply.TheVariants as reply
 use Rattle.rt_world.specs.State.{WorldView, journal_at, order_under, noted}
@@ -38,7 +39,7 @@ same_head names name other rest others first second = cc
 same_job : {J : Type 0} (found : Option (Order J)) (queue other_queue : ℕ) (job other : J) → found ≡ Some (Job queue job) → found ≡ Some (Job other_queue other) → job ≡ other
 same_job found queue other_queue job other first second = cc
 
-module _ {J T : Type 0} (made : J → ℕ) (polls : J → ℕ → Step T → Option ℕ → Type 0) (answers : J → T → Type 0) (owes : OwesOne polls)
+module _ {J T : Type 0} (made : J → ℕ) (polls : Owed J T) (answers : J → T → Type 0) (owes : OwesOne polls)
     (core spent : ℕ) (old : WorldView J T) where
   abbrev journal : Journal T
   journal = journal_at core old

@@ -1,6 +1,6 @@
 -- Each event keeps how many journals there are, and how many lists of orders.
 use Rattle.std.proofs.Common.{◌≡◌, ℕ, List, [], ◌∷◌, ◌++◌, length, refl, sym, ◌∙◌, ap, subst, ◌⊎◌, inl, inr, ⊎_elim, get_or, set}
-use Rattle.std.specs.Prelude.{Option, unwrap_or}
+use Rattle.std.specs.Prelude.{unwrap_or}
 use Rattle.std.proofs.lemmas.Bool.{cases_eq, cases_lt}
 use Rattle.std.proofs.lemmas.List.{length-set, get_or-set_same, get_or-set_other, set_past}
 use Rattle.rt_ids.specs.declared.names.JobId.{JobId}
@@ -11,6 +11,7 @@ use Rattle.rt_ids.specs.declared.order.SendError.TheVariants.{Full, Spent}
 use Rattle.rt_ids.specs.Filters.{name_started}
 use Rattle.rt_ids.specs.Journal.{Journal, is_told}
 use Rattle.rt_jobs.specs.declared.job.Step.{Step}
+use Rattle.rt_jobs.specs.Steps.{Owed}
 use Rattle.rt_world.specs.declared.event.Event.{Event}
 use Rattle.rt_world.specs.declared.event.Event.TheVariants.{Send, Deliver, Turn}
 use Rattle.rt_world.specs.declared.event.Reply.{Reply}
@@ -84,7 +85,7 @@ module _ {J T : Type 0} where
   delivers core sender old new reply.Empty happens = inl happens.1
   delivers core sender old new _ happens = absurd happens
 
-module _ {J T : Type 0} (made : J → ℕ) (polls : J → ℕ → Step T → Option ℕ → Type 0) (answers : J → T → Type 0) where
+module _ {J T : Type 0} (made : J → ℕ) (polls : Owed J T) (answers : J → T → Type 0) where
   turns : (core spent : ℕ) (old new : WorldView J T) (answer : Reply J) → Turns made polls answers core spent old new answer → (new ≡ old) ⊎ IsLonger old new
   turns core spent old new reply.Noted happens =
       inr (record { actor = core; notes = turn_notes happens.name happens.queue happens.runtime (unwrap_or happens.told spent) happens.step (journal_at core old); sent = old.sent; kept = same_rows old.sent; is = happens.notes })

@@ -17,6 +17,7 @@ use Rattle.rt_ids.specs.Filters.{name_started}
 use Rattle.rt_ids.specs.Journal.{Journal, is_told}
 use Rattle.rt_ids.specs.Commands.{IsOpening}
 use Rattle.rt_jobs.specs.declared.job.Step.{Step}
+use Rattle.rt_jobs.specs.Steps.{Owed}
 use Rattle.rt_jobs.specs.declared.job.Step.TheVariants as steps
 use Rattle.rt_world.specs.declared.event.Event.{Event}
 use Rattle.rt_world.specs.declared.event.Event.TheVariants.{Send, Deliver, Turn}
@@ -165,7 +166,7 @@ module _ {J T : Type 0} where
   delivers_plain core sender old new reply.Empty happens plain = subst (λ world. IsPlain world) (sym happens.1) plain
   delivers_plain core sender old new _ happens plain = absurd happens
 
-module _ {J T : Type 0} (made : J → ℕ) (polls : J → ℕ → Step T → Option ℕ → Type 0) (answers : J → T → Type 0) where
+module _ {J T : Type 0} (made : J → ℕ) (polls : Owed J T) (answers : J → T → Type 0) where
   turns_plain : (core spent : ℕ) (old new : WorldView J T) (answer : Reply J) → Turns made polls answers core spent old new answer → IsPlain old → IsPlain new
   turns_plain core spent old new reply.Noted happens plain =
       subst (λ world. IsPlain world) (sym happens.notes)

@@ -1,21 +1,18 @@
 -- A pick and the poll that it begins are one turn of a core.
-use Rattle.std.proofs.Common.{◌≡◌, ℕ, ◌+◌, ◌≤◌, Bool, true, false, List, [], ◌∷◌, ◌++◌, length, refl, sym, ◌∙◌, ap, subst, arith, add-zero}
-use Rattle.std.specs.Prelude.{Option, Some, None, Result, Ok, Err, unwrap_or}
+use Rattle.std.proofs.Common.{◌≡◌, ℕ, ◌+◌, ◌≤◌, Bool, true, false, [], ◌∷◌, length, sym, ◌∙◌, ap, subst, arith, add-zero}
+use Rattle.std.specs.Prelude.{Some, None, Result, Ok, Err, unwrap_or}
 use Rattle.std.proofs.lemmas.Option.{same_Some}
 use Rattle.rt_ids.specs.declared.names.JobId.{JobId}
 use Rattle.rt_ids.specs.declared.note.Note.TheVariants as writes
 use Rattle.rt_ids.specs.declared.order.Order.TheVariants.{Job}
-use Rattle.rt_ids.specs.Filters.{name_started}
-use Rattle.rt_ids.specs.Journal.{Journal, is_told}
-use Rattle.rt_jobs.specs.declared.job.Step.{Step}
-use Rattle.rt_jobs.specs.Steps.{AfterPoll}
+use Rattle.rt_ids.specs.Journal.{Journal}
+use Rattle.rt_jobs.specs.Steps.{AfterPoll, Owed}
 use Rattle.rt_core.specs.State.{JobOut}
 use Rattle.rt_core.specs.declared.turn.Turn.{Turn}
 use Rattle.rt_core.specs.declared.turn.Turn.TheVariants.{Start, Resume, Back, Idle}
 use Rattle.rt_core.specs.declared.turn.PickError.{PickError}
 use Rattle.rt_core.specs.declared.turn.PickError.TheVariants.{Busy}
 use Rattle.rt_core.specs.declared.turn.Settled.{Settled}
-use Rattle.rt_notes.specs.Journals.{JournalView}
 use Rattle.rt_journal.specs.Polls.{polls_made, poll_note, settle_note}
 use Rattle.rt_journal.specs.Recorded.{RecordedView, IsRecorded, desk_of, order_taken}
 use Rattle.rt_journal.specs.Steps.{with_notes}
@@ -27,7 +24,7 @@ use Rattle.rt_world.specs.OneTurn.{StaysBeside, PollsOne, Turns}
 use Rattle.rt_world.specs.PickedJobs.{turn_of, TookOut, TookNone, HandsNothingBack}
 
 -- what one call says of a core, of its seat and of the ends beside it
-pub record IsKeptBeside {J T : Type 0} (same : J → J → Type 0) (made : J → ℕ) (polls : J → ℕ → Step T → Option ℕ → Type 0) (old new : RecordedView J T) : Type 0 where
+pub record IsKeptBeside {J T : Type 0} (same : J → J → Type 0) (made : J → ℕ) (polls : Owed J T) (old new : RecordedView J T) : Type 0 where
   pub sound : IsRecorded same made polls new
   pub seat : IsSameSeat old new
   pub ins : (sender : ℕ) → KeepsIn sender old new
@@ -39,7 +36,7 @@ polls_made-picked : {T : Type 0} (name which : JobId) (queue runtime : ℕ) (was
 polls_made-picked name which queue runtime false notes = add-zero (polls_made which notes + 0) ∙ add-zero (polls_made which notes)
 polls_made-picked name which queue runtime true notes = add-zero (polls_made which notes + 0) ∙ add-zero (polls_made which notes)
 
-module _ {J T : Type 0} {same : J → J → Type 0} {made : J → ℕ} {polls : J → ℕ → Step T → Option ℕ → Type 0}
+module _ {J T : Type 0} {same : J → J → Type 0} {made : J → ℕ} {polls : Owed J T}
     (old : RecordedView J T) (free : old.core.out ≡ None) (picked : Result (Turn J) PickError) (middle : RecordedView J T)
     (picks : Picks old picked middle) (kept : IsKeptBeside same made polls old middle) where
   pub not_busy : picked ≡ Err Busy → ⊥

@@ -1,6 +1,6 @@
 -- A send as its world sees it: what the link's sender did on it, and what the sender is told.
 use Rattle.std.proofs.Common.{◌≡◌, ◌≢◌, ℕ, ◌+◌, ◌<◌, ◌≤◌, Bool, true, false, List, [], ◌∷◌, ◌++◌, length, refl, sym, ◌∙◌, ap, subst, arith, get_or, set}
-use Rattle.std.specs.Prelude.{Option, Some, None, Result, Ok, Err, map}
+use Rattle.std.specs.Prelude.{None, Result, Ok, Err, map}
 use Rattle.std.proofs.lemmas.List.{append-nil, set-get_or}
 use Rattle.rt_ids.specs.declared.names.JobId.{JobId}
 use Rattle.rt_ids.specs.declared.note.Note.{Note}
@@ -14,8 +14,7 @@ use Rattle.rt_ids.specs.Filters.{accepted_orders}
 use Rattle.rt_ids.specs.Lawful.{IsNextSent}
 use Rattle.rt_ids.specs.Orders.{without_job}
 use Rattle.rt_ids.specs.Outstanding.{outstanding_count}
-use Rattle.rt_ids.specs.Terms.{Terms}
-use Rattle.rt_jobs.specs.declared.job.Step.{Step}
+use Rattle.rt_jobs.specs.Steps.{Owed}
 use Rattle.rt_link.specs.declared.ends.Inward.{Inward}
 use Rattle.rt_link.specs.declared.plain.Whole.{Whole}
 use Rattle.rt_link.specs.Calls.{Sends as SendsOn, final_of}
@@ -23,10 +22,10 @@ use Rattle.rt_link.specs.Whole.{out_of, inward_of, gate_number, kept_by_sender}
 use Rattle.rt_journal.specs.Submissions.{DeskView, Submits, numbered, opened_desk, terms_of_desk}
 use Rattle.rt_journal.specs.Ends.{IsOutOf, KeepsOut}
 use Rattle.rt_journal.specs.Yet.{ClosesNothing}
-use Rattle.rt_world.specs.State.{WorldView, journal_at, sent_at, terms_at}
+use Rattle.rt_world.specs.State.{WorldView, journal_at, terms_at}
 use Rattle.rt_world.specs.Sends.{Sends, sent_reply}
-use Rattle.rt_world.specs.Links.{row_of, link_at, no_link}
-use Rattle.rt_world.specs.Inside.{Parts, core_at, desks, desk_at, notes_at, seat_of, world_of, IsWorld}
+use Rattle.rt_world.specs.Links.{link_at}
+use Rattle.rt_world.specs.Inside.{Parts, core_at, desks, desk_at, notes_at, world_of, IsWorld}
 use Rattle.rt_world.proofs.Desks.{journal_at-world, sent_at-world, journals-noted}
 use Rattle.rt_world.proofs.LinkRows.{with_link, sent-with_link, same_sent}
 use Rattle.rt_world.proofs.LinkSteps.{OnlySent}
@@ -96,7 +95,7 @@ module _ {J T : Type 0} (core : ℕ) (order : Order J) (desk : DeskView J T) (li
     gate = λ shut. let no : true ≡ false = sym shut ∙ open_gate in cc;
   }
 
-module _ {J T : Type 0} {same : J → J → Type 0} {made : J → ℕ} {polls : J → ℕ → Step T → Option ℕ → Type 0} {old : Parts J T}
+module _ {J T : Type 0} {same : J → J → Type 0} {made : J → ℕ} {polls : Owed J T} {old : Parts J T}
     (world : IsWorld same made polls old) (sender core : ℕ) (there : sender ≤ old.cores) (core_there : core < old.cores) where
   abbrev link : Whole J T
   link = link_at sender core old.links

@@ -1,6 +1,6 @@
 -- A world at rest stays one as a core makes a turn, or creates a queue before the first event.
-use Rattle.std.proofs.Common.{◌≡◌, ◌≢◌, ℕ, ◌+◌, ◌-◌, ◌^◌, ◌<◌, ◌≤◌, List, [], ◌∷◌, ◌++◌, length, refl, sym, ◌∙◌, ap, subst, arith, set}
-use Rattle.std.specs.Prelude.{Option, Some, Result, Ok, Err, unwrap_or, slice_get}
+use Rattle.std.proofs.Common.{◌≡◌, ℕ, ◌+◌, ◌-◌, ◌^◌, ◌<◌, ◌≤◌, [], ◌∷◌, ◌++◌, refl, sym, ◌∙◌, ap, subst, arith, set}
+use Rattle.std.specs.Prelude.{Some, Result, Ok, Err, unwrap_or, slice_get}
 use Rattle.std.proofs.lemmas.List.{set-get_or}
 use Rattle.rt_ids.specs.declared.names.JobId.{JobId}
 use Rattle.rt_ids.specs.declared.note.Note.TheVariants as writes
@@ -12,28 +12,28 @@ use Rattle.rt_ids.specs.Journal.{is_told}
 use Rattle.rt_ids.specs.Lines.{line}
 use Rattle.rt_ids.specs.Picks.{IsRightPick, turns}
 use Rattle.rt_ids.specs.Work.{has_work}
-use Rattle.rt_jobs.specs.declared.job.Step.{Step}
+use Rattle.rt_jobs.specs.Steps.{Owed}
 use Rattle.rt_taskqueue.specs.declared.queues.CreateError.{CreateError}
 use Rattle.rt_taskqueue.specs.declared.queues.CreateError.TheVariants.{TooMany, Memory}
 use Rattle.rt_journal.specs.Polls.{polls_made, poll_note, settle_note}
 use Rattle.rt_journal.specs.Recorded.{RecordedView, desk_of, order_taken}
 use Rattle.rt_journal.specs.Steps.{CreatesQueue}
-use Rattle.rt_link.specs.Whole.{out_of, inward_of}
+use Rattle.rt_link.specs.Whole.{out_of}
 use Rattle.rt_journal.specs.Ends.{IsOutOf}
 use Rattle.rt_world.specs.declared.event.Reply.{Reply}
 use Rattle.rt_world.specs.declared.event.Reply.TheVariants as reply
-use Rattle.rt_world.specs.State.{journal_at, order_under, noted}
+use Rattle.rt_world.specs.State.{journal_at, order_under}
 use Rattle.rt_world.specs.Turns.{IsPoll, Turns}
 use Rattle.rt_world.specs.OneTurn as one
 use Rattle.rt_world.specs.Opening.{CreatesAtOpening}
 use Rattle.rt_world.specs.Links.{link_at}
-use Rattle.rt_world.specs.Inside.{Parts, core_at, desk_at, notes_at, seat_of, world_of, IsWorld}
+use Rattle.rt_world.specs.Inside.{Parts, core_at, notes_at, seat_of, world_of, IsWorld}
 use Rattle.rt_world.proofs.Desks.{sent_at-world}
 use Rattle.rt_world.proofs.LinkSteps.{received-same, sent-same}
 use Rattle.rt_world.proofs.OneTurn.{IsKeptBeside}
 use Rattle.rt_world.proofs.CoreSteps.{desk_is, parts_now, rests, journal_is, journals_now}
 
-module _ {J T : Type 0} {same : J → J → Type 0} {made : J → ℕ} {polls : J → ℕ → Step T → Option ℕ → Type 0} {old : Parts J T}
+module _ {J T : Type 0} {same : J → J → Type 0} {made : J → ℕ} {polls : Owed J T} {old : Parts J T}
     (world : IsWorld same made polls old) (core : ℕ) (there : core < old.cores) (now : RecordedView J T) where
   abbrev view : RecordedView J T
   view = core_at core old

@@ -10,7 +10,7 @@ use Rattle.rt_ids.specs.Lines.{line}
 use Rattle.rt_ids.specs.Picks.{IsRightPick, turns}
 use Rattle.rt_ids.specs.Commands.{return_reason}
 use Rattle.rt_jobs.specs.declared.job.Step.{Step}
-use Rattle.rt_jobs.specs.Steps.{IfDone}
+use Rattle.rt_jobs.specs.Steps.{IfDone, Owed}
 use Rattle.rt_journal.specs.Polls.{polls_made, poll_note, settle_note}
 use Rattle.rt_journal.specs.Recorded.{RecordedView, IsRecorded, desk_of, order_taken}
 use Rattle.rt_journal.specs.Steps.{with_notes}
@@ -18,7 +18,7 @@ use Rattle.rt_journal.specs.Ends.{KeepsIn, KeepsOuts, IsSameSeat}
 use Rattle.rt_world.specs.declared.event.Reply.{Reply}
 use Rattle.rt_world.specs.declared.event.Reply.TheVariants as reply
 
-module _ {J T : Type 0} (same : J → J → Type 0) (made : J → ℕ) (polls : J → ℕ → Step T → Option ℕ → Type 0) where
+module _ {J T : Type 0} (same : J → J → Type 0) (made : J → ℕ) (polls : Owed J T) where
   -- the core is recorded and has no job out, its seat is the same, and the ends of its links are beside it as before
   pub record StaysBeside (old new : RecordedView J T) : Type 0 where
     pub recorded : IsRecorded same made polls new
@@ -27,7 +27,7 @@ module _ {J T : Type 0} (same : J → J → Type 0) (made : J → ℕ) (polls : 
     pub ins : (sender : ℕ) → KeepsIn sender old new
     pub outs : KeepsOuts (desk_of old) (desk_of new)
 
-module _ {J T : Type 0} (made : J → ℕ) (polls : J → ℕ → Step T → Option ℕ → Type 0) (answers : J → T → Type 0) where
+module _ {J T : Type 0} (made : J → ℕ) (polls : Owed J T) (answers : J → T → Type 0) where
   -- a turn is left, and the right pick is made: the first job of that line is polled once, and the poll owes what the order under its name says
   pub record PollsOne (spent : ℕ) (old new : RecordedView J T) : Type 0 where
     pub turn_left : turns old.journal.notes < 2 ^ 64 - 1

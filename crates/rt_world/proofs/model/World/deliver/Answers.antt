@@ -1,8 +1,7 @@
-use Rattle.std.proofs.Common.{◌≡◌, ◌≤◌, ◌<◌, ◌+◌, length, refl, sym, ap, subst, arith, vec_items}
+use Rattle.std.proofs.Common.{◌≤◌, ◌<◌, ◌+◌, length, refl, sym, ap, subst, arith, vec_items}
 use Rattle.std.specs.Prelude.{map}
 use Rattle.std.specs.Vec.{with_item}
 use Rattle.rt_world.specs.State.{journal_at}
-use Rattle.rt_world.specs.Inside.{core_at}
 use Rattle.rt_world.specs.Links.{link_at}
 use Rattle.rt_world.proofs.Borrowed.{row_within, link_within, link_here, links_now}
 use Rattle.rt_world.proofs.CoreSteps.{viewed, free}

@@ -1,5 +1,4 @@
-use Rattle.std.proofs.Common.{◌≡◌, ◌≤◌, ◌<◌, ◌+◌, length, sym, ◌∙◌, ap, subst, arith}
-use Rattle.std.specs.Prelude.{Option, None}
+use Rattle.std.proofs.Common.{◌≤◌, ◌<◌, ◌+◌, length, sym, ◌∙◌, ap, subst, arith}
 use Rattle.rt_world.specs.State.{journal_at}
 use Rattle.rt_world.specs.OneTurn as one
 use Rattle.rt_world.proofs.CoreSteps.{viewed, free}
