@@ -22,6 +22,7 @@ pub mod DeterminedRefusals
 pub mod DeterminedSends
 pub mod DeterminedDeliveries
 pub mod DeterminedTurns
+pub mod DeterminedShuts
 pub mod DeterminedRuns
 pub mod DeterminedOpenings
 pub mod DeterminedScripts

@@ -17,7 +17,7 @@ use Rattle.rt_world.specs.Inside.{Parts, desks, desk_at, world_of, IsWorld}
 use Rattle.rt_world.proofs.Desks.{desk_at-outside, desks-outside, journal_at-world}
 use Rattle.rt_world.proofs.LinkRows.{with_link, ChangesLink-with_link}
 use Rattle.rt_world.proofs.LinkSteps.{OnlyReceived, OnlySent, received-same, sent-same, each_link, other_link}
-use Rattle.rt_world.proofs.SentLinks.{IsSubmitted, gate_is_open, only_sent, sends_now}
+use Rattle.rt_world.proofs.SentLinks.{IsSubmitted, only_sent, sends_now}
 use Rattle.rt_world.proofs.WorldAfter.{world_after}
 use Rattle.rt_world.proofs.CoreSteps.{desk_is}
 
@@ -35,7 +35,7 @@ module _ {J T : Type 0} {same : J → J → Type 0} {made : J → ℕ} {polls : 
   pub all_sent : (r e : ℕ) → OnlySent (link_at r e old.links) (link_at r e links)
   all_sent =
       each_link OnlySent sent-same old.links links sender to after changes
-      (only_sent to order (desk_at sender old) (link_at sender to old.links) answer now after did (gate_is_open world sender to there to_there))
+      (only_sent to order (desk_at sender old) (link_at sender to old.links) answer now after did)
 
   pub others_received : (r e : ℕ) → r ≢ sender → OnlyReceived (link_at r e old.links) (link_at r e links)
   others_received r e away = other_link OnlyReceived received-same old.links links sender to after changes r e (λ one two. away one)

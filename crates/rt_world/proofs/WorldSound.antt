@@ -1,6 +1,5 @@
 -- The journals of a world at rest are joined, and so they are sound together.
 use Rattle.std.proofs.Common.{ℕ, ◌+◌, [], refl, sym, ◌∙◌, ap, subst, arith}
-use Rattle.std.specs.Prelude.{Option}
 use Rattle.std.proofs.lemmas.List.{length-map, append-nil}
 use Rattle.rt_ids.specs.Joining.{AreJoined}
 use Rattle.rt_ids.specs.Sound.{IsSound}

@@ -1,5 +1,5 @@
 -- Runs of script jobs.
-use Rattle.std.specs.Prelude.{◌≡◌, ◌⊎◌, ℕ, Option, slice_get, List}
+use Rattle.std.specs.Prelude.{◌≡◌, ◌⊎◌, ℕ, slice_get, List}
 use Rattle.rt_jobs.specs.Steps.{Owed}
 use Rattle.rt_jobs.specs.Scripts.{Script, Does, IsAnswer}
 use Rattle.rt_world.specs.declared.event.Event.{Event}
