@@ -23,7 +23,6 @@ pub mod QuietSteps
 pub mod QueuesCreated
 pub mod Picked
 pub mod SettledPolls
-pub mod Turned
 pub mod Wrote
 pub mod Submitted
 pub mod SentNotes
