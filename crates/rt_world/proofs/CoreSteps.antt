@@ -34,6 +34,12 @@ module _ {J T : Type 0} {same : J → J → Type 0} {made : J → ℕ} {polls : 
   pub room_is : (core_at core old).journal.room ≡ old.room
   room_is = sym (ap (λ desk. desk.journal.room) desk_is) ∙ ap (λ desk. desk.journal.room) (world.all_there.seats_are core (omega (arith, there)))
 
+  pub cores_are : (core_at core old).core.cores ≡ old.cores
+  cores_are = ap (λ desk. desk.cores) (sym desk_is ∙ world.all_there.seats_are core (omega (arith, there)))
+
+  pub number_is : (core_at core old).core.core ≡ core
+  number_is = ap (λ desk. desk.actor) (sym desk_is ∙ world.all_there.seats_are core (omega (arith, there)))
+
   -- the core that a call borrows is the one of this number
   pub viewed : (view : RecordedView J T) → view ≡ get_or old.inside core view → view ≡ core_at core old
   viewed view read = read ∙ get_or_default old.inside core view (opened_beside 0 0 0 0) within

@@ -11,7 +11,9 @@ pub mod CoreSteps
 pub mod SentLinks
 pub mod Sending
 pub mod CoreSending
+pub mod Receiving
 pub mod Delivering
+pub mod Shutting
 pub mod OneTurn
 pub mod Turning
 pub mod Gathered

@@ -69,6 +69,6 @@ impl<J: Task<Out = u64>, A: Allocator + Clone> World<J, A> {
     {
         let row = &mut self.links[from.0 as usize];
         let link = &mut row[core.0 as usize];
-        self.inside[core.0 as usize].shut(link);
+        self.inside[core.0 as usize].shut(link, from);
     }
 }

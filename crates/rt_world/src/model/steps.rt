@@ -67,7 +67,7 @@ fn turn_of<J: Job + Task<Out = u64>, A: Allocator + Clone>(
 ) -> Reply<J>
     requires free { core.old.core.out ≡ None }
     requires room { length core.old.journal.notes + 3 ≤ core.old.journal.room }
-    ensures turns { one.Turns J.made J.Polls J.Answers spent core.old core.new result }
+    ensures turns { one.Turns J.SameTask J.made J.Polls J.Answers spent core.old core.new result }
     ensures beside { one.StaysBeside J.SameTask J.made J.Polls core.old core.new }
 {
     let job = match job_or_reply(core.pick()) {
