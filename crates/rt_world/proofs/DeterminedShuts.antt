@@ -1,14 +1,15 @@
 -- Shutting a gate has one result.
-use Rattle.std.proofs.Common.{◌≡◌, ℕ, refl, sym, ◌∙◌, subst}
+use Rattle.std.proofs.Common.{◌≡◌, ℕ, refl, sym, ◌∙◌, ap}
 use Rattle.std.specs.Option.{IsSome}
-use Rattle.std.specs.Prelude.{Option, None}
+use Rattle.std.specs.Prelude.{Option, None, is_some}
+use Rattle.std.proofs.lemmas.Bool.{true≢false}
 use Rattle.rt_world.specs.declared.event.Reply.{Reply}
 use Rattle.rt_world.specs.declared.event.Reply.TheVariants as reply
 use Rattle.rt_world.specs.State.{WorldView}
 use Rattle.rt_world.specs.Closings.{Shuts}
 
 none_there : {A : Type 0} (found : Option A) → IsSome found → found ≡ None → ⊥
-none_there found some none = subst IsSome none some
+none_there found some none = true≢false (sym some ∙ ap is_some none)
 
 module _ {J T : Type 0} (core sender : ℕ) (old new other : WorldView J T) where
   pub shuts_once : (answer other_answer : Reply J) → Shuts core sender old new answer → Shuts core sender old other other_answer →

@@ -1,5 +1,5 @@
 -- A turn has one result, if each poll owes one step and one time.
-use Rattle.std.proofs.Common.{◌≡◌, ℕ, ◌+◌, ◌-◌, ◌^◌, ◌⊎◌, inl, inr, false, List, [], ◌∷◌, refl, sym, ◌∙◌, ap, subst, ⊎_elim, arith}
+use Rattle.std.proofs.Common.{◌≡◌, ℕ, ◌+◌, ◌-◌, ◌^◌, ◌<◌, ◌⊎◌, inl, inr, false, List, [], ◌∷◌, refl, sym, ◌∙◌, ap, subst, ⊎_elim, arith}
 use Rattle.std.specs.Prelude.{Option, Some, unwrap_or}
 use Rattle.std.proofs.lemmas.Bool.{true≢false}
 use Rattle.std.proofs.lemmas.Option.{none-some, same_Some}
@@ -73,10 +73,10 @@ module _ {J T : Type 0} (made : J → ℕ) (polls : Owed J T) (answers : J → T
   abbrev HandsBack : WorldView J T → Type 0
   HandsBack new = IsHandBack core old new
 
-  made_by_poll : (new : WorldView J T) → Polls new → IsMade journal
+  abbrev made_by_poll : (new : WorldView J T) → Polls new → IsMade journal
   made_by_poll new poll = record { left = poll.turn_left; queue = poll.queue; runtime = poll.runtime; right = poll.right; name = poll.name; others = poll.others; first = poll.first }
 
-  made_by_back : (new : WorldView J T) → HandsBack new → IsMade journal
+  abbrev made_by_back : (new : WorldView J T) → HandsBack new → IsMade journal
   made_by_back new back = record { left = back.turn_left; queue = back.queue; runtime = back.runtime; right = back.right; name = back.name; others = back.others; first = back.first }
 
   made_by : (new : WorldView J T) → Polls new ⊎ HandsBack new → IsMade journal
