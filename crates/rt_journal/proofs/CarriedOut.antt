@@ -81,14 +81,12 @@ module _ {J T : Type 0} (old : RecordedView J T) (name : JobId)
   abbrev journal : Journal T
   journal = old.journal.notes
 
-  counted_one : (from : ℕ) → length (with_last (delivered_names from journal) (cond (name.from == from) (Some name) None)) ≡ delivered_count journal from + number_if (name.from == from)
+  pub counted_one : (from : ℕ) → length (with_last (delivered_names from journal) (cond (name.from == from) (Some name) None)) ≡ delivered_count journal from + number_if (name.from == from)
   counted_one from = length-with_last_if (delivered_names from journal) name (name.from == from)
 
   took_lists : (queue : ℕ) → KeepsLists journal (writes.Took name queue ∷ journal)
   took_lists queue = record {
-    accepted = λ core. refl;
-    outstanding = λ core. refl;
-    collected = λ core. refl;
+    sent = record { accepted = λ core. refl; outstanding = λ core. refl; collected = λ core. refl };
     given = λ sender. ([], append-nil (given_outcomes sender journal));
     gates = λ sender. refl;
   }
@@ -129,7 +127,7 @@ module _ {J T : Type 0} (old : RecordedView J T) (name : JobId)
           (refl, ap (λ at. Job at job) (sym (eqb-true other queue one))) (All-nil (IsOf name (Job queue job) other))
       came_now other false apart = All-nil (IsOf name (Job queue job) other)
 
-  answered_more : (answer : Answer) → sum_upto (given_count (writes.Answered name answer ∷ journal)) old.core.cores ≤ sum_upto (given_count journal) old.core.cores + 1
+  pub answered_more : (answer : Answer) → sum_upto (given_count (writes.Answered name answer ∷ journal)) old.core.cores ≤ sum_upto (given_count journal) old.core.cores + 1
   answered_more answer = sum_upto-at_most_one (given_count journal) (given_count (writes.Answered name answer ∷ journal)) name.from
       (λ from. length-with_last_if (given_outcomes from journal) _ (name.from == from)) old.core.cores
 
@@ -146,7 +144,7 @@ module _ {J T : Type 0} (old : RecordedView J T) (name : JobId)
       cores = ap (λ core. core.cores) counts;
       room = ap (λ core. core.queues.room) counts;
       out = ap (λ core. core.out) counts;
-      lists = record { accepted = λ core. refl; outstanding = λ core. refl; collected = λ core. refl; given = λ from. prefix-with_last (given_outcomes from journal) _; gates = λ from. refl };
+      lists = record { sent = record { accepted = λ core. refl; outstanding = λ core. refl; collected = λ core. refl }; given = λ from. prefix-with_last (given_outcomes from journal) _; gates = λ from. refl };
       delivered = counted_one;
       held = omega (arith, ap inside_count counts, given_more);
       polls = λ which. no_polls which journal;
@@ -171,7 +169,7 @@ module _ {J T : Type 0} (old : RecordedView J T) (name : JobId)
       cores = ap (λ core. core.cores) counts;
       room = ap (λ core. core.queues.room) counts;
       out = ap (λ core. core.out) counts;
-      lists = record { accepted = λ core. refl; outstanding = λ core. refl; collected = λ core. refl; given = λ from. prefix-with_last (given_outcomes from journal) _; gates = λ from. refl };
+      lists = record { sent = record { accepted = λ core. refl; outstanding = λ core. refl; collected = λ core. refl }; given = λ from. prefix-with_last (given_outcomes from journal) _; gates = λ from. refl };
       delivered = counted_one;
       held = omega (arith, ap inside_count counts, answered_more answer);
       polls = λ which. no_polls which journal;
@@ -192,7 +190,7 @@ module _ {J T : Type 0} (old : RecordedView J T) (name : JobId)
     cores = ap (λ core. core.cores) creates.rest;
     room = creates.added.same_room;
     out = ap (λ core. core.out) creates.rest;
-    lists = record { accepted = λ core. refl; outstanding = λ core. refl; collected = λ core. refl; given = λ from. prefix-with_last (given_outcomes from journal) _; gates = λ from. refl };
+    lists = record { sent = record { accepted = λ core. refl; outstanding = λ core. refl; collected = λ core. refl }; given = λ from. prefix-with_last (given_outcomes from journal) _; gates = λ from. refl };
     delivered = counted_one;
     held = omega (arith, inside, answered_more (answers.Created queue));
     polls = λ which. no_polls_twice which journal;
@@ -221,7 +219,7 @@ module _ {J T : Type 0} (old : RecordedView J T) (name : JobId)
     cores = ap (λ core. core.cores) weighs.rest;
     room = weighs.shares.same_room;
     out = ap (λ core. core.out) weighs.rest;
-    lists = record { accepted = λ core. refl; outstanding = λ core. refl; collected = λ core. refl; given = λ from. prefix-with_last (given_outcomes from journal) _; gates = λ from. refl };
+    lists = record { sent = record { accepted = λ core. refl; outstanding = λ core. refl; collected = λ core. refl }; given = λ from. prefix-with_last (given_outcomes from journal) _; gates = λ from. refl };
     delivered = counted_one;
     held = omega (arith, inside, answered_more answers.SharesSet);
     polls = λ which. no_polls_twice which journal;
@@ -240,53 +238,3 @@ module _ {J T : Type 0} (old : RecordedView J T) (name : JobId)
       inside =
           ap (λ out. held_count core.queues + number_if (is_some out)) (ap (λ core. core.out) weighs.rest)
           ∙ ap (λ held. held + number_if (is_some old.core.out)) weighs.shares.same_held
-
-  -- a creation that is refused, by why
-  closed_answer : old.core.mode ≢ None → (weight : ℕ) → IsAnswer (Create weight) answers.CoreClosing journal
-  closed_answer closed weight = by_mode (core_mode journal) (λ none. closed (kept.agrees.closing.mode ∙ none))
-    where
-      by_mode : (mode : Option Mode) → mode ≢ None → IsCreationAnswer mode (nat_le 255 (created_count journal)) (created_count journal + 1) answers.CoreClosing
-      by_mode None some = absurd (some refl)
-      by_mode (Some mode) some = refl
-
-  full_answer : old.core.mode ≡ None → queue_count old.core.queues ≡ 256 → (weight : ℕ) → IsAnswer (Create weight) answers.TooMany journal
-  full_answer never count weight = rw (sym kept.agrees.closing.mode ∙ never, le-leb 255 (created_count journal) (omega (arith, count, kept.agrees.last))) refl
-
-  memory_answer : old.core.mode ≡ None → queue_count old.core.queues < 256 → (weight : ℕ) → IsAnswer (Create weight) answers.NoMemory journal
-  memory_answer never count weight = rw (sym kept.agrees.closing.mode ∙ never, lt-leb 255 (created_count journal) (omega (arith, count, kept.agrees.last))) (inl refl)
-
-  missing_answer : (queue weight : ℕ) → queue_count old.core.queues ≤ queue → IsAnswer (SetShares queue weight) answers.NoQueue journal
-  missing_answer queue weight missing = rw (lt-leb queue (created_count journal) (omega (arith, missing, kept.agrees.last))) refl
-
-  abbrev Done : Order J → List (Note T) → Type 0
-  Done order written = IsCarriedOut old name order core (reverse written)
-
-  -- whatever the core does with the order
-  pub carries_out : (order : Order J) → IsSpelledOrder (without_job order) → (delivered : Delivered J) (written : List (Note T)) →
-      CarriesOut old.core name order delivered core written → IsCarriedOut old name order core (reverse written)
-  carries_out (Job queue job) spelled Took written does = subst (Done (Job queue job)) (sym does.2) (enters_queue queue job (sym (refusal-agrees old.core journal kept.agrees.closing kept.agrees.last queue) ∙ does.0) does.1)
-  carries_out (Job queue job) spelled (Back reason back) written does =
-      subst (Done (Job queue job)) (sym does.3) (goes_back does.2 queue job reason (sym (refusal-agrees old.core journal kept.agrees.closing kept.agrees.last queue) ∙ does.0))
-  carries_out (Job queue job) spelled (Answered answer) written does = absurd does
-  carries_out (Create weight) spelled Took written does = absurd does
-  carries_out (Create weight) spelled (Back reason back) written does = absurd does
-  carries_out (Create weight) spelled (Answered (answers.Created queue)) written does =
-      subst (Done (Create weight)) (sym does.3) (creates_queue queue weight spelled does.0 does.1 does.2)
-  carries_out (Create weight) spelled (Answered answers.CoreClosing) written does =
-      let right = closed_answer does.0 weight in
-      subst (Done (Create weight)) (sym does.2) (answers_alone does.1 (Create weight) answers.CoreClosing right refl (answers.CoreClosing, right, refl))
-  carries_out (Create weight) spelled (Answered answers.TooMany) written does =
-      let right = full_answer does.0 does.1 weight in
-      subst (Done (Create weight)) (sym does.3) (answers_alone does.2 (Create weight) answers.TooMany right refl (answers.TooMany, right, refl))
-  carries_out (Create weight) spelled (Answered answers.NoMemory) written does =
-      let right = memory_answer does.0 does.1 weight in
-      subst (Done (Create weight)) (sym does.3) (answers_alone does.2 (Create weight) answers.NoMemory right refl (answers.NoMemory, right, refl))
-  carries_out (Create weight) spelled (Answered _) written does = absurd does
-  carries_out (SetShares queue weight) spelled Took written does = absurd does
-  carries_out (SetShares queue weight) spelled (Back reason back) written does = absurd does
-  carries_out (SetShares queue weight) spelled (Answered answers.SharesSet) written does =
-      subst (Done (SetShares queue weight)) (sym does.2) (sets_shares queue weight spelled.1 does.0 does.1)
-  carries_out (SetShares queue weight) spelled (Answered answers.NoQueue) written does =
-      let right = missing_answer queue weight does.0 in
-      subst (Done (SetShares queue weight)) (sym does.2) (answers_alone does.1 (SetShares queue weight) answers.NoQueue right refl (answers.NoQueue, right, refl))
-  carries_out (SetShares queue weight) spelled (Answered _) written does = absurd does
