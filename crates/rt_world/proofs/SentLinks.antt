@@ -1,6 +1,6 @@
 -- A send as its world sees it: what the link's sender did on it, and what the sender is told.
 use Rattle.std.proofs.Common.{◌≡◌, ◌≢◌, ℕ, ◌+◌, ◌<◌, ◌≤◌, Bool, true, false, List, [], ◌∷◌, ◌++◌, length, refl, sym, ◌∙◌, ap, subst, arith, get_or, set}
-use Rattle.std.specs.Prelude.{Result, Ok, Err, map}
+use Rattle.std.specs.Prelude.{Some, Result, Ok, Err, map}
 use Rattle.std.proofs.lemmas.Bool.{true≢false}
 use Rattle.std.proofs.lemmas.List.{append-nil, set-get_or}
 use Rattle.rt_ids.specs.declared.names.JobId.{JobId}

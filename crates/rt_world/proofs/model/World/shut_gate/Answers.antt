@@ -1,4 +1,4 @@
-use Rattle.std.proofs.Common.{◌≤◌, ◌<◌, ◌+◌, length, refl, sym, ◌∙◌, ap, subst, arith, vec_items}
+use Rattle.std.proofs.Common.{◌≡◌, ◌≤◌, ◌<◌, ◌+◌, length, refl, sym, ◌∙◌, ap, subst, arith, vec_items}
 use Rattle.std.specs.Prelude.{map}
 use Rattle.std.specs.Option.{IsSome}
 use Rattle.std.specs.Vec.{with_item}

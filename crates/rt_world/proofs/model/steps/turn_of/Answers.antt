@@ -1,4 +1,4 @@
-use Rattle.std.proofs.Common.{[], sym, subst, arith}
+use Rattle.std.proofs.Common.{[], inl, sym, subst, arith}
 use Rattle.std.proofs.lemmas.Result.{IfOk-at_ok, IfErr-at_err}
 use Rattle.rt_jobs.specs.Steps.{IfDone, OnYield, OwesOn}
 use Rattle.rt_world.specs.PickedJobs.{TookOut, TookNone}
@@ -42,7 +42,7 @@ returns g c =
     let then : IsKeptBeside g.J.Task.SameTask g.J.Task.made g.J.Task.Polls c.pick.new.self c.settle.new.self = record { sound = c.settle.ensures.sound; seat = c.settle.ensures.seat; ins = c.settle.ensures.ins; outs = c.settle.ensures.outs } in
     let is_job = IfOk-at_ok (TookOut c.pick.result) c.in-Ok.is c.job_or_reply.ensures.job in
     record {
-      turns = turned c.args.core.now c.requires.free c.pick.result c.pick.new.self c.pick.ensures.picks kept c.in-Ok.job is_job g.J.Task.Answers c.poll.result c.args.spent c.settle.result c.settle.new.self c.settle.ensures.settles then
-          (subst (λ job. g.J.Task.Polls job (g.J.Task.made job) [] [] c.poll.result.step c.poll.result.told) (sym c.poll.ensures.before) c.poll.ensures.owed);
+      turns = inl (turned c.args.core.now c.requires.free c.pick.result c.pick.new.self c.pick.ensures.picks kept c.in-Ok.job is_job g.J.Task.Answers c.poll.result c.args.spent c.settle.result c.settle.new.self c.settle.ensures.settles then
+          (subst (λ job. g.J.Task.Polls job (g.J.Task.made job) [] [] c.poll.result.step c.poll.result.told) (sym c.poll.ensures.before) c.poll.ensures.owed));
       beside = turned_stays c.args.core.now c.requires.free c.pick.result c.pick.new.self c.pick.ensures.picks kept c.in-Ok.job is_job g.J.Task.Answers c.poll.result c.args.spent c.settle.result c.settle.new.self c.settle.ensures.settles then;
     }
