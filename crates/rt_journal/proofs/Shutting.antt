@@ -1,5 +1,5 @@
 -- A core beside its journal shuts the gate of a sender, and the end of that sender stays beside it.
-use Rattle.std.proofs.Common.{◌≡◌, ℕ, ◌+◌, ◌<◌, ◌≤◌, true, List, [], ◌∷◌, ◌++◌, length, reverse, refl, sym, ◌∙◌, ap, subst, arith, add-zero, cond}
+use Rattle.std.proofs.Common.{◌≡◌, ℕ, ◌+◌, ◌≤◌, true, List, [], ◌∷◌, ◌++◌, length, reverse, refl, sym, ◌∙◌, ap, subst, arith, add-zero, cond}
 use Rattle.std.specs.Prelude.{◌≢◌, Some, None, All, is_some, IsSome, slice_set}
 use Rattle.std.proofs.lemmas.Bool.{eq-eqb, ne_eqb, true≢false}
 use Rattle.std.proofs.lemmas.List.{length-append}
@@ -13,7 +13,7 @@ use Rattle.rt_core.specs.State.{CoreView, gate_of, inside_count}
 use Rattle.rt_core.specs.Closing.{ShutsGate}
 use Rattle.rt_link.specs.declared.ends.Inward.{Inward}
 use Rattle.rt_link.specs.Ends.{SoundIn}
-use Rattle.rt_link.specs.Calls.{Shuts, final_of}
+use Rattle.rt_link.specs.Calls.{Shuts}
 use Rattle.rt_journal.specs.Polls.{polls_made}
 use Rattle.rt_journal.specs.Recorded.{RecordedView, terms_at, IsRecorded, HasTask}
 use Rattle.rt_journal.specs.Ends.{IsInOf}
@@ -96,11 +96,10 @@ module _ {J T : Type 0} (old now : RecordedView J T) (view_is : old ≡ now) (fr
   next_now = subst (λ view. IsNextShut view.core.cores from count view.journal.notes) (sym view_is) (next_shut now from count before after beside shuts sound closed untold)
 
   -- what the core asks
-  pub core_asks : {same : J → J → Type 0} {made : J → ℕ} {polls : Owed J T} → IsRecorded same made polls old → (from ≤ old.core.cores) × (old.core.mode ≢ None) × (gate_of from old.core ≡ None)
+  pub core_asks : {same : J → J → Type 0} {made : J → ℕ} {polls : Owed J T} → IsRecorded same made polls old → (from ≤ old.core.cores) × ((old.core.mode ≢ None) × (gate_of from old.core ≡ None))
   core_asks recorded = (
     next_now.known,
-    λ none. true≢false (sym next_now.closed ∙ ap is_some (sym recorded.kept.agrees.closing.mode ∙ none)),
-    recorded.kept.agrees.closing.gates from ∙ next_now.not_shut,
+    (λ none. true≢false (sym next_now.closed ∙ ap is_some (sym recorded.kept.agrees.closing.mode ∙ none)), recorded.kept.agrees.closing.gates from ∙ next_now.not_shut),
   )
 
   module _ (core : CoreView J) (notes : List (Note T)) (gate : ShutsGate old.core from count core notes) where

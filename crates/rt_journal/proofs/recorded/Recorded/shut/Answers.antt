@@ -1,4 +1,4 @@
-use Rattle.std.proofs.Common.{length, sym, ◌∙◌, ap, subst, arith}
+use Rattle.std.proofs.Common.{length, sym, ap, subst, arith}
 use Rattle.rt_journal.specs.Ends.{IsInOf}
 use Rattle.rt_journal.specs.Steps.{TellsShut}
 use Rattle.rt_journal.proofs.Shutting.{core_asks, few_shut, step_shut, tells_shut_now, beside_shut}
