@@ -1,5 +1,5 @@
 -- Whatever a core does with an order that is delivered to it is carried out.
-use Rattle.std.proofs.Common.{◌≡◌, inl, ℕ, ◌+◌, ◌<◌, ◌≤◌, Bool, true, false, List, [], ◌∷◌, ◌++◌, refl, sym, ◌∙◌, ap, subst, arith}
+use Rattle.std.proofs.Common.{◌≡◌, inl, ℕ, ◌+◌, ◌<◌, ◌≤◌, false, List, ◌∷◌, refl, sym, ◌∙◌, ap, subst, arith}
 use Rattle.std.specs.Prelude.{◌≢◌, Option, Some, None, reverse, nat_le}
 use Rattle.std.proofs.lemmas.Bool.{le-leb, lt-leb}
 use Rattle.rt_ids.specs.declared.names.JobId.{JobId}
@@ -11,7 +11,7 @@ use Rattle.rt_ids.specs.declared.order.Mode.{Mode}
 use Rattle.rt_ids.specs.declared.order.Answer.TheVariants as answers
 use Rattle.rt_ids.specs.Journal.{Journal}
 use Rattle.rt_ids.specs.Closing.{closes, core_mode}
-use Rattle.rt_ids.specs.Commands.{created_count, refusal, IsAnswer, IsCreationAnswer}
+use Rattle.rt_ids.specs.Commands.{created_count, IsAnswer, IsCreationAnswer}
 use Rattle.rt_ids.specs.Lawful.{IsNextDelivered}
 use Rattle.rt_ids.specs.Orders.{IsSpelledOrder, without_job}
 use Rattle.rt_taskqueue.specs.Queues.{queue_count, mode_of}

@@ -1,8 +1,7 @@
 -- A core is drained where its journal says so.
-use Rattle.std.proofs.Common.{◌≡◌, ℕ, ◌+◌, ◌≤◌, Bool, true, false, length, sym, ◌∙◌, ap}
+use Rattle.std.proofs.Common.{◌≡◌, ℕ, sym, ◌∙◌, ap}
 use Rattle.std.specs.Prelude.{Some}
 use Rattle.std.proofs.lemmas.Bool.{false_from_ne_true, true≢false}
-use Rattle.rt_ids.specs.Filters.{delivered_names}
 use Rattle.rt_ids.specs.Work.{has_work}
 use Rattle.rt_ids.specs.Closing as told
 use Rattle.rt_jobs.specs.Steps.{Owed}

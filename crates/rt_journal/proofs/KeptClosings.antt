@@ -1,5 +1,5 @@
 -- What a core tells of itself stays what its journal says, as a queue or the core is closed and as a gate is shut; and the notes may stand.
-use Rattle.std.proofs.Common.{◌≡◌, ℕ, ◌+◌, ◌<◌, ◌≤◌, Bool, true, false, ◌∷◌, length, refl, sym, ◌∙◌, ap, subst, arith, cond, get_or, get_or-set_same, get_or-set_other, length-set}
+use Rattle.std.proofs.Common.{◌≡◌, ℕ, ◌+◌, ◌≤◌, Bool, true, false, ◌∷◌, length, refl, sym, ◌∙◌, ap, arith, cond, get_or, get_or-set_same, get_or-set_other, length-set}
 use Rattle.std.specs.Prelude.{◌==◌, Some, None, slice_set}
 use Rattle.std.proofs.lemmas.Bool.{eqb-true, eqb-false}
 use Rattle.rt_ids.specs.Terms.{Terms}
@@ -9,7 +9,7 @@ use Rattle.rt_ids.specs.declared.order.Mode.{Mode}
 use Rattle.rt_ids.specs.Journal.{Journal, or_else}
 use Rattle.rt_ids.specs.Filters.{delivered_names}
 use Rattle.rt_ids.specs.Runtimes.{shares}
-use Rattle.rt_ids.specs.Closing.{IsNextShut, queue_mode, core_mode, final_count}
+use Rattle.rt_ids.specs.Closing.{IsNextShut, queue_mode, final_count}
 use Rattle.rt_ids.specs.Commands.{created_count}
 use Rattle.rt_ids.specs.Lawful.{MayStand}
 use Rattle.rt_taskqueue.specs.Queues.{queue_count, waiting_of, shares_of, mode_of}

@@ -63,10 +63,8 @@ module _ {J T : Type 0} (view : CoreView J) (journal : Journal T) (agrees : Agre
   return_reason-agrees queue = λ i. or_else (reason_if_returning (agrees.modes queue i) why.QueueReturned) (reason_if_returning (agrees.mode i) why.CoreReturned)
 
 -- a core that opens is open
-pub opening_is_open : {T : Type 0} (journal : Journal T) → IsOpening journal → core_mode journal ≡ None
-opening_is_open [] opening = refl
-opening_is_open (note ∷ before) opening = by_note note opening
-  where
-    by_note : (note : Note T) → IsOpening (note ∷ before) → core_mode (note ∷ before) ≡ None
-    by_note (Created queue weight) opening = opening_is_open before opening
-    by_note _ opening = absurd opening
+module _ {T : Type 0} where
+  pub opening_is_open : (journal : Journal T) → IsOpening journal → core_mode journal ≡ None
+  opening_is_open [] opening = refl
+  opening_is_open (Created queue weight ∷ before) opening = opening_is_open before opening
+  opening_is_open (_ ∷ before) opening = absurd opening

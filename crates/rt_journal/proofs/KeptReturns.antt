@@ -1,5 +1,5 @@
 -- What a core tells of itself stays what its journal says, as a pick hands a job back; and the notes of the pick may stand.
-use Rattle.std.proofs.Common.{◌≡◌, ℕ, ◌+◌, ◌<◌, Bool, true, false, [], ◌∷◌, length, refl, sym, ◌∙◌, ap, subst, arith, get_or, set, get_or-set_same, get_or-set_other, length-set}
+use Rattle.std.proofs.Common.{◌≡◌, ℕ, ◌+◌, ◌<◌, Bool, true, false, ◌∷◌, length, refl, sym, ◌∙◌, ap, subst, arith, get_or, set, get_or-set_same, get_or-set_other, length-set}
 use Rattle.std.specs.Prelude.{◌==◌, Some, None, max}
 use Rattle.std.proofs.lemmas.Bool.{eqb-true, eqb-false}
 use Rattle.rt_ids.specs.Terms.{Terms}
@@ -8,18 +8,17 @@ use Rattle.rt_ids.specs.declared.note.Note.TheVariants as writes
 use Rattle.rt_ids.specs.declared.order.Reason.{Reason}
 use Rattle.rt_ids.specs.Limits.{most_turns}
 use Rattle.rt_ids.specs.Journal.{Journal, EachNote}
-use Rattle.rt_ids.specs.Runtimes.{virtual_runtime}
 use Rattle.rt_ids.specs.Lines.{line}
 use Rattle.rt_ids.specs.Picks.{IsRightPick, turns}
 use Rattle.rt_ids.specs.Commands.{return_reason}
 use Rattle.rt_ids.specs.Lawful.{MayStand}
 use Rattle.rt_ids.proofs.LineSteps.{line-turn, line-turn_elsewhere}
 use Rattle.rt_ids.proofs.RuntimeSteps.{virtual_runtime-stays, floor-stays}
-use Rattle.rt_taskqueue.specs.Queues.{waiting_of, shares_of}
+use Rattle.rt_taskqueue.specs.Queues.{waiting_of}
 use Rattle.rt_core.specs.State.{CoreView, no_tally, tally_of, runtime_of, delivered_of}
 use Rattle.rt_core.specs.Closing as core
 use Rattle.rt_core.specs.Turns.{TakesOut, HandsBack}
-use Rattle.rt_journal.specs.Agreement.{Agrees, AgreesOnClosing, IsJobOut, AreMarked, names_of}
+use Rattle.rt_journal.specs.Agreement.{Agrees, AgreesOnClosing, IsJobOut, names_of}
 use Rattle.rt_journal.proofs.Kept.{IsKept, plainly_stands, turns-stays}
 use Rattle.rt_journal.proofs.KeptModes.{SameModes, same_modes, closing-stays, return_reason-agrees}
 use Rattle.rt_journal.proofs.KeptPicks as kept_picks

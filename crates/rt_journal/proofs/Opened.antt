@@ -5,7 +5,7 @@ use Rattle.std.proofs.lemmas.List.{length-replicate, get_or-replicate}
 use Rattle.std.proofs.lemmas.List.Elements.{All-nil}
 use Rattle.rt_jobs.specs.Steps.{Owed}
 use Rattle.rt_taskqueue.specs.Queues.{waiting_of, shares_of, mode_of}
-use Rattle.rt_core.specs.State.{CoreView, JobOut, runtime_of, opened}
+use Rattle.rt_core.specs.State.{CoreView, runtime_of, opened}
 use Rattle.rt_journal.specs.Agreement.{Agrees, AreMarked, names_of}
 use Rattle.rt_journal.specs.Recorded.{IsRecorded, HasTask, sum_upto, given_count}
 use Rattle.rt_journal.specs.Steps.{opened_beside}

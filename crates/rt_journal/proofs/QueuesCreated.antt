@@ -1,6 +1,6 @@
 -- A core beside its journal creates a queue before anything else is done.
 use Rattle.std.proofs.Common.{◌≡◌, ℕ, ◌+◌, ◌≤◌, List, [], ◌∷◌, length, reverse, refl, sym, ◌∙◌, ap, subst, arith, add-zero}
-use Rattle.std.specs.Prelude.{Option, All, is_some, Result, Ok, Err}
+use Rattle.std.specs.Prelude.{All, is_some, Result, Ok, Err}
 use Rattle.rt_shares.specs.Charge.{InRange}
 use Rattle.rt_ids.specs.declared.names.JobId.{JobId}
 use Rattle.rt_ids.specs.declared.note.Note.{Note}

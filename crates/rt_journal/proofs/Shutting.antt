@@ -1,5 +1,5 @@
 -- A core beside its journal shuts the gate of a sender, and the end of that sender stays beside it.
-use Rattle.std.proofs.Common.{◌≡◌, ℕ, ◌+◌, ◌<◌, ◌≤◌, true, List, [], ◌∷◌, ◌++◌, length, reverse, refl, sym, ◌∙◌, ap, subst, arith, add-zero, cond}
+use Rattle.std.proofs.Common.{◌≡◌, ℕ, ◌+◌, ◌≤◌, true, List, [], ◌∷◌, ◌++◌, length, reverse, refl, sym, ◌∙◌, ap, subst, arith, add-zero, cond}
 use Rattle.std.specs.Prelude.{◌≢◌, Some, None, All, is_some, IsSome, slice_set}
 use Rattle.std.proofs.lemmas.Bool.{eq-eqb, ne_eqb, true≢false}
 use Rattle.std.proofs.lemmas.List.{length-append}
@@ -13,7 +13,7 @@ use Rattle.rt_core.specs.State.{CoreView, gate_of, inside_count}
 use Rattle.rt_core.specs.Closing.{ShutsGate}
 use Rattle.rt_link.specs.declared.ends.Inward.{Inward}
 use Rattle.rt_link.specs.Ends.{SoundIn}
-use Rattle.rt_link.specs.Calls.{Shuts, final_of}
+use Rattle.rt_link.specs.Calls.{Shuts}
 use Rattle.rt_journal.specs.Polls.{polls_made}
 use Rattle.rt_journal.specs.Recorded.{RecordedView, terms_at, IsRecorded, HasTask}
 use Rattle.rt_journal.specs.Ends.{IsInOf}
@@ -70,13 +70,10 @@ module _ {J T : Type 0} (old : RecordedView J T) (from count : ℕ) (core : Core
   shut_beside before after beside shuts =
       subst (λ core. IsInOf from (stepped old core written) after) (sym is) (subst (IsInOf from (stepped old (record old.core { gates = slice_set old.core.gates from (Some count) }) written)) (sym shuts.0) now)
     where
-      abbrev end_now : Inward J T
-      end_now = record before { seen = after.seen; shut = true }
-
       seen : IsInOf from old (record before { seen = after.seen })
       seen = sees_more_in from old before (record before { seen = after.seen }) refl shuts.1 beside
 
-      now : IsInOf from (stepped old (record old.core { gates = slice_set old.core.gates from (Some count) }) written) end_now
+      now : IsInOf from (stepped old (record old.core { gates = slice_set old.core.gates from (Some count) }) written) (record before { seen = after.seen; shut = true })
       now = record {
         known = seen.known;
         from = seen.from;
@@ -93,25 +90,24 @@ module _ {J T : Type 0} (old : RecordedView J T) (from count : ℕ) (core : Core
       }
 
 -- what a call that shut the gate knows of its parts
-module _ {J T : Type 0} {same : J → J → Type 0} {made : J → ℕ} {polls : Owed J T} (old now : RecordedView J T) (view_is : old ≡ now) (from count : ℕ) (before after : Inward J T)
+module _ {J T : Type 0} (old now : RecordedView J T) (view_is : old ≡ now) (from count : ℕ) (before after : Inward J T)
     (beside : IsInOf from now before) (shuts : Shuts before after count) (sound : SoundIn after) (closed : IsSome (core_mode now.journal.notes)) (untold : final_count from now.journal.notes ≡ None) where
   pub next_now : IsNextShut old.core.cores from count old.journal.notes
   next_now = subst (λ view. IsNextShut view.core.cores from count view.journal.notes) (sym view_is) (next_shut now from count before after beside shuts sound closed untold)
 
   -- what the core asks
-  pub core_asks : IsRecorded same made polls old → (from ≤ old.core.cores) × (old.core.mode ≢ None) × (gate_of from old.core ≡ None)
+  pub core_asks : {same : J → J → Type 0} {made : J → ℕ} {polls : Owed J T} → IsRecorded same made polls old → (from ≤ old.core.cores) × ((old.core.mode ≢ None) × (gate_of from old.core ≡ None))
   core_asks recorded = (
     next_now.known,
-    λ none. true≢false (sym next_now.closed ∙ ap is_some (sym recorded.kept.agrees.closing.mode ∙ none)),
-    recorded.kept.agrees.closing.gates from ∙ next_now.not_shut,
+    (λ none. true≢false (sym next_now.closed ∙ ap is_some (sym recorded.kept.agrees.closing.mode ∙ none)), recorded.kept.agrees.closing.gates from ∙ next_now.not_shut),
   )
 
   module _ (core : CoreView J) (notes : List (Note T)) (gate : ShutsGate old.core from count core notes) where
     pub few_shut : length notes ≡ 1
     few_shut = ap length gate.1
 
-    pub step_shut : IsRecorded same made polls old → IsQuietStep old core (reverse notes) same made polls (λ sender. sender ≡ from → ⊥)
-    step_shut recorded = subst (λ notes. IsQuietStep old core (reverse notes) same made polls (λ sender. sender ≡ from → ⊥)) (sym gate.1) (shut_step old from count core gate.0 recorded next_now)
+    pub step_shut : {same : J → J → Type 0} {made : J → ℕ} {polls : Owed J T} → IsRecorded same made polls old → IsQuietStep old core (reverse notes) same made polls (λ sender. sender ≡ from → ⊥)
+    step_shut {same} {made} {polls} recorded = subst (λ notes. IsQuietStep old core (reverse notes) same made polls (λ sender. sender ≡ from → ⊥)) (sym gate.1) (shut_step old from count core gate.0 recorded next_now)
 
     pub tells_shut_now : TellsShut old from count (stepped old core (reverse notes))
     tells_shut_now = record { journal = ap (λ notes. with_notes (reverse notes) old.journal) gate.1; took = refl; out = ap (λ core. core.out) gate.0 }

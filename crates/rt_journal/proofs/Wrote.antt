@@ -1,6 +1,5 @@
 -- What a call of a recorded core knows after its core made a step and its desk wrote the notes.
 use Rattle.std.proofs.Common.{◌≡◌, ℕ, List, ◌++◌, reverse, sym, ◌∙◌, ap, subst}
-use Rattle.std.specs.Prelude.{Option}
 use Rattle.rt_ids.specs.declared.note.Note.{Note}
 use Rattle.rt_ids.specs.declared.order.Envelope.{Envelope}
 use Rattle.rt_jobs.specs.Steps.{Owed}

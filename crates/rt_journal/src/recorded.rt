@@ -171,8 +171,8 @@ impl<J: Task<Out = u64>, A: Allocator + Clone> Recorded<J, A> {
         ensures untouched { I.untouched end.new ≡ I.untouched end.old }
     {
         let count = end.shut();
-        let notes = self.core.gate_shut(from, count);
-        self.said.write(notes.as_slice());
+        let told = self.core.gate_shut(from, count);
+        self.said.write(told.as_slice());
         count
     }
 

@@ -1,4 +1,3 @@
-use Rattle.std.proofs.Common.{◌∙◌, sym, subst}
 use Rattle.rt_journal.proofs.Drained.{drained_told, drained_here}
 use Rattle.rt_journal.proofs.Wrote.{view_of}
 use Rattle.rt_journal.proofs.recorded.Recorded.is_drained.Goals as goal
