@@ -73,6 +73,7 @@ module _ {J T : Type 0} {same : J → J → Type 0} {made : J → ℕ} {polls : 
       let place : name.number - 1 ≡ found.0 = omega (arith, ap (λ id. id.number) found.1) in
       ap (λ orders. slice_get orders (name.number - 1)) (sent_at-world old name.from name.to ∙ ap (λ to. (link_at name.from to old.links).sent) to_is)
       ∙ (ap (slice_get (link_at name.from core old.links).sent) place ∙ found.2)
+
   module _ (answers : J → T → Type 0) (spent : ℕ) where
     polled : one.PollsOne made polls answers spent view now → IsPoll made polls answers core spent (world_of old) (world_of quiet)
     polled did = record {
