@@ -4,3 +4,5 @@ pub mod ReaderLemmas
 pub mod SoFar
 pub mod ReadTexts
 pub mod OnlyTexts
+pub mod Raising
+pub mod ReadBack

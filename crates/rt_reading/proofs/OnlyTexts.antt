@@ -1,12 +1,14 @@
 -- Only the text of spelled journals is read.
-use Rattle.std.proofs.Common.{◌≡◌, ℕ, zero, suc, ◌+◌, ◌-◌, ◌<◌, ◌==◌, List, [], ◌∷◌, ◌++◌, length, unwrap_or, refl, sym, ap, ◌∙◌, subst, arith, length-append}
+use Rattle.std.proofs.Common.{◌≡◌, ℕ, zero, suc, ◌+◌, ◌-◌, ◌<◌, ◌==◌, List, [], ◌∷◌, ◌++◌, length, Option, Some, None, Ok, IfSome, unwrap_or, refl, sym, ap, ◌∙◌, subst, arith, length-append}
 use Rattle.std.specs.Prelude.{slice_get}
 use Rattle.std.specs.List.{slice_split}
 use Rattle.std.proofs.lemmas.List.Splits.{join_with_byte-slice_split}
+use Rattle.rt_ids.specs.Assembly.{Assembly}
 use Rattle.rt_ids.specs.Journal.{Journal}
 use Rattle.rt_ids.specs.Spelled.{AreSpelledNotes, IsSpelled}
 use Rattle.rt_spelling.specs.Texts.{form_line, size_line, journal_lines, end_line, text_of, journal_text}
 use Rattle.rt_reading.specs.Drafts.{Drafted, empty_draft, raised_to, all_journals, assembly_of}
+use Rattle.rt_reading.specs.JournalTexts.{journals_of}
 use Rattle.rt_reading.specs.Laws.{OnlyTextsAreRead}
 use Rattle.rt_reading.proofs.DraftLemmas.{raised_is}
 use Rattle.rt_reading.proofs.ReadTexts.{read_from}
@@ -65,3 +67,9 @@ pub only_texts : OnlyTextsAreRead
 only_texts text draft told =
     let read = read_from 1 empty_draft draft (slice_split (λ byte. byte == 10) text) refl told in
     (assembly_spelled draft read.0, sym (join_with_byte-slice_split 10 text) ∙ sym read.1 ∙ assembly_text draft read.0)
+
+-- what was read of a text that is known
+pub same_text : (known : Option (List ℕ)) (assembly : Assembly ℕ) → IfSome known (λ text. (draft : Drafted) × (journals_of text ≡ Ok draft) × (assembly ≡ assembly_of draft)) →
+    IfSome known (λ text. IsSpelled assembly × (text ≡ journal_text assembly))
+same_text None assembly told = tt
+same_text (Some text) assembly told = let read = only_texts text told.0 told.1 in (subst IsSpelled (sym told.2) read.0, read.1 ∙ ap journal_text (sym told.2))

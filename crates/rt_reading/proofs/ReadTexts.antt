@@ -30,7 +30,7 @@ so_far part.Size draft = form_line ∷ []
 so_far part.Notes draft = body_lines draft
 so_far part.After draft = body_lines draft ++ end_line ∷ []
 
-abbrev sized : Drafted
+abbrev pub sized : Drafted
 sized = record { part = part.Size; cores = 1; cap = 1; earlier = []; notes = [] }
 
 -- what holds of it then

@@ -67,7 +67,7 @@ raised_fair (suc count) draft fair within =
 abbrev pub noted : Drafted → Note ℕ → Drafted
 noted draft note = record { part = draft.part; cores = draft.cores; cap = draft.cap; earlier = draft.earlier; notes = note ∷ draft.notes }
 
-actor_lines-more : (actor : ℕ) (note : Note ℕ) (before : Journal ℕ) → actor_lines actor (note ∷ before) ≡ actor_lines actor before ++ note_line actor note ∷ []
+pub actor_lines-more : (actor : ℕ) (note : Note ℕ) (before : Journal ℕ) → actor_lines actor (note ∷ before) ≡ actor_lines actor before ++ note_line actor note ∷ []
 actor_lines-more actor note before = ap (map (note_line actor)) (reverse-append (note ∷ []) before) ∙ map-append (note_line actor) (reverse before) (note ∷ [])
 
 last_lines : (journals : List (Journal ℕ)) (journal : Journal ℕ) → journal_lines 0 (journals ++ journal ∷ []) ≡ journal_lines 0 journals ++ actor_lines (length journals) journal

@@ -2,7 +2,7 @@
 use Rattle.std.proofs.Common.{◌≡◌, length}
 use Rattle.rt_reading.specs.JournalTexts.{room_left}
 use Rattle.rt_reading.specs.Telling.{GoesOn}
-use Rattle.rt_reading.proofs.source.read_journal.Given as goal
+use Rattle.rt_reading.proofs.source.read_all.Given as goal
 
 abbrev pub invariant-loop-count : goal.invariant-loop-count
 invariant-loop-count g l = record {
