@@ -60,13 +60,15 @@ name_short cores name few is =
     let sender = is.sender in
     let receiver = is.receiver in
     let range = is.in_range in
-    omega (arith,
+    omega (
+      arith,
       ap length (name_joined name),
       length-append (decimal name.from) (62 ∷ (decimal name.to ++ 35 ∷ decimal name.number)),
       length-append (decimal name.to) (35 ∷ decimal name.number),
       length-decimal-le_wide 2 name.from (omega arith) (omega arith) (omega arith),
       length-decimal-le_wide 2 name.to (omega arith) (omega arith) (omega arith),
-      count_short name.number (omega arith))
+      count_short name.number (omega arith),
+    )
 
 mode_short : (m : Mode) → length (mode_text m) ≤ 6
 mode_short mode.Finish = omega arith

@@ -1,9 +1,8 @@
 -- Drafts that stand before an actor, however many of the actors before it had no note.
-use Rattle.std.proofs.Common.{◌≡◌, ℕ, zero, suc, ◌+◌, ◌-◌, ◌<◌, ◌≤◌, List, [], ◌∷◌, ◌++◌, length, refl, sym, ap, ◌∙◌, arith, length-append}
+use Rattle.std.proofs.Common.{◌≡◌, ℕ, zero, suc, ◌+◌, ◌-◌, ◌≤◌, List, [], ◌∷◌, ◌++◌, length, refl, sym, ap, ◌∙◌, arith, length-append}
 use Rattle.rt_ids.specs.Journal.{Journal}
-use Rattle.rt_reading.specs.declared.draft.Part.{Part}
 use Rattle.rt_reading.specs.declared.draft.Part.TheVariants as part
-use Rattle.rt_reading.specs.Drafts.{Drafted, next_actor, raised, raised_to, all_journals, assembly_of}
+use Rattle.rt_reading.specs.Drafts.{Drafted, next_actor, raised, raised_to, all_journals}
 use Rattle.rt_reading.proofs.DraftLemmas.{raised_is}
 
 -- the journals of the actors before, and the notes of the next one so far

@@ -1,5 +1,5 @@
 -- The text of journals tells these journals.
-use Rattle.std.proofs.Common.{◌≡◌, ℕ, zero, suc, ◌+◌, ◌-◌, ◌^◌, ◌<◌, ◌≤◌, ◌==◌, Bool, true, false, cond, ltb, inr, List, [], ◌∷◌, ◌++◌, length, Option, Some, None, Result, Ok, Err, unwrap_or, refl, sym, ap, ◌∙◌, subst, arith, append_assoc, append-nil, codes, decimal, length-append}
+use Rattle.std.proofs.Common.{◌≡◌, ℕ, suc, ◌+◌, ◌^◌, ◌<◌, ◌≤◌, ◌==◌, Bool, true, false, cond, ltb, inr, List, [], ◌∷◌, ◌++◌, length, Option, Some, Ok, Err, unwrap_or, refl, sym, ap, ◌∙◌, subst, arith, append_assoc, append-nil, codes, decimal, length-append}
 use Rattle.std.specs.Prelude.{slice_get}
 use Rattle.std.specs.List.{slice_split}
 use Rattle.std.specs.Str.{bytes_eq}
@@ -8,10 +8,10 @@ use Rattle.std.proofs.lemmas.Fmt.{length-decimal-le_wide}
 use Rattle.std.proofs.lemmas.List.Elements.{All-head}
 use Rattle.std.proofs.lemmas.List.Splits.{slice_split_at}
 use Rattle.rt_ids.specs.declared.note.Note.{Note}
-use Rattle.rt_ids.specs.Assembly.{Assembly, journal_of}
+use Rattle.rt_ids.specs.Assembly.{Assembly}
 use Rattle.rt_ids.specs.Journal.{Journal, EachNote}
 use Rattle.rt_ids.specs.Limits.{most_cores, most_notes}
-use Rattle.rt_ids.specs.Spelled.{IsSpelledNote, AreSpelledNotes, IsWithinLimits, IsSpelled}
+use Rattle.rt_ids.specs.Spelled.{IsSpelledNote, AreSpelledNotes, IsWithinLimits}
 use Rattle.rt_ids.specs.Terms.{Terms}
 use Rattle.rt_text.specs.Notes.{note_line}
 use Rattle.rt_words.specs.Words.{words, first, others}
@@ -24,14 +24,12 @@ use Rattle.rt_note_words.proofs.LineShapes.{joined_none, joined_width, line_shor
 use Rattle.rt_note_words.proofs.LineTexts.{words_joined, line_tells}
 use Rattle.rt_note_words.proofs.Options.{same_bytes}
 use Rattle.rt_note_words.proofs.WholeWords.{HasNo, HaveNo, number_word, whole_word}
-use Rattle.rt_spelling.specs.Texts.{form_line, size_line, end_line, actor_lines, journal_lines, assembly_lines, text_of, journal_text}
-use Rattle.rt_reading.specs.declared.draft.Part.{Part}
+use Rattle.rt_spelling.specs.Texts.{size_line, end_line, actor_lines, journal_lines, assembly_lines, text_of, journal_text}
 use Rattle.rt_reading.specs.declared.draft.Part.TheVariants as part
-use Rattle.rt_reading.specs.declared.fault.JournalCause.{JournalCause}
 use Rattle.rt_reading.specs.declared.fault.JournalCause.TheVariants as cause
-use Rattle.rt_reading.specs.Drafts.{Drafted, empty_draft, raised_to, with_size, size_of, with_note, with_actor, with_note_line, with_text, judged, too_long, all_journals, assembly_of}
-use Rattle.rt_reading.specs.JournalTexts.{Fault, whole, at_end, go_on, judged_from, journals_of}
-use Rattle.rt_reading.specs.Laws.{IsTellable, TextIsReadBack}
+use Rattle.rt_reading.specs.Drafts.{Drafted, empty_draft, raised_to, with_size, size_of, with_text, judged, too_long, all_journals}
+use Rattle.rt_reading.specs.JournalTexts.{whole, go_on, judged_from}
+use Rattle.rt_reading.specs.Laws.{TextIsReadBack}
 use Rattle.rt_reading.proofs.DraftLemmas.{line_read}
 use Rattle.rt_reading.proofs.Raising.{drafted, StandsFor, stands_part, stands_cores, stands_cap, stands_itself, stands_next, closed, stands_whole}
 use Rattle.rt_reading.proofs.ReadTexts.{sized}
@@ -81,6 +79,7 @@ not_end actor line ws small read = of_test (bytes_eq line (codes "end")) refl
         let none = subst (HasNo 101) same (no_sign 101 actor small (inr (omega arith))) in
         let bad : true ≡ false = All-head (λ byte. (byte == 101) ≡ false) 101 (110 ∷ 100 ∷ []) none in
         cc
+
     of_test : (b : Bool) → bytes_eq line (codes "end") ≡ b → bytes_eq line (codes "end") ≡ false
     of_test false e = e
     of_test true e = absurd (letters (ap first (sym read ∙ ap words (same_bytes line (codes "end") e))))
@@ -112,9 +111,9 @@ note_taken cores places earlier before draft note some few within room spelled t
     let actors = stands.actors in
     let cores_is = stands_cores stands in
     let number : number_in (length draft.earlier) draft.cores (first (words line)) ≡ Some (length earlier) =
-        ap (λ ws. number_in (length draft.earlier) draft.cores (first ws)) told.1 ∙ number_in_text (length draft.earlier) draft.cores (length earlier) actors (omega arith) (omega arith) in
+    ap (λ ws. number_in (length draft.earlier) draft.cores (first ws)) told.1 ∙ number_in_text (length draft.earlier) draft.cores (length earlier) actors (omega arith) (omega arith) in
     let read : Some note ≡ note_of (length earlier) draft.cores (others (words line)) =
-        sym (ap (λ ws. note_of (length earlier) draft.cores (others ws)) told.1 ∙ ap (λ n. note_of (length earlier) n told.0) cores_is ∙ told.2) in
+    sym (ap (λ ws. note_of (length earlier) draft.cores (others ws)) told.1 ∙ ap (λ n. note_of (length earlier) n told.0) cores_is ∙ told.2) in
     let test : ltb (length before) most_notes ≡ true = grind (arith, nat_tests, room) in
     judged_short draft line (line_short terms note here spelled times)
     ∙ ap (λ p. with_text p draft line) (stands_part stands)
@@ -148,7 +147,7 @@ journals_taken cores places earlier draft some few (journal ∷ journals) within
     let one = notes_taken cores places earlier draft some few (omega (arith, within)) stands journal readable.0 in
     let longer : length (earlier ++ journal ∷ []) ≡ length earlier + 1 = omega (arith, length-append earlier (journal ∷ [])) in
     let rest = journals_taken cores places (earlier ++ journal ∷ []) one.0 some few journals (omega (arith, within, longer)) (stands_next cores places earlier journal one.0 one.2)
-        (subst (λ n. AreReadable n cores places journals) (sym longer) readable.1) in (
+    (subst (λ n. AreReadable n cores places journals) (sym longer) readable.1) in (
       rest.0,
       takes_then draft one.0 rest.0 (actor_lines (length earlier) journal) (journal_lines (length earlier + 1) journals) one.1
           (subst (λ n. Takes one.0 (journal_lines n journals) rest.0) longer rest.1),
@@ -194,8 +193,13 @@ size_short : (cores places : ℕ) → IsWithinLimits cores places → length (si
 size_short cores places limits =
     let few = limits.few_cores in
     let most = limits.few_places in
-    omega (arith, ap length (size_joined cores places), joined_width (codes "cores") (decimal cores ∷ codes "cap" ∷ decimal places ∷ []),
-      length-decimal-le_wide 2 cores (omega arith) (omega arith) (omega arith), length-decimal-le_wide 4 places (omega arith) (omega arith) (omega arith))
+    omega (
+      arith,
+      ap length (size_joined cores places),
+      joined_width (codes "cores") (decimal cores ∷ codes "cap" ∷ decimal places ∷ []),
+      length-decimal-le_wide 2 cores (omega arith) (omega arith) (omega arith),
+      length-decimal-le_wide 4 places (omega arith) (omega arith) (omega arith),
+    )
 
 size_taken : (cores places : ℕ) → IsWithinLimits cores places → judged sized (size_line cores places) ≡ Ok (drafted cores places [] [])
 size_taken cores places limits =
@@ -209,11 +213,12 @@ readable_from : (actor cores places : ℕ) (journals : List (Journal ℕ)) →
     ((place : ℕ) → place < length journals → IsReadable (record { actor = actor + place; cores = cores; cap = places }) (unwrap_or (slice_get journals place) [])) → AreReadable actor cores places journals
 readable_from actor cores places [] each = tt
 readable_from actor cores places (journal ∷ journals) each =
-    let here : actor + 0 ≡ actor = omega arith in
-    (subst (λ n. IsReadable (record { actor = n; cores = cores; cap = places }) journal) here (each 0 (omega arith)),
-    readable_from (actor + 1) cores places journals (λ place within.
-        let next : actor + suc place ≡ (actor + 1) + place = omega arith in
-        subst (λ n. IsReadable (record { actor = n; cores = cores; cap = places }) (unwrap_or (slice_get journals place) [])) next (each (suc place) (omega (arith, within)))))
+    let here : actor + 0 ≡ actor = omega arith in (
+      subst (λ n. IsReadable (record { actor = n; cores = cores; cap = places }) journal) here (each 0 (omega arith)),
+      readable_from (actor + 1) cores places journals (λ place within.
+          let next : actor + suc place ≡ (actor + 1) + place = omega arith in
+          subst (λ n. IsReadable (record { actor = n; cores = cores; cap = places }) (unwrap_or (slice_get journals place) [])) next (each (suc place) (omega (arith, within)))),
+    )
 
 end_taken : (draft : Drafted) → draft.part ≡ part.Notes → judged draft end_line ≡ Ok (closed draft)
 end_taken draft at = ap (λ p. with_text p draft end_line) at
@@ -229,20 +234,29 @@ read_back assembly spelled tellable =
     let few = limits.few_cores in
     let count = spelled.journals in
     let each : AreReadable 0 cores places journals = readable_from 0 cores places journals (λ place within.
-        let here : 0 + place ≡ place = omega arith in
-        let actor : place ≤ cores = omega (arith, within, count) in
-        subst (λ n. IsReadable (record { actor = n; cores = cores; cap = places }) (unwrap_or (slice_get journals place) [])) (sym here)
-        (record { spelled = spelled.notes place actor; times = tellable.times place actor; few = tellable.few place actor })) in
+    let here : 0 + place ≡ place = omega arith in
+    let actor : place ≤ cores = omega (arith, within, count) in
+    subst (λ n. IsReadable (record { actor = n; cores = cores; cap = places }) (unwrap_or (slice_get journals place) [])) (sym here)
+    (record { spelled = spelled.notes place actor; times = tellable.times place actor; few = tellable.few place actor })) in
     let body = journals_taken cores places [] (drafted cores places [] []) some few journals (omega (arith, count)) (stands_itself cores places [] [] (omega arith)) each in
     let final = closed body.0 in
     let at = stands_part body.2 in
-    let takes : Takes empty_draft (assembly_lines assembly) final =
-        (sized, refl, (drafted cores places [] [], size_taken cores places limits,
-        takes_then (drafted cores places [] []) body.0 final (journal_lines 0 journals) (end_line ∷ []) body.1 (final, end_taken body.0 at, refl))) in
-    let feedless : AreFeedless (assembly_lines assembly) =
-        (joined_none 10 (codes "journal") (codes "1" ∷ []) refl (whole_word 10 (omega arith) (codes "journal") refl, (whole_word 10 (omega arith) (codes "1") refl, tt)),
-        (subst (HasNo 10) (sym (size_joined cores places)) (joined_none 10 (codes "cores") (decimal cores ∷ codes "cap" ∷ decimal places ∷ []) refl (size_have 10 cores places (omega arith) limits)),
-        feedless_then (journal_lines 0 journals) (end_line ∷ []) (feedless_journals 0 cores places journals some few (omega (arith, count)) each) (whole_word 10 (omega arith) end_line refl, tt))) in (
+    let takes : Takes empty_draft (assembly_lines assembly) final = (
+      sized,
+      refl,
+      (
+        drafted cores places [] [],
+        size_taken cores places limits,
+        takes_then (drafted cores places [] []) body.0 final (journal_lines 0 journals) (end_line ∷ []) body.1 (final, end_taken body.0 at, refl),
+      ),
+    ) in
+    let feedless : AreFeedless (assembly_lines assembly) = (
+      joined_none 10 (codes "journal") (codes "1" ∷ []) refl (whole_word 10 (omega arith) (codes "journal") refl, (whole_word 10 (omega arith) (codes "1") refl, tt)),
+      (
+        subst (HasNo 10) (sym (size_joined cores places)) (joined_none 10 (codes "cores") (decimal cores ∷ codes "cap" ∷ decimal places ∷ []) refl (size_have 10 cores places (omega arith) limits)),
+        feedless_then (journal_lines 0 journals) (end_line ∷ []) (feedless_journals 0 cores places journals some few (omega (arith, count)) each) (whole_word 10 (omega arith) end_line refl, tt),
+      ),
+    ) in (
       final,
       ap (judged_from 1 empty_draft) (split_lines (assembly_lines assembly) feedless) ∙ takes_judged 1 empty_draft final (assembly_lines assembly) refl takes,
       ap {B = Assembly ℕ} (λ n. record { cores = n; cap = body.0.cap; journals = all_journals (raised_to body.0.cores final) }) (stands_cores body.2)
