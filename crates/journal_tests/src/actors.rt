@@ -28,6 +28,14 @@ pub fn tells(journal: &Journal<u64>, notes: &[Note<u64>]) -> bool {
     true
 }
 
+/// Whether this is a job for this queue.
+fn is_for(order: &Order<ScriptJob>, want: QueueNo) -> bool {
+    match order {
+        Order::Job(queue, _) => *queue == want,
+        _ => false,
+    }
+}
+
 /// Core 0 of one core, with the end of its link from the outside actor.
 #[derive(Drop)]
 pub struct Receiver<I: InEnd<ScriptJob> + Drop> {
@@ -82,7 +90,7 @@ impl<I: InEnd<ScriptJob> + Drop> Receiver<I> {
             return false;
         }
         match self.core.pick() {
-            Ok(Turn::Back(_, why, Order::Job(its_queue, _))) => why == reason && its_queue == queue,
+            Ok(Turn::Back(_, why, order)) => why == reason && is_for(&order, queue),
             _ => false,
         }
     }
