@@ -141,7 +141,10 @@ impl<K: InEnd<ScriptJob> + Drop, I: InEnd<ScriptJob> + Drop> Closing<K, I> {
     /// The final count of the core's own gate, if it was shut by this call.
     pub fn shut_own(&mut self) -> Option<u64> {
         let own = ActorNo(0);
-        if self.core.journal().free() < 1 || !self.core.is_closed() || self.core.gate(own).is_some() {
+        if self.core.journal().free() < 1
+            || !self.core.is_closed()
+            || self.core.gate(own).is_some()
+        {
             return None;
         }
         Some(self.core.shut(&mut self.own, own))
@@ -150,7 +153,10 @@ impl<K: InEnd<ScriptJob> + Drop, I: InEnd<ScriptJob> + Drop> Closing<K, I> {
     /// The final count of the outside actor's gate, if it was shut by this call.
     pub fn shut_outside(&mut self) -> Option<u64> {
         let outside = ActorNo(1);
-        if self.core.journal().free() < 1 || !self.core.is_closed() || self.core.gate(outside).is_some() {
+        if self.core.journal().free() < 1
+            || !self.core.is_closed()
+            || self.core.gate(outside).is_some()
+        {
             return None;
         }
         Some(self.core.shut(&mut self.outside, outside))

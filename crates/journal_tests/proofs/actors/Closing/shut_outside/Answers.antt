@@ -1,5 +1,0 @@
-use Rattle.std.proofs.Common.{arith}
-use Rattle.journal_tests.proofs.actors.Closing.shut_outside.Goals as goal
-
-pub invariant_of-self : goal.invariant_of-self
-invariant_of-self g c = ((c.shut.ensures.others 0 (λ same. omega (arith, same))).each _ c.self.invariant.0, c.shut.ensures.beside)
