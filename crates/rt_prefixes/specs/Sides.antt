@@ -42,7 +42,7 @@ pub record IsNext (side : Side) (journal : Journal ℕ) (from : ℕ) (name : Job
 pub record Advances (front : Side) (note : Note ℕ) (whole : Side) (other : Journal ℕ) (behind next : ℕ) : Type 0 where
   pub within : next ≤ length other
   pub even :
-    with_last (list_told (name_told whole) (at_place behind other)) (name_told front note) ≡ list_told (name_told whole) (at_place next other)
+      with_last (list_told (name_told whole) (at_place behind other)) (name_told front note) ≡ list_told (name_told whole) (at_place next other)
 
 -- so far both journals tell the same list
 pub record AreEven (front : Side) (front_journal : Journal ℕ) (place : ℕ) (whole : Side) (whole_journal : Journal ℕ) (behind : ℕ) : Type 0 where

@@ -32,7 +32,13 @@ fn next_told(side: &Side, journal: &Journal<u64>, from: usize) -> Option<(JobId,
 }
 
 /// The place behind the next name of the whole list, if the note tells that name; this place, if the note tells none.
-fn advance(front: &Side, note: &Note<u64>, whole: &Side, other: &Journal<u64>, behind: usize) -> Option<usize>
+fn advance(
+    front: &Side,
+    note: &Note<u64>,
+    whole: &Side,
+    other: &Journal<u64>,
+    behind: usize,
+) -> Option<usize>
     requires { behind ≤ length other.now.notes }
     ensures { IfSome result (Advances front.now note.now whole.now other.now.notes behind) }
 {
@@ -50,7 +56,12 @@ fn advance(front: &Side, note: &Note<u64>, whole: &Side, other: &Journal<u64>, b
 }
 
 /// The line of the first note that tells another name than the list which it is to be the beginning of.
-fn prefix_fault(front: &Side, journal: &Journal<u64>, whole: &Side, other: &Journal<u64>) -> Option<usize>
+fn prefix_fault(
+    front: &Side,
+    journal: &Journal<u64>,
+    whole: &Side,
+    other: &Journal<u64>,
+) -> Option<usize>
     ensures { result ≡ None → IsPrefix (list_told (name_told front.now) journal.now.notes) (list_told (name_told whole.now) other.now.notes) }
 {
     let mut behind = 0;
@@ -65,15 +76,30 @@ fn prefix_fault(front: &Side, journal: &Journal<u64>, whole: &Side, other: &Jour
 }
 
 /// The line of the first note of a core that delivers another submission than the next one that the sender sent.
-pub fn deliveries_fault(sender: ActorNo, core: CoreNo, sent: &Journal<u64>, delivered: &Journal<u64>) -> Option<usize>
+pub fn deliveries_fault(
+    sender: ActorNo,
+    core: CoreNo,
+    sent: &Journal<u64>,
+    delivered: &Journal<u64>,
+) -> Option<usize>
     ensures { result ≡ None → IsPrefix (delivered_names sender delivered.now.notes) (names_of (accepted_orders core sent.now.notes)) }
 {
     prefix_fault(&Side::Delivered(sender), delivered, &Side::Sent(core), sent)
 }
 
 /// The line of the first note of a sender that collects another outcome than the next one that the core gave.
-pub fn collections_fault(sender: ActorNo, core: CoreNo, collected: &Journal<u64>, given: &Journal<u64>) -> Option<usize>
+pub fn collections_fault(
+    sender: ActorNo,
+    core: CoreNo,
+    collected: &Journal<u64>,
+    given: &Journal<u64>,
+) -> Option<usize>
     ensures { result ≡ None → IsPrefix (names_of (collected_outcomes core collected.now.notes)) (names_of (given_outcomes sender given.now.notes)) }
 {
-    prefix_fault(&Side::Collected(core), collected, &Side::Given(sender), given)
+    prefix_fault(
+        &Side::Collected(core),
+        collected,
+        &Side::Given(sender),
+        given,
+    )
 }

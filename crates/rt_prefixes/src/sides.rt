@@ -22,13 +22,21 @@ pub(crate) enum Side {
 fn if_to(core: CoreNo, name: JobId) -> Option<JobId>
     ensures { result ≡ if_to core name name }
 {
-    if name.to.0 == core.0 { Some(name) } else { None }
+    if name.to.0 == core.0 {
+        Some(name)
+    } else {
+        None
+    }
 }
 
 fn if_from(actor: ActorNo, name: JobId) -> Option<JobId>
     ensures { result ≡ if_from actor name name }
 {
-    if name.from.0 == actor.0 { Some(name) } else { None }
+    if name.from.0 == actor.0 {
+        Some(name)
+    } else {
+        None
+    }
 }
 
 fn name_sent(core: CoreNo, note: &Note<u64>) -> Option<JobId>

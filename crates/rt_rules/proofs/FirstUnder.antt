@@ -19,7 +19,7 @@ or_else-none (Some item) = refl
 
 module _ {V : Type 0} where
   -- one more entry counts where there was none
-  first_under-with_last : (name : JobId) (entries : List (JobId × V)) (more : Option (JobId × V)) →
+  pub first_under-with_last : (name : JobId) (entries : List (JobId × V)) (more : Option (JobId × V)) →
       first_under name (with_last entries more) ≡ or_else (first_under name entries) (value_under name more)
   first_under-with_last name entries None = sym (or_else-none (first_under name entries))
   first_under-with_last name [] (Some entry) = refl
@@ -47,7 +47,7 @@ same_sender : (name other : JobId) → same_name name other ≡ true → (other.
 same_sender name other same = eq-eqb other.from name.from (ap (λ (one : JobId). one.from) (sym (one_name name other same)))
 
 module _ {T : Type 0} where
-  under-order : (name : JobId) (note : Note T) → value_under name (order_sent name.to note) ≡ value_under name (order_told note)
+  pub under-order : (name : JobId) (note : Note T) → value_under name (order_sent name.to note) ≡ value_under name (order_told note)
   under-order name (Sent other order) = under_if name other order (other.to == name.to) (same_receiver name other)
   under-order name _ = refl
 

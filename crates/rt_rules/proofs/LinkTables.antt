@@ -1,6 +1,6 @@
 -- Tables of all journals, one behind the other.
-use Rattle.std.proofs.Common.{◌≡◌, ℕ, ◌+◌, ◌<◌, ◌≤◌, ◌⊎◌, inl, inr, List, [], ◌∷◌, ◌++◌, length, refl, sym, ap, ◌∙◌, subst, arith, get_or}
-use Rattle.std.specs.Prelude.{Option, Some, None, slice_get, unwrap_or}
+use Rattle.std.proofs.Common.{◌≡◌, ℕ, ◌+◌, ◌<◌, ◌≤◌, ◌⊎◌, inl, inr, List, [], ◌∷◌, ◌++◌, length, sym, ap, ◌∙◌, subst, arith, get_or}
+use Rattle.std.specs.Prelude.{Some, None, slice_get, unwrap_or}
 use Rattle.std.proofs.lemmas.List.{length-append}
 use Rattle.std.proofs.lemmas.Option.{slice_get_cases}
 use Rattle.rt_ids.specs.declared.note.OutcomeNote.{OutcomeNote}
@@ -44,7 +44,7 @@ module _ {T : Type 0} (assembly : Assembly T) where
           (subst (λ (place : ℕ). KnowsOutcomesOf entries (journal_of place assembly)) (sym (last.0 ∙ are.counted)) knows)
 
   -- who has no journal has no notes
-  no_journal : (actor : ℕ) → length assembly.journals ≤ actor → journal_of actor assembly ≡ []
+  pub no_journal : (actor : ℕ) → length assembly.journals ≤ actor → journal_of actor assembly ≡ []
   no_journal actor past = by_place (slice_get_cases assembly.journals actor).1
     where
       by_place :
@@ -62,7 +62,7 @@ module _ {T : Type 0} (assembly : Assembly T) where
           ((entries : Entries (Order (Unit {0}))) × (name.from < length tables) × (slice_get tables name.from ≡ Some entries) ×
           (get_or tables name.from entries ≡ entries)) ⊎ ((length tables ≤ name.from) × (slice_get tables name.from ≡ None)) →
           under tables name.from name ≡ order_of name assembly
-      by_place (inl found) = ap (λ table. known_in table name) found.2.0 ∙ are.each name.from found.0 found.2.0 name
+      by_place (inl found) = ap (λ table. known_in table name) found.2 ∙ are.each name.from found.0 found.2 name
       by_place (inr beyond) =
           ap (λ table. known_in table name) beyond.1 ∙
           sym
@@ -79,7 +79,7 @@ module _ {T : Type 0} (assembly : Assembly T) where
           ((entries : Entries (OutcomeNote T)) × (name.to < length tables) × (slice_get tables name.to ≡ Some entries) ×
           (get_or tables name.to entries ≡ entries)) ⊎ ((length tables ≤ name.to) × (slice_get tables name.to ≡ None)) →
           under tables name.to name ≡ outcome_of name assembly
-      by_place (inl found) = ap (λ table. known_in table name) found.2.0 ∙ are.each name.to found.0 found.2.0 name
+      by_place (inl found) = ap (λ table. known_in table name) found.2 ∙ are.each name.to found.0 found.2 name
       by_place (inr beyond) =
           ap (λ table. known_in table name) beyond.1 ∙
           sym

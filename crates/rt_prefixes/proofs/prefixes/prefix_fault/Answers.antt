@@ -10,16 +10,16 @@ pub loop-place-init : goal.loop-place-init
 loop-place-init c = record {
   within = omega arith;
   even =
-    ap (list_told (name_told c.args.front.now)) (at_start c.args.journal.now.notes) ∙
-    sym (ap (list_told (name_told c.args.whole.now)) (at_start c.args.other.now.notes));
+      ap (list_told (name_told c.args.front.now)) (at_start c.args.journal.now.notes) ∙
+      sym (ap (list_told (name_told c.args.whole.now)) (at_start c.args.other.now.notes));
 }
 
 pub loop-place-preserved : goal.loop-place-preserved
 loop-place-preserved c = record {
   within = c.in-Some.ensures.within;
   even =
-    ap (list_told (name_told c.args.front.now)) c.note_at-note.ensures ∙
-    (ap (λ told. with_last told (name_told c.args.front.now c.note_at-note.result)) c.loop-place.invariant.even ∙ c.in-Some.ensures.even);
+      ap (list_told (name_told c.args.front.now)) c.note_at-note.ensures ∙
+      (ap (λ told. with_last told (name_told c.args.front.now c.note_at-note.result)) c.loop-place.invariant.even ∙ c.in-Some.ensures.even);
 }
 
 pub returns : goal.returns

@@ -3,7 +3,7 @@ use Rattle.rt_ids.specs.Assembly.{journal_of}
 use Rattle.rt_ids.specs.Journal.{Journal}
 use Rattle.rt_rules.specs.Links.{KnowsOutcomesOf}
 use Rattle.rt_rules.proofs.LinkTables.{next_outcomes, all_outcomes}
-use Rattle.rt_rules.proofs.links.outcomes_sent.Goals as goal
+use Rattle.rt_rules.proofs.links.outcomes_given.Goals as goal
 
 pub loop-actor-preserved : goal.loop-actor-preserved
 loop-actor-preserved c =

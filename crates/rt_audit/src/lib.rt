@@ -1,0 +1,4 @@
+//! The audit: whether the journals of all actors are sound, and which rule they break first.
+#![tactic(auto)]
+
+mod lost;
