@@ -1,12 +1,10 @@
 //! Where a rule is broken first: the least actor, and of that the least line.
 
-ghost use Rattle.std.specs.Prelude.{◌≡◌, ◌+◌, ◌<◌, ◌≤◌, ℕ, IfOk, IsTrue, None};
-ghost use Rattle.rt_ids.specs.Assembly.{journal_of, IsPrefix, names_of};
-ghost use Rattle.rt_ids.specs.Clauses.{StandsInOrder};
-ghost use Rattle.rt_ids.specs.Filters.{accepted_orders, delivered_names, given_outcomes, collected_outcomes};
-ghost use Rattle.rt_ids.specs.Journal.{EachNote};
+ghost use Rattle.std.specs.Prelude.{◌≡◌, ◌<◌, ◌≤◌, IfOk, None, false};
+ghost use Rattle.rt_ids.specs.Assembly.{journal_of};
+ghost use Rattle.rt_ids.specs.Closing.{IsDrained};
 ghost use Rattle.rt_ids.specs.Limits.{most_cores};
-ghost use Rattle.rt_ids.specs.Sound.{StartsAreSound, OrderIsSound, ClosesAreSound, OutcomesAreSound, PicksAreSound};
+ghost use Rattle.rt_ids.specs.Sound.{AllEnded, StartsAreSound, OrderIsSound, ClosesAreSound, OutcomesAreSound, PicksAreSound};
 ghost use Rattle.rt_audit.specs.Places.{DeliveriesOf, CollectionsOf, IsInOrder, OutcomesOf};
 ghost use Rattle.rt_rules.specs.Links.{KnowsOrders, KnowsOutcomes};
 
@@ -82,9 +80,9 @@ fn deliveries_line(assembly: &Assembly, core: CoreNo) -> Option<usize>
     let mut line = None;
     let delivered = assembly.journal(ActorNo(core.0));
     for sender in 0..assembly.cores() + 1 {
-        let sender = ActorNo(sender);
-        let sent = assembly.journal(sender);
-        line = first_line(line, deliveries_fault(sender, core, sent, delivered));
+        let sent = assembly.journal(ActorNo(sender));
+        let fault = deliveries_fault(ActorNo(sender), core, sent, delivered);
+        line = first_line(line, fault);
     }
     line
 }
@@ -98,7 +96,8 @@ fn collections_line(assembly: &Assembly, sender: ActorNo) -> Option<usize>
     let collected = assembly.journal(sender);
     for core in 0..assembly.cores() {
         let given = assembly.journal(ActorNo(core));
-        line = first_line(line, collections_fault(sender, CoreNo(core), collected, given));
+        let fault = collections_fault(sender, CoreNo(core), collected, given);
+        line = first_line(line, fault);
     }
     line
 }
@@ -164,6 +163,17 @@ pub(crate) fn closes_place(assembly: &Assembly) -> Option<Place>
     None
 }
 
+/// Whether the actor is a drained core that has lost something.
+fn is_lost(alloc: Global, assembly: &Assembly, actor: u8) -> Result<bool, AllocError>
+    ensures { IfOk result (λ lost. lost ≡ false → actor < assembly.now.cores → IsDrained assembly.now.cores (journal_of actor assembly.now) → AllEnded assembly.now actor) }
+{
+    if actor < assembly.cores() {
+        has_lost(alloc, assembly, CoreNo(actor))
+    } else {
+        Ok(false)
+    }
+}
+
 /// The line of an actor's first fault of the fourth rule: 0 if it is a drained core that has lost something.
 fn outcomes_line(
     alloc: Global,
@@ -175,10 +185,12 @@ fn outcomes_line(
     requires { actor ≤ assembly.now.cores }
     ensures { IfOk result (λ line. line ≡ None → KnowsOrders orders.now assembly.now → KnowsOutcomes outcomes.now assembly.now → OutcomesOf assembly.now actor) }
 {
-    if actor < assembly.cores() && has_lost(alloc, assembly, CoreNo(actor))? {
+    if is_lost(alloc, assembly, actor)? {
         return Ok(Some(0));
     }
-    outcomes_fault(alloc, orders, outcomes, assembly.journal(ActorNo(actor)))
+    let journal = assembly.journal(ActorNo(actor));
+    let line = outcomes_fault(alloc, orders, outcomes, journal)?;
+    Ok(line)
 }
 
 /// Where the fourth rule is broken first.
