@@ -1,6 +1,6 @@
 -- When all that was accepted for a core has ended.
 use Rattle.std.proofs.Common.{◌≡◌, ℕ, ◌+◌, ◌<◌, ◌≤◌, ◌⊎◌, inl, inr, Bool, true, false, [], ◌∷◌, length, refl, sym, ◌∙◌, ap, subst, cond, arith, get_or}
-use Rattle.std.specs.Prelude.{Option, Some, None, IsTrue}
+use Rattle.std.specs.Prelude.{Option, Some, None, IsTrue, not}
 use Rattle.std.proofs.lemmas.Bool.{cases_lt, true≢false}
 use Rattle.rt_ids.specs.declared.names.JobId.{JobId}
 use Rattle.rt_ids.specs.declared.note.Note.{Note}
@@ -23,6 +23,11 @@ use Rattle.rt_rules.proofs.FirstUnder.{first_under-with_last, under-order}
 use Rattle.rt_rules.proofs.LinkTables.{no_journal}
 use Rattle.rt_audit.specs.declared.lost.Held.{Held}
 use Rattle.rt_audit.specs.Held.{KnowsHeld, HasEnded, EndedIfSent}
+
+-- what is not missing is there
+pub is_kept : (there : Bool) → not there ≡ false → there ≡ true
+is_kept true kept = refl
+is_kept false kept = absurd (true≢false kept)
 
 -- an account has jobs where its queue has work
 pub works : (queue : ℕ) (account : Account) (before : Journal ℕ) → KnowsAccount queue account before → has_jobs account ≡ has_work queue before

@@ -1,5 +1,8 @@
 //! The audit: whether the journals of all actors are sound, and which rule they break first.
 #![tactic(auto)]
 
+mod judge;
 mod lost;
 mod places;
+
+pub use judge::{AuditError, Verdict, audit};

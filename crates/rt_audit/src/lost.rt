@@ -157,12 +157,13 @@ fn is_emptied(sender: ActorNo, journal: &Journal<u64>) -> bool
 fn are_emptied(cores: u8, journal: &Journal<u64>) -> bool
     ensures { ((sender : ℕ) → sender ≤ cores → final_count sender journal.now.notes ≡ Some (length (delivered_names sender journal.now.notes))) → IsTrue result }
 {
+    let outside = is_emptied(ActorNo(cores), journal);
     for sender in 0..cores {
         if !is_emptied(ActorNo(sender), journal) {
             return false;
         }
     }
-    is_emptied(ActorNo(cores), journal)
+    outside
 }
 
 /// Whether what a note sends to this core has ended.
@@ -207,9 +208,13 @@ pub(crate) fn has_lost(alloc: Global, assembly: &Assembly, core: CoreNo) -> Resu
     ensures { IfOk result (λ lost. lost ≡ false → IsDrained assembly.now.cores (journal_of core assembly.now) → AllEnded assembly.now core) }
 {
     let journal = assembly.journal(ActorNo(core.0));
-    if !are_emptied(assembly.cores(), journal) {
+    let count = assembly.cores();
+    if !are_emptied(count, journal) {
         return Ok(false);
     }
     let held = held_after(alloc, journal)?;
-    Ok(held.is_idle() && !ended_of_all(&held, core, assembly))
+    if !held.is_idle() {
+        return Ok(false);
+    }
+    Ok(!ended_of_all(&held, core, assembly))
 }

@@ -10,5 +10,5 @@ returns c =
       notes =
           subst (λ (journal : Journal ℕ). EachNote (OutcomesRight c.args.assembly.now) journal) c.journal-journal.ensures
           (c.in_ok-line.ensures none c.args.assembly.now knows given);
-      all_ended = c.in_ok-is_lost.ensures c.if-is_lost.false;
+      all_ended = c.in_ok-is_lost.ensures c.if-branch.false;
     }
