@@ -168,10 +168,10 @@ fn is_lost(alloc: Global, assembly: &Assembly, actor: u8) -> Result<bool, AllocE
     ensures { IfOk result (λ lost. lost ≡ false → actor < assembly.now.cores → IsDrained assembly.now.cores (journal_of actor assembly.now) → AllEnded assembly.now actor) }
 {
     if actor < assembly.cores() {
-        has_lost(alloc, assembly, CoreNo(actor))
-    } else {
-        Ok(false)
+        let lost = has_lost(alloc, assembly, CoreNo(actor))?;
+        return Ok(lost);
     }
+    Ok(false)
 }
 
 /// The line of an actor's first fault of the fourth rule: 0 if it is a drained core that has lost something.

@@ -15,5 +15,5 @@ returns c =
       order = c.in_ok-order.ensures (none_left c.in_ok-order.order (sym c.is_some-2.ensures ∙ c.if-is_some-2.false)) knows starts;
       closes = c.closes_place-closes.ensures (none_left c.closes_place-closes.result (sym c.is_some-3.ensures ∙ c.if-is_some-3.false));
       outcomes = c.in_ok-outcomes.ensures (none_left c.in_ok-outcomes.outcomes (sym c.is_some-4.ensures ∙ c.if-is_some-4.false)) knows;
-      picks = c.in_ok-picks.ensures (c.told-4.ensures sound);
+      picks = c.in_ok-picks.ensures (c.told-2.ensures sound);
     }

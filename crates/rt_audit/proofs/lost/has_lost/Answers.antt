@@ -1,5 +1,5 @@
 use Rattle.std.proofs.Common.{◌≡◌, ℕ, true, sym, ap, subst, ◌∙◌, arith}
-use Rattle.std.proofs.lemmas.Bool.{not-true, both_ways}
+use Rattle.std.proofs.lemmas.Bool.{both_ways}
 use Rattle.rt_ids.specs.Assembly.{journal_of}
 use Rattle.rt_ids.specs.Closing.{IsDrained}
 use Rattle.rt_ids.specs.Journal.{Journal}
@@ -14,7 +14,7 @@ returns-then-not-are_emptied c =
     let here = subst (λ (journal : Journal ℕ). IsDrained c.args.assembly.now.cores journal) (sym notes) drained in
     let emptied : c.are_emptied.result ≡ true =
     c.are_emptied.ensures (λ sender within. here.delivered_all sender (omega (arith, within, c.cores-count.ensures.value))) in
-    absurd (both_ways c.are_emptied.result (not-true c.are_emptied.result c.if-not-are_emptied.true) emptied)
+    absurd (both_ways c.are_emptied.result c.if-not-are_emptied.true emptied)
 
 pub returns-then-not-is_idle : goal.returns-then-not-is_idle
 returns-then-not-is_idle c =
@@ -22,7 +22,7 @@ returns-then-not-is_idle c =
     let notes = c.journal-journal.ensures ∙ ap (λ (actor : ℕ). journal_of actor c.args.assembly.now) c.core.view_is in
     let here = subst (λ (journal : Journal ℕ). IsDrained c.args.assembly.now.cores journal) (sym notes) drained in
     let idle : c.is_idle.result ≡ true = c.is_idle.ensures c.journal-journal.result.now.notes c.in_ok-held.ensures here.idle in
-    absurd (both_ways c.is_idle.result (not-true c.is_idle.result c.if-not-is_idle.true) idle)
+    absurd (both_ways c.is_idle.result c.if-not-is_idle.true idle)
 
 pub returns : goal.returns
 returns c =
