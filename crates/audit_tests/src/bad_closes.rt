@@ -26,11 +26,11 @@ fn an_entry_after_a_close_is_named(rt: HostRuntime) -> Result<(), Fail> {
 
 #[test]
 fn a_wrong_gate_is_named(rt: HostRuntime) -> Result<(), Fail> {
-    let created = core_breaks(rt.alloc(), 3, 2, &[finishing(), created(1)], &[])?;
+    let made = core_breaks(rt.alloc(), 3, 2, &[finishing(), created(1)], &[])?;
     let opened = core_breaks(rt.alloc(), 3, 1, &[shut(1, 0)], &[])?;
     let twice = [finishing(), shut(1, 0), shut(1, 0)];
     let again = core_breaks(rt.alloc(), 3, 3, &twice, &[])?;
     let count = core_breaks(rt.alloc(), 3, 2, &[finishing(), shut(1, 0)], &[sent(1, 0)])?;
-    assert!(rt; created && opened && again && count);
+    assert!(rt; made && opened && again && count);
     Ok(())
 }

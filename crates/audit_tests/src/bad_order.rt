@@ -31,10 +31,10 @@ fn enters_as_a_command(alloc: Global) -> Result<bool, AllocError> {
 
 #[test]
 fn a_start_or_entry_out_of_order_is_named(rt: HostRuntime) -> Result<(), Fail> {
-    let start = starts_out_of_order(rt.alloc())?;
-    let queue = enters_another_queue(rt.alloc())?;
-    let command = enters_as_a_command(rt.alloc())?;
-    assert!(rt; start && queue && command);
+    let turned = starts_out_of_order(rt.alloc())?;
+    let elsewhere = enters_another_queue(rt.alloc())?;
+    let order = enters_as_a_command(rt.alloc())?;
+    assert!(rt; turned && elsewhere && order);
     Ok(())
 }
 

@@ -30,9 +30,9 @@ fn a_wrong_end_is_named(rt: HostRuntime) -> Result<(), Fail> {
     let twice = ends_twice(rt.alloc())?;
     let both = returns_when_done(rt.alloc())?;
     let unstarted = core_breaks(rt.alloc(), 4, 2, &[took(1, 0), done(1)], &[sent(1, 0)])?;
-    let command = core_breaks(rt.alloc(), 4, 1, &[back(1)], &[command(1)])?;
+    let order = core_breaks(rt.alloc(), 4, 1, &[back(1)], &[command(1)])?;
     let job = core_breaks(rt.alloc(), 4, 1, &[answered(1)], &[sent(1, 0)])?;
-    assert!(rt; twice && both && unstarted && command && job);
+    assert!(rt; twice && both && unstarted && order && job);
     Ok(())
 }
 
@@ -42,8 +42,8 @@ fn a_drained_core_that_lost_a_job_is_named(rt: HostRuntime) -> Result<(), Fail> 
     let job = [closed, answered(1), shut(0, 0), shut(1, 1)];
     let lost_job = core_breaks(rt.alloc(), 4, 0, &job, &[sent(1, 0)])?;
     let order = [closed, back(1), shut(0, 0), shut(1, 1)];
-    let lost_command = core_breaks(rt.alloc(), 4, 0, &order, &[command(1)])?;
-    assert!(rt; lost_job && lost_command);
+    let lost_order = core_breaks(rt.alloc(), 4, 0, &order, &[command(1)])?;
+    assert!(rt; lost_job && lost_order);
     Ok(())
 }
 

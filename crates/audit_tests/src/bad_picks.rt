@@ -85,10 +85,10 @@ fn a_wrong_charge_is_named(rt: HostRuntime) -> Result<(), Fail> {
     let Ok(half) = Shares::try_new(500) else {
         return Ok(());
     };
-    let returned = charges_a_return(rt.alloc())?;
+    let handed = charges_a_return(rt.alloc())?;
     let old = charges_old_shares(rt.alloc(), half)?;
     let out = picks_while_out(rt.alloc())?;
-    assert!(rt; returned && old && out);
+    assert!(rt; handed && old && out);
     Ok(())
 }
 
@@ -116,10 +116,10 @@ fn a_pick_that_nothing_follows_is_named(rt: HostRuntime) -> Result<(), Fail> {
 #[test]
 fn a_turn_without_a_pick_is_named(rt: HostRuntime) -> Result<(), Fail> {
     let one_job = [sent(1, 0)];
-    let returned = core_breaks(rt.alloc(), 5, 1, &[returned(1)], &one_job)?;
+    let handed = core_breaks(rt.alloc(), 5, 1, &[returned(1)], &one_job)?;
     let started = core_breaks(rt.alloc(), 5, 2, &[took(1, 0), start(1)], &one_job)?;
     let core = [took(1, 0), took(2, 0), pick(0, 0), start(1), yielded(2, 10)];
     let yields = core_breaks(rt.alloc(), 5, 5, &core, &[sent(1, 0), sent(2, 0)])?;
-    assert!(rt; returned && started && yields);
+    assert!(rt; handed && started && yields);
     Ok(())
 }

@@ -68,16 +68,16 @@ fn a_start_that_may_not_be_is_named(rt: HostRuntime) -> Result<(), Fail> {
     let twice = starts_twice(rt.alloc())?;
     let unsent = starts_unsent(rt.alloc())?;
     let outside = starts_outside(rt.alloc())?;
-    let command = starts_command(rt.alloc())?;
-    let returned = starts_returned(rt.alloc())?;
-    assert!(rt; twice && unsent && outside && command && returned);
+    let order = starts_command(rt.alloc())?;
+    let ended = starts_returned(rt.alloc())?;
+    assert!(rt; twice && unsent && outside && order && ended);
     Ok(())
 }
 
 #[test]
 fn a_resume_that_may_not_be_is_named(rt: HostRuntime) -> Result<(), Fail> {
     let first = resumes_first(rt.alloc())?;
-    let done = resumes_done(rt.alloc())?;
-    assert!(rt; first && done);
+    let ended = resumes_done(rt.alloc())?;
+    assert!(rt; first && ended);
     Ok(())
 }

@@ -98,7 +98,8 @@ fn verdict_on(
     let core = journal_of(alloc, core)?;
     let outside = journal_of(alloc, outside)?;
     let journals = vec![in alloc; core, outside]?;
-    match audit(alloc, &Assembly::of(1, 4, journals)) {
+    let assembly = Assembly::of(1, 4, journals);
+    match audit(alloc, &assembly) {
         Ok(verdict) => Ok(verdict),
         Err(_) => Err(AllocError),
     }

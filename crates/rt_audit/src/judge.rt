@@ -7,9 +7,7 @@ ghost use Rattle.rt_ids.specs.Spelled.{IsSpelled};
 ghost use Rattle.rt_audit.specs.declared.judge.Verdict.TheVariants.{Sound};
 ghost use Rattle.rt_rules.specs.Links.{KnowsOrders};
 
-use crate::places::{
-    Place, closes_place, order_place, outcomes_place, picks_place, starts_place,
-};
+use crate::places::{Place, closes_place, order_place, outcomes_place, picks_place, starts_place};
 use rt_ids::{ActorNo, Order};
 use rt_notes::Assembly;
 use rt_rules::links::{orders_sent, outcomes_given};

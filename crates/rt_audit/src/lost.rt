@@ -120,13 +120,7 @@ fn count_after(sender: ActorNo, note: &Note<u64>, count: Option<u64>) -> Option<
     ensures { (before : Notes ℕ) → count ≡ final_count sender before → result ≡ final_count sender (note.now ∷ before) }
 {
     match *note {
-        Note::Shut(other, shut) => {
-            if sender == other {
-                Some(shut)
-            } else {
-                count
-            }
-        }
+        Note::Shut(other, shut) => { if sender == other { Some(shut) } else { count } }
         _ => count,
     }
 }

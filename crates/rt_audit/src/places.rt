@@ -213,10 +213,7 @@ pub(crate) fn outcomes_place(
 }
 
 /// Where the fifth rule is broken first.
-pub(crate) fn picks_place(
-    alloc: Global,
-    assembly: &Assembly,
-) -> Result<Option<Place>, AllocError>
+pub(crate) fn picks_place(alloc: Global, assembly: &Assembly) -> Result<Option<Place>, AllocError>
     ensures { IfOk result (λ place. place ≡ None → PicksAreSound assembly.now) }
 {
     for core in 0..assembly.cores() {

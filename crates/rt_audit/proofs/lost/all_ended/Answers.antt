@@ -10,10 +10,9 @@ loop-place-init c =
 
 pub loop-place-preserved : goal.loop-place-preserved
 loop-place-preserved c =
-    subst (λ (journal : Journal ℕ). EachNote (EndedIfSent c.args.held.now c.args.core) journal) (sym c.note_at-note.ensures)
-    (
-    c.ended_if_sent.ensures (at_place c.loop-place.place c.args.journal.now.notes) c.if-not-ended_if_sent.false,
-    c.loop-place.invariant,
+    subst (λ (journal : Journal ℕ). EachNote (EndedIfSent c.args.held.now c.args.core) journal) (sym c.note_at-note.ensures) (
+      c.ended_if_sent.ensures (at_place c.loop-place.place c.args.journal.now.notes) c.if-not-ended_if_sent.false,
+      c.loop-place.invariant,
     )
 
 pub returns : goal.returns
