@@ -95,6 +95,8 @@ order_whole : (sent : Order (Unit {0})) → IsSpelledOrder sent → Are_words (o
 order_whole (order.Job queue task) spelled = (whole_word (codes "job") refl, (queue_whole queue spelled, tt))
 order_whole (order.Create weight) spelled = (whole_word (codes "create") refl, (weight_whole weight spelled, tt))
 order_whole (order.SetShares queue weight) spelled = (whole_word (codes "shares") refl, (queue_whole queue spelled.0, (weight_whole weight spelled.1, tt)))
+order_whole (order.Close queue closed) spelled = (whole_word (codes "close") refl, (queue_whole queue spelled, (mode_whole closed, tt)))
+order_whole (order.CloseCore closed) spelled = (whole_word (codes "closecore") refl, (mode_whole closed, tt))
 
 answer_whole : (a : Answer) → IsSpelledAnswer a → Are_words (answer_words a)
 answer_whole (answer.Created queue) spelled = (whole_word (codes "created") refl, (queue_whole queue spelled, tt))
