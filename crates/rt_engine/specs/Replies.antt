@@ -25,16 +25,10 @@ ends actor other = record { actor = actor; other = other; number = 0 }
 
 -- who makes the step of an event, and who is at the other end of its link; a turn has nobody there
 abbrev pub ends_of : ScriptEvent → Ends
-<<<<<<< HEAD
 ends_of (Send sender core order) = ends sender core
 ends_of (Deliver core sender) = ends core sender
 ends_of (Turn core) = ends core 0
 ends_of (Shut core sender) = ends core sender
-=======
-ends_of (Send sender core order) = record { actor = sender; other = core; number = 0 }
-ends_of (Deliver core sender) = record { actor = core; other = sender; number = 0 }
-ends_of (Turn core) = record { actor = core; other = 0; number = 0 }
->>>>>>> next
 
 -- what is printed of a reply, if it comes with no note
 abbrev pub quiet_of : Reply Script → Option Quiet
