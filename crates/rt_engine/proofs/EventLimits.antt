@@ -1,5 +1,5 @@
 -- The events that a script's lines tell: their actors exist, and their jobs have made no poll.
-use Rattle.std.proofs.Common.{◌≡◌, ℕ, length, arith, ◌==◌}
+use Rattle.std.proofs.Common.{ℕ, length, arith, ◌==◌}
 use Rattle.std.proofs.lemmas.Bool.Decides.{nat_tests}
 use Rattle.rt_ids.specs.declared.order.Order.TheVariants as order
 use Rattle.rt_jobs.specs.Ready.{HasReadyJob}
