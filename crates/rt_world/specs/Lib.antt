@@ -1,4 +1,5 @@
 pub mod State
+pub mod Closings
 pub mod Sends
 pub mod Deliveries
 pub mod OneTurn
@@ -13,4 +14,5 @@ pub mod ScriptRuns
 pub mod Creations
 pub mod Rows
 pub mod WorkedRows
+pub mod ClosedRow
 pub mod Hollow
