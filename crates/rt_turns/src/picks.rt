@@ -196,7 +196,18 @@ fn picks_right(turns: &Turns, note: &Note<u64>) -> bool
     is_in_turn(turns, note) && fits_out(turns.out, note)
 }
 
-/// The line of the first note that picks, follows a pick or settles as it may not.
+/// The line of a wrong note, or of the pick before it, if that isn't followed as it should be.
+fn line_at(turns: &Turns, note: &Note<u64>, place: usize) -> usize
+    requires { place < greatest_count }
+{
+    if turns.picked.is_some() && !is_followed(turns, note) {
+        place
+    } else {
+        place + 1
+    }
+}
+
+/// The line of the first note that picks, follows a pick or settles as it may not. A pick that isn't followed as it should be is named itself.
 pub fn picks_fault(alloc: Global, journal: &Journal<u64>) -> Result<Option<usize>, AllocError>
     ensures { IfOk result (λ line. line ≡ None → EachNote PicksRight journal.now.notes × (spec.queue_just_picked journal.now.notes ≡ None)) }
 {
@@ -204,7 +215,7 @@ pub fn picks_fault(alloc: Global, journal: &Journal<u64>) -> Result<Option<usize
     for place in 0..journal.len() {
         let note = note_at(journal, place);
         if !picks_right(&turns, &note) {
-            return Ok(Some(place + 1));
+            return Ok(Some(line_at(&turns, &note, place)));
         }
         turns.add(&note)?;
     }
