@@ -1,8 +1,8 @@
 //! Journals that break the fourth rule.
 
 use crate::journals::{
-    answered, back, collected, command, core_breaks, done, outside_breaks, pick, redeemed, returned,
-    sent, shut, start, took,
+    answered, back, collected, command, core_breaks, done, outside_breaks, pick, redeemed,
+    returned, sent, shut, start, took,
 };
 use rt_ids::{Mode, Note};
 use std::alloc::{AllocError, Global};

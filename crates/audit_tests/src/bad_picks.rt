@@ -1,8 +1,6 @@
 //! Journals that break the fifth rule.
 
-use crate::journals::{
-    core_breaks, created, pick, resume, returned, sent, start, took, yielded,
-};
+use crate::journals::{core_breaks, created, pick, resume, returned, sent, start, took, yielded};
 use rt_ids::{Mode, Note, QueueNo};
 use rt_shares::Shares;
 use std::alloc::{AllocError, Global};
@@ -10,11 +8,7 @@ use std::test::Fail;
 
 /// Beside a queue 1 the job of queue 0 yields at 10 and again at 20, and then a job enters queue 1, which so stands at the floor: 10.
 /// These two notes stand behind.
-fn breaks_tenth(
-    alloc: Global,
-    tenth: Note<u64>,
-    last: Note<u64>,
-) -> Result<bool, AllocError> {
+fn breaks_tenth(alloc: Global, tenth: Note<u64>, last: Note<u64>) -> Result<bool, AllocError> {
     let core = [
         created(1),
         took(1, 0),
