@@ -1,33 +1,31 @@
 -- The text of journals tells these journals.
-use Rattle.std.proofs.Common.{◌≡◌, ℕ, suc, ◌+◌, ◌^◌, ◌<◌, ◌≤◌, ◌==◌, Bool, true, false, cond, ltb, inr, List, [], ◌∷◌, ◌++◌, length, Option, Some, Ok, Err, unwrap_or, refl, sym, ap, ◌∙◌, subst, arith, append_assoc, append-nil, codes, decimal, length-append}
+use Rattle.std.proofs.Common.{◌≡◌, ℕ, suc, ◌+◌, ◌^◌, ◌<◌, ◌≤◌, ◌==◌, Bool, true, false, cond, ltb, inr, List, [], ◌∷◌, ◌++◌, length, Some, Ok, Err, unwrap_or, refl, sym, ap, ◌∙◌, subst, arith, append_assoc, append-nil, codes, decimal, length-append}
 use Rattle.std.specs.Prelude.{slice_get}
 use Rattle.std.specs.List.{slice_split}
 use Rattle.std.specs.Str.{bytes_eq}
 use Rattle.std.proofs.lemmas.Bool.Decides.{nat_tests}
-use Rattle.std.proofs.lemmas.Fmt.{length-decimal-le_wide}
 use Rattle.std.proofs.lemmas.List.Elements.{All-head}
 use Rattle.std.proofs.lemmas.List.Splits.{slice_split_at}
 use Rattle.rt_ids.specs.declared.note.Note.{Note}
 use Rattle.rt_ids.specs.Assembly.{Assembly}
 use Rattle.rt_ids.specs.Journal.{Journal, EachNote}
 use Rattle.rt_ids.specs.Limits.{most_cores, most_notes}
-use Rattle.rt_ids.specs.Spelled.{IsSpelledNote, AreSpelledNotes, IsWithinLimits}
+use Rattle.rt_ids.specs.Spelled.{IsSpelledNote, AreSpelledNotes}
 use Rattle.rt_ids.specs.Terms.{Terms}
 use Rattle.rt_text.specs.Notes.{note_line}
 use Rattle.rt_words.specs.Words.{words, first, others}
-use Rattle.rt_note_words.specs.Fields.{◌>>=◌, number_in}
+use Rattle.rt_note_words.specs.Fields.{number_in}
 use Rattle.rt_note_words.specs.Laws.{HoldsTimes, IsActor}
 use Rattle.rt_note_words.specs.NoteWords.{note_of}
 use Rattle.rt_note_words.proofs.Decimals.{number_in_text, no_sign}
-use Rattle.rt_note_words.proofs.JoinedTexts.{joined}
-use Rattle.rt_note_words.proofs.LineShapes.{joined_none, joined_width, line_short, line_feedless}
-use Rattle.rt_note_words.proofs.LineTexts.{words_joined, line_tells}
+use Rattle.rt_note_words.proofs.LineShapes.{line_short, line_feedless}
+use Rattle.rt_note_words.proofs.LineTexts.{line_tells}
 use Rattle.rt_note_words.proofs.Options.{same_bytes}
-use Rattle.rt_note_words.proofs.WholeWords.{HasNo, HaveNo, number_word, whole_word}
-use Rattle.rt_spelling.specs.Texts.{size_line, end_line, actor_lines, journal_lines, assembly_lines, text_of, journal_text}
+use Rattle.rt_note_words.proofs.WholeWords.{HasNo, whole_word}
+use Rattle.rt_spelling.specs.Texts.{end_line, actor_lines, journal_lines, assembly_lines, text_of, journal_text}
 use Rattle.rt_reading.specs.declared.draft.Part.TheVariants as part
 use Rattle.rt_reading.specs.declared.fault.JournalCause.TheVariants as cause
-use Rattle.rt_reading.specs.Drafts.{Drafted, empty_draft, raised_to, with_size, size_of, with_text, judged, too_long, all_journals}
+use Rattle.rt_reading.specs.Drafts.{Drafted, empty_draft, with_text, judged, assembly_of}
 use Rattle.rt_reading.specs.JournalTexts.{whole, go_on, judged_from}
 use Rattle.rt_reading.specs.Laws.{TextIsReadBack}
 use Rattle.rt_reading.proofs.DraftLemmas.{line_read}
