@@ -1,5 +1,5 @@
 -- The head of a line: it is polled where it stands, and goes to the tail by links alone.
-use Rattle.std.proofs.Common.{◌≡◌, ◌⊎◌, ℕ, ◌+◌, ◌-◌, ◌<◌, Bool, true, List, [], ◌∷◌, ◌++◌, length, set, inl, inr, cond, Option, Some, None, refl, sym, ap, ◌∙◌, subst, arith}
+use Rattle.std.proofs.Common.{◌≡◌, ◌⊎◌, ℕ, ◌+◌, ◌-◌, ◌<◌, Bool, true, List, [], ◌∷◌, ◌++◌, drop, length, set, inl, inr, cond, Option, Some, None, refl, sym, ap, ◌∙◌, subst, arith}
 use Rattle.std.specs.Prelude.{is_some, IsSome, IfSome, slice_set}
 use Rattle.std.proofs.lemmas.Bool.{cases_eq}
 use Rattle.std.proofs.lemmas.List.{length-set, set-set}
@@ -18,11 +18,11 @@ use Rattle.rt_taskqueue.proofs.Chains.{key_at-same}
 use Rattle.rt_taskqueue.proofs.Changes.{ChangesOne-set}
 use Rattle.rt_taskqueue.proofs.Leaves.{Leaves, IsKept-left, waiting_of-left, ChangesLine-left}
 use Rattle.rt_taskqueue.proofs.Joins.{IsKept-joined, ChangesLine-joined}
-use Rattle.rt_taskqueue.proofs.Views.{alone, head_filled, length-waiting_of}
+use Rattle.rt_taskqueue.proofs.Views.{alone, head_filled, length-waiting_of, IsWithinLimits-view}
 
 module _ {J : Type 0} where
   -- one line changes twice
-  ChangesLine-after : (old between new : QueuesView J) (queue : ℕ) (first last : List (JobId × Bool × J)) → ChangesLine old between queue first → ChangesLine between new queue last → ChangesLine old new queue last
+  pub ChangesLine-after : (old between new : QueuesView J) (queue : ℕ) (first last : List (JobId × Bool × J)) → ChangesLine old between queue first → ChangesLine between new queue last → ChangesLine old new queue last
   ChangesLine-after old between new queue first last one other = record {
     changed = other.changed;
     others = λ apart differs. other.others apart differs ∙ one.others apart differs;
@@ -252,14 +252,16 @@ module _ {J : Type 0} {room line_places : ℕ} {old new : Slab (Waiting J)} {lin
       let leaves = Leaves-removed old line front some requeues.starts.at in
       let left = IsKept-left queue front rest kept leaves within in
       let between = alone room (removed old line.head) (set lines queue rest) in
+      let shows = waiting_of-left queue front rest kept leaves within in
       let joins = ChangesLine-joined queue (record front { started = true }) turned left (joins_again old new lines queue turned requeues within some)
       (omega (arith, length-set lines queue rest, within)) (fits_again queue turned requeues kept) in
       record {
         name = front.name;
         was_started = front.started;
         job = front.job;
-        others = waiting_of queue between;
-        first = waiting_of-left queue front rest kept leaves within;
-        line = subst (λ (after : List Line). ChangesLine (alone room old lines) (alone room new after) queue (waiting_of queue between ++ (front.name, true, front.job) ∷ [])) (set-set lines queue rest turned)
-            (ChangesLine-after (alone room old lines) between (alone room new (set (set lines queue rest) queue turned)) queue _ _ (ChangesLine-left queue front rest kept leaves within) joins);
+        between = between;
+        first = shows;
+        leaves = subst (λ (shown : List (JobId × Bool × J)). ChangesLine (alone room old lines) between queue shown) (ap (drop 1) shows) (ChangesLine-left queue front rest kept leaves within);
+        limits = IsWithinLimits-view left;
+        joins = subst (λ (after : List Line). ChangesLine between (alone room new after) queue (waiting_of queue between ++ (front.name, true, front.job) ∷ [])) (set-set lines queue rest turned) joins;
       }

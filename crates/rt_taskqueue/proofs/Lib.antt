@@ -8,3 +8,4 @@ pub mod Changes
 pub mod Joins
 pub mod Leaves
 pub mod Fronts
+pub mod Turns
