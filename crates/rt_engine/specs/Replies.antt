@@ -20,9 +20,9 @@ event_of (Turn core) = event.Turn core 0
 
 -- who makes the step of an event, and who is at the other end of its link; a turn has nobody there
 abbrev pub ends_of : ScriptEvent → Ends
-ends_of (Send sender core order) = record { actor = sender; other = core }
-ends_of (Deliver core sender) = record { actor = core; other = sender }
-ends_of (Turn core) = record { actor = core; other = 0 }
+ends_of (Send sender core order) = record { actor = sender; other = core; number = 0 }
+ends_of (Deliver core sender) = record { actor = core; other = sender; number = 0 }
+ends_of (Turn core) = record { actor = core; other = 0; number = 0 }
 
 -- what is printed of a reply, if it comes with no note
 abbrev pub quiet_of : Reply Script → Option Quiet

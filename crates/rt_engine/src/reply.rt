@@ -28,14 +28,17 @@ pub fn ends_of(event: &ScriptEvent) -> Ends
         ScriptEvent::Send(from, to, _) => Ends {
             actor: *from,
             other: to.0,
+            number: 0,
         },
         ScriptEvent::Deliver(core, from) => Ends {
             actor: ActorNo(core.0),
             other: from.0,
+            number: 0,
         },
         ScriptEvent::Turn(core) => Ends {
             actor: ActorNo(core.0),
             other: 0,
+            number: 0,
         },
     }
 }
