@@ -95,7 +95,8 @@ module _ {J T : Type 0} (core cores cap room : ℕ) where
     gate = ap (final_of inward) (sym shut);
     taken = sym taken;
     behind = omega (arith, taken);
-    given = ([], ap (λ outcomes. named_outcomes sender core outcomes ++ []) given);
+    given = ap (named_outcomes sender core) (sym given);
+    ungiven = tt;
     orders = λ name order same at. absurd (none≢some order at);
   }
 

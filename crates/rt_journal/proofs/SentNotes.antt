@@ -79,7 +79,7 @@ module _ {J T : Type 0} {same : J → J → Type 0} {made : J → ℕ} {polls : 
 
   ins_sent : (sender : ℕ) → KeepsIn sender old new
   ins_sent sender =
-      keeps_in old new (record { number = refl; cores = refl; cap = refl; room = refl }) sender ([], append-nil (given_outcomes sender journal)) refl refl (λ which order from at. at)
+      keeps_in old new (record { number = refl; cores = refl; cap = refl; room = refl }) sender None refl refl (λ inward is. tt) refl (λ which order from at. at)
 
 -- whatever the link answered
 module _ {J T : Type 0} {same : J → J → Type 0} {made : J → ℕ} {polls : Owed J T}
