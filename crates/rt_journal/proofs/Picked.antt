@@ -1,6 +1,6 @@
 -- A core beside its journal picks: the right pick takes a job out, or the core says why there is none.
 use Rattle.std.proofs.Common.{◌≡◌, ℕ, ◌+◌, ◌<◌, ◌≤◌, Bool, true, false, List, [], ◌∷◌, ◌++◌, length, reverse, refl, sym, ◌∙◌, ap, subst, arith, add-zero}
-use Rattle.std.specs.Prelude.{◌==◌, Some, None, All, is_some, Result, Ok, Err}
+use Rattle.std.specs.Prelude.{◌==◌, Some, None, All, is_some, Result, Ok, Err, Option}
 use Rattle.std.proofs.lemmas.Bool.{eqb-true, eqb-false}
 use Rattle.std.proofs.lemmas.Option.{same_Some}
 use Rattle.std.proofs.lemmas.List.Elements.{All-head, All-tail}

@@ -1,6 +1,6 @@
 -- A core beside its journal makes a step by which nothing is delivered and nothing sent: it stays recorded, and the ends of its links stay beside it.
 use Rattle.std.proofs.Common.{◌≡◌, ℕ, ◌+◌, ◌*◌, ◌≤◌, List, [], ◌++◌, refl, sym, ◌∙◌, ap, subst, arith}
-use Rattle.std.specs.Prelude.{Some, All}
+use Rattle.std.specs.Prelude.{Some, All, Option}
 use Rattle.rt_ids.specs.declared.names.JobId.{JobId}
 use Rattle.rt_ids.specs.declared.note.Note.{Note}
 use Rattle.rt_ids.specs.declared.note.OutcomeNote.{OutcomeNote}

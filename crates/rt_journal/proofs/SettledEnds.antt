@@ -28,17 +28,17 @@ pub owes_settled : {J T : Type 0} (old new : RecordedView J T) (out : JobOut J) 
     ((sender : ℕ) → LeavesOwed sender (given_settled out.name step sender) old new) → OwesSettled old settled new
 owes_settled {J} old new out was_out step settled tells owes other at sender =
     subst (λ job. LeavesOwed sender (told_under job.name (option_map outcome_note (outcome_settled {J = J} settled)) sender) old new) (same_Some out other (sym was_out ∙ at))
-    (subst (λ owed. LeavesOwed sender owed old new) (given_told {J = J} out.name step settled tells sender) (owes sender))
+    (subst (λ owed. LeavesOwed sender owed old new) (given_told J out.name step settled tells sender) (owes sender))
 
 its_name : {J : Type 0} (who : Option (JobOut J)) (out : JobOut J) → who ≡ Some out → (name : JobId) → IsOutUnder who name → out.name ≡ name
 its_name who out at name is = subst (λ who. IsOutUnder who name) at is
 
 -- the outcome that the caller is told fits the order that was sent
-fits_settled : {J T : Type 0} {same : J → J → Type 0} (answers : J → T → Type 0) (queue : ℕ) (sent : J) (step : Step T) (settled : Settled T) → TellsStep step settled → IfDone step (answers sent) →
+fits_settled : {J T : Type 0} (same : J → J → Type 0) (answers : J → T → Type 0) (queue : ℕ) (sent : J) (step : Step T) (settled : Settled T) → TellsStep step settled → IfDone step (answers sent) →
     IfSome (outcome_settled {J = J} settled) (Fits same answers (Job queue sent))
-fits_settled {J} {same = same} answers queue sent steps.Yield settled tells right =
+fits_settled {J} same answers queue sent steps.Yield settled tells right =
     subst (λ settled. IfSome (outcome_settled {J = J} settled) (Fits same answers (Job queue sent))) (sym tells) tt
-fits_settled {J} {same = same} answers queue sent (steps.Done value) settled tells right =
+fits_settled {J} same answers queue sent (steps.Done value) settled tells right =
     subst (λ settled. IfSome (outcome_settled {J = J} settled) (Fits same answers (Job queue sent))) (sym tells) right
 
 module _ {J T : Type 0} {same : J → J → Type 0} {made : J → ℕ} {polls : Owed J T} {answers : J → T → Type 0} (old new : RecordedView J T) (ran : AfterPoll J T) (spent : ℕ) (settled : Settled T)
@@ -62,7 +62,7 @@ module _ {J T : Type 0} {same : J → J → Type 0} {made : J → ℕ} {polls : 
     pub may_give_settled : IfSome outcome (λ outcome. MayGive (Fits same answers) before name.number outcome)
     may_give_settled =
         may_give new name (Job settles.out.queue settles.sent) took_now before (recorded.taken name _ took_now) (Fits same answers) outcome
-        (fits_settled answers settles.out.queue settles.sent ran.step settled settles.tells settles.answered) owing
+        (fits_settled same answers settles.out.queue settles.sent ran.step settled settles.tells settles.answered) owing
 
     pub gave_settled : (after : Inward J T) → Gives before name.number outcome after → IsInOf name.from new after
     gave_settled = gave new name (Job settles.out.queue settles.sent) took_now before outcome owing

@@ -62,10 +62,10 @@ settled_name name time (steps.Done out) = refl
 settled_name name time steps.Yield = refl
 
 -- what is given by the note is the outcome that the caller is told
-pub given_told : {J T : Type 0} (name : JobId) (step : Step T) (settled : Settled T) → TellsStep step settled → (sender : ℕ) →
+pub given_told : (J : Type 0) {T : Type 0} (name : JobId) (step : Step T) (settled : Settled T) → TellsStep step settled → (sender : ℕ) →
     given_settled name step sender ≡ told_under name (option_map outcome_note (outcome_settled {J = J} settled)) sender
-given_told {J} name steps.Yield settled tells sender = ap (λ settled. told_under name (option_map outcome_note (outcome_settled {J = J} settled)) sender) (sym tells)
-given_told {J} name (steps.Done value) settled tells sender = ap (λ settled. told_under name (option_map outcome_note (outcome_settled {J = J} settled)) sender) (sym tells)
+given_told J name steps.Yield settled tells sender = ap (λ settled. told_under name (option_map outcome_note (outcome_settled {J = J} settled)) sender) (sym tells)
+given_told J name (steps.Done value) settled tells sender = ap (λ settled. told_under name (option_map outcome_note (outcome_settled {J = J} settled)) sender) (sym tells)
 
 -- the job that is out is the one that was polled
 pub its_job_out : {J : Type 0} (who : Option (JobOut J)) (out : JobOut J) → who ≡ Some out → (job : J) → IsOut who job → out.job ≡ job

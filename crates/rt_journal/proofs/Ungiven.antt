@@ -35,14 +35,14 @@ nothing_at : {A : Type 0} (place : ℕ) (item : A) → slice_get [] place ≡ So
 nothing_at zero item at = none-some item at
 nothing_at (suc place) item at = none-some item at
 
+another : (name other : JobId) → same_name name other ≡ false → other ≡ name → ⊥
+another name other apart one = true≢false (sym (same_as_itself name) ∙ subst (λ other. same_name name other ≡ false) one apart)
+
 module _ {T : Type 0} (under : JobId → Option (Order (Unit {0}))) (name : JobId) (queue : ℕ) (is_job : under name ≡ Some (Job queue tt)) (sender : ℕ) where
   -- what is told as given to the sender of a name has that name
   its_name : (other : JobId) (what : OutcomeNote T) (entry : JobId × OutcomeNote T) (test : Bool) → cond test (Some (other, what)) None ≡ Some entry → other ≡ entry.0
   its_name other what entry true at = ap (λ entry. entry.0) (same_Some _ _ at)
   its_name other what entry false at = absurd (none-some entry at)
-
-  another : (other : JobId) → same_name name other ≡ false → other ≡ name → ⊥
-  another other apart one = true≢false (sym (same_as_itself name) ∙ subst (λ other. same_name name other ≡ false) one apart)
 
   -- under the name of a job nothing is given before the job ends
   pub not_given : (journal : Journal T) → EachNote (DeliversAs under) journal → is_told name_ended name journal ≡ false →
@@ -53,9 +53,9 @@ module _ {T : Type 0} (under : JobId → Option (Order (Unit {0}))) (name : JobI
       ⊎_elim (λ was. not_given before as_sent.1 parts.1 place entry was one) (not_now note as_sent.0 parts.0) (last_or_before (given_outcomes sender before) (outcome_given sender note) place entry at)
     where
       not_now : (note : Note T) → DeliversAs under note before → is_name name (name_ended note) ≡ false → outcome_given sender note ≡ Some entry → ⊥
-      not_now (writes.Done other time value) delivers apart now = another other apart (its_name other _ entry (other.from == sender) now ∙ one)
-      not_now (writes.Back other reason) delivers apart now = another other apart (its_name other _ entry (other.from == sender) now ∙ one)
-      not_now (writes.Returned other reason) delivers apart now = another other apart (its_name other _ entry (other.from == sender) now ∙ one)
+      not_now (writes.Done other time value) delivers apart now = another name other apart (its_name other _ entry (other.from == sender) now ∙ one)
+      not_now (writes.Back other reason) delivers apart now = another name other apart (its_name other _ entry (other.from == sender) now ∙ one)
+      not_now (writes.Returned other reason) delivers apart now = another name other apart (its_name other _ entry (other.from == sender) now ∙ one)
       not_now (writes.Answered other answer) delivers apart now =
           let is_order = same_Some _ _ (sym delivers.1 ∙ (ap under (its_name other _ entry (other.from == sender) now ∙ one) ∙ is_job)) in
           subst (λ order. IsAnswer order answer before) is_order delivers.2

@@ -1,4 +1,5 @@
 -- What a call of a recorded core knows after its core made a step and its desk wrote the notes.
+use Rattle.std.specs.Prelude.{Option}
 use Rattle.std.proofs.Common.{◌≡◌, ℕ, List, ◌++◌, reverse, sym, ◌∙◌, ap, subst}
 use Rattle.rt_ids.specs.declared.names.JobId.{JobId}
 use Rattle.rt_ids.specs.declared.note.Note.{Note}

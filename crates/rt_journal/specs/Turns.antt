@@ -54,6 +54,16 @@ abbrev pub TellsStep : {T : Type 0} → Step T → Settled T → Type 0
 TellsStep step.Yield settled = settled ≡ Yielded
 TellsStep (step.Done out) settled = settled ≡ Finished out
 
+module _ {J : Type 0} where
+  -- the order has the queue and the task that were sent under this name
+  pub record IsSentUnder (same : J → J → Type 0) (took : List (Envelope J)) (name : JobId) (order : Order J) : Type 0 where
+    pub queue : ℕ
+    pub sent : J
+    pub task : order_taken took name ≡ Some (Job queue sent)
+    pub job : J
+    pub back : order ≡ Job queue job
+    pub same_task : same sent job
+
 module _ {J T : Type 0} where
   -- the outcome that a pick leaves owed to a sender
   abbrev pub owed_back : Result (Turn J) PickError → ℕ → Option (JobId × OutcomeNote T)
@@ -68,16 +78,7 @@ module _ {J T : Type 0} where
   -- the outcome of the poll that was settled, if the job is done, is owed to its sender, and nothing to the others
   abbrev pub OwesSettled : RecordedView J T → Settled T → RecordedView J T → Type 0
   OwesSettled old settled new =
-      (out : JobOut J) → old.core.out ≡ Some out → (sender : ℕ) → LeavesOwed sender (told_under out.name (option_map outcome_note (outcome_settled {J = J} settled)) sender) old new
-
-  -- the order has the queue and the task that were sent under this name
-  pub record IsSentUnder (same : J → J → Type 0) (took : List (Envelope J)) (name : JobId) (order : Order J) : Type 0 where
-    pub queue : ℕ
-    pub sent : J
-    pub task : order_taken took name ≡ Some (Job queue sent)
-    pub job : J
-    pub back : order ≡ Job queue job
-    pub same_task : same sent job
+      (out : JobOut J) → old.core.out ≡ Some out → (sender : ℕ) → LeavesOwed sender (told_under out.name (option_map outcome_note (outcome_settled settled)) sender) old new
 
   -- the right pick takes out the first job of its line
   pub record IsPick (old : RecordedView J T) (name : JobId) (queue : ℕ) (was_started : Bool) (job : J) (new : RecordedView J T) : Type 0 where

@@ -1,4 +1,4 @@
-use Rattle.std.proofs.Common.{◌∙◌, sym, subst, ap}
+use Rattle.std.proofs.Common.{subst, ap}
 use Rattle.rt_link.specs.Fits.{Fits}
 use Rattle.rt_journal.specs.Recorded.{IsRecorded}
 use Rattle.rt_journal.specs.Ends.{IsInOf}
@@ -6,8 +6,8 @@ use Rattle.rt_journal.proofs.DeliveredEnds.{next_in, outs_keep, beside_owes, res
 use Rattle.rt_journal.proofs.GivenEnds.{may_give, gave, gave_rest}
 use Rattle.rt_journal.proofs.recorded.Recorded.deliver.Goals as goal
 
-pub receive-requires-clause-next : goal.receive-requires-clause-next
-receive-requires-clause-next g c = next_in c.args.self.now _ _ c.in-Some.envelope c.requires.beside c.in-Some.ensures.takes c.in-Some.ensures.sound
+pub receive-outcome-requires-clause-next : goal.receive-outcome-requires-clause-next
+receive-outcome-requires-clause-next g c = next_in c.args.self.now _ _ c.in-Some.envelope c.requires.beside c.in-Some.ensures.takes c.in-Some.ensures.sound
 
 pub give_if-requires : goal.give_if-requires
 give_if-requires g c =

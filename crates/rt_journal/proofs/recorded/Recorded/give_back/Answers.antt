@@ -10,4 +10,4 @@ give-requires g c =
     (subst (IsRecorded g.J.Task.SameTask g.J.Task.made g.J.Task.Polls) c.self.view_is c.self.invariant.0) g.J.Task.Answers
 
 pub returns-clause-beside : goal.returns-clause-beside
-returns-clause-beside g c = gave_back c.args.self.now c.args.name c.args.reason c.args.order c.requires.sent (g.I.InEnd.inward c.args.end.now) c.requires.owed (g.I.InEnd.inward c.give.new.end) c.give.ensures.gives
+returns-clause-beside g c = gave_back c.args.self.now c.args.name c.args.reason c.args.order c.requires.sent (g.I.InEnd.inward c.args.end.now) c.requires.owed (g.I.InEnd.inward c.give.new.self) c.give.ensures.gives

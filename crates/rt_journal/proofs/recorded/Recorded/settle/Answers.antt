@@ -1,4 +1,4 @@
-use Rattle.std.proofs.Common.{sym, subst, ◌∙◌}
+use Rattle.std.proofs.Common.{subst}
 use Rattle.rt_journal.specs.Ends.{Gives}
 use Rattle.rt_journal.proofs.SettledEnds.{may_give_settled, gave_settled, others_settled}
 use Rattle.rt_journal.proofs.recorded.Recorded.settle.Goals as goal
