@@ -1,5 +1,5 @@
 -- Notes by which nothing is delivered: a core beside its journal stays recorded, and the ends of its links stay beside it.
-use Rattle.std.proofs.Common.{◌≡◌, ℕ, ◌+◌, ◌≤◌, Bool, true, false, [], ◌∷◌, length, refl, ap, arith}
+use Rattle.std.proofs.Common.{◌≡◌, ℕ, ◌+◌, ◌≤◌, Bool, true, false, ◌∷◌, length, refl, ap, arith}
 use Rattle.std.specs.Prelude.{Option, None}
 use Rattle.rt_ids.specs.declared.names.JobId.{JobId}
 use Rattle.rt_ids.specs.declared.note.Note.TheVariants as writes

@@ -10,7 +10,6 @@ use Rattle.rt_ids.specs.declared.note.Note.TheVariants as writes
 use Rattle.rt_ids.specs.declared.note.OutcomeNote.{OutcomeNote}
 use Rattle.rt_ids.specs.declared.order.Order.{Order}
 use Rattle.rt_ids.specs.declared.order.Order.TheVariants.{Job}
-use Rattle.rt_ids.specs.declared.order.Outcome.{Outcome}
 use Rattle.rt_ids.specs.Commands.{IsAnswer}
 use Rattle.rt_ids.specs.Filters.{if_from, name_ended, given_outcomes, outcome_given}
 use Rattle.rt_ids.specs.Joining.{DeliversAs}
@@ -20,7 +19,7 @@ use Rattle.rt_ids.specs.Outcomes.{outcome_note}
 use Rattle.rt_ids.proofs.NameLemmas.{same_as_itself}
 use Rattle.rt_link.specs.declared.ends.Inward.{Inward}
 use Rattle.rt_journal.specs.Recorded.{RecordedView, order_taken}
-use Rattle.rt_journal.specs.Ends.{IsInOf, IsUngiven, name_of, named_outcomes}
+use Rattle.rt_journal.specs.Ends.{IsInOf, IsUngiven, name_of}
 
 -- what stands in a list with one more at its end stood there, or is the last
 last_or_before : {A : Type 0} (items : List A) (more : Option A) (place : ℕ) (item : A) → slice_get (with_last items more) place ≡ Some item →

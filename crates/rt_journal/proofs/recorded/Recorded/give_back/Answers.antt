@@ -1,5 +1,4 @@
-use Rattle.rt_link.specs.Fits.{Fits}
-use Rattle.std.proofs.Common.{sym, subst, ap}
+use Rattle.std.proofs.Common.{subst}
 use Rattle.rt_journal.specs.Recorded.{IsRecorded}
 use Rattle.rt_journal.proofs.GivenEnds.{may_give_back, gave_back}
 use Rattle.rt_journal.proofs.recorded.Recorded.give_back.Goals as goal
