@@ -16,7 +16,7 @@ use Rattle.rt_jobs.specs.Steps.{Owed}
 use Rattle.rt_link.specs.declared.ends.Inward.{Inward}
 use Rattle.rt_link.specs.Calls.{MayGive}
 use Rattle.rt_link.specs.Fits.{Fits}
-use Rattle.rt_journal.specs.Turns.{IsSentUnder}
+use Rattle.rt_journal.specs.Owed.{IsSentUnder}
 use Rattle.rt_journal.specs.Recorded.{RecordedView, IsRecorded, IsTaken, order_taken}
 use Rattle.rt_journal.specs.Ends.{IsInOf, IsInOwing, Gives, told_under, name_of, named_outcomes}
 

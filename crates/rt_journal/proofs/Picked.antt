@@ -30,7 +30,8 @@ use Rattle.rt_core.specs.Turns.{Picks as CorePicks}
 use Rattle.rt_journal.specs.Agreement.{IsJobOut, names_of}
 use Rattle.rt_journal.specs.Polls.{polls_made, poll_note}
 use Rattle.rt_journal.specs.Recorded.{RecordedView, terms_at, IsRecorded, HasTask, note_taken, sum_upto, given_count}
-use Rattle.rt_journal.specs.Turns.{Picks, IsPick, IsHandBack, owed_back}
+use Rattle.rt_journal.specs.Turns.{Picks, IsPick, IsHandBack}
+use Rattle.rt_journal.specs.Owed.{owed_back}
 use Rattle.rt_journal.proofs.KeptReturns.{kept-returned, right_return, returns_told}
 use Rattle.rt_journal.proofs.KeptReturns as returned
 use Rattle.rt_journal.proofs.KeptPicks.{kept-picked, right_pick, first_in_line, not_returning, start_told}

@@ -17,7 +17,8 @@ use Rattle.rt_link.specs.Calls.{MayGive}
 use Rattle.rt_link.specs.Fits.{Fits}
 use Rattle.rt_journal.specs.Recorded.{RecordedView, IsRecorded, order_taken}
 use Rattle.rt_journal.specs.Ends.{IsInOf, IsInOwing, KeepsIn, LeavesOwed, Gives, told_under}
-use Rattle.rt_journal.specs.Turns.{IsOutUnder, TellsStep, Settles, OwesSettled, outcome_settled}
+use Rattle.rt_journal.specs.Turns.{IsOutUnder, TellsStep, Settles}
+use Rattle.rt_journal.specs.Owed.{OwesSettled, outcome_settled}
 use Rattle.rt_journal.proofs.Quiet.{given_settled}
 use Rattle.rt_journal.proofs.SettledPolls.{given_told}
 use Rattle.rt_journal.proofs.DeliveredEnds.{told_elsewhere}

@@ -40,7 +40,7 @@ use Rattle.std.specs.Option.{option_map}
 use Rattle.rt_link.specs.declared.ends.Inward.{Inward}
 use Rattle.rt_journal.specs.Ends.{IsInOf, IsUngiven, told_under}
 use Rattle.rt_ids.specs.Outcomes.{outcome_note}
-use Rattle.rt_journal.specs.Turns.{outcome_settled}
+use Rattle.rt_journal.specs.Owed.{outcome_settled}
 use Rattle.rt_journal.proofs.Ungiven.{ungiven_if, not_given}
 use Rattle.rt_journal.proofs.Received.{task_stays}
 use Rattle.rt_journal.proofs.Quiet.{given_settled, quiet-settled, gates-settled, as_sent-settled}

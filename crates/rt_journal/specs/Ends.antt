@@ -4,8 +4,8 @@ use Rattle.rt_ids.specs.declared.names.JobId.{JobId}
 use Rattle.rt_ids.specs.declared.order.Order.{Order}
 use Rattle.rt_ids.specs.declared.order.Outcome.{Outcome}
 use Rattle.rt_ids.specs.declared.note.OutcomeNote.{OutcomeNote}
-use Rattle.rt_ids.specs.Journal.{Journal, with_last}
-use Rattle.rt_ids.specs.Filters.{Outcomes, if_from, accepted_orders, delivered_names, given_outcomes, collected_outcomes}
+use Rattle.rt_ids.specs.Journal.{with_last}
+use Rattle.rt_ids.specs.Filters.{Outcomes, accepted_orders, delivered_names, given_outcomes, collected_outcomes}
 use Rattle.rt_ids.specs.Outcomes.{outcome_note}
 use Rattle.rt_ids.specs.Outstanding.{outstanding_count}
 use Rattle.rt_ids.specs.Closing.{final_count}
@@ -13,6 +13,7 @@ use Rattle.rt_link.specs.declared.ends.Outward.{Outward}
 use Rattle.rt_link.specs.declared.ends.Inward.{Inward}
 use Rattle.rt_link.specs.Ends.{StartsWith}
 use Rattle.rt_link.specs.Calls.{final_of}
+pub use Rattle.rt_journal.specs.Lists.{KeepsSent, KeepsLists, GivesMore, told_under}
 use Rattle.rt_journal.specs.Orders.{numbered_orders}
 use Rattle.rt_journal.specs.Submissions.{DeskView}
 use Rattle.rt_journal.specs.Recorded.{RecordedView, order_taken}
@@ -24,26 +25,6 @@ name_of sender core number = record { from = sender; to = core; number = number 
 -- outcomes under their names, as notes tell them
 abbrev pub named_outcomes : {J T : Type 0} → ℕ → ℕ → List (ℕ × Outcome J T) → Outcomes T
 named_outcomes sender core outcomes = map (λ outcome. (name_of sender core outcome.0, outcome_note outcome.1)) outcomes
-
--- what a journal tells of the links on which its actor sends stays as it was
-pub record KeepsSent {T : Type 0} (old new : Journal T) : Type 0 where
-  pub accepted : (core : ℕ) → accepted_orders core new ≡ accepted_orders core old
-  pub outstanding : (core : ℕ) → outstanding_count core new ≡ outstanding_count core old
-  pub collected : (core : ℕ) → collected_outcomes core new ≡ collected_outcomes core old
-
--- the lists that a journal tells of its links, except what was delivered and given, stay as they were; no gate is shut
-pub record KeepsLists {T : Type 0} (old new : Journal T) : Type 0 where
-  pub sent : KeepsSent old new
-  pub gates : (sender : ℕ) → final_count sender new ≡ final_count sender old
-
--- what a journal tells as given is longer by one outcome for each sender who is given one
-abbrev pub GivesMore : {T : Type 0} → (ℕ → Option (JobId × OutcomeNote T)) → Journal T → Journal T → Type 0
-GivesMore more old new = (sender : ℕ) → given_outcomes sender new ≡ with_last (given_outcomes sender old) (more sender)
-
--- this outcome under this name, for the sender of the name
-abbrev pub told_under : {T : Type 0} → JobId → Option (OutcomeNote T) → ℕ → Option (JobId × OutcomeNote T)
-told_under name None sender = None
-told_under name (Some outcome) sender = if_from sender name (name, outcome)
 
 module _ {J T : Type 0} where
   -- the outcome that is owed wasn't given

@@ -2,16 +2,11 @@
 use Rattle.std.specs.Prelude.{◌≡◌, ℕ, ◌+◌, ◌-◌, ◌^◌, ◌<◌, ◌≢◌, Option, Some, None, unwrap_or, Bool, true, false, List, [], ◌∷◌, Result, Ok, Err}
 use Rattle.rt_ids.specs.declared.names.JobId.{JobId}
 use Rattle.rt_ids.specs.declared.note.Note.TheVariants as writes
-use Rattle.rt_ids.specs.declared.note.OutcomeNote.{OutcomeNote}
-use Rattle.rt_ids.specs.declared.note.OutcomeNote.TheVariants as outcomes
-use Rattle.rt_ids.specs.declared.order.Envelope.{Envelope}
 use Rattle.rt_ids.specs.declared.order.Order.{Order}
 use Rattle.rt_ids.specs.declared.order.Order.TheVariants.{Job}
-use Rattle.rt_ids.specs.declared.order.Outcome.{Outcome}
-use Rattle.rt_ids.specs.declared.order.Outcome.TheVariants as outcome
 use Rattle.rt_ids.specs.declared.order.Reason.{Reason}
 use Rattle.rt_ids.specs.Journal.{Journal, is_told}
-use Rattle.rt_ids.specs.Filters.{if_from, name_started}
+use Rattle.rt_ids.specs.Filters.{name_started}
 use Rattle.rt_ids.specs.Work.{has_work}
 use Rattle.rt_ids.specs.Lines.{line}
 use Rattle.rt_ids.specs.Picks.{IsRightPick, turns}
@@ -28,10 +23,7 @@ use Rattle.rt_core.specs.declared.turn.Settled.{Settled}
 use Rattle.rt_core.specs.declared.turn.Settled.TheVariants.{Yielded, Finished}
 use Rattle.rt_journal.specs.Polls.{polls_made, poll_note, settle_note}
 use Rattle.rt_journal.specs.Recorded.{RecordedView, order_taken}
-use Rattle.rt_journal.specs.Ends.{LeavesOwed, told_under}
 use Rattle.rt_journal.specs.Steps.{with_notes}
-use Rattle.rt_ids.specs.Outcomes.{outcome_note}
-use Rattle.std.specs.Option.{option_map}
 
 -- the job that is out is this one
 abbrev pub IsOut : {J : Type 0} → Option (JobOut J) → J → Type 0
@@ -54,32 +46,7 @@ abbrev pub TellsStep : {T : Type 0} → Step T → Settled T → Type 0
 TellsStep step.Yield settled = settled ≡ Yielded
 TellsStep (step.Done out) settled = settled ≡ Finished out
 
-module _ {J : Type 0} where
-  -- the order has the queue and the task that were sent under this name
-  pub record IsSentUnder (same : J → J → Type 0) (took : List (Envelope J)) (name : JobId) (order : Order J) : Type 0 where
-    pub queue : ℕ
-    pub sent : J
-    pub task : order_taken took name ≡ Some (Job queue sent)
-    pub job : J
-    pub back : order ≡ Job queue job
-    pub same_task : same sent job
-
 module _ {J T : Type 0} where
-  -- the outcome that a pick leaves owed to a sender
-  abbrev pub owed_back : Result (Turn J) PickError → ℕ → Option (JobId × OutcomeNote T)
-  owed_back (Ok (Back name reason order)) sender = if_from sender name (name, outcomes.Returned reason)
-  owed_back _ sender = None
-
-  -- the outcome of a settled poll
-  abbrev pub outcome_settled : Settled T → Option (Outcome J T)
-  outcome_settled Yielded = None
-  outcome_settled (Finished answer) = Some (outcome.Finished answer)
-
-  -- the outcome of the poll that was settled, if the job is done, is owed to its sender, and nothing to the others
-  abbrev pub OwesSettled : RecordedView J T → Settled T → RecordedView J T → Type 0
-  OwesSettled old settled new =
-      (out : JobOut J) → old.core.out ≡ Some out → (sender : ℕ) → LeavesOwed sender (told_under out.name (option_map outcome_note (outcome_settled settled)) sender) old new
-
   -- the right pick takes out the first job of its line
   pub record IsPick (old : RecordedView J T) (name : JobId) (queue : ℕ) (was_started : Bool) (job : J) (new : RecordedView J T) : Type 0 where
     pub nobody_out : old.core.out ≡ None

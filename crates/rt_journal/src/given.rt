@@ -5,7 +5,7 @@ ghost use Rattle.rt_link.specs.Calls.{MayGive};
 ghost use Rattle.rt_link.specs.Fits.{Fits};
 ghost use Rattle.rt_journal.specs.Deliveries.{outcome_delivered};
 ghost use Rattle.rt_journal.specs.Ends.{Gives};
-ghost use Rattle.rt_journal.specs.Turns.{outcome_settled};
+ghost use Rattle.rt_journal.specs.Owed.{outcome_settled};
 
 use rt_core::{Delivered, Settled};
 use rt_ids::Outcome;

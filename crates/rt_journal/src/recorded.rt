@@ -15,7 +15,8 @@ ghost use Rattle.rt_journal.specs.Submissions.{Submits, numbered};
 ghost use Rattle.rt_journal.specs.Recorded.{IsRecorded, desk_of, order_taken};
 ghost use Rattle.rt_journal.specs.Ends.{IsOutOf, IsInOf, IsInOwing, Gives, GivesMore, told_under, LeavesOwed, KeepsIn, KeepsOut, KeepsOuts, IsSameSeat};
 ghost use Rattle.rt_journal.specs.Steps.{opened_beside, IsNextIn, Receives, Delivers, CreatesQueue, TellsShut};
-ghost use Rattle.rt_journal.specs.Turns.{Picks, IsOut, IsOutUnder, IsPolled, IsSentUnder, Settles, OwesSettled, outcome_settled, owed_back};
+ghost use Rattle.rt_journal.specs.Turns.{Picks, IsOut, IsOutUnder, IsPolled, Settles};
+ghost use Rattle.rt_journal.specs.Owed.{IsSentUnder, OwesSettled, outcome_settled, owed_back};
 
 use crate::desk::RecordedDesk;
 use crate::given::{give_if, outcome_done, outcome_of};
