@@ -12,3 +12,4 @@ pub mod SlipsKept
 pub mod Opening
 pub mod Awaited
 pub mod Closings
+pub mod Whole
