@@ -28,6 +28,14 @@ pub fn tells(journal: &Journal<u64>, notes: &[Note<u64>]) -> bool {
     true
 }
 
+/// Whether this is a job for this queue.
+fn is_for(order: &Order<ScriptJob>, want: QueueNo) -> bool {
+    match order {
+        Order::Job(queue, _) => *queue == want,
+        _ => false,
+    }
+}
+
 /// Core 0 of one core, with the end of its link from the outside actor.
 #[derive(Drop)]
 pub struct Receiver<I: InEnd<ScriptJob> + Drop> {
@@ -82,7 +90,7 @@ impl<I: InEnd<ScriptJob> + Drop> Receiver<I> {
             return false;
         }
         match self.core.pick() {
-            Ok(Turn::Back(_, why, Order::Job(its_queue, _))) => why == reason && its_queue == queue,
+            Ok(Turn::Back(_, why, order)) => why == reason && is_for(&order, queue),
             _ => false,
         }
     }
@@ -133,7 +141,10 @@ impl<K: InEnd<ScriptJob> + Drop, I: InEnd<ScriptJob> + Drop> Closing<K, I> {
     /// The final count of the core's own gate, if it was shut by this call.
     pub fn shut_own(&mut self) -> Option<u64> {
         let own = ActorNo(0);
-        if self.core.journal().free() < 1 || !self.core.is_closed() || self.core.gate(own).is_some() {
+        if self.core.journal().free() < 1
+            || !self.core.is_closed()
+            || self.core.gate(own).is_some()
+        {
             return None;
         }
         Some(self.core.shut(&mut self.own, own))
@@ -142,7 +153,10 @@ impl<K: InEnd<ScriptJob> + Drop, I: InEnd<ScriptJob> + Drop> Closing<K, I> {
     /// The final count of the outside actor's gate, if it was shut by this call.
     pub fn shut_outside(&mut self) -> Option<u64> {
         let outside = ActorNo(1);
-        if self.core.journal().free() < 1 || !self.core.is_closed() || self.core.gate(outside).is_some() {
+        if self.core.journal().free() < 1
+            || !self.core.is_closed()
+            || self.core.gate(outside).is_some()
+        {
             return None;
         }
         Some(self.core.shut(&mut self.outside, outside))

@@ -7,7 +7,7 @@ use Rattle.rt_words.specs.Numbers.{number_of}
 use Rattle.rt_words.specs.Words.{first, second, others}
 use Rattle.rt_words.specs.Fields.{core_field, actor_field}
 use Rattle.rt_script.specs.Polls.{polls_field, job_field}
-use Rattle.rt_script.specs.Lines.{link_fields, submit_line, create_line, shares_line, deliver_line, turn_line}
+use Rattle.rt_script.specs.EventLines.{link_fields, gate_fields, submit_line, create_line, shares_line, close_line, closecore_line, deliver_line, turn_line, shut_line}
 use Rattle.rt_script.specs.Limits.{MayFollow}
 use Rattle.rt_words.proofs.FieldLemmas.{made_ok, both_ok, within_ok}
 
@@ -21,6 +21,11 @@ link_ok : (cores : ℕ) (ws : List (List ℕ)) (link : ℕ × ℕ) → 1 ≤ cor
 link_ok cores ws link some e =
     let b = both_ok _ _ _ e in
     (actor_ok cores (first ws) link.0 b.0, core_ok cores (second ws) link.1 some b.1)
+
+gate_ok : (cores : ℕ) (ws : List (List ℕ)) (gate : ℕ × ℕ) → 1 ≤ cores → gate_fields cores ws ≡ Ok gate → (gate.0 < cores) × (gate.1 ≤ cores)
+gate_ok cores ws gate some e =
+    let b = both_ok _ _ _ e in
+    (core_ok cores (first ws) gate.0 some b.0, actor_ok cores (second ws) gate.1 b.1)
 
 some_polls : (ws : List (List ℕ)) (polls : List Poll) → polls_field ws ≡ Ok polls → 1 ≤ length polls
 some_polls [] polls e = cc
@@ -53,13 +58,25 @@ shares_line_ok size ws line some e =
     let link = link_ok size.0 ws (m.0).0 some b.0 in
     rw m.2 (record { sender = link.0; core = link.1; some_polls = omega arith; none_made = refl })
 
+pub close_line_ok : (size : ℕ × ℕ) (ws : List (List ℕ)) (line : Line) → 1 ≤ size.0 → close_line size.0 ws ≡ Ok line → MayFollow (Some size) line
+close_line_ok size ws line some e =
+    let m = made_ok _ _ _ e in
+    let b = both_ok _ _ _ m.1 in
+    let link = link_ok size.0 ws (m.0).0 some b.0 in
+    rw m.2 (record { sender = link.0; core = link.1; some_polls = omega arith; none_made = refl })
+
+pub closecore_line_ok : (size : ℕ × ℕ) (ws : List (List ℕ)) (line : Line) → 1 ≤ size.0 → closecore_line size.0 ws ≡ Ok line → MayFollow (Some size) line
+closecore_line_ok size ws line some e =
+    let m = made_ok _ _ _ e in
+    let b = both_ok _ _ _ m.1 in
+    let link = link_ok size.0 ws (m.0).0 some b.0 in
+    rw m.2 (record { sender = link.0; core = link.1; some_polls = omega arith; none_made = refl })
+
 pub deliver_line_ok : (size : ℕ × ℕ) (ws : List (List ℕ)) (line : Line) → 1 ≤ size.0 → deliver_line size.0 ws ≡ Ok line → MayFollow (Some size) line
 deliver_line_ok size ws line some e =
     let m = made_ok _ _ _ e in
-    let b = both_ok _ _ _ m.1 in
-    let core = core_ok size.0 (first ws) (m.0).0 some b.0 in
-    let sender = actor_ok size.0 (second ws) (m.0).1 b.1 in
-    rw m.2 (record { sender = sender; core = core; some_polls = omega arith; none_made = refl })
+    let gate = gate_ok size.0 ws m.0 some m.1 in
+    rw m.2 (record { sender = gate.1; core = gate.0; some_polls = omega arith; none_made = refl })
 
 pub turn_line_ok : (size : ℕ × ℕ) (ws : List (List ℕ)) (line : Line) → 1 ≤ size.0 → turn_line size.0 ws ≡ Ok line → MayFollow (Some size) line
 turn_line_ok size ws line some e =
@@ -67,3 +84,9 @@ turn_line_ok size ws line some e =
     let core = core_ok size.0 (first ws) m.0 some m.1 in
     let sender : m.0 ≤ size.0 = omega arith in
     rw m.2 (record { sender = sender; core = core; some_polls = omega arith; none_made = refl })
+
+pub shut_line_ok : (size : ℕ × ℕ) (ws : List (List ℕ)) (line : Line) → 1 ≤ size.0 → shut_line size.0 ws ≡ Ok line → MayFollow (Some size) line
+shut_line_ok size ws line some e =
+    let m = made_ok _ _ _ e in
+    let gate = gate_ok size.0 ws m.0 some m.1 in
+    rw m.2 (record { sender = gate.1; core = gate.0; some_polls = omega arith; none_made = refl })

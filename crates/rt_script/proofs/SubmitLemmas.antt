@@ -8,7 +8,7 @@ use Rattle.rt_words.specs.Words.{third, others}
 use Rattle.rt_script.specs.declared.event.ScriptEvent.TheVariants.{Send}
 use Rattle.rt_script.specs.declared.line.Line.TheVariants.{Step}
 use Rattle.rt_script.specs.Polls.{job_field}
-use Rattle.rt_script.specs.Lines.{link_fields, submit_line}
+use Rattle.rt_script.specs.EventLines.{link_fields, submit_line}
 
 joined : (link : Result (ℕ × ℕ) Cause) (queue : Result ℕ Cause) (polls : Result (Unit {0}) Cause) (job : Script) →
     made (λ p. Step (Send (p.0).0 (p.0).1 (order.Job (p.1).0 (p.1).1))) (both link (both queue (made (λ _. job) polls)))

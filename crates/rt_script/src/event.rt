@@ -12,4 +12,6 @@ pub enum ScriptEvent {
     Deliver(CoreNo, ActorNo),
     /// The core makes a turn. Script jobs tell their own time.
     Turn(CoreNo),
+    /// The core shuts the gate of its link from the actor.
+    Shut(CoreNo, ActorNo),
 }

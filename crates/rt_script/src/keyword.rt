@@ -16,10 +16,16 @@ pub enum Keyword {
     Create,
     /// `shares s d q w`
     Shares,
+    /// `close s d q MODE`
+    Close,
+    /// `closecore s d MODE`
+    CloseCore,
     /// `deliver d s`
     Deliver,
     /// `turn d`
     Turn,
+    /// `shut d s`
+    Shut,
 }
 
 /// What a line that begins with the word does, if there is such a line.
@@ -29,6 +35,16 @@ pub fn keyword_of(word: &[u8]) -> Option<Keyword>
     if is_word(word, "queue") {
         return Some(Keyword::Queue);
     }
+    match order_keyword(word) {
+        Some(keyword) => Some(keyword),
+        None => step_keyword(word),
+    }
+}
+
+/// What a line sends that begins with the word, if it sends an order.
+fn order_keyword(word: &[u8]) -> Option<Keyword>
+    ensures { result ≡ spec.order_keyword word.now }
+{
     if is_word(word, "submit") {
         return Some(Keyword::Submit);
     }
@@ -38,11 +54,27 @@ pub fn keyword_of(word: &[u8]) -> Option<Keyword>
     if is_word(word, "shares") {
         return Some(Keyword::Shares);
     }
+    if is_word(word, "close") {
+        return Some(Keyword::Close);
+    }
+    if is_word(word, "closecore") {
+        return Some(Keyword::CloseCore);
+    }
+    None
+}
+
+/// What a line that begins with the word does, if it is a step that sends nothing.
+fn step_keyword(word: &[u8]) -> Option<Keyword>
+    ensures { result ≡ spec.step_keyword word.now }
+{
     if is_word(word, "deliver") {
         return Some(Keyword::Deliver);
     }
     if is_word(word, "turn") {
         return Some(Keyword::Turn);
+    }
+    if is_word(word, "shut") {
+        return Some(Keyword::Shut);
     }
     None
 }
@@ -57,8 +89,11 @@ impl Keyword {
             Keyword::Submit => count >= 5 && count <= 68,
             Keyword::Create => count == 4,
             Keyword::Shares => count == 5,
+            Keyword::Close => count == 5,
+            Keyword::CloseCore => count == 4,
             Keyword::Deliver => count == 3,
             Keyword::Turn => count == 2,
+            Keyword::Shut => count == 3,
         }
     }
 
@@ -68,11 +103,7 @@ impl Keyword {
     {
         match self {
             Keyword::Queue => true,
-            Keyword::Submit
-            | Keyword::Create
-            | Keyword::Shares
-            | Keyword::Deliver
-            | Keyword::Turn => false,
+            _ => false,
         }
     }
 }

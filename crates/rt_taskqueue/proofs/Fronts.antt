@@ -21,18 +21,6 @@ use Rattle.rt_taskqueue.proofs.Joins.{IsKept-joined, ChangesLine-joined}
 use Rattle.rt_taskqueue.proofs.Views.{alone, head_filled, length-waiting_of, IsWithinLimits-view}
 
 module _ {J : Type 0} where
-  -- one line changes twice
-  pub ChangesLine-after : (old between new : QueuesView J) (queue : ℕ) (first last : List (JobId × Bool × J)) → ChangesLine old between queue first → ChangesLine between new queue last → ChangesLine old new queue last
-  ChangesLine-after old between new queue first last one other = record {
-    changed = other.changed;
-    others = λ apart differs. other.others apart differs ∙ one.others apart differs;
-    same_shares = λ at. other.same_shares at ∙ one.same_shares at;
-    same_modes = λ at. other.same_modes at ∙ one.same_modes at;
-    same_count = other.same_count ∙ one.same_count;
-    same_room = other.same_room ∙ one.same_room;
-    held = omega (arith, one.held, other.held, ap length one.changed);
-  }
-
   -- two that lose their head to the same queues differ in that line alone
   ChangesLine-beside : (old new left : QueuesView J) (queue : ℕ) (first last : List (JobId × Bool × J)) → ChangesLine old left queue first → ChangesLine new left queue last → ChangesLine old new queue (waiting_of queue new)
   ChangesLine-beside old new left queue first last one other = record {

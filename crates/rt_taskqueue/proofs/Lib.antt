@@ -8,4 +8,3 @@ pub mod Changes
 pub mod Joins
 pub mod Leaves
 pub mod Fronts
-pub mod Turns

@@ -35,3 +35,4 @@ pub mod RowPicks
 pub mod OneJobRow
 pub mod TwoQueuesRow
 pub mod TwoSendersRow
+pub mod ClosedRow

@@ -14,4 +14,5 @@ pub mod ScriptRuns
 pub mod Creations
 pub mod Rows
 pub mod WorkedRows
+pub mod ClosedRow
 pub mod Hollow

@@ -1,6 +1,7 @@
 //! Laws over the definitions.
 
 ghost use Rattle.std.specs.Prelude.{ℕ};
+ghost use Rattle.rt_world.specs.ClosedRow.{CoreCloses};
 ghost use Rattle.rt_world.specs.Creations.{RunOfJobsIsDetermined};
 ghost use Rattle.rt_world.specs.Determined.{AssemblyIsDetermined, OpeningIsDetermined, OwesOne, RunIsDetermined};
 ghost use Rattle.rt_world.specs.Hollow.{EventsKeepLists, HollowIsRefused};
@@ -53,4 +54,9 @@ pub fn two_queues_share()
 /// Two senders of one core are served in the order in which their jobs came.
 pub fn two_senders_in_their_order()
     ensures { TwoSenders }
+{}
+
+/// A core that closes in mode `Return` hands its job back, and shuts each gate once, at its count.
+pub fn a_core_closes()
+    ensures { CoreCloses }
 {}

@@ -86,7 +86,7 @@ fn event_of(rt: &impl Abort, act: &Act) -> Event<ScriptJob>
     }
 }
 
-fn became(reply: Reply<ScriptJob>) -> Became {
+fn told_by(reply: Reply<ScriptJob>) -> Became {
     match reply {
         Reply::Sent(_) => Became::Sent,
         Reply::NotSent(SendError::Closed(_, count)) => Became::Closed(count),
@@ -104,7 +104,7 @@ pub fn run(rt: &impl Abort, world: &mut World<ScriptJob>, row: &[(Act, Became)])
     let mut all = true;
     for (act, want) in row {
         let reply = world.step(event_of(rt, act));
-        if became(reply) != *want {
+        if told_by(reply) != *want {
             all = false;
         }
     }
