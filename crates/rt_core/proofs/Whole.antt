@@ -1,0 +1,69 @@
+-- What holds inside a core as its next job goes out and comes back, from one view to the next.
+use Rattle.std.proofs.Common.{◌≡◌, ℕ, ◌+◌, ◌*◌, ◌^◌, ◌<◌, ◌≤◌, Bool, true, false, List, [], ◌∷◌, ◌++◌, length, max, Option, Some, None, refl, sym, ap, ◌∙◌, subst, arith, length-set}
+use Rattle.std.specs.Prelude.{All, is_some, slice_set}
+use Rattle.std.proofs.lemmas.List.Elements.{All-tail}
+use Rattle.rt_ids.specs.declared.names.JobId.{JobId}
+use Rattle.rt_ids.specs.declared.names.Key.{Key}
+use Rattle.rt_ids.specs.Work.{number_if}
+use Rattle.rt_jobs.specs.Ready.{IsReady}
+use Rattle.rt_timeline.specs.Rising.{LacksQueue, inserted}
+use Rattle.rt_taskqueue.specs.Queues.{queue_count, waiting_of, ChangesLine, IsWithinLimits}
+use Rattle.rt_core.specs.declared.tally.Tally.{Tally}
+use Rattle.rt_core.specs.State.{CoreView, JobOut, tally_of, runtime_of, is_any}
+use Rattle.rt_core.specs.Turns.{TakesOut}
+use Rattle.rt_core.specs.Inside.{IsCore, KeepsSlips, unsettled_count, FitsTurns}
+use Rattle.rt_core.proofs.Counting.{IsCounted-picks, IsCounted-yields, some_inside}
+use Rattle.rt_core.proofs.Entries.{is_any-push}
+use Rattle.rt_core.proofs.Fits.{picked_fits, tally_fits}
+use Rattle.rt_core.proofs.Listed.{LacksQueue-from_none}
+use Rattle.rt_core.proofs.Parts.{IsPollable-changed, IsPollable-pushed}
+use Rattle.rt_core.proofs.Picking.{exists_if_waiting, first_waits, IsListed-picks, IsWithinTurns-picks}
+use Rattle.rt_core.proofs.Settling.{out_entry, IsListed-again, IsWithinTurns-settles}
+use Rattle.rt_core.proofs.SlipsKept.{KeepsSlips-same, KeepsSlips-taken, KeepsSlips-inserted}
+
+module _ {J : Type 0} (done : J → Bool) (can_poll : J → Type 0) where
+  -- the next job goes out
+  pub IsCore-taken : (old mid : CoreView J) (slips : List Bool) (keys later : List Key) (key : Key) (inside room places : ℕ) (name : JobId) (started : Bool) (job : J) →
+      IsCore done can_poll old slips keys inside room places → keys ≡ key ∷ later → LacksQueue key.queue later → TakesOut old name key.queue started job mid → IsWithinLimits mid.queues →
+      IsCore done can_poll mid (slice_set slips key.queue true) later inside room places
+  IsCore-taken old mid slips keys later key inside room places name started job core are absent takes limits =
+      let out : JobOut J = record { name = name; queue = key.queue; job = job } in
+      let tally : Tally = record (tally_of key.queue old) { selected = (tally_of key.queue old).selected + 1 } in
+      let tallies : mid.tallies ≡ slice_set old.tallies key.queue tally = ap (λ (view : CoreView J). view.tallies) takes.rest in
+      let is_out : mid.out ≡ Some out = ap (λ (view : CoreView J). view.out) takes.rest in
+      let floor : mid.floor ≡ max old.floor (runtime_of key.queue old) = ap (λ (view : CoreView J). view.floor) takes.rest in
+      let turns : mid.turns ≡ old.turns + 1 = ap (λ (view : CoreView J). view.turns) takes.rest in
+      let exists = exists_if_waiting old.queues key.queue (first_waits old keys key later are core.listed takes.next.free) in
+      let none : unsettled_count old ≡ 0 = ap (λ (held : Option (JobOut J)). number_if (is_some held)) takes.next.free in
+      let before : FitsTurns old.turns 0 (tally_of key.queue old) = subst (λ unsettled. FitsTurns old.turns unsettled (tally_of key.queue old)) none (tally_fits old key.queue core.turns) in
+      let low : runtime_of key.queue old ≤ old.turns * 2 ^ 50 = let fits = before.runtime in omega arith in
+      let all : All (λ waiting. IsReady done can_poll waiting.2) ((name, started, job) ∷ takes.others) =
+      subst (λ (line : List (JobId × Bool × J)). All (λ waiting. IsReady done can_poll waiting.2) line) takes.first (core.pollable.at key.queue) in
+      record {
+        counted = IsCounted-picks old mid inside room places out (name, started, job) takes.others takes.first takes.line limits exists (ap (λ (view : CoreView J). view.cores) takes.rest) takes.next.free is_out
+            (ap length tallies ∙ length-set old.tallies key.queue tally) (ap (λ (view : CoreView J). view.delivered) takes.rest) core.counted;
+        listed = IsListed-picks old mid keys key later out tally are absent takes.next.free is_out refl takes.line.others tallies core.listed;
+        slipped = KeepsSlips-taken (queue_count mid.queues) slips key later (omega (arith, exists, takes.line.same_count)) absent
+            (KeepsSlips-same (queue_count old.queues) (queue_count mid.queues) slips slips (key ∷ later) takes.line.same_count refl (subst (KeepsSlips (queue_count old.queues) slips) are core.slipped));
+        pollable = IsPollable-changed done can_poll old mid key.queue takes.others takes.line (All-tail (λ waiting. IsReady done can_poll waiting.2) (name, started, job) takes.others all) core.pollable;
+        turns = IsWithinTurns-picks old mid out key.queue (runtime_of key.queue old) tally takes.next.free is_out turns floor low tallies (picked_fits old.turns (tally_of key.queue old) before) core.turns;
+      }
+
+  -- the job that is out goes to the tail of its queue, with what is counted of the queue from then on
+  pub IsCore-yielded : (mid new : CoreView J) (slips : List Bool) (keys : List Key) (inside room places : ℕ) (out : JobOut J) (job : J) (tally : Tally) →
+      IsCore done can_poll mid slips keys inside room places → mid.out ≡ Some out → new.out ≡ None → ChangesLine mid.queues new.queues out.queue (waiting_of out.queue mid.queues ++ (out.name, true, job) ∷ []) →
+      IsWithinLimits new.queues → new.tallies ≡ slice_set mid.tallies out.queue tally → FitsTurns mid.turns 0 tally → new.cores ≡ mid.cores → new.delivered ≡ mid.delivered → new.turns ≡ mid.turns → new.floor ≡ mid.floor →
+      IsReady done can_poll job → IsCore done can_poll new (slice_set slips out.queue false) (inserted (record { vr = tally.runtime; queue = out.queue }) keys) inside room places
+  IsCore-yielded mid new slips keys inside room places out job tally core was_out free joins limits tallies fits cores delivered turns floor ready =
+      let exists = some_inside mid inside room places out was_out core.counted in
+      let within : out.queue < length mid.tallies = omega (arith, core.counted.tallies, exists.1) in
+      let lacks = LacksQueue-from_none out.queue keys (core.listed.at out.queue ∙ out_entry mid out was_out) in
+      let any : is_any (waiting_of out.queue new.queues) ≡ true = ap is_any joins.changed ∙ is_any-push (waiting_of out.queue mid.queues) (out.name, true, job) in
+      record {
+        counted = IsCounted-yields mid new inside room places out out.name job joins limits cores was_out free (ap length tallies ∙ length-set mid.tallies out.queue tally) delivered core.counted;
+        listed = IsListed-again mid new keys out tally was_out free joins.others tallies core.listed within any;
+        slipped = KeepsSlips-inserted (queue_count new.queues) slips keys (record { vr = tally.runtime; queue = out.queue }) (omega (arith, exists.1, joins.same_count)) lacks
+            (KeepsSlips-same (queue_count mid.queues) (queue_count new.queues) slips slips keys joins.same_count refl core.slipped);
+        pollable = IsPollable-pushed done can_poll mid new out.queue out.name true job joins ready core.pollable;
+        turns = IsWithinTurns-settles mid new out out.queue tally was_out free turns floor tallies fits core.turns;
+      }
