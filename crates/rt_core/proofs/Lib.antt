@@ -13,3 +13,4 @@ pub mod Opening
 pub mod Awaited
 pub mod Closings
 pub mod Whole
+pub mod Turned

@@ -146,8 +146,8 @@ invariant_of-self g c =
     let some : is_any (waiting_of key.queue (queues_alone c.turn_front-step.new.self)) ≡ true =
     is_any-from_some (waiting_of key.queue (queues_alone c.turn_front-step.new.self)) (λ gone. true≢false (sym (c.is_empty.ensures.1 (lines ∙ gone)) ∙ c.if-not-is_empty.true)) in
     rw (c.enter.ensures.keys, c.enter.ensures.given, c.put_slip.ensures, c.in-Some.ensures.slip, c.turn_front-step.ensures.slips, c.ended-done.ensures) (
-      IsCore-settled g.J.Task.done g.J.Task.CanPoll mid _ (slice_set inside.queues.slips key.queue true) later inside.inside inside.room inside.tallies.cap out turned.job charged true step middle refl free turned.joins c.turn_front-step.ensures.limits
-      tallies fits refl refl refl floor turned.polled.ended turned.polled.ready some
+    IsCore-settled g.J.Task.done g.J.Task.CanPoll mid _ (slice_set inside.queues.slips key.queue true) later inside.inside inside.room inside.tallies.cap out turned.job charged true step middle refl free turned.joins c.turn_front-step.ensures.limits
+    tallies fits refl refl refl floor turned.polled.ended turned.polled.ready some
     )
 
 pub invariant_of-self-else-not-is_empty : goal.invariant_of-self-else-not-is_empty
@@ -203,8 +203,8 @@ invariant_of-self-else-not-is_empty g c =
     ap (λ (view : SlippedView g.row.J.Denot). waiting_of key.queue (queues_alone view)) c.put_slip.ensures in
     let some : is_any (waiting_of key.queue (queues_alone c.turn_front-step.new.self)) ≡ false = ap is_any (sym lines ∙ c.is_empty.ensures.0 c.if-not-is_empty.false) in
     rw (c.put_slip.ensures, c.in-Some.ensures.slip, c.turn_front-step.ensures.slips, c.ended-done.ensures) (
-      IsCore-settled g.J.Task.done g.J.Task.CanPoll mid _ (slice_set inside.queues.slips key.queue true) later inside.inside inside.room inside.tallies.cap out turned.job charged false step middle refl free turned.joins c.turn_front-step.ensures.limits
-      tallies fits refl refl refl floor turned.polled.ended turned.polled.ready some
+    IsCore-settled g.J.Task.done g.J.Task.CanPoll mid _ (slice_set inside.queues.slips key.queue true) later inside.inside inside.room inside.tallies.cap out turned.job charged false step middle refl free turned.joins c.turn_front-step.ensures.limits
+    tallies fits refl refl refl floor turned.polled.ended turned.polled.ready some
     )
 
 pub returns-clause-turns : goal.returns-clause-turns
