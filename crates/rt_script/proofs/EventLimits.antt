@@ -1,5 +1,6 @@
 -- The events that a script's lines tell: their actors exist, and their jobs have made no poll.
 use Rattle.std.proofs.Common.{◌≡◌, ℕ, ◌-◌, ◌≤◌, ◌<◌, List, [], ◌∷◌, length, Some, Ok, refl, arith}
+use Rattle.rt_ids.specs.declared.names.JobId.{JobId}
 use Rattle.rt_jobs.specs.declared.poll.Poll.{Poll}
 use Rattle.rt_jobs.specs.Scripts.{Script}
 use Rattle.rt_script.specs.declared.line.Line.{Line}
@@ -7,7 +8,7 @@ use Rattle.rt_words.specs.Numbers.{number_of}
 use Rattle.rt_words.specs.Words.{first, second, others}
 use Rattle.rt_words.specs.Fields.{core_field, actor_field}
 use Rattle.rt_script.specs.Polls.{polls_field, job_field}
-use Rattle.rt_script.specs.Lines.{link_fields, submit_line, create_line, shares_line, deliver_line, turn_line}
+use Rattle.rt_script.specs.EventLines.{link_fields, gate_fields, name_fields, submit_line, create_line, shares_line, close_line, closecore_line, deliver_line, turn_line, shut_line, collect_line, redeem_line, detach_line}
 use Rattle.rt_script.specs.Limits.{MayFollow}
 use Rattle.rt_words.proofs.FieldLemmas.{made_ok, both_ok, within_ok}
 
@@ -22,13 +23,25 @@ link_ok cores ws link some e =
     let b = both_ok _ _ _ e in
     (actor_ok cores (first ws) link.0 b.0, core_ok cores (second ws) link.1 some b.1)
 
-some_polls : (ws : List (List ℕ)) (polls : List Poll) → polls_field ws ≡ Ok polls → 1 ≤ length polls
-some_polls [] polls e = cc
-some_polls (word ∷ []) polls e = let m = made_ok _ _ _ e in rw m.2 (omega arith)
-some_polls (word ∷ next ∷ rest) polls e = let m = made_ok _ _ _ e in rw m.2 (omega arith)
+gate_ok : (cores : ℕ) (ws : List (List ℕ)) (gate : ℕ × ℕ) → 1 ≤ cores → gate_fields cores ws ≡ Ok gate → (gate.0 < cores) × (gate.1 ≤ cores)
+gate_ok cores ws gate some e =
+    let b = both_ok _ _ _ e in
+    (core_ok cores (first ws) gate.0 some b.0, actor_ok cores (second ws) gate.1 b.1)
 
-fresh_ok : (ws : List (List ℕ)) (job : Script) → job_field ws ≡ Ok job → (job.polled ≡ 0) × (1 ≤ length job.polls)
-fresh_ok ws job e = let m = made_ok _ _ _ e in rw m.2 (refl, some_polls ws m.0 m.1)
+name_ok : (cores : ℕ) (ws : List (List ℕ)) (name : JobId) → 1 ≤ cores → name_fields cores ws ≡ Ok name → (name.from ≤ cores) × (name.to < cores)
+name_ok cores ws name some e =
+    let m = made_ok _ _ _ e in
+    let b = both_ok _ _ _ m.1 in
+    let link = link_ok cores ws (m.0).0 some b.0 in
+    rw m.2 (link.0, link.1)
+
+some_polls : (cores : ℕ) (ws : List (List ℕ)) (polls : List Poll) → polls_field cores ws ≡ Ok polls → 1 ≤ length polls
+some_polls cores [] polls e = cc
+some_polls cores (word ∷ []) polls e = let m = made_ok _ _ _ e in rw m.2 (omega arith)
+some_polls cores (word ∷ next ∷ rest) polls e = let m = made_ok _ _ _ e in rw m.2 (omega arith)
+
+fresh_ok : (cores : ℕ) (ws : List (List ℕ)) (job : Script) → job_field cores ws ≡ Ok job → (job.polled ≡ 0) × (1 ≤ length job.polls)
+fresh_ok cores ws job e = let m = made_ok _ _ _ e in rw m.2 (refl, some_polls cores ws m.0 m.1)
 
 pub submit_line_ok : (size : ℕ × ℕ) (ws : List (List ℕ)) (line : Line) → 1 ≤ size.0 → submit_line size.0 ws ≡ Ok line → MayFollow (Some size) line
 submit_line_ok size ws line some e =
@@ -36,7 +49,7 @@ submit_line_ok size ws line some e =
     let b = both_ok _ _ _ m.1 in
     let d = both_ok _ _ _ b.1 in
     let link = link_ok size.0 ws (m.0).0 some b.0 in
-    let fresh = fresh_ok (others (others (others ws))) ((m.0).1).1 d.1 in
+    let fresh = fresh_ok size.0 (others (others (others ws))) ((m.0).1).1 d.1 in
     rw m.2 (record { sender = link.0; core = link.1; some_polls = fresh.1; none_made = fresh.0 })
 
 pub create_line_ok : (size : ℕ × ℕ) (ws : List (List ℕ)) (line : Line) → 1 ≤ size.0 → create_line size.0 ws ≡ Ok line → MayFollow (Some size) line
@@ -53,13 +66,25 @@ shares_line_ok size ws line some e =
     let link = link_ok size.0 ws (m.0).0 some b.0 in
     rw m.2 (record { sender = link.0; core = link.1; some_polls = omega arith; none_made = refl })
 
+pub close_line_ok : (size : ℕ × ℕ) (ws : List (List ℕ)) (line : Line) → 1 ≤ size.0 → close_line size.0 ws ≡ Ok line → MayFollow (Some size) line
+close_line_ok size ws line some e =
+    let m = made_ok _ _ _ e in
+    let b = both_ok _ _ _ m.1 in
+    let link = link_ok size.0 ws (m.0).0 some b.0 in
+    rw m.2 (record { sender = link.0; core = link.1; some_polls = omega arith; none_made = refl })
+
+pub closecore_line_ok : (size : ℕ × ℕ) (ws : List (List ℕ)) (line : Line) → 1 ≤ size.0 → closecore_line size.0 ws ≡ Ok line → MayFollow (Some size) line
+closecore_line_ok size ws line some e =
+    let m = made_ok _ _ _ e in
+    let b = both_ok _ _ _ m.1 in
+    let link = link_ok size.0 ws (m.0).0 some b.0 in
+    rw m.2 (record { sender = link.0; core = link.1; some_polls = omega arith; none_made = refl })
+
 pub deliver_line_ok : (size : ℕ × ℕ) (ws : List (List ℕ)) (line : Line) → 1 ≤ size.0 → deliver_line size.0 ws ≡ Ok line → MayFollow (Some size) line
 deliver_line_ok size ws line some e =
     let m = made_ok _ _ _ e in
-    let b = both_ok _ _ _ m.1 in
-    let core = core_ok size.0 (first ws) (m.0).0 some b.0 in
-    let sender = actor_ok size.0 (second ws) (m.0).1 b.1 in
-    rw m.2 (record { sender = sender; core = core; some_polls = omega arith; none_made = refl })
+    let gate = gate_ok size.0 ws m.0 some m.1 in
+    rw m.2 (record { sender = gate.1; core = gate.0; some_polls = omega arith; none_made = refl })
 
 pub turn_line_ok : (size : ℕ × ℕ) (ws : List (List ℕ)) (line : Line) → 1 ≤ size.0 → turn_line size.0 ws ≡ Ok line → MayFollow (Some size) line
 turn_line_ok size ws line some e =
@@ -67,3 +92,27 @@ turn_line_ok size ws line some e =
     let core = core_ok size.0 (first ws) m.0 some m.1 in
     let sender : m.0 ≤ size.0 = omega arith in
     rw m.2 (record { sender = sender; core = core; some_polls = omega arith; none_made = refl })
+
+pub shut_line_ok : (size : ℕ × ℕ) (ws : List (List ℕ)) (line : Line) → 1 ≤ size.0 → shut_line size.0 ws ≡ Ok line → MayFollow (Some size) line
+shut_line_ok size ws line some e =
+    let m = made_ok _ _ _ e in
+    let gate = gate_ok size.0 ws m.0 some m.1 in
+    rw m.2 (record { sender = gate.1; core = gate.0; some_polls = omega arith; none_made = refl })
+
+pub collect_line_ok : (size : ℕ × ℕ) (ws : List (List ℕ)) (line : Line) → 1 ≤ size.0 → collect_line size.0 ws ≡ Ok line → MayFollow (Some size) line
+collect_line_ok size ws line some e =
+    let m = made_ok _ _ _ e in
+    let link = link_ok size.0 ws m.0 some m.1 in
+    rw m.2 (record { sender = link.0; core = link.1; some_polls = omega arith; none_made = refl })
+
+pub redeem_line_ok : (size : ℕ × ℕ) (ws : List (List ℕ)) (line : Line) → 1 ≤ size.0 → redeem_line size.0 ws ≡ Ok line → MayFollow (Some size) line
+redeem_line_ok size ws line some e =
+    let m = made_ok _ _ _ e in
+    let name = name_ok size.0 ws m.0 some m.1 in
+    rw m.2 (record { sender = name.0; core = name.1; some_polls = omega arith; none_made = refl })
+
+pub detach_line_ok : (size : ℕ × ℕ) (ws : List (List ℕ)) (line : Line) → 1 ≤ size.0 → detach_line size.0 ws ≡ Ok line → MayFollow (Some size) line
+detach_line_ok size ws line some e =
+    let m = made_ok _ _ _ e in
+    let name = name_ok size.0 ws m.0 some m.1 in
+    rw m.2 (record { sender = name.0; core = name.1; some_polls = omega arith; none_made = refl })

@@ -1,5 +1,6 @@
 pub mod Keywords
 pub mod Polls
+pub mod EventLines
 pub mod Lines
 pub mod Drafts
 pub mod Limits

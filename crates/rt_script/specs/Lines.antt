@@ -1,19 +1,17 @@
 -- What one line of a script says.
 use Rattle.std.specs.Prelude.{ℕ, ◌&&◌, ◌==◌, not, Bool, false, List, codes, Option, Some, None, Result, Err, if◌then◌else◌}
 use Rattle.std.specs.Str.{bytes_eq}
-use Rattle.rt_ids.specs.declared.order.Order.TheVariants as order
-use Rattle.rt_script.specs.declared.event.ScriptEvent.TheVariants.{Send, Deliver, Turn}
 use Rattle.rt_script.specs.declared.line.Line.{Line}
-use Rattle.rt_script.specs.declared.line.Line.TheVariants.{Size, Queue, Step}
+use Rattle.rt_script.specs.declared.line.Line.TheVariants.{Size, Queue}
 use Rattle.rt_script.specs.declared.keyword.Keyword.{Keyword}
 use Rattle.rt_script.specs.declared.keyword.Keyword.TheVariants as keyword
 use Rattle.rt_text.specs.declared.fault.Cause.{Cause}
 use Rattle.rt_text.specs.declared.fault.Cause.TheVariants.{CoresLineExpected, UnknownWord, QueueLineTooLate, WrongNumberOfWords}
 use Rattle.rt_words.specs.Numbers.{number_of, within}
-use Rattle.rt_words.specs.Words.{first, others, second, third, fourth, word_count}
+use Rattle.rt_words.specs.Words.{first, others, second, third, word_count}
 use Rattle.rt_script.specs.Keywords.{keyword_of, takes, is_queue}
-use Rattle.rt_words.specs.Fields.{both, made, core_field, actor_field, queue_field, shares_field, fixed_field}
-use Rattle.rt_script.specs.Polls.{job_field}
+use Rattle.rt_words.specs.Fields.{both, made, core_field, shares_field, fixed_field}
+use Rattle.rt_script.specs.EventLines.{submit_line, create_line, shares_line, close_line, closecore_line, deliver_line, turn_line, shut_line, collect_line, redeem_line, detach_line}
 
 -- `C cap K`
 abbrev pub size_line : List (List ℕ) → Result Line Cause
@@ -23,38 +21,20 @@ size_line ws = made (λ p. Size p.0 (p.1).1) (both (within 1 16 (number_of (firs
 abbrev pub queue_line : ℕ → List (List ℕ) → Result Line Cause
 queue_line cores ws = made (λ p. Queue p.0 p.1) (both (core_field cores (first ws)) (shares_field (second ws)))
 
--- `s d`, the sender and the receiver of an order
-abbrev pub link_fields : ℕ → List (List ℕ) → Result (ℕ × ℕ) Cause
-link_fields cores ws = both (actor_field cores (first ws)) (core_field cores (second ws))
-
--- `s d q POLL ..`
-abbrev pub submit_line : ℕ → List (List ℕ) → Result Line Cause
-submit_line cores ws = made (λ p. Step (Send (p.0).0 (p.0).1 (order.Job (p.1).0 (p.1).1))) (both (link_fields cores ws) (both (queue_field (third ws)) (job_field (others (others (others ws))))))
-
--- `s d w`
-abbrev pub create_line : ℕ → List (List ℕ) → Result Line Cause
-create_line cores ws = made (λ p. Step (Send (p.0).0 (p.0).1 (order.Create p.1))) (both (link_fields cores ws) (shares_field (third ws)))
-
--- `s d q w`
-abbrev pub shares_line : ℕ → List (List ℕ) → Result Line Cause
-shares_line cores ws = made (λ p. Step (Send (p.0).0 (p.0).1 (order.SetShares (p.1).0 (p.1).1))) (both (link_fields cores ws) (both (queue_field (third ws)) (shares_field (fourth ws))))
-
--- `d s`
-abbrev pub deliver_line : ℕ → List (List ℕ) → Result Line Cause
-deliver_line cores ws = made (λ p. Step (Deliver p.0 p.1)) (both (core_field cores (first ws)) (actor_field cores (second ws)))
-
--- `d`
-abbrev pub turn_line : ℕ → List (List ℕ) → Result Line Cause
-turn_line cores ws = made (λ core. Step (Turn core)) (core_field cores (first ws))
-
 -- the words behind a line's first word, by what that says
 abbrev pub line_of : Keyword → ℕ → List (List ℕ) → Result Line Cause
 line_of keyword.Queue cores ws = queue_line cores ws
 line_of keyword.Submit cores ws = submit_line cores ws
 line_of keyword.Create cores ws = create_line cores ws
 line_of keyword.Shares cores ws = shares_line cores ws
+line_of keyword.Close cores ws = close_line cores ws
+line_of keyword.CloseCore cores ws = closecore_line cores ws
 line_of keyword.Deliver cores ws = deliver_line cores ws
 line_of keyword.Turn cores ws = turn_line cores ws
+line_of keyword.Shut cores ws = shut_line cores ws
+line_of keyword.Collect cores ws = collect_line cores ws
+line_of keyword.Redeem cores ws = redeem_line cores ws
+line_of keyword.Detach cores ws = detach_line cores ws
 
 -- a line has this many words, none of them empty
 abbrev pub counts : (ℕ → Bool) → Option ℕ → Bool

@@ -16,10 +16,22 @@ pub enum Keyword {
     Create,
     /// `shares s d q w`
     Shares,
+    /// `close s d q MODE`
+    Close,
+    /// `closecore s d MODE`
+    CloseCore,
     /// `deliver d s`
     Deliver,
     /// `turn d`
     Turn,
+    /// `shut d s`
+    Shut,
+    /// `collect s d`
+    Collect,
+    /// `redeem s d n`
+    Redeem,
+    /// `detach s d n`
+    Detach,
 }
 
 /// What a line that begins with the word does, if there is such a line.
@@ -29,6 +41,16 @@ pub fn keyword_of(word: &[u8]) -> Option<Keyword>
     if is_word(word, "queue") {
         return Some(Keyword::Queue);
     }
+    match order_keyword(word) {
+        Some(keyword) => Some(keyword),
+        None => step_keyword(word),
+    }
+}
+
+/// What a line sends that begins with the word, if it sends an order.
+fn order_keyword(word: &[u8]) -> Option<Keyword>
+    ensures { result ≡ spec.order_keyword word.now }
+{
     if is_word(word, "submit") {
         return Some(Keyword::Submit);
     }
@@ -38,11 +60,36 @@ pub fn keyword_of(word: &[u8]) -> Option<Keyword>
     if is_word(word, "shares") {
         return Some(Keyword::Shares);
     }
+    if is_word(word, "close") {
+        return Some(Keyword::Close);
+    }
+    if is_word(word, "closecore") {
+        return Some(Keyword::CloseCore);
+    }
+    None
+}
+
+/// What a line that begins with the word does, if it is a step that sends nothing.
+fn step_keyword(word: &[u8]) -> Option<Keyword>
+    ensures { result ≡ spec.step_keyword word.now }
+{
     if is_word(word, "deliver") {
         return Some(Keyword::Deliver);
     }
     if is_word(word, "turn") {
         return Some(Keyword::Turn);
+    }
+    if is_word(word, "shut") {
+        return Some(Keyword::Shut);
+    }
+    if is_word(word, "collect") {
+        return Some(Keyword::Collect);
+    }
+    if is_word(word, "redeem") {
+        return Some(Keyword::Redeem);
+    }
+    if is_word(word, "detach") {
+        return Some(Keyword::Detach);
     }
     None
 }
@@ -57,8 +104,14 @@ impl Keyword {
             Keyword::Submit => count >= 5 && count <= 68,
             Keyword::Create => count == 4,
             Keyword::Shares => count == 5,
+            Keyword::Close => count == 5,
+            Keyword::CloseCore => count == 4,
             Keyword::Deliver => count == 3,
             Keyword::Turn => count == 2,
+            Keyword::Shut => count == 3,
+            Keyword::Collect => count == 3,
+            Keyword::Redeem => count == 4,
+            Keyword::Detach => count == 4,
         }
     }
 
@@ -68,11 +121,7 @@ impl Keyword {
     {
         match self {
             Keyword::Queue => true,
-            Keyword::Submit
-            | Keyword::Create
-            | Keyword::Shares
-            | Keyword::Deliver
-            | Keyword::Turn => false,
+            _ => false,
         }
     }
 }

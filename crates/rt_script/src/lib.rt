@@ -3,6 +3,7 @@
 
 pub mod draft;
 pub mod event;
+mod event_line;
 pub mod keyword;
 pub mod line;
 pub mod polls;

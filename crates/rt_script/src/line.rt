@@ -1,21 +1,18 @@
 //! What one line of a script says.
 
 ghost use Rattle.std.specs.Prelude.{◌≡◌, ◌≤◌, ◌+◌, length, IsTrue};
-ghost use Rattle.rt_words.specs.Words.{words, others};
+ghost use Rattle.rt_words.specs.Words.{words};
 ghost use Rattle.rt_script.specs.Keywords.{takes};
 ghost use Rattle.rt_words.specs.Numbers.{within, number_of};
 ghost use Rattle.rt_script.specs.Lines as spec;
 
 use crate::event::ScriptEvent;
+use crate::event_line as event;
 use crate::keyword::{Keyword, keyword_of};
-use crate::polls::read_job;
-use rt_ids::{ActorNo, CoreNo, Order};
-use rt_jobs::ScriptJob;
+use rt_ids::CoreNo;
 use rt_shares::Shares;
 use rt_text::Cause;
-use rt_words::field::{
-    actor_field, both, core_field, fixed_field, is_word, queue_field, shares_field,
-};
+use rt_words::field::{both, core_field, fixed_field, is_word, shares_field};
 use rt_words::number::number_within;
 use rt_words::words::{Words, word_count as count_words};
 
@@ -71,11 +68,17 @@ fn line_of(keyword: Keyword, cores: u8, fields: &mut Words<'_>, count: usize) ->
 {
     match keyword {
         Keyword::Queue => queue_line(cores, fields),
-        Keyword::Submit => submit_line(cores, fields, count - 4),
-        Keyword::Create => create_line(cores, fields),
-        Keyword::Shares => shares_line(cores, fields),
-        Keyword::Deliver => deliver_line(cores, fields),
-        Keyword::Turn => turn_line(cores, fields),
+        Keyword::Submit => event::submit_line(cores, fields, count - 4),
+        Keyword::Create => event::create_line(cores, fields),
+        Keyword::Shares => event::shares_line(cores, fields),
+        Keyword::Close => event::close_line(cores, fields),
+        Keyword::CloseCore => event::closecore_line(cores, fields),
+        Keyword::Deliver => event::deliver_line(cores, fields),
+        Keyword::Turn => event::turn_line(cores, fields),
+        Keyword::Shut => event::shut_line(cores, fields),
+        Keyword::Collect => event::collect_line(cores, fields),
+        Keyword::Redeem => event::redeem_line(cores, fields),
+        Keyword::Detach => event::detach_line(cores, fields),
     }
 }
 
@@ -113,79 +116,4 @@ fn queue_line(cores: u8, fields: &mut Words<'_>) -> Result<Line, Cause>
     let shares = shares_field(fields.next_word());
     let (core, shares) = both(core, shares)?;
     Ok(Line::Queue(core, shares))
-}
-
-/// The sender and the receiver of an order.
-fn link_fields(cores: u8, fields: &mut Words<'_>) -> Result<(ActorNo, CoreNo), Cause>
-    requires { 1 ≤ cores }
-    ensures link { result ≡ spec.link_fields cores fields.old }
-    ensures rest { fields.new ≡ others (others fields.old) }
-{
-    let from = actor_field(fields.next_word(), cores);
-    let to = core_field(fields.next_word(), cores);
-    both(from, to)
-}
-
-fn submit_line(cores: u8, fields: &mut Words<'_>, polls: usize) -> Result<Line, Cause>
-    requires cores { 1 ≤ cores }
-    requires some { 1 ≤ polls }
-    requires most { polls ≤ 64 }
-    requires left { length fields.old ≡ polls + 3 }
-    ensures { result ≡ spec.submit_line cores fields.old }
-{
-    let link = link_fields(cores, fields);
-    let queue = queue_field(fields.next_word());
-    let mut job = ScriptJob::done(0, 0);
-    let found = read_job(fields, polls, &mut job);
-    match both(link, both(queue, found)) {
-        Ok(((from, to), (queue, ()))) => {
-            let order = Order::Job(queue, job);
-            Ok(Line::Step(ScriptEvent::Send(from, to, order)))
-        }
-        Err(cause) => Err(cause),
-    }
-}
-
-fn create_line(cores: u8, fields: &mut Words<'_>) -> Result<Line, Cause>
-    requires { 1 ≤ cores }
-    ensures { result ≡ spec.create_line cores fields.old }
-{
-    let link = link_fields(cores, fields);
-    let shares = shares_field(fields.next_word());
-    let ((from, to), shares) = both(link, shares)?;
-    Ok(Line::Step(ScriptEvent::Send(from, to, Order::Create(shares))))
-}
-
-fn shares_line(cores: u8, fields: &mut Words<'_>) -> Result<Line, Cause>
-    requires { 1 ≤ cores }
-    ensures { result ≡ spec.shares_line cores fields.old }
-{
-    let link = link_fields(cores, fields);
-    let queue = queue_field(fields.next_word());
-    let shares = shares_field(fields.next_word());
-    match both(link, both(queue, shares)) {
-        Ok(((from, to), (queue, shares))) => {
-            let order = Order::SetShares(queue, shares);
-            Ok(Line::Step(ScriptEvent::Send(from, to, order)))
-        }
-        Err(cause) => Err(cause),
-    }
-}
-
-fn deliver_line(cores: u8, fields: &mut Words<'_>) -> Result<Line, Cause>
-    requires { 1 ≤ cores }
-    ensures { result ≡ spec.deliver_line cores fields.old }
-{
-    let core = core_field(fields.next_word(), cores);
-    let from = actor_field(fields.next_word(), cores);
-    let (core, from) = both(core, from)?;
-    Ok(Line::Step(ScriptEvent::Deliver(core, from)))
-}
-
-fn turn_line(cores: u8, fields: &mut Words<'_>) -> Result<Line, Cause>
-    requires { 1 ≤ cores }
-    ensures { result ≡ spec.turn_line cores fields.old }
-{
-    let core = core_field(fields.next_word(), cores)?;
-    Ok(Line::Step(ScriptEvent::Turn(core)))
 }

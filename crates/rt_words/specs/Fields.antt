@@ -1,6 +1,9 @@
 -- What the words of a line say, each by itself.
-use Rattle.std.specs.Prelude.{ℕ, ◌-◌, ◌^◌, Bool, true, false, List, Result, Ok, Err, if◌then◌else◌}
+use Rattle.std.specs.Prelude.{ℕ, ◌-◌, ◌^◌, Bool, true, false, List, Result, Ok, Err, codes, if◌then◌else◌}
 use Rattle.std.specs.Str.{bytes_eq}
+use Rattle.rt_ids.specs.declared.order.Mode.{Mode}
+use Rattle.rt_ids.specs.declared.order.Mode.TheVariants as mode
+use Rattle.rt_ids.specs.Limits.{last_number}
 use Rattle.rt_text.specs.declared.fault.Cause.{Cause}
 use Rattle.rt_text.specs.declared.fault.Cause.TheVariants.{BadWord}
 use Rattle.rt_words.specs.Numbers.{number_of, within}
@@ -48,3 +51,11 @@ fixed_field text word = if bytes_eq word text then Ok tt else Err BadWord
 -- a time in nanoseconds, or an answer
 abbrev pub count_field : List ℕ → Result ℕ Cause
 count_field word = within 0 (2 ^ 64 - 1) (number_of word)
+
+-- the number of a submission on its link
+abbrev pub submission_field : List ℕ → Result ℕ Cause
+submission_field word = within 1 last_number (number_of word)
+
+-- how a queue or a core is closed
+abbrev pub mode_field : List ℕ → Result Mode Cause
+mode_field word = if bytes_eq word (codes "finish") then Ok mode.Finish else (if bytes_eq word (codes "return") then Ok mode.Return else Err BadWord)

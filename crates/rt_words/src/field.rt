@@ -5,7 +5,7 @@ ghost use Rattle.std.specs.Str.{bytes_eq};
 ghost use Rattle.rt_words.specs.Fields as spec;
 
 use crate::number::number_within;
-use rt_ids::{ActorNo, CoreNo, QueueNo};
+use rt_ids::{ActorNo, CoreNo, LAST_NUMBER, Mode, QueueNo};
 use rt_shares::Shares;
 use rt_text::Cause;
 
@@ -82,4 +82,24 @@ pub fn count_field(word: &[u8]) -> Result<u64, Cause>
     ensures { result ≡ spec.count_field word.now }
 {
     number_within(word, 0, u64::MAX)
+}
+
+/// The number of a submission on its link.
+pub fn submission_field(word: &[u8]) -> Result<u64, Cause>
+    ensures { result ≡ spec.submission_field word.now }
+{
+    number_within(word, 1, LAST_NUMBER)
+}
+
+/// How a queue or a core is closed.
+pub fn mode_field(word: &[u8]) -> Result<Mode, Cause>
+    ensures { result ≡ spec.mode_field word.now }
+{
+    if is_word(word, "finish") {
+        return Ok(Mode::Finish);
+    }
+    if is_word(word, "return") {
+        return Ok(Mode::Return);
+    }
+    Err(Cause::BadWord)
 }

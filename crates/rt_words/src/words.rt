@@ -1,7 +1,7 @@
 //! The words of a line.
 
 ghost use Rattle.std.specs.Prelude.{◌≡◌, ◌≤◌, ◌==◌, ℕ, length, Option, Some, None, if◌then◌else◌, IsTrue, ◌↔◌, []};
-ghost use Rattle.std.specs.List.{position_or_len};
+ghost use Rattle.std.specs.List.{position_or_len, before_first, after_first};
 ghost use Rattle.rt_words.specs.Words as spec;
 
 use std::marker::Model;
@@ -100,5 +100,18 @@ pub fn first_place(bytes: &[u8], wanted: u8) -> usize
     match bytes.iter().position(|byte| *byte == wanted) {
         Some(place) => place,
         None => bytes.len(),
+    }
+}
+
+/// What stands before the first such byte, and what stands behind it: nothing if there is none.
+pub fn cut_at(bytes: &[u8], sign: u8) -> (&[u8], &[u8])
+    ensures before { result.0.now ≡ before_first (λ byte. byte == sign) bytes.now }
+    ensures after { result.1.now ≡ after_first (λ byte. byte == sign) bytes.now }
+{
+    let end = first_place(bytes, sign);
+    if end < bytes.len() {
+        (&bytes[..end], &bytes[end + 1..])
+    } else {
+        (bytes, b"")
     }
 }

@@ -1,9 +1,9 @@
 use Rattle.std.proofs.Common.{◌≡◌, Err, sym}
 use Rattle.rt_words.specs.Words.{third, fourth}
 use Rattle.rt_words.specs.Fields.{both, queue_field, shares_field}
-use Rattle.rt_script.specs.Lines.{link_fields}
+use Rattle.rt_script.specs.EventLines.{link_fields}
 use Rattle.rt_words.proofs.FieldLemmas.{made_err}
-use Rattle.rt_script.proofs.line.shares_line.Goals as goal
+use Rattle.rt_script.proofs.event_line.shares_line.Goals as goal
 
 pub returns-in-Err : goal.returns-in-Err
 returns-in-Err c =

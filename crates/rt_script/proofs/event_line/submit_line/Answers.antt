@@ -5,7 +5,7 @@ use Rattle.rt_words.specs.Words.{first, others}
 use Rattle.rt_script.specs.declared.event.ScriptEvent.TheVariants.{Send}
 use Rattle.rt_script.specs.declared.line.Line.TheVariants.{Step}
 use Rattle.rt_script.proofs.SubmitLemmas.{submit_read}
-use Rattle.rt_script.proofs.line.submit_line.Goals as goal
+use Rattle.rt_script.proofs.event_line.submit_line.Goals as goal
 
 pub returns-in-Err : goal.returns-in-Err
 returns-in-Err c =
