@@ -83,8 +83,13 @@ pub(crate) fn close_line(cores: u8, fields: &mut Words<'_>) -> Result<Line, Caus
     let link = link_fields(cores, fields);
     let queue = queue_field(fields.next_word());
     let mode = mode_field(fields.next_word());
-    let ((from, to), (queue, mode)) = both(link, both(queue, mode))?;
-    Ok(Line::Step(ScriptEvent::Send(from, to, Order::Close(queue, mode))))
+    match both(link, both(queue, mode)) {
+        Ok(((from, to), (queue, mode))) => {
+            let order = Order::Close(queue, mode);
+            Ok(Line::Step(ScriptEvent::Send(from, to, order)))
+        }
+        Err(cause) => Err(cause),
+    }
 }
 
 /// `s d MODE`

@@ -1,7 +1,7 @@
 //! The polls of a script's job.
 
 ghost use Rattle.std.specs.Prelude.{◌+◌, ◌≡◌, ◌≤◌, ◌<◌, ◌∷◌, [], length, OnErr};
-ghost use Rattle.rt_jobs.specs.declared.poll.Poll.TheVariants.{Done};
+ghost use Rattle.rt_jobs.specs.declared.poll.Poll.TheVariants.{Submit, Done};
 ghost use Rattle.rt_jobs.specs.Filling.{with_poll, with_last};
 ghost use Rattle.rt_words.specs.Fields.{both, made};
 ghost use Rattle.rt_script.specs.Polls as spec;
@@ -101,7 +101,14 @@ fn submit_poll(rest: &[u8], cores: u8) -> Result<Early, Cause>
     let (core, queue) = cut_at(place, b'.');
     let core = core_field(core, cores);
     let queue = queue_field(queue);
-    let (told, (core, queue)) = both(count_field(told), both(core, queue))?;
+    submitting(both(count_field(told), both(core, queue)))
+}
+
+/// The poll that submits, by what was read of it.
+fn submitting(parts: Result<(u64, (CoreNo, QueueNo)), Cause>) -> Result<Early, Cause>
+    ensures { made spec.poll_of result ≡ made (λ p. Submit p.0 (p.1).0 (p.1).1) parts }
+{
+    let (told, (core, queue)) = parts?;
     Ok(Early::Submit(told, core, queue))
 }
 
