@@ -6,8 +6,8 @@ ghost use Rattle.rt_journal.specs.Ends.{IsInOf, IsOutOf};
 ghost use Rattle.rt_journal.specs.Recorded.{desk_of};
 
 use rt_core::Turn;
-use rt_ids::{CoreNo, Note, Order};
-use rt_jobs::{Ran, ScriptJob, Task};
+use rt_ids::{ActorNo, CoreNo, Note, Order, QueueNo, Reason};
+use rt_jobs::{NoPost, Ran, ScriptJob, Task};
 use rt_journal::{Journal, Recorded, RecordedDesk};
 use rt_link::{InEnd, OutEnd};
 use std::marker::Model;
@@ -26,6 +26,14 @@ pub fn tells(journal: &Journal<u64>, notes: &[Note<u64>]) -> bool {
         }
     }
     true
+}
+
+/// Whether this is a job for this queue.
+fn is_for(order: &Order<ScriptJob>, want: QueueNo) -> bool {
+    match order {
+        Order::Job(queue, _) => *queue == want,
+        _ => false,
+    }
 }
 
 /// Core 0 of one core, with the end of its link from the outside actor.
@@ -65,13 +73,24 @@ impl<I: InEnd<ScriptJob> + Drop> Receiver<I> {
         }
         match self.core.pick() {
             Ok(Turn::Start(_, _, job)) => {
-                drop(self.core.settle(Ran::poll(job), spent));
+                drop(self.core.settle(Ran::poll(job, &mut NoPost), spent));
                 true
             }
             Ok(Turn::Resume(_, _, job)) => {
-                drop(self.core.settle(Ran::poll(job), spent));
+                drop(self.core.settle(Ran::poll(job, &mut NoPost), spent));
                 true
             }
+            _ => false,
+        }
+    }
+
+    /// Whether a job was handed back, for this reason and in an order for this queue.
+    pub fn hands_back(&mut self, reason: Reason, queue: QueueNo) -> bool {
+        if self.core.journal().free() < 2 {
+            return false;
+        }
+        match self.core.pick() {
+            Ok(Turn::Back(_, why, order)) => why == reason && is_for(&order, queue),
             _ => false,
         }
     }
@@ -84,6 +103,71 @@ impl<I: InEnd<ScriptJob> + Drop> Receiver<I> {
     pub fn held(&self) -> u64 {
         let (core, _) = self.core.core().stats();
         core.held
+    }
+}
+
+/// Core 0 of one core, with the ends of its links from itself and from the outside actor.
+#[derive(Drop)]
+pub struct Closing<K: InEnd<ScriptJob> + Drop, I: InEnd<ScriptJob> + Drop> {
+    core: Recorded<ScriptJob>,
+    own: K,
+    outside: I,
+}
+
+impl<K: InEnd<ScriptJob> + Drop, I: InEnd<ScriptJob> + Drop> Model for Closing<K, I> {
+    ghost use Rattle.std.specs.Prelude.{ℕ};
+    ghost use Rattle.rt_journal.specs.Ends.{IsInOf};
+
+    ghost Value = { ℕ };
+
+    ghost view = { λ _. 0 };
+
+    ghost invariant = { λ c. IsInOf 0 c.core (K.inward c.own) × IsInOf 1 c.core (I.inward c.outside) };
+}
+
+impl<K: InEnd<ScriptJob> + Drop, I: InEnd<ScriptJob> + Drop> Closing<K, I> {
+    pub fn new(core: Recorded<ScriptJob>, own: K, outside: I) -> Self
+        requires own { IsInOf 0 core (K.inward own) }
+        requires outside { IsInOf 1 core (I.inward outside) }
+    {
+        Closing { core, own, outside }
+    }
+
+    /// Whether an order came from the outside actor.
+    pub fn deliver(&mut self) -> bool {
+        self.core.journal().free() >= 2 && self.core.deliver(&mut self.outside)
+    }
+
+    /// The final count of the core's own gate, if it was shut by this call.
+    pub fn shut_own(&mut self) -> Option<u64> {
+        let own = ActorNo(0);
+        if self.core.journal().free() < 1
+            || !self.core.is_closed()
+            || self.core.gate(own).is_some()
+        {
+            return None;
+        }
+        Some(self.core.shut(&mut self.own, own))
+    }
+
+    /// The final count of the outside actor's gate, if it was shut by this call.
+    pub fn shut_outside(&mut self) -> Option<u64> {
+        let outside = ActorNo(1);
+        if self.core.journal().free() < 1
+            || !self.core.is_closed()
+            || self.core.gate(outside).is_some()
+        {
+            return None;
+        }
+        Some(self.core.shut(&mut self.outside, outside))
+    }
+
+    pub fn is_drained(&self) -> bool {
+        self.core.is_drained()
+    }
+
+    pub fn tells(&self, notes: &[Note<u64>]) -> bool {
+        tells(self.core.journal(), notes)
     }
 }
 

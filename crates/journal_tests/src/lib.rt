@@ -4,4 +4,6 @@
 #[cfg(test)]
 mod actors;
 #[cfg(test)]
+mod closings;
+#[cfg(test)]
 mod steps;

@@ -15,10 +15,10 @@ use std::alloc::{AllocError, Global};
 use std::process::Abort;
 use std::test::Fail;
 
-const OUTSIDE: ActorNo = ActorNo(1);
+pub const OUTSIDE: ActorNo = ActorNo(1);
 
 /// The name of the submission of this number from the actor to core 0.
-fn name(from: u8, number: u64) -> JobId {
+pub fn name(from: u8, number: u64) -> JobId {
     JobId {
         from: ActorNo(from),
         to: CORE,
@@ -27,7 +27,7 @@ fn name(from: u8, number: u64) -> JobId {
 }
 
 /// A job for queue 0 that answers 7 at its first poll, of 10 ns.
-fn job(rt: &impl Abort) -> Order<ScriptJob>
+pub fn job(rt: &impl Abort) -> Order<ScriptJob>
     ensures { HasReadyJob ⟦<ScriptJob as Task>⟧.done ⟦<ScriptJob as Task>⟧.CanPoll result }
 {
     let job = ScriptJob::done(10, 7);

@@ -10,7 +10,7 @@ use std::alloc::Global;
 use std::test::Fail;
 
 /// The next job comes back at its delivery, as it was.
-fn is_refused(
+pub(crate) fn is_refused(
     core: &mut Core<ScriptJob, Global>,
     number: u64,
     queue: QueueNo,
@@ -93,7 +93,7 @@ fn is_for(order: &Order<ScriptJob>, want: QueueNo) -> bool {
 }
 
 /// A pick of this queue hands this job back.
-fn hands_back(
+pub(crate) fn hands_back(
     core: &mut Core<ScriptJob, Global>,
     at: (QueueNo, u128),
     number: u64,
@@ -111,7 +111,7 @@ fn hands_back(
 }
 
 /// A job is polled and done in this turn.
-fn is_done_at(
+pub(crate) fn is_done_at(
     core: &mut Core<ScriptJob, Global>,
     at: (QueueNo, u128),
     number: u64,
@@ -123,7 +123,7 @@ fn is_done_at(
         && is_one(&settled, Note::Done(name(number), done.0, done.1))
 }
 
-fn is_idle(core: &mut Core<ScriptJob, Global>) -> bool {
+pub(crate) fn is_idle(core: &mut Core<ScriptJob, Global>) -> bool {
     let (picked, notes) = core.pick();
     matches!(picked, Ok(Turn::Idle)) && notes.is_empty()
 }

@@ -6,6 +6,8 @@ mod closings;
 #[cfg(test)]
 mod commands;
 #[cfg(test)]
+mod delivered_closings;
+#[cfg(test)]
 mod keys;
 #[cfg(test)]
 mod lines;

@@ -4,7 +4,7 @@ ghost use Rattle.rt_jobs.specs.Ready.{HasReadyJob};
 
 use rt_core::{Core, Delivered, Notes, Settled, Turn};
 use rt_ids::{ActorNo, Answer, CoreNo, Envelope, JobId, Note, Order, QueueNo};
-use rt_jobs::{Poll, Ran, ScriptJob, Task};
+use rt_jobs::{NoPost, Poll, Ran, ScriptJob, Task};
 use rt_shares::Shares;
 use rt_taskqueue::CreateError;
 use std::alloc::Allocator;
@@ -133,7 +133,7 @@ pub(crate) fn one_turn<A: Allocator + Clone>(
     let (Ok(Turn::Start(_, _, job)) | Ok(Turn::Resume(_, _, job))) = picked else {
         return (notes, Notes::new());
     };
-    let (_settled, settled) = core.settle(Ran::poll(job), 99);
+    let (_settled, settled) = core.settle(Ran::poll(job, &mut NoPost), 99);
     (notes, settled)
 }
 

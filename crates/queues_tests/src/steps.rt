@@ -1,6 +1,6 @@
 //! A job that tells no time.
 
-use rt_jobs::{Job, Step, Task};
+use rt_jobs::{Job, Post, Step, Task};
 
 /// A job that yields so many times, then answers 0, and tells no time.
 #[derive(Drop)]
@@ -22,7 +22,7 @@ impl Task for Steps {
 
     ghost says = { λ _. None };
 
-    ghost Polls = { λ _ _ _ _. Unit {0} };
+    ghost Polls = { λ _ _ _ _ _ _. Unit {0} };
 
     ghost Answers = { λ _ _. Unit {0} };
 
@@ -30,7 +30,7 @@ impl Task for Steps {
 
     ghost answers_same = { λ _ _ _ _ _. tt };
 
-    ghost polls_same = { λ _ _ _ _ _ _ _. tt };
+    ghost polls_same = { λ _ _ _ _ _ _ _ _ _. tt };
 
     ghost can_poll_same = { λ _ _ _ can. can };
 
@@ -44,7 +44,7 @@ impl Task for Steps {
 }
 
 impl Job for Steps {
-    fn poll(&mut self) -> Step<u64> {
+    fn poll<P: Post<Self, u64>>(&mut self, _post: &mut P) -> Step<u64> {
         if self.left > 0 {
             self.left -= 1;
             return Step::Yield;

@@ -6,7 +6,7 @@ use crate::one_core::{
 use crate::steps::Steps;
 use rt_core::{Core, Delivered, PickError, Turn};
 use rt_ids::{CoreNo, CoreStats, Note, Order, QueueNo, QueueStats};
-use rt_jobs::{Poll, Ran, ScriptJob};
+use rt_jobs::{NoPost, Poll, Ran, ScriptJob};
 use std::alloc::{AllocError, Global};
 use std::test::Fail;
 
@@ -119,7 +119,7 @@ fn makes_a_turn(core: &mut Core<Steps, Global>) -> bool {
     let (Err(PickError::Busy), none) = core.pick() else {
         return false;
     };
-    let (settled, notes) = core.settle(Ran::poll(job), 0);
+    let (settled, notes) = core.settle(Ran::poll(job, &mut NoPost), 0);
     none.is_empty() && is_yielded(&settled) && is_one(&notes, Note::Yield(name(1), 0))
 }
 

@@ -1,2 +1,1 @@
-pub mod FirstUnder
-pub mod LinkTables
+pub mod AllEnded

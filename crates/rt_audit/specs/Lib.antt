@@ -1,4 +1,2 @@
-pub mod Links
-pub mod Starts
-pub mod Closes
-pub mod Outcomes
+pub mod Held
+pub mod Places

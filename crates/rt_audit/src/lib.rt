@@ -1,7 +1,8 @@
-//! Whether the journals of all actors are sound, by tables of their notes.
+//! The audit: whether the journals of all actors are sound, and which rule they break first.
 #![tactic(auto)]
 
-mod closes;
-mod links;
-mod outcomes;
-mod starts;
+mod judge;
+mod lost;
+mod places;
+
+pub use judge::{AuditError, Verdict, audit};

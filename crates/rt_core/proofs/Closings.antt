@@ -1,12 +1,11 @@
 -- What refuses a job, what hands it back, and when a core is drained.
-use Rattle.std.proofs.Common.{◌≡◌, ℕ, zero, suc, ◌+◌, ◌<◌, ◌≤◌, Bool, true, false, cond, List, [], ◌∷◌, length, max, Option, Some, None, refl, sym, ap, ◌∙◌, subst, arith}
+use Rattle.std.proofs.Common.{◌≡◌, ℕ, zero, suc, ◌+◌, ◌<◌, Bool, true, false, cond, List, [], ◌∷◌, length, max, Option, Some, None, refl, sym, ap, ◌∙◌, subst, arith}
 use Rattle.std.specs.Prelude.{◌||◌, nat_lt, slice_index_or, slice_set}
 use Rattle.std.proofs.lemmas.Bool.{ltb-true, true≢false}
 use Rattle.std.proofs.lemmas.List.{get_or-set_same}
 use Rattle.rt_ids.specs.declared.names.Key.{Key}
 use Rattle.rt_ids.specs.declared.names.JobId.{JobId}
 use Rattle.rt_ids.specs.declared.order.Mode.{Mode}
-use Rattle.rt_ids.specs.declared.order.Reason.{Reason}
 use Rattle.rt_ids.specs.declared.order.Reason.TheVariants as why
 use Rattle.rt_ids.specs.Journal.{or_else}
 use Rattle.rt_ids.specs.Names.{is_number}
@@ -19,7 +18,6 @@ use Rattle.rt_core.specs.Closing.{refusal, return_reason, IsDrained}
 use Rattle.rt_core.specs.Turns.{TakesOut, HandsBack}
 use Rattle.rt_core.specs.Steps.{ReturnsOut}
 use Rattle.rt_core.specs.Inside.{IsCore, IsListed}
-use Rattle.rt_core.proofs.Entries.{none_from_is_any, is_any-from_some}
 use Rattle.rt_core.proofs.Listed.{eqb-self}
 use Rattle.rt_core.proofs.Picking.{idle_if_no_key, first_waits}
 

@@ -1,14 +1,22 @@
 -- What a delivered command came to, from what its parts did.
-use Rattle.std.proofs.Common.{◌≡◌, ◌↔◌, ℕ, ◌<◌, ◌≤◌, Bool, true, false, List, [], ◌∷◌, ◌++◌, Option, Some, None, Result, Ok, Err, ⊎_elim, refl, sym, ap, ◌∙◌, subst}
+use Rattle.std.proofs.Common.{◌≡◌, ◌↔◌, ℕ, ◌<◌, ◌≤◌, Bool, true, false, List, [], ◌∷◌, ◌++◌, length, Option, Some, None, Result, Ok, Err, ⊎_elim, refl, sym, ap, ◌∙◌, subst, arith}
 use Rattle.std.proofs.lemmas.Bool.{cases_lt, true≢false}
 use Rattle.std.specs.Prelude.{slice_set, is_some}
 use Rattle.rt_ids.specs.declared.names.JobId.{JobId}
 use Rattle.rt_ids.specs.declared.note.Note.{Note}
+use Rattle.rt_ids.specs.declared.note.Note.TheVariants as notes
+use Rattle.rt_ids.specs.declared.order.Mode.{Mode}
+use Rattle.rt_ids.specs.declared.order.Answer.{Answer}
+use Rattle.rt_ids.specs.declared.order.Answer.TheVariants as answers
+use Rattle.rt_ids.specs.declared.order.Order.TheVariants as orders
 use Rattle.rt_taskqueue.specs.Queues.{QueuesView, queue_count, AddsQueue}
 use Rattle.rt_taskqueue.specs.declared.queues.CreateError.{CreateError}
 use Rattle.rt_taskqueue.specs.declared.queues.CreateError.TheVariants.{TooMany, Memory}
+use Rattle.rt_core.specs.declared.delivery.Delivered.{Delivered}
+use Rattle.rt_core.specs.declared.delivery.Delivered.TheVariants as deliveries
 use Rattle.rt_core.specs.State.{CoreView, no_tally}
-use Rattle.rt_core.specs.Deliveries.{Creates, CreatesQueue, CountsAlone, counted}
+use Rattle.rt_core.specs.Closing.{ClosesQueue}
+use Rattle.rt_core.specs.Deliveries.{Creates, CreatesQueue, CountsAlone, Delivers, counted}
 
 -- what isn't there is none
 pub none_if_not : {X : Type 0} (found : Option X) → is_some found ≡ false → found ≡ None
@@ -28,6 +36,29 @@ module _ {J T : Type 0} where
   same_cores old weight (Ok queue) new written creates = ap (λ (view : CoreView J). view.cores) creates.1.rest
   same_cores old weight (Err TooMany) new written creates = ap (λ (view : CoreView J). view.cores) creates.1
   same_cores old weight (Err Memory) new written creates = ap (λ (view : CoreView J). view.cores) creates.1
+
+  -- a closing of a queue leaves at most one note
+  pub one_effect : (old : CoreView J) (queue : ℕ) (mode : Mode) (answer : Answer) (new : CoreView J) (written : List (Note T)) →
+      ClosesQueue old queue mode answer new written → length written ≤ 1
+  one_effect old queue mode answers.NoQueue new written closes = omega (arith, ap length closes.2)
+  one_effect old queue mode answers.AlreadyClosed new written closes = omega (arith, ap length closes.3)
+  one_effect old queue mode answers.Closed new written closes = omega (arith, ap length closes.2)
+  one_effect old queue mode (answers.Created made) new written closes = absurd closes
+  one_effect old queue mode answers.TooMany new written closes = absurd closes
+  one_effect old queue mode answers.NoMemory new written closes = absurd closes
+  one_effect old queue mode answers.CoreClosing new written closes = absurd closes
+  one_effect old queue mode answers.SharesSet new written closes = absurd closes
+
+  -- a delivery is counted, and then its closing is done
+  pub delivers_closed : (old mid new : CoreView J) (name : JobId) (queue : ℕ) (mode : Mode) (answer : Answer) (told : Delivered J) (note : Note T) (effect written : List (Note T)) →
+      CountsAlone old name mid → ClosesQueue mid queue mode answer new effect → told ≡ deliveries.Answered answer → note ≡ notes.Answered name answer → written ≡ note ∷ effect →
+      Delivers old name (orders.Close queue mode) told new written
+  delivers_closed old mid new name queue mode answer told note effect written counts closes tells noted both =
+      subst (λ (told : Delivered J). Delivers old name (orders.Close queue mode) told new written) (sym tells) (
+        effect,
+        subst (λ (mid : CoreView J). ClosesQueue mid queue mode answer new effect) counts closes,
+        both ∙ ap (λ (note : Note T). note ∷ effect) noted,
+      )
 
 module _ {J : Type 0} where
   -- a queue is created, and then the delivery is counted

@@ -1,12 +1,12 @@
 -- The events that a script's lines tell: their actors exist, and their jobs have made no poll.
-use Rattle.std.proofs.Common.{◌≡◌, ℕ, length, arith, ◌==◌}
+use Rattle.std.proofs.Common.{ℕ, length, arith, ◌==◌}
 use Rattle.std.proofs.lemmas.Bool.Decides.{nat_tests}
 use Rattle.rt_ids.specs.declared.order.Order.TheVariants as order
 use Rattle.rt_jobs.specs.Ready.{HasReadyJob}
 use Rattle.rt_world.specs.Sends.{AreThere}
 use Rattle.rt_world.specs.Opening.{HasReadyEvent}
 use Rattle.rt_script.specs.declared.event.ScriptEvent.{ScriptEvent}
-use Rattle.rt_script.specs.declared.event.ScriptEvent.TheVariants.{Send, Deliver, Turn}
+use Rattle.rt_script.specs.declared.event.ScriptEvent.TheVariants.{Send, Deliver, Turn, Shut}
 use Rattle.rt_script.specs.Limits.{IsEventOf}
 use Rattle.rt_engine.specs.Replies.{event_of}
 
@@ -15,11 +15,15 @@ pub are_there : (cores : ℕ) (event : ScriptEvent) → IsEventOf cores event �
 are_there cores (Send sender core order) here = (here.sender, here.core)
 are_there cores (Deliver core sender) here = (here.core, here.sender)
 are_there cores (Turn core) here = here.core
+are_there cores (Shut core sender) here = (here.core, here.sender)
 
 -- and its job may be polled
 pub is_ready : (cores : ℕ) (event : ScriptEvent) → IsEventOf cores event → HasReadyEvent (HasReadyJob (λ job. job.polled == length job.polls) (λ job. Unit {0})) (event_of event)
 is_ready cores (Send sender core (order.Job queue job)) here = (grind (arith, nat_tests, here.some_polls, here.none_made), tt)
 is_ready cores (Send sender core (order.Create weight)) here = tt
 is_ready cores (Send sender core (order.SetShares queue weight)) here = tt
+is_ready cores (Send sender core (order.Close queue mode)) here = tt
+is_ready cores (Send sender core (order.CloseCore mode)) here = tt
 is_ready cores (Deliver core sender) here = tt
 is_ready cores (Turn core) here = tt
+is_ready cores (Shut core sender) here = tt

@@ -7,7 +7,7 @@ use Rattle.std.proofs.KnownBytes.{Appends-trans}
 use Rattle.rt_ids.specs.declared.note.Note.{Note}
 use Rattle.rt_jobs.specs.Scripts.{Script}
 use Rattle.rt_script.specs.declared.event.ScriptEvent.{ScriptEvent}
-use Rattle.rt_script.specs.declared.event.ScriptEvent.TheVariants.{Send, Deliver, Turn}
+use Rattle.rt_script.specs.declared.event.ScriptEvent.TheVariants.{Send, Deliver, Turn, Shut}
 use Rattle.rt_world.specs.declared.event.Event.{Event}
 use Rattle.rt_world.specs.declared.event.Reply.{Reply}
 use Rattle.rt_world.specs.State.{journal_at}
@@ -26,6 +26,7 @@ pub same_actor : (event : ScriptEvent) → (ends_of event).actor ≡ actor_of (e
 same_actor (Send sender core what) = refl
 same_actor (Deliver core sender) = refl
 same_actor (Turn core) = refl
+same_actor (Shut core sender) = refl
 
 -- what happened is the event that the script told
 pub happened : (event : Event Script) (told : ScriptEvent) (old new : ScriptWorld) (answer : Reply Script) → event ≡ event_of told → Occurs event old new answer → Occurs (event_of told) old new answer

@@ -1,6 +1,6 @@
 -- Two outputs of a script are one, unless one of its runs was refused memory.
 use Rattle.std.proofs.Common.{◌≡◌, ℕ, List, [], ◌∷◌, ◌++◌, refl, sym, ◌∙◌, ap, subst, ◌⊎◌, inl, inr, ⊎_elim}
-use Rattle.std.specs.Prelude.{map, reverse, Option, Result, Ok}
+use Rattle.std.specs.Prelude.{map, reverse, Result, Ok}
 use Rattle.std.proofs.lemmas.List.{append_cancel_right}
 use Rattle.std.proofs.lemmas.Option.{same_Some}
 use Rattle.rt_jobs.specs.Scripts.{Script}

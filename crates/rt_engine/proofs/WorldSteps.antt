@@ -11,13 +11,15 @@ use Rattle.rt_ids.specs.declared.order.SendError.TheVariants as refused
 use Rattle.rt_ids.specs.Commands.{effect_note}
 use Rattle.rt_jobs.specs.Scripts.{Script, Does, IsAnswer}
 use Rattle.rt_world.specs.declared.event.Event.{Event}
-use Rattle.rt_world.specs.declared.event.Event.TheVariants.{Send, Deliver, Turn}
+use Rattle.rt_world.specs.declared.event.Event.TheVariants.{Send, Deliver, Turn, Shut}
 use Rattle.rt_world.specs.declared.event.Reply.{Reply}
 use Rattle.rt_world.specs.declared.event.Reply.TheVariants as reply
 use Rattle.rt_world.specs.State.{journal_at, noted, without_job, with_sent, IsNearlyFull}
 use Rattle.rt_world.specs.Sends.{actor_of, AreThere, Sends}
 use Rattle.rt_world.specs.Deliveries.{IsDelivery, with_effect, Delivers}
-use Rattle.rt_world.specs.Turns.{Turns, settle_note, poll_note}
+use Rattle.rt_ids.specs.Filters.{accepted_orders}
+use Rattle.rt_world.specs.Turns.{IsPoll, IsHandBack, Turns, settle_note, poll_note}
+use Rattle.rt_world.specs.Closings.{Shuts}
 use Rattle.rt_ids.specs.Filters.{name_started}
 use Rattle.rt_world.specs.Runs.{Steps}
 use Rattle.rt_engine.specs.Rooms.{IsRoomy}
@@ -112,6 +114,14 @@ delivery_few name (order.SetShares queue weight) before notes is =
     let e = ap length is.2 in
     let few = few_effects (effect_note (order.SetShares queue weight) is.0) (written.Answered name is.0 ∷ []) in
     omega arith
+delivery_few name (order.Close queue mode) before notes is =
+    let e = ap length is.2 in
+    let few = few_effects (effect_note (order.Close queue mode) is.0) (written.Answered name is.0 ∷ []) in
+    omega arith
+delivery_few name (order.CloseCore mode) before notes is =
+    let e = ap length is.2 in
+    let few = few_effects (effect_note (order.CloseCore mode) is.0) (written.Answered name is.0 ∷ []) in
+    omega arith
 
 becomes : (actor : ℕ) (old new other : ScriptWorld) → new ≡ other → Grows actor old other → Grows actor old new
 becomes actor old new other same grows = subst (Grows actor old) (sym same) grows
@@ -126,12 +136,14 @@ send_grows : (sender core : ℕ) (what : Order Script) (old new : ScriptWorld) (
 send_grows sender core what old new (reply.Sent name) is = becomes sender old new _ is.2 (with_orders sender (written.Sent name (without_job what) ∷ []) old (with_sent sender core what old) (omega arith))
 send_grows sender core what old new (reply.NotSent (refused.Full back)) is = stays sender old new is.2
 send_grows sender core what old new (reply.NotSent (refused.Spent back)) is = stays sender old new is.3
-send_grows sender core what old new (reply.NotSent (refused.Closed back count)) is = absurd is
+send_grows sender core what old new (reply.NotSent (refused.Closed back count)) is = stays sender old new is.2
 send_grows sender core what old new (reply.NotSent (refused.NoCore back)) is = absurd is
 send_grows sender core what old new reply.Noted is = absurd is
 send_grows sender core what old new reply.Empty is = absurd is
 send_grows sender core what old new reply.Idle is = absurd is
 send_grows sender core what old new reply.Spent is = absurd is
+send_grows sender core what old new reply.NotClosed is = absurd is
+send_grows sender core what old new reply.AlreadyShut is = absurd is
 send_grows sender core what old new (reply.NoActor back) is = absurd is
 send_grows sender core what old new (reply.NoRoom back) is = absurd is
 
@@ -143,29 +155,55 @@ deliver_grows core sender old new (reply.Sent name) is = absurd is
 deliver_grows core sender old new (reply.NotSent refusal) is = absurd is
 deliver_grows core sender old new reply.Idle is = absurd is
 deliver_grows core sender old new reply.Spent is = absurd is
+deliver_grows core sender old new reply.NotClosed is = absurd is
+deliver_grows core sender old new reply.AlreadyShut is = absurd is
 deliver_grows core sender old new (reply.NoActor back) is = absurd is
 deliver_grows core sender old new (reply.NoRoom back) is = absurd is
 
-turn_grows : (core spent : ℕ) (old new : ScriptWorld) (answer : Reply Script) → Turns (λ job. job.polled) (λ job made step told. Does (slice_get job.polls made) step told) (λ job out. IsAnswer job.polls out) core spent old new answer → Grows core old new
-turn_grows core spent old new reply.Noted is = becomes core old new _ is.notes
+poll_grows : (core spent : ℕ) (old new : ScriptWorld) → IsPoll (λ job. job.polled) (λ job made before after step told. Does (slice_get job.polls made) before after step told) (λ job out. IsAnswer job.polls out) core spent old new → Grows core old new
+poll_grows core spent old new is = becomes core old new _ is.notes
     (adds core
     (
     settle_note is.name (unwrap_or is.told spent) is.step
     ∷ poll_note is.name (is_told name_started is.name (journal_at core old))
     ∷ written.Pick is.queue is.runtime ∷ []
     ) old (omega arith))
+
+hand_back_grows : (core : ℕ) (old new : ScriptWorld) → IsHandBack core old new → Grows core old new
+hand_back_grows core old new is = becomes core old new _ is.notes
+    (adds core (written.Returned is.name is.reason ∷ written.Pick is.queue is.runtime ∷ []) old (omega arith))
+
+turn_grows : (core spent : ℕ) (old new : ScriptWorld) (answer : Reply Script) → Turns (λ job. job.polled) (λ job made before after step told. Does (slice_get job.polls made) before after step told) (λ job out. IsAnswer job.polls out) core spent old new answer → Grows core old new
+turn_grows core spent old new reply.Noted (inl is) = poll_grows core spent old new is
+turn_grows core spent old new reply.Noted (inr is) = hand_back_grows core old new is
 turn_grows core spent old new reply.Idle is = stays core old new is.1
 turn_grows core spent old new reply.Spent is = stays core old new is.2
 turn_grows core spent old new reply.Empty is = absurd is
 turn_grows core spent old new (reply.Sent name) is = absurd is
 turn_grows core spent old new (reply.NotSent refusal) is = absurd is
+turn_grows core spent old new reply.NotClosed is = absurd is
+turn_grows core spent old new reply.AlreadyShut is = absurd is
 turn_grows core spent old new (reply.NoActor back) is = absurd is
 turn_grows core spent old new (reply.NoRoom back) is = absurd is
 
-step_grows : (event : Event Script) (old new : ScriptWorld) (answer : Reply Script) → Steps (λ job. job.polled) (λ job made step told. Does (slice_get job.polls made) step told) (λ job out. IsAnswer job.polls out) event old new answer → Grows (actor_of event) old new
+shut_grows : (core sender : ℕ) (old new : ScriptWorld) (answer : Reply Script) → Shuts core sender old new answer → Grows core old new
+shut_grows core sender old new reply.Noted is =
+    becomes core old new _ is.2 (adds core (written.Shut sender (length (accepted_orders core (journal_at sender old))) ∷ []) old (omega arith))
+shut_grows core sender old new reply.NotClosed is = stays core old new is.1
+shut_grows core sender old new reply.AlreadyShut is = stays core old new is.2
+shut_grows core sender old new reply.Idle is = absurd is
+shut_grows core sender old new reply.Spent is = absurd is
+shut_grows core sender old new reply.Empty is = absurd is
+shut_grows core sender old new (reply.Sent name) is = absurd is
+shut_grows core sender old new (reply.NotSent refusal) is = absurd is
+shut_grows core sender old new (reply.NoActor back) is = absurd is
+shut_grows core sender old new (reply.NoRoom back) is = absurd is
+
+step_grows : (event : Event Script) (old new : ScriptWorld) (answer : Reply Script) → Steps (λ job. job.polled) (λ job made before after step told. Does (slice_get job.polls made) before after step told) (λ job out. IsAnswer job.polls out) event old new answer → Grows (actor_of event) old new
 step_grows (Send sender core what) old new answer is = send_grows sender core what old new answer is
 step_grows (Deliver core sender) old new answer is = deliver_grows core sender old new answer is
 step_grows (Turn core spent) old new answer is = turn_grows core spent old new answer is
+step_grows (Shut core sender) old new answer is = shut_grows core sender old new answer is
 
 -- what an event leaves
 pub event_grows : (event : Event Script) (old new : ScriptWorld) (answer : Reply Script) → Occurs event old new answer → Grows (actor_of event) old new
@@ -177,6 +215,8 @@ event_grows event old new reply.Noted is = step_grows event old new reply.Noted 
 event_grows event old new reply.Empty is = step_grows event old new reply.Empty is.2
 event_grows event old new reply.Idle is = step_grows event old new reply.Idle is.2
 event_grows event old new reply.Spent is = step_grows event old new reply.Spent is.2
+event_grows event old new reply.NotClosed is = step_grows event old new reply.NotClosed is.2
+event_grows event old new reply.AlreadyShut is = step_grows event old new reply.AlreadyShut is.2
 
 -- an event whose actors exist and whose journal has room isn't handed back
 pub is_heard : (event : Event Script) (old new : ScriptWorld) (answer : Reply Script) → Occurs event old new answer → AreThere old.cores event → (IsNearlyFull (actor_of event) old → ⊥) → IsHeard answer
@@ -188,6 +228,8 @@ is_heard event old new reply.Noted is here free = tt
 is_heard event old new reply.Empty is here free = tt
 is_heard event old new reply.Idle is here free = tt
 is_heard event old new reply.Spent is here free = tt
+is_heard event old new reply.NotClosed is here free = tt
+is_heard event old new reply.AlreadyShut is here free = tt
 
 pub is_free : (actor : ℕ) (world : ScriptWorld) → IsRoomy world.cores world.cap 32768 world → IsNearlyFull actor world → ⊥
 is_free actor world roomy full =

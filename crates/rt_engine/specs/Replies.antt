@@ -1,5 +1,5 @@
 -- The events of a script as events of the model, and what is printed of a reply.
-use Rattle.std.specs.Prelude.{Option, None, Some}
+use Rattle.std.specs.Prelude.{ℕ, Option, None, Some}
 use Rattle.rt_ids.specs.declared.order.SendError.TheVariants as refused
 use Rattle.rt_jobs.specs.Scripts.{Script}
 use Rattle.rt_world.specs.declared.event.Event.{Event}
@@ -7,7 +7,7 @@ use Rattle.rt_world.specs.declared.event.Event.TheVariants as event
 use Rattle.rt_world.specs.declared.event.Reply.{Reply}
 use Rattle.rt_world.specs.declared.event.Reply.TheVariants as reply
 use Rattle.rt_script.specs.declared.event.ScriptEvent.{ScriptEvent}
-use Rattle.rt_script.specs.declared.event.ScriptEvent.TheVariants.{Send, Deliver, Turn}
+use Rattle.rt_script.specs.declared.event.ScriptEvent.TheVariants.{Send, Deliver, Turn, Shut}
 use Rattle.rt_text.specs.declared.reply.Ends.{Ends}
 use Rattle.rt_text.specs.declared.reply.Quiet.{Quiet}
 use Rattle.rt_text.specs.declared.reply.Quiet.TheVariants as quiet
@@ -17,12 +17,18 @@ abbrev pub event_of : ScriptEvent → Event Script
 event_of (Send sender core order) = event.Send sender core order
 event_of (Deliver core sender) = event.Deliver core sender
 event_of (Turn core) = event.Turn core 0
+event_of (Shut core sender) = event.Shut core sender
+
+-- the ends of an event that names no submission
+abbrev pub ends : ℕ → ℕ → Ends
+ends actor other = record { actor = actor; other = other; number = 0 }
 
 -- who makes the step of an event, and who is at the other end of its link; a turn has nobody there
 abbrev pub ends_of : ScriptEvent → Ends
-ends_of (Send sender core order) = record { actor = sender; other = core }
-ends_of (Deliver core sender) = record { actor = core; other = sender }
-ends_of (Turn core) = record { actor = core; other = 0 }
+ends_of (Send sender core order) = ends sender core
+ends_of (Deliver core sender) = ends core sender
+ends_of (Turn core) = ends core 0
+ends_of (Shut core sender) = ends core sender
 
 -- what is printed of a reply, if it comes with no note
 abbrev pub quiet_of : Reply Script → Option Quiet
@@ -33,6 +39,8 @@ quiet_of (reply.NotSent (refused.Full back)) = Some quiet.Full
 quiet_of (reply.NotSent (refused.Closed back count)) = Some (quiet.Closed count)
 quiet_of (reply.NotSent (refused.Spent back)) = Some quiet.NoNumberLeft
 quiet_of (reply.NotSent (refused.NoCore back)) = None
+quiet_of reply.NotClosed = Some quiet.NotClosed
+quiet_of reply.AlreadyShut = Some quiet.AlreadyShut
 quiet_of (reply.Sent name) = None
 quiet_of reply.Noted = None
 quiet_of (reply.NoActor back) = None

@@ -17,6 +17,7 @@ pub fn event_of(event: ScriptEvent) -> Event<ScriptJob>
         ScriptEvent::Send(from, to, order) => Event::Send(from, to, order),
         ScriptEvent::Deliver(core, from) => Event::Deliver(core, from),
         ScriptEvent::Turn(core) => Event::Turn(core, 0),
+        ScriptEvent::Shut(core, from) => Event::Shut(core, from),
     }
 }
 
@@ -25,18 +26,21 @@ pub fn ends_of(event: &ScriptEvent) -> Ends
     ensures { result ≡ spec.ends_of event.now }
 {
     match event {
-        ScriptEvent::Send(from, to, _) => Ends {
-            actor: *from,
-            other: to.0,
-        },
-        ScriptEvent::Deliver(core, from) => Ends {
-            actor: ActorNo(core.0),
-            other: from.0,
-        },
-        ScriptEvent::Turn(core) => Ends {
-            actor: ActorNo(core.0),
-            other: 0,
-        },
+        ScriptEvent::Send(from, to, _) => ends(from.0, to.0),
+        ScriptEvent::Deliver(core, from) => ends(core.0, from.0),
+        ScriptEvent::Turn(core) => ends(core.0, 0),
+        ScriptEvent::Shut(core, from) => ends(core.0, from.0),
+    }
+}
+
+/// The ends of an event that names no submission.
+fn ends(actor: u8, other: u8) -> Ends
+    ensures { result ≡ spec.ends actor other }
+{
+    Ends {
+        actor: ActorNo(actor),
+        other,
+        number: 0,
     }
 }
 
@@ -52,6 +56,8 @@ pub fn quiet_of(reply: &Reply<ScriptJob>) -> Option<Quiet>
         Reply::NotSent(SendError::Closed(_, count)) => Some(Quiet::Closed(*count)),
         Reply::NotSent(SendError::Spent(_)) => Some(Quiet::NoNumberLeft),
         Reply::NotSent(SendError::NoCore(_)) => None,
+        Reply::NotClosed => Some(Quiet::NotClosed),
+        Reply::AlreadyShut => Some(Quiet::AlreadyShut),
         Reply::Sent(_) => None,
         Reply::Noted => None,
         Reply::NoActor(_) => None,

@@ -1,9 +1,8 @@
 -- The polls of a script job that are written one after another.
-use Rattle.std.proofs.Common.{◌≡◌, ℕ, List, [], ◌∷◌, ◌++◌, refl, ap}
+use Rattle.std.proofs.Common.{◌≡◌, ℕ, List, [], ◌∷◌, ◌++◌, refl, ap, None}
 use Rattle.rt_jobs.specs.declared.poll.Poll.{Poll}
 use Rattle.rt_jobs.specs.declared.poll.Poll.TheVariants as poll
 use Rattle.rt_jobs.specs.declared.poll.Yielding.{Yielding}
-use Rattle.rt_jobs.specs.declared.poll.Yielding.TheVariants as kept
 use Rattle.rt_jobs.specs.Scripts.{script_polls, yielding_poll}
 use Rattle.rt_jobs.specs.Filling.{with_poll, with_yield, with_last}
 
@@ -15,8 +14,8 @@ with_poll-kept (first ∷ []) more told value = refl
 with_poll-kept (first ∷ next ∷ rest) more told value = ap (λ polls. yielding_poll first ∷ polls) (with_poll-kept (next ∷ rest) more told value)
 
 pub with_yield-kept : (yields : List Yielding) (time told value : ℕ) →
-    with_yield time (script_polls yields told value) ≡ script_polls (yields ++ kept.Alone time ∷ []) told value
-with_yield-kept yields time = with_poll-kept yields (kept.Alone time)
+    with_yield time (script_polls yields told value) ≡ script_polls (yields ++ record { told = time; to = None } ∷ []) told value
+with_yield-kept yields time = with_poll-kept yields (record { told = time; to = None })
 
 -- the last poll is kept by itself
 pub with_last-kept : (yields : List Yielding) (time answer told value : ℕ) →

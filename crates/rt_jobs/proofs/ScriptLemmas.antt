@@ -1,25 +1,32 @@
 -- The polls of a script job, by what the job keeps of them.
 use Rattle.std.proofs.Common.{◌≡◌, ℕ, zero, suc, ◌+◌, ◌<◌, ◌≤◌, List, [], ◌∷◌, ◌++◌, length, map, get_or, refl, arith, sym, ap, ◌∙◌, false, eq-eqb}
-use Rattle.std.specs.Prelude.{Some, slice_get, ◌==◌}
+use Rattle.std.specs.Prelude.{Option, None, Some, slice_get, ◌==◌}
 use Rattle.std.proofs.lemmas.Bool.{true≢false}
 use Rattle.rt_jobs.specs.declared.poll.Poll.{Poll}
 use Rattle.rt_jobs.specs.declared.poll.Poll.TheVariants as poll
 use Rattle.rt_ids.specs.Journal.{Journal}
 use Rattle.rt_jobs.specs.declared.poll.Yielding.{Yielding}
-use Rattle.rt_jobs.specs.declared.poll.Yielding.TheVariants as kept
 use Rattle.rt_jobs.specs.declared.job.Step.TheVariants as steps
-use Rattle.rt_jobs.specs.Scripts.{script_polls, yielding_poll, kept_time, time_of, EndsDone, IsScript, Does, PostsAs, IsAnswer, time_told}
+use Rattle.rt_jobs.specs.Scripts.{written, script_polls, yielding_poll, time_of, EndsDone, IsScript, Does, PostsTo, PostsAs, IsAnswer, time_told}
 
 -- one poll more than those that yield
 pub length-script_polls : (yields : List Yielding) (told value : ℕ) → length (script_polls yields told value) ≡ length yields + 1
 length-script_polls [] told value = refl
 length-script_polls (first ∷ rest) told value = omega (arith, length-script_polls rest told value)
 
+-- a poll that yields is none that is done, and has no answer
+EndsDone-written : (time : ℕ) (to : Option (ℕ × ℕ)) (rest : List Poll) → EndsDone rest → EndsDone (written time to ∷ rest)
+EndsDone-written time None rest ends = ends
+EndsDone-written time (Some (core, queue)) rest ends = ends
+
+IsAnswer-written : (time : ℕ) (to : Option (ℕ × ℕ)) (rest : List Poll) (out : ℕ) → IsAnswer rest out → IsAnswer (written time to ∷ rest) out
+IsAnswer-written time None rest out answer = answer
+IsAnswer-written time (Some (core, queue)) rest out answer = answer
+
 -- the last one is done, and no other
 pub EndsDone-script_polls : (yields : List Yielding) (told value : ℕ) → EndsDone (script_polls yields told value)
 EndsDone-script_polls [] told value = refl
-EndsDone-script_polls (kept.Alone time ∷ rest) told value = EndsDone-script_polls rest told value
-EndsDone-script_polls (kept.Submits time core queue ∷ rest) told value = EndsDone-script_polls rest told value
+EndsDone-script_polls (first ∷ rest) told value = EndsDone-written first.told first.to (script_polls rest told value) (EndsDone-script_polls rest told value)
 
 -- what a job keeps are polls that a script job may have
 pub IsScript-script_polls : (yields : List Yielding) (told value : ℕ) → length yields ≤ 63 → IsScript (script_polls yields told value)
@@ -29,15 +36,19 @@ IsScript-script_polls yields told value few =
 -- the answer is that of the last poll
 pub IsAnswer-script_polls : (yields : List Yielding) (told value : ℕ) → IsAnswer (script_polls yields told value) value
 IsAnswer-script_polls [] told value = refl
-IsAnswer-script_polls (kept.Alone time ∷ rest) told value = IsAnswer-script_polls rest told value
-IsAnswer-script_polls (kept.Submits time core queue ∷ rest) told value = IsAnswer-script_polls rest told value
+IsAnswer-script_polls (first ∷ rest) told value = IsAnswer-written first.told first.to (script_polls rest told value) value (IsAnswer-script_polls rest told value)
+
+-- a poll that yields posts as it says, and tells its time
+Does-written : (time : ℕ) (to : Option (ℕ × ℕ)) (before after : Journal ℕ) → PostsTo to before after →
+    Does (Some (written time to)) before after steps.Yield (Some (time_of (written time to)))
+Does-written time None before after posts = (posts, refl, refl)
+Does-written time (Some (core, queue)) before after posts = (posts, refl, refl)
 
 -- a poll that isn't the last yields, and posts as it says
 pub Does-early : (yields : List Yielding) (told value place : ℕ) (blank : Yielding) (before after : Journal ℕ) → place < length yields → PostsAs (get_or yields place blank) before after →
     Does (slice_get (script_polls yields told value) place) before after steps.Yield (time_told (script_polls yields told value) (suc place))
 Does-early [] told value place blank before after inside posts = absurd (omega arith)
-Does-early (kept.Alone time ∷ rest) told value zero blank before after inside posts = (posts, refl, refl)
-Does-early (kept.Submits time core queue ∷ rest) told value zero blank before after inside posts = (posts, refl, refl)
+Does-early (first ∷ rest) told value zero blank before after inside posts = Does-written first.told first.to before after posts
 Does-early (first ∷ rest) told value (suc place) blank before after inside posts = Does-early rest told value place blank before after (omega arith) posts
 
 -- the last poll is done, and posts nothing
@@ -57,15 +68,15 @@ last_is_next yields told value polled undone within past =
     omega arith
 
 -- the time of a poll that is kept
-time_of-kept : (yielding : Yielding) → kept_time yielding ≡ time_of (yielding_poll yielding)
-time_of-kept (kept.Alone time) = refl
-time_of-kept (kept.Submits time core queue) = refl
+time_of-written : (time : ℕ) (to : Option (ℕ × ℕ)) → time ≡ time_of (written time to)
+time_of-written time None = refl
+time_of-written time (Some (core, queue)) = refl
 
 -- what a poll that yields tells
 pub time_told-yield : (yields : List Yielding) (told value polled place : ℕ) (blank : Yielding) → polled ≡ suc place → place < length yields →
-    Some (kept_time (get_or yields place blank)) ≡ time_told (script_polls yields told value) polled
+    Some (get_or yields place blank).told ≡ time_told (script_polls yields told value) polled
 time_told-yield [] told value polled place blank after inside = absurd (omega arith)
-time_told-yield (first ∷ rest) told value polled zero blank after inside = rw after (ap Some (time_of-kept first))
+time_told-yield (first ∷ rest) told value polled zero blank after inside = rw after (ap Some (time_of-written first.told first.to))
 time_told-yield (first ∷ rest) told value polled (suc place) blank after inside =
     rw after (time_told-yield rest told value (suc place) place blank refl (omega arith))
 

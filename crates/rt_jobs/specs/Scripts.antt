@@ -8,7 +8,6 @@ use Rattle.rt_ids.specs.Journal.{Journal}
 use Rattle.rt_jobs.specs.declared.poll.Poll.{Poll}
 use Rattle.rt_jobs.specs.declared.poll.Poll.TheVariants as poll
 use Rattle.rt_jobs.specs.declared.poll.Yielding.{Yielding}
-use Rattle.rt_jobs.specs.declared.poll.Yielding.TheVariants as kept
 use Rattle.rt_jobs.specs.declared.job.Step.{Step}
 use Rattle.rt_jobs.specs.declared.job.Step.TheVariants as steps
 
@@ -17,15 +16,14 @@ pub record Script : Type 0 where
   pub polls : List Poll
   pub polled : ℕ
 
+-- the poll that yields, tells this time, and submits a job to this queue of this core, if there is one
+abbrev pub written : ℕ → Option (ℕ × ℕ) → Poll
+written told None = poll.Yield told
+written told (Some (core, queue)) = poll.Submit told core queue
+
 -- the poll that is kept so
 abbrev pub yielding_poll : Yielding → Poll
-yielding_poll (kept.Alone told) = poll.Yield told
-yielding_poll (kept.Submits told core queue) = poll.Submit told core queue
-
--- the time that it tells
-abbrev pub kept_time : Yielding → ℕ
-kept_time (kept.Alone told) = told
-kept_time (kept.Submits told core queue) = told
+yielding_poll kept = written kept.told kept.to
 
 -- the polls of a job that keeps these: those that yield, then the last one
 abbrev pub script_polls : List Yielding → ℕ → ℕ → List Poll
@@ -48,9 +46,12 @@ abbrev pub SubmitsDetached : {T : Type 0} → ℕ → ℕ → Journal T → Jour
 SubmitsDetached core queue before after = ((name : JobId) × (name.to ≡ core) × (after ≡ Detached name ∷ Sent name (Job queue tt) ∷ before)) ⊎ (after ≡ before)
 
 -- what a poll that yields does at its post
+abbrev pub PostsTo : Option (ℕ × ℕ) → Journal ℕ → Journal ℕ → Type 0
+PostsTo None before after = after ≡ before
+PostsTo (Some (core, queue)) before after = SubmitsDetached core queue before after
+
 abbrev pub PostsAs : Yielding → Journal ℕ → Journal ℕ → Type 0
-PostsAs (kept.Alone told) before after = after ≡ before
-PostsAs (kept.Submits told core queue) before after = SubmitsDetached core queue before after
+PostsAs kept before after = PostsTo kept.to before after
 
 -- what a poll does that is written so: it posts, steps and tells its time as its word says; where no word is left there is no poll
 abbrev pub Does : Option Poll → Journal ℕ → Journal ℕ → Step ℕ → Option ℕ → Type 0

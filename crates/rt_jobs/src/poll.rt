@@ -1,8 +1,5 @@
 //! The polls of a script job.
 
-ghost use Rattle.std.specs.Prelude.{◌≡◌};
-ghost use Rattle.rt_jobs.specs.Scripts.{kept_time};
-
 use rt_ids::{CoreNo, QueueNo};
 
 /// One poll of a script job, as its script spells it. Times are nanoseconds.
@@ -24,27 +21,18 @@ impl Default for Poll {
 }
 
 /// A poll that yields, as a script job keeps it. Its 16 bytes decide the size of a script job, which has room for 63 of them.
+/// An enum of the two kinds of poll would take 24.
 #[derive(Clone, Copy, PartialEq, Eq, Debug)]
-pub(crate) enum Yielding {
-    Alone(u64),
-    Submits(u64, CoreNo, QueueNo),
-}
-
-impl Yielding {
+pub(crate) struct Yielding {
     /// The nanoseconds that it tells.
-    pub(crate) fn told(self) -> u64
-        ensures { result ≡ kept_time self }
-    {
-        match self {
-            Yielding::Alone(told) => told,
-            Yielding::Submits(told, _, _) => told,
-        }
-    }
+    pub(crate) told: u64,
+    /// The core and the queue to which it submits a job, or None where it submits nothing.
+    pub(crate) to: Option<(CoreNo, QueueNo)>,
 }
 
 /// Fills the unused places of a job's list.
 impl Default for Yielding {
     fn default() -> Self {
-        Yielding::Alone(0)
+        Yielding { told: 0, to: None }
     }
 }

@@ -87,8 +87,11 @@ impl ScriptJob {
         let mut yields = ArrayVec::new();
         for poll in early {
             let kept = match *poll {
-                Poll::Yield(told) => Yielding::Alone(told),
-                Poll::Submit(told, core, queue) => Yielding::Submits(told, core, queue),
+                Poll::Yield(told) => Yielding { told, to: None },
+                Poll::Submit(told, core, queue) => Yielding {
+                    told,
+                    to: Some((core, queue)),
+                },
                 Poll::Done(_, _) => return None,
             };
             yields.push(kept);
@@ -147,8 +150,7 @@ impl Task for ScriptJob {
             None
         } else if self.polled <= self.yields.len() {
             let place = self.polled - 1;
-            let yielding = self.yields[place];
-            Some(yielding.told())
+            Some(self.yields[place].told)
         } else {
             Some(self.last_told)
         }
@@ -173,9 +175,10 @@ impl Job for ScriptJob {
 fn post_as<P: Post<ScriptJob, u64>>(yielding: Yielding, post: &mut P)
     ensures { PostsAs yielding (P.notes post.old) (P.notes post.new) }
 {
-    let Yielding::Submits(_, core, queue) = yielding else {
+    let Some(place) = yielding.to else {
         return;
     };
+    let (core, queue) = place;
     let order = Order::Job(queue, ScriptJob::done(1, 0));
     if let Ok(ticket) = post.submit(core, order) {
         let _detached = post.detach(ticket);

@@ -1,7 +1,7 @@
 -- What a core does with an order that is delivered to it, case by case, told in one form.
-use Rattle.std.proofs.Common.{◌≡◌, inl, ℕ, ◌+◌, ◌<◌, ◌≤◌, Bool, true, false, List, [], ◌∷◌, ◌++◌, length, refl, sym, ◌∙◌, ap, subst, arith, add-zero, cond}
-use Rattle.std.specs.Prelude.{◌==◌, ◌≢◌, Option, Some, None, is_some, All, reverse, nat_le}
-use Rattle.std.proofs.lemmas.Bool.{eqb-true, eqb-false, le-leb, lt-leb}
+use Rattle.std.proofs.Common.{◌≡◌, ℕ, ◌+◌, ◌≤◌, Bool, true, false, List, [], ◌∷◌, ◌++◌, length, refl, sym, ◌∙◌, ap, subst, arith, add-zero, cond}
+use Rattle.std.specs.Prelude.{◌==◌, Option, Some, None, is_some, All}
+use Rattle.std.proofs.lemmas.Bool.{eqb-true, eqb-false}
 use Rattle.std.proofs.lemmas.List.{append-nil, length-append}
 use Rattle.std.proofs.lemmas.List.Elements.{All-cons, All-nil}
 use Rattle.rt_shares.specs.Charge.{InRange}
@@ -10,7 +10,6 @@ use Rattle.rt_ids.specs.declared.note.Note.{Note}
 use Rattle.rt_ids.specs.declared.note.Note.TheVariants as writes
 use Rattle.rt_ids.specs.declared.order.Order.{Order}
 use Rattle.rt_ids.specs.declared.order.Order.TheVariants.{Job, Create, SetShares}
-use Rattle.rt_ids.specs.declared.order.Mode.{Mode}
 use Rattle.rt_ids.specs.declared.order.Reason.{Reason}
 use Rattle.rt_ids.specs.declared.order.Answer.{Answer}
 use Rattle.rt_ids.specs.declared.order.Answer.TheVariants as answers
@@ -18,24 +17,19 @@ use Rattle.rt_ids.specs.Journal.{Journal, EachNote, with_last}
 use Rattle.rt_ids.specs.Assembly.{IsPrefix}
 use Rattle.rt_ids.specs.Filters.{delivered_names, given_outcomes}
 use Rattle.rt_ids.specs.Work.{number_if}
-use Rattle.rt_ids.specs.Commands.{created_count, refusal, IsAnswer, IsCreationAnswer, has_effect}
-use Rattle.rt_ids.specs.Closing.{core_mode}
+use Rattle.rt_ids.specs.Commands.{refusal, IsAnswer, has_effect}
 use Rattle.rt_ids.specs.Lawful.{IsNextDelivered}
 use Rattle.rt_ids.proofs.Told.{length-with_last_if}
 use Rattle.rt_taskqueue.specs.Queues.{queue_count, waiting_of, held_count}
 use Rattle.rt_core.specs.State.{CoreView, inside_count}
 use Rattle.rt_core.specs.Deliveries.{Enters, Creates, Weighs, CountsAlone, counted}
-use Rattle.rt_core.specs.Deliveries.{Delivers as CarriesOut}
-use Rattle.rt_core.specs.declared.delivery.Delivered.{Delivered}
-use Rattle.rt_core.specs.declared.delivery.Delivered.TheVariants.{Took, Back, Answered}
-use Rattle.rt_ids.specs.Orders.{IsSpelledOrder, without_job}
+use Rattle.rt_ids.specs.Orders.{without_job}
 use Rattle.rt_journal.specs.Polls.{polls_made}
 use Rattle.rt_journal.specs.Deliveries.{IsDelivery, entry_note}
 use Rattle.rt_journal.specs.Agreement.{IsKept}
 use Rattle.rt_ids.specs.Joining.{DeliversAs}
 pub use Rattle.rt_journal.specs.Ends.{KeepsLists}
 use Rattle.rt_journal.specs.Recorded.{RecordedView, terms_at, sum_upto, delivered_count, given_count}
-use Rattle.rt_journal.proofs.KeptModes.{refusal-agrees}
 use Rattle.rt_journal.proofs.KeptDeliveries.{kept-took}
 use Rattle.rt_journal.proofs.KeptAnswers.{kept-back, kept-answered}
 use Rattle.rt_journal.proofs.KeptCommands.{kept-created, kept-weighed}
@@ -81,14 +75,12 @@ module _ {J T : Type 0} (old : RecordedView J T) (name : JobId)
   abbrev journal : Journal T
   journal = old.journal.notes
 
-  counted_one : (from : ℕ) → length (with_last (delivered_names from journal) (cond (name.from == from) (Some name) None)) ≡ delivered_count journal from + number_if (name.from == from)
+  pub counted_one : (from : ℕ) → length (with_last (delivered_names from journal) (cond (name.from == from) (Some name) None)) ≡ delivered_count journal from + number_if (name.from == from)
   counted_one from = length-with_last_if (delivered_names from journal) name (name.from == from)
 
   took_lists : (queue : ℕ) → KeepsLists journal (writes.Took name queue ∷ journal)
   took_lists queue = record {
-    accepted = λ core. refl;
-    outstanding = λ core. refl;
-    collected = λ core. refl;
+    sent = record { accepted = λ core. refl; outstanding = λ core. refl; collected = λ core. refl };
     given = λ sender. ([], append-nil (given_outcomes sender journal));
     gates = λ sender. refl;
   }
@@ -129,7 +121,7 @@ module _ {J T : Type 0} (old : RecordedView J T) (name : JobId)
           (refl, ap (λ at. Job at job) (sym (eqb-true other queue one))) (All-nil (IsOf name (Job queue job) other))
       came_now other false apart = All-nil (IsOf name (Job queue job) other)
 
-  answered_more : (answer : Answer) → sum_upto (given_count (writes.Answered name answer ∷ journal)) old.core.cores ≤ sum_upto (given_count journal) old.core.cores + 1
+  pub answered_more : (answer : Answer) → sum_upto (given_count (writes.Answered name answer ∷ journal)) old.core.cores ≤ sum_upto (given_count journal) old.core.cores + 1
   answered_more answer = sum_upto-at_most_one (given_count journal) (given_count (writes.Answered name answer ∷ journal)) name.from
       (λ from. length-with_last_if (given_outcomes from journal) _ (name.from == from)) old.core.cores
 
@@ -146,7 +138,7 @@ module _ {J T : Type 0} (old : RecordedView J T) (name : JobId)
       cores = ap (λ core. core.cores) counts;
       room = ap (λ core. core.queues.room) counts;
       out = ap (λ core. core.out) counts;
-      lists = record { accepted = λ core. refl; outstanding = λ core. refl; collected = λ core. refl; given = λ from. prefix-with_last (given_outcomes from journal) _; gates = λ from. refl };
+      lists = record { sent = record { accepted = λ core. refl; outstanding = λ core. refl; collected = λ core. refl }; given = λ from. prefix-with_last (given_outcomes from journal) _; gates = λ from. refl };
       delivered = counted_one;
       held = omega (arith, ap inside_count counts, given_more);
       polls = λ which. no_polls which journal;
@@ -171,7 +163,7 @@ module _ {J T : Type 0} (old : RecordedView J T) (name : JobId)
       cores = ap (λ core. core.cores) counts;
       room = ap (λ core. core.queues.room) counts;
       out = ap (λ core. core.out) counts;
-      lists = record { accepted = λ core. refl; outstanding = λ core. refl; collected = λ core. refl; given = λ from. prefix-with_last (given_outcomes from journal) _; gates = λ from. refl };
+      lists = record { sent = record { accepted = λ core. refl; outstanding = λ core. refl; collected = λ core. refl }; given = λ from. prefix-with_last (given_outcomes from journal) _; gates = λ from. refl };
       delivered = counted_one;
       held = omega (arith, ap inside_count counts, answered_more answer);
       polls = λ which. no_polls which journal;
@@ -192,7 +184,7 @@ module _ {J T : Type 0} (old : RecordedView J T) (name : JobId)
     cores = ap (λ core. core.cores) creates.rest;
     room = creates.added.same_room;
     out = ap (λ core. core.out) creates.rest;
-    lists = record { accepted = λ core. refl; outstanding = λ core. refl; collected = λ core. refl; given = λ from. prefix-with_last (given_outcomes from journal) _; gates = λ from. refl };
+    lists = record { sent = record { accepted = λ core. refl; outstanding = λ core. refl; collected = λ core. refl }; given = λ from. prefix-with_last (given_outcomes from journal) _; gates = λ from. refl };
     delivered = counted_one;
     held = omega (arith, inside, answered_more (answers.Created queue));
     polls = λ which. no_polls_twice which journal;
@@ -221,7 +213,7 @@ module _ {J T : Type 0} (old : RecordedView J T) (name : JobId)
     cores = ap (λ core. core.cores) weighs.rest;
     room = weighs.shares.same_room;
     out = ap (λ core. core.out) weighs.rest;
-    lists = record { accepted = λ core. refl; outstanding = λ core. refl; collected = λ core. refl; given = λ from. prefix-with_last (given_outcomes from journal) _; gates = λ from. refl };
+    lists = record { sent = record { accepted = λ core. refl; outstanding = λ core. refl; collected = λ core. refl }; given = λ from. prefix-with_last (given_outcomes from journal) _; gates = λ from. refl };
     delivered = counted_one;
     held = omega (arith, inside, answered_more answers.SharesSet);
     polls = λ which. no_polls_twice which journal;
@@ -240,53 +232,3 @@ module _ {J T : Type 0} (old : RecordedView J T) (name : JobId)
       inside =
           ap (λ out. held_count core.queues + number_if (is_some out)) (ap (λ core. core.out) weighs.rest)
           ∙ ap (λ held. held + number_if (is_some old.core.out)) weighs.shares.same_held
-
-  -- a creation that is refused, by why
-  closed_answer : old.core.mode ≢ None → (weight : ℕ) → IsAnswer (Create weight) answers.CoreClosing journal
-  closed_answer closed weight = by_mode (core_mode journal) (λ none. closed (kept.agrees.closing.mode ∙ none))
-    where
-      by_mode : (mode : Option Mode) → mode ≢ None → IsCreationAnswer mode (nat_le 255 (created_count journal)) (created_count journal + 1) answers.CoreClosing
-      by_mode None some = absurd (some refl)
-      by_mode (Some mode) some = refl
-
-  full_answer : old.core.mode ≡ None → queue_count old.core.queues ≡ 256 → (weight : ℕ) → IsAnswer (Create weight) answers.TooMany journal
-  full_answer never count weight = rw (sym kept.agrees.closing.mode ∙ never, le-leb 255 (created_count journal) (omega (arith, count, kept.agrees.last))) refl
-
-  memory_answer : old.core.mode ≡ None → queue_count old.core.queues < 256 → (weight : ℕ) → IsAnswer (Create weight) answers.NoMemory journal
-  memory_answer never count weight = rw (sym kept.agrees.closing.mode ∙ never, lt-leb 255 (created_count journal) (omega (arith, count, kept.agrees.last))) (inl refl)
-
-  missing_answer : (queue weight : ℕ) → queue_count old.core.queues ≤ queue → IsAnswer (SetShares queue weight) answers.NoQueue journal
-  missing_answer queue weight missing = rw (lt-leb queue (created_count journal) (omega (arith, missing, kept.agrees.last))) refl
-
-  abbrev Done : Order J → List (Note T) → Type 0
-  Done order written = IsCarriedOut old name order core (reverse written)
-
-  -- whatever the core does with the order
-  pub carries_out : (order : Order J) → IsSpelledOrder (without_job order) → (delivered : Delivered J) (written : List (Note T)) →
-      CarriesOut old.core name order delivered core written → IsCarriedOut old name order core (reverse written)
-  carries_out (Job queue job) spelled Took written does = subst (Done (Job queue job)) (sym does.2) (enters_queue queue job (sym (refusal-agrees old.core journal kept.agrees.closing kept.agrees.last queue) ∙ does.0) does.1)
-  carries_out (Job queue job) spelled (Back reason back) written does =
-      subst (Done (Job queue job)) (sym does.3) (goes_back does.2 queue job reason (sym (refusal-agrees old.core journal kept.agrees.closing kept.agrees.last queue) ∙ does.0))
-  carries_out (Job queue job) spelled (Answered answer) written does = absurd does
-  carries_out (Create weight) spelled Took written does = absurd does
-  carries_out (Create weight) spelled (Back reason back) written does = absurd does
-  carries_out (Create weight) spelled (Answered (answers.Created queue)) written does =
-      subst (Done (Create weight)) (sym does.3) (creates_queue queue weight spelled does.0 does.1 does.2)
-  carries_out (Create weight) spelled (Answered answers.CoreClosing) written does =
-      let right = closed_answer does.0 weight in
-      subst (Done (Create weight)) (sym does.2) (answers_alone does.1 (Create weight) answers.CoreClosing right refl (answers.CoreClosing, right, refl))
-  carries_out (Create weight) spelled (Answered answers.TooMany) written does =
-      let right = full_answer does.0 does.1 weight in
-      subst (Done (Create weight)) (sym does.3) (answers_alone does.2 (Create weight) answers.TooMany right refl (answers.TooMany, right, refl))
-  carries_out (Create weight) spelled (Answered answers.NoMemory) written does =
-      let right = memory_answer does.0 does.1 weight in
-      subst (Done (Create weight)) (sym does.3) (answers_alone does.2 (Create weight) answers.NoMemory right refl (answers.NoMemory, right, refl))
-  carries_out (Create weight) spelled (Answered _) written does = absurd does
-  carries_out (SetShares queue weight) spelled Took written does = absurd does
-  carries_out (SetShares queue weight) spelled (Back reason back) written does = absurd does
-  carries_out (SetShares queue weight) spelled (Answered answers.SharesSet) written does =
-      subst (Done (SetShares queue weight)) (sym does.2) (sets_shares queue weight spelled.1 does.0 does.1)
-  carries_out (SetShares queue weight) spelled (Answered answers.NoQueue) written does =
-      let right = missing_answer queue weight does.0 in
-      subst (Done (SetShares queue weight)) (sym does.2) (answers_alone does.1 (SetShares queue weight) answers.NoQueue right refl (answers.NoQueue, right, refl))
-  carries_out (SetShares queue weight) spelled (Answered _) written does = absurd does

@@ -1,5 +1,5 @@
 -- The ends of links stay beside a core and its journal as an order is delivered.
-use Rattle.std.proofs.Common.{◌≡◌, ℕ, suc, ◌+◌, ◌<◌, ◌≤◌, List, [], ◌∷◌, length, refl, sym, ◌∙◌, ap, subst, ◌⊎◌, ⊎_elim, arith}
+use Rattle.std.proofs.Common.{◌≡◌, ℕ, suc, ◌+◌, ◌<◌, ◌≤◌, Bool, true, false, List, [], ◌∷◌, length, refl, sym, ◌∙◌, ap, subst, ◌⊎◌, ⊎_elim, arith}
 use Rattle.std.specs.Prelude.{◌==◌, Some, None, slice_get}
 use Rattle.std.proofs.lemmas.Bool.{eq-eqb, ne_eqb}
 use Rattle.std.proofs.lemmas.List.{length-append}
@@ -8,11 +8,12 @@ use Rattle.rt_ids.specs.declared.order.Envelope.{Envelope}
 use Rattle.rt_ids.specs.declared.order.Order.{Order}
 use Rattle.rt_ids.specs.declared.order.Outcome.{Outcome}
 use Rattle.rt_ids.specs.Assembly.{IsPrefix}
+use Rattle.rt_ids.specs.Closing.{IsCounted, final_count}
 use Rattle.rt_ids.specs.Filters.{given_outcomes}
 use Rattle.rt_ids.specs.Work.{number_if}
 use Rattle.rt_link.specs.declared.ends.Inward.{Inward}
 use Rattle.rt_link.specs.Ends.{SoundIn}
-use Rattle.rt_link.specs.Calls.{Takes}
+use Rattle.rt_link.specs.Calls.{Takes, final_of}
 use Rattle.rt_journal.specs.Recorded.{RecordedView, desk_of, order_taken, delivered_count, given_count}
 use Rattle.rt_journal.specs.Ends.{IsInOf, KeepsIn, IsSameSeat, named_outcomes}
 use Rattle.rt_journal.specs.Steps.{IsNextIn, Receives}
@@ -33,11 +34,19 @@ next_in view before after envelope is takes sound = record {
   receiver = ap (λ name. name.to) takes.2 ∙ is.to;
   next = ap (λ name. name.number) takes.2 ∙ number;
   in_range = let one_more : after.taken ≡ before.taken + 1 = ap (λ end. end.taken) takes.0 in let same_base : after.base ≡ before.base = ap (λ end. end.base) takes.0 in omega (arith, ap (λ name. name.number) takes.2, sound.numbered, sound.behind, one_more, same_base);
+  gate = subst (λ count. IsCounted count envelope.name.number) (sym (ap (λ name. final_count name.from view.journal.notes) takes.2 ∙ is.gate)) (within before.shut refl);
   place = subst (λ from. delivered_count view.journal.notes from < given_count view.journal.notes from + view.cap) (sym (ap (λ name. name.from) takes.2)) left;
 }
   where
     number : before.base + before.taken + 1 ≡ delivered_count view.journal.notes envelope.name.from + 1
     number = subst (λ from. before.base + before.taken + 1 ≡ delivered_count view.journal.notes from + 1) (sym (ap (λ name. name.from) takes.2)) (omega (arith, is.base, is.taken))
+
+    within : (shut : Bool) → before.shut ≡ shut → IsCounted (final_of before shut) envelope.name.number
+    within true closed =
+        let no_more : length after.seen ≡ length before.seen = ap length (takes.1.1 closed) in
+        let one_more : after.taken ≡ before.taken + 1 = ap (λ end. end.taken) takes.0 in
+        omega (arith, ap (λ name. name.number) takes.2, sound.behind, one_more, no_more)
+    within false still = tt
 
     left : delivered_count view.journal.notes before.from < given_count view.journal.notes before.from + view.cap
     left =
@@ -67,7 +76,7 @@ module _ {J T : Type 0} (old new : RecordedView J T) (envelope : Envelope J) (ne
 
   -- the sender's ends stay
   pub outs_keep : KeepsOuts (desk_of old) (desk_of new)
-  outs_keep = keeps_outs (desk_of old) (desk_of new) (λ i. record { actor = seat.number i; cores = seat.cores i; cap = seat.cap i; journal = new.journal }) did.lists
+  outs_keep = keeps_outs (desk_of old) (desk_of new) (λ i. record { actor = seat.number i; cores = seat.cores i; cap = seat.cap i; journal = new.journal }) did.lists.sent
 
   counted_here : delivered_count new.journal.notes name.from ≡ delivered_count old.journal.notes name.from + 1
   counted_here = did.delivered name.from ∙ ap (λ test. delivered_count old.journal.notes name.from + number_if test) (eq-eqb name.from name.from refl)

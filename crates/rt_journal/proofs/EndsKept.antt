@@ -14,7 +14,7 @@ use Rattle.rt_link.specs.Calls.{SeesMore, final_of}
 use Rattle.rt_journal.specs.Orders.{numbered_orders}
 use Rattle.rt_journal.specs.Submissions.{DeskView}
 use Rattle.rt_journal.specs.Recorded.{RecordedView, order_taken, delivered_count}
-use Rattle.rt_journal.specs.Ends.{IsOutOf, IsInOf, KeepsLists, KeepsOuts, KeepsIn, ShowsMore, IsSameSeat, named_outcomes}
+use Rattle.rt_journal.specs.Ends.{IsOutOf, IsInOf, KeepsSent, KeepsOuts, KeepsIn, ShowsMore, IsSameSeat, named_outcomes}
 
 pub prefix-along : {A : Type 0} (a b c : List A) → IsPrefix a b → IsPrefix b c → IsPrefix a c
 prefix-along a b c one two = (one.0 ++ two.0, sym (append_assoc a one.0 two.0) ∙ (ap (λ front. front ++ two.0) one.1 ∙ two.1))
@@ -29,18 +29,18 @@ pub slice_get-seen : {A : Type 0} (whole front : List A) → StartsWith whole fr
 slice_get-seen whole front starts place item at = ap (λ list. slice_get list place) starts.1 ∙ slice_get-prefix front starts.0 place item at
 
 -- notes by which nothing is sent and nothing collected leave the sender's ends as they are
-pub keeps_outs : {J T : Type 0} (old new : DeskView J T) → new ≡ record old { journal = new.journal } → KeepsLists old.journal.notes new.journal.notes → KeepsOuts old new
-keeps_outs old new rest lists core = record {
+pub keeps_outs : {J T : Type 0} (old new : DeskView J T) → new ≡ record old { journal = new.journal } → KeepsSent old.journal.notes new.journal.notes → KeepsOuts old new
+keeps_outs old new rest sent core = record {
   each = λ out credited is. record {
     known = rw (ap (λ desk. desk.cores) rest) is.known;
     from = is.from ∙ sym (ap (λ desk. desk.actor) rest);
     to = is.to;
     base = is.base;
     capacity = is.capacity ∙ sym (ap (λ desk. desk.cap) rest);
-    accepted = lists.accepted core ∙ (is.accepted ∙ ap (λ actor. numbered_orders actor core 0 out.sent) (sym (ap (λ desk. desk.actor) rest)));
-    outstanding = ap (λ count. count + credited) (lists.outstanding core) ∙ is.outstanding;
+    accepted = sent.accepted core ∙ (is.accepted ∙ ap (λ actor. numbered_orders actor core 0 out.sent) (sym (ap (λ desk. desk.actor) rest)));
+    outstanding = ap (λ count. count + credited) (sent.outstanding core) ∙ is.outstanding;
     behind = is.behind;
-    collected = lists.collected core ∙ (is.collected ∙ ap (λ actor. named_outcomes actor core (take out.got out.seen)) (sym (ap (λ desk. desk.actor) rest)));
+    collected = sent.collected core ∙ (is.collected ∙ ap (λ actor. named_outcomes actor core (take out.got out.seen)) (sym (ap (λ desk. desk.actor) rest)));
   };
 }
 

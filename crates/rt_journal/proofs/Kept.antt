@@ -15,7 +15,6 @@ use Rattle.rt_ids.specs.Runtimes.{virtual_runtime, floor, charge_noted, runtime_
 use Rattle.rt_ids.specs.Names.{is_number}
 use Rattle.rt_ids.specs.Work.{has_work, number_if, queue_entered, queue_joined}
 use Rattle.rt_ids.specs.Lines.{line, queue_out, name_joining, name_leaving, name_polled, name_settled}
-use Rattle.rt_ids.specs.Closing.{queue_mode, core_mode, final_count}
 use Rattle.rt_ids.specs.Clauses.{queue_just_picked}
 use Rattle.rt_ids.specs.Commands.{effect_awaited}
 use Rattle.rt_ids.specs.Picks.{pick_count, turns}
@@ -29,7 +28,6 @@ use Rattle.rt_core.specs.State.{CoreView, JobOut, is_working, is_any, runtime_of
 use Rattle.rt_core.specs.State as state
 pub use Rattle.rt_journal.specs.Agreement.{IsKept}
 use Rattle.rt_journal.specs.Agreement.{Agrees, IsJobOut, AreMarked, names_of}
-use Rattle.rt_journal.specs.Yet.{ClosesNothing}
 
 -- a note that takes no turn and is no effect may stand where nothing is awaited
 pub plainly_stands : {T : Type 0} (terms : Terms) (note : Note T) (before : Journal T) → MayWrite terms note → MayFollow terms note before →
@@ -37,32 +35,6 @@ pub plainly_stands : {T : Type 0} (terms : Terms) (note : Note T) (before : Jour
     MayStand terms note before
 plainly_stands terms note before writer law no_pick no_answer plain free =
     record { may_follow = law; turn = rw (no_pick, plain); effect = rw no_answer free; writer = writer }
-
-module _ {T : Type 0} where
-  -- no queue and no core is closed where nothing was closed
-  pub open_queues : (queue : ℕ) (journal : Journal T) → EachNote ClosesNothing journal → queue_mode queue journal ≡ None
-  open_queues queue [] notes = refl
-  open_queues queue (note ∷ before) notes = by_note note notes.0 (open_queues queue before notes.1)
-    where
-      by_note : (note : Note T) → ClosesNothing note before → queue_mode queue before ≡ None → queue_mode queue (note ∷ before) ≡ None
-      by_note (writes.QueueClosed other mode) closes stays = absurd closes
-      by_note _ closes stays = stays
-
-  pub open_core : (journal : Journal T) → EachNote ClosesNothing journal → core_mode journal ≡ None
-  open_core [] notes = refl
-  open_core (note ∷ before) notes = by_note note notes.0 (open_core before notes.1)
-    where
-      by_note : (note : Note T) → ClosesNothing note before → core_mode before ≡ None → core_mode (note ∷ before) ≡ None
-      by_note (writes.CoreClosed mode) closes stays = absurd closes
-      by_note _ closes stays = stays
-
-  pub open_gates : (sender : ℕ) (journal : Journal T) → EachNote ClosesNothing journal → final_count sender journal ≡ None
-  open_gates sender [] notes = refl
-  open_gates sender (note ∷ before) notes = by_note note notes.0 (open_gates sender before notes.1)
-    where
-      by_note : (note : Note T) → ClosesNothing note before → final_count sender before ≡ None → final_count sender (note ∷ before) ≡ None
-      by_note (writes.Shut other count) closes stays = absurd closes
-      by_note _ closes stays = stays
 
 module _ {J : Type 0} where
   -- something is there where a job waits or is out

@@ -90,7 +90,6 @@ module _ {J T : Type 0} (terms : Terms) (old new : CoreView J) (name : JobId) (j
     );
     no_pick = refl;
     no_answer = refl;
-    closes_nothing = (tt, kept.closes_nothing);
     collects_nothing = (tt, kept.collects_nothing);
   }
 
@@ -107,6 +106,5 @@ module _ {J T : Type 0} (terms : Terms) (old new : CoreView J) (name : JobId) (j
     notes = (answered_stands order answer right, kept.notes);
     no_pick = refl;
     no_answer = rw plain;
-    closes_nothing = (tt, kept.closes_nothing);
     collects_nothing = (tt, kept.collects_nothing);
   }

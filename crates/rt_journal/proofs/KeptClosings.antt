@@ -1,6 +1,6 @@
 -- What a core tells of itself stays what its journal says, as a queue or the core is closed and as a gate is shut; and the notes may stand.
-use Rattle.std.proofs.Common.{◌≡◌, ℕ, ◌+◌, ◌<◌, ◌≤◌, ◌^◌, Bool, true, false, ◌∷◌, length, refl, sym, ◌∙◌, ap, subst, arith, cond, get_or, get_or-set_same, get_or-set_other, length-set}
-use Rattle.std.specs.Prelude.{◌==◌, Some, None, IsSome, slice_set}
+use Rattle.std.proofs.Common.{◌≡◌, ℕ, ◌+◌, ◌≤◌, Bool, true, false, ◌∷◌, length, refl, sym, ◌∙◌, ap, arith, cond, get_or, get_or-set_same, get_or-set_other, length-set}
+use Rattle.std.specs.Prelude.{◌==◌, Some, None, slice_set}
 use Rattle.std.proofs.lemmas.Bool.{eqb-true, eqb-false}
 use Rattle.rt_ids.specs.Terms.{Terms}
 use Rattle.rt_ids.specs.declared.note.Note.{Note}
@@ -9,7 +9,7 @@ use Rattle.rt_ids.specs.declared.order.Mode.{Mode}
 use Rattle.rt_ids.specs.Journal.{Journal, or_else}
 use Rattle.rt_ids.specs.Filters.{delivered_names}
 use Rattle.rt_ids.specs.Runtimes.{shares}
-use Rattle.rt_ids.specs.Closing.{closes, queue_mode, core_mode, final_count}
+use Rattle.rt_ids.specs.Closing.{IsNextShut, queue_mode, final_count}
 use Rattle.rt_ids.specs.Commands.{created_count}
 use Rattle.rt_ids.specs.Lawful.{MayStand}
 use Rattle.rt_taskqueue.specs.Queues.{queue_count, waiting_of, shares_of, mode_of}
@@ -210,20 +210,7 @@ module _ {J T : Type 0} (old new : CoreView J) (journal : Journal T) (agrees : A
         gates = λ sender. gate_now sender (sender == from) refl;
       }
 
--- the notes of a core that closes itself, and of a gate, may stand
-module _ {J T : Type 0} (terms : Terms) (old : CoreView J) (journal : Journal T) (kept : IsKept terms old journal) where
-  pub core_closed_stands : (mode : Mode) → closes old.mode mode ≡ true → MayStand terms (writes.CoreClosed mode) journal
-  core_closed_stands mode does =
-      plainly_stands terms (writes.CoreClosed mode) journal kept.is_core (ap (λ was. closes was mode) (sym kept.agrees.closing.mode) ∙ does) kept.no_pick kept.no_answer refl tt
-
-  pub shut_stands : (from count : ℕ) → from ≤ terms.cores → IsSome old.mode → gate_of from old ≡ None → length (delivered_names from journal) ≤ count → count < 2 ^ 63 →
-      MayStand terms (writes.Shut from count) journal
-  shut_stands from count known closed untold delivered in_range =
-      plainly_stands terms (writes.Shut from count) journal kept.is_core
-      (record {
-        closed = subst IsSome kept.agrees.closing.mode closed;
-        not_shut = sym (kept.agrees.closing.gates from) ∙ untold;
-        known = known;
-        delivered = delivered;
-        in_range = in_range;
-      }) kept.no_pick kept.no_answer refl tt
+-- the note of a gate that is shut may stand
+pub shut_stands : {J T : Type 0} (terms : Terms) (old : CoreView J) (journal : Journal T) → IsKept terms old journal → (from count : ℕ) → IsNextShut terms.cores from count journal →
+    MayStand terms (writes.Shut from count) journal
+shut_stands terms old journal kept from count next = plainly_stands terms (writes.Shut from count) journal kept.is_core next kept.no_pick kept.no_answer refl tt

@@ -143,7 +143,6 @@ module _ {J T : Type 0} (terms : Terms) (old new : CoreView J) (name : JobId) (q
       );
       no_pick = refl;
       no_answer = refl;
-      closes_nothing = (tt, (tt, kept.closes_nothing));
       collects_nothing = (tt, (tt, kept.collects_nothing));
     },
   )
@@ -169,7 +168,6 @@ module _ {J T : Type 0} (terms : Terms) (old new : CoreView J) (name : JobId) (q
       );
       no_pick = refl;
       no_answer = refl;
-      closes_nothing = (tt, (tt, kept.closes_nothing));
       collects_nothing = (tt, (tt, kept.collects_nothing));
     },
   )

@@ -1,18 +1,17 @@
 -- The modes and gates that a core tells of are those of its journal, and what follows: why jobs are refused and handed back.
-use Rattle.std.proofs.Common.{◌≡◌, inl, inr, ℕ, ◌+◌, ◌<◌, ◌≤◌, Bool, true, false, ◌∷◌, length, refl, sym, ◌∙◌, ap, arith, cond}
+use Rattle.std.proofs.Common.{◌≡◌, inl, inr, ℕ, ◌+◌, ◌<◌, ◌≤◌, Bool, true, false, [], ◌∷◌, length, refl, sym, ◌∙◌, ap, arith, cond}
 use Rattle.std.specs.Prelude.{◌⊎◌, Some, None, nat_le, nat_lt, slice_index_or}
 use Rattle.std.proofs.lemmas.Bool.{cases_lt, le-leb, lt-leb, lt-ltb, le-ltb}
 use Rattle.rt_ids.specs.declared.note.Note.{Note}
+use Rattle.rt_ids.specs.declared.note.Note.TheVariants.{Created}
 use Rattle.rt_ids.specs.declared.order.Reason.TheVariants as why
-use Rattle.rt_ids.specs.Journal.{Journal, EachNote, or_else}
+use Rattle.rt_ids.specs.Journal.{Journal, or_else}
 use Rattle.rt_ids.specs.Closing.{mode_told, core_mode_told, count_told, queue_mode, core_mode, final_count}
-use Rattle.rt_ids.specs.Commands.{created_count, refusal, return_reason, reason_if_closed, reason_if_returning}
+use Rattle.rt_ids.specs.Commands.{IsOpening, created_count, refusal, return_reason, reason_if_closed, reason_if_returning}
 use Rattle.rt_taskqueue.specs.Queues.{queue_count, mode_of}
 use Rattle.rt_core.specs.State.{CoreView}
 use Rattle.rt_core.specs.Closing as core
 use Rattle.rt_journal.specs.Agreement.{AgreesOnClosing}
-use Rattle.rt_journal.specs.Yet.{ClosesNothing}
-use Rattle.rt_journal.proofs.Kept.{open_queues, open_core}
 
 -- a note that closes no queue and no core, and shuts no gate
 pub record IsOpenNote {T : Type 0} (note : Note T) : Type 0 where
@@ -63,10 +62,9 @@ module _ {J T : Type 0} (view : CoreView J) (journal : Journal T) (agrees : Agre
   pub return_reason-agrees : (queue : ℕ) → core.return_reason queue view ≡ return_reason queue journal
   return_reason-agrees queue = λ i. or_else (reason_if_returning (agrees.modes queue i) why.QueueReturned) (reason_if_returning (agrees.mode i) why.CoreReturned)
 
-  -- nothing is closed yet, so the core is open and hands no job back
-  module _ (closes : EachNote ClosesNothing journal) where
-    pub core_is_open : view.mode ≡ None
-    core_is_open = agrees.mode ∙ open_core journal closes
-
-    pub hands_nothing_back : (queue : ℕ) → core.return_reason queue view ≡ None
-    hands_nothing_back queue = return_reason-agrees queue ∙ rw (open_queues queue journal closes, open_core journal closes)
+-- a core that opens is open
+module _ {T : Type 0} where
+  pub opening_is_open : (journal : Journal T) → IsOpening journal → core_mode journal ≡ None
+  opening_is_open [] opening = refl
+  opening_is_open (Created queue weight ∷ before) opening = opening_is_open before opening
+  opening_is_open (_ ∷ before) opening = absurd opening

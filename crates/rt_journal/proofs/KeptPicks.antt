@@ -28,11 +28,12 @@ use Rattle.rt_ids.proofs.RuntimeSteps.{virtual_runtime-stays, floor-stays}
 use Rattle.rt_ids.proofs.WorkOfLines.{right_pick_of_lines}
 use Rattle.rt_taskqueue.specs.Queues.{queue_count, waiting_of, shares_of, no_queue}
 use Rattle.rt_core.specs.State.{CoreView, JobOut, no_tally, tally_of, runtime_of, delivered_of}
+use Rattle.rt_core.specs.Closing as core
 use Rattle.rt_core.specs.Turns.{TakesOut}
 use Rattle.rt_journal.specs.Agreement.{AgreesOnClosing, IsJobOut, AreMarked, names_of}
-use Rattle.rt_journal.proofs.KeptModes.{SameModes, same_modes, closing-stays}
-use Rattle.rt_journal.specs.Yet.{ClosesNothing, CollectsNothing}
-use Rattle.rt_journal.proofs.Kept.{IsKept, plainly_stands, turns-stays, open_queues, open_core}
+use Rattle.rt_journal.proofs.KeptModes.{SameModes, same_modes, closing-stays, return_reason-agrees}
+use Rattle.rt_journal.specs.Yet.{CollectsNothing}
+use Rattle.rt_journal.proofs.Kept.{IsKept, plainly_stands, turns-stays}
 use Rattle.rt_journal.specs.Polls.{poll_note}
 use Rattle.rt_journal.proofs.PollNotes.{is_marked, marks-start}
 
@@ -77,8 +78,8 @@ module _ {J T : Type 0} (terms : Terms) (old new : CoreView J) (name : JobId) (q
       subst (λ at. IsRightPick queue at journal) (sym (kept.agrees.runtimes queue))
       (right_pick_of_lines terms queue journal kept.notes nobody name (names_of takes.others) first_in_line least)
 
-  pub not_returning : return_reason queue journal ≡ None
-  not_returning = rw (open_queues queue journal kept.closes_nothing, open_core journal kept.closes_nothing)
+  pub not_returning : core.return_reason queue old ≡ None → return_reason queue journal ≡ None
+  not_returning keeps = sym (return_reason-agrees old journal kept.agrees.closing queue) ∙ keeps
 
   turn : IsTurnOf name queue picked
   turn = record { picked = refl; others = names_of takes.others; first = first_in_line }
@@ -86,9 +87,9 @@ module _ {J T : Type 0} (terms : Terms) (old new : CoreView J) (name : JobId) (q
   pick_stands : turns journal < most_turns → MayStand terms (writes.Pick queue runtime) journal
   pick_stands left = plainly_stands terms (writes.Pick queue runtime) journal kept.is_core (record { right = right_pick; turn_left = left }) kept.no_pick kept.no_answer refl tt
 
-  poll_stands : (before : Bool) → is_told name_started name journal ≡ before → MayStand terms (poll_note name before) picked
-  poll_stands false told = record { may_follow = (queue, turn, not_returning, told); turn = refl; effect = tt; writer = kept.is_core }
-  poll_stands true told = record { may_follow = (queue, turn, not_returning, told); turn = refl; effect = tt; writer = kept.is_core }
+  poll_stands : return_reason queue journal ≡ None → (before : Bool) → is_told name_started name journal ≡ before → MayStand terms (poll_note name before) picked
+  poll_stands keeps false told = record { may_follow = (queue, turn, keeps, told); turn = refl; effect = tt; writer = kept.is_core }
+  poll_stands keeps true told = record { may_follow = (queue, turn, keeps, told); turn = refl; effect = tt; writer = kept.is_core }
 
   its_queue : queue_of name journal ≡ Some queue
   its_queue = (known_of terms journal kept.notes).line_queue queue name (rw (first_in_line, same_as_itself name))
@@ -230,16 +231,12 @@ module _ {J T : Type 0} (terms : Terms) (old new : CoreView J) (name : JobId) (q
   no_answer_now false = refl
   no_answer_now true = refl
 
-  closes_nothing_now : (before : Bool) → EachNote ClosesNothing (poll_note name before ∷ picked)
-  closes_nothing_now false = (tt, (tt, kept.closes_nothing))
-  closes_nothing_now true = (tt, (tt, kept.closes_nothing))
-
   collects_nothing_now : (before : Bool) → EachNote CollectsNothing (poll_note name before ∷ picked)
   collects_nothing_now false = (tt, (tt, kept.collects_nothing))
   collects_nothing_now true = (tt, (tt, kept.collects_nothing))
 
-  pub kept-picked : turns journal < most_turns → IsKept terms new polled
-  kept-picked left = record {
+  pub kept-picked : core.return_reason queue old ≡ None → turns journal < most_turns → IsKept terms new polled
+  kept-picked keeps left = record {
     is_core = kept.is_core;
     agrees = record {
       tallied = ap (λ core. length core.tallies) takes.rest ∙ (length-set old.tallies queue _ ∙ (kept.agrees.tallied ∙ sym takes.line.same_count));
@@ -256,9 +253,8 @@ module _ {J T : Type 0} (terms : Terms) (old new : CoreView J) (name : JobId) (q
       delivered = delivered_now was_started;
       closing = closing_now was_started;
     };
-    notes = (poll_stands was_started (sym start_told), (pick_stands left, kept.notes));
+    notes = (poll_stands (not_returning keeps) was_started (sym start_told), (pick_stands left, kept.notes));
     no_pick = no_pick_now was_started;
     no_answer = no_answer_now was_started;
-    closes_nothing = closes_nothing_now was_started;
     collects_nothing = collects_nothing_now was_started;
   }

@@ -1,5 +1,5 @@
 -- What a core tells of itself stays what its journal says, as a pick hands a job back; and the notes of the pick may stand.
-use Rattle.std.proofs.Common.{◌≡◌, ℕ, ◌+◌, ◌<◌, Bool, true, false, [], ◌∷◌, length, refl, sym, ◌∙◌, ap, subst, arith, get_or, set, get_or-set_same, get_or-set_other, length-set}
+use Rattle.std.proofs.Common.{◌≡◌, ℕ, ◌+◌, ◌<◌, Bool, true, false, ◌∷◌, length, refl, sym, ◌∙◌, ap, subst, arith, get_or, set, get_or-set_same, get_or-set_other, length-set}
 use Rattle.std.specs.Prelude.{◌==◌, Some, None, max}
 use Rattle.std.proofs.lemmas.Bool.{eqb-true, eqb-false}
 use Rattle.rt_ids.specs.Terms.{Terms}
@@ -8,18 +8,17 @@ use Rattle.rt_ids.specs.declared.note.Note.TheVariants as writes
 use Rattle.rt_ids.specs.declared.order.Reason.{Reason}
 use Rattle.rt_ids.specs.Limits.{most_turns}
 use Rattle.rt_ids.specs.Journal.{Journal, EachNote}
-use Rattle.rt_ids.specs.Runtimes.{virtual_runtime}
 use Rattle.rt_ids.specs.Lines.{line}
-use Rattle.rt_ids.specs.Picks.{turns}
+use Rattle.rt_ids.specs.Picks.{IsRightPick, turns}
 use Rattle.rt_ids.specs.Commands.{return_reason}
 use Rattle.rt_ids.specs.Lawful.{MayStand}
 use Rattle.rt_ids.proofs.LineSteps.{line-turn, line-turn_elsewhere}
 use Rattle.rt_ids.proofs.RuntimeSteps.{virtual_runtime-stays, floor-stays}
-use Rattle.rt_taskqueue.specs.Queues.{waiting_of, shares_of}
+use Rattle.rt_taskqueue.specs.Queues.{waiting_of}
 use Rattle.rt_core.specs.State.{CoreView, no_tally, tally_of, runtime_of, delivered_of}
 use Rattle.rt_core.specs.Closing as core
 use Rattle.rt_core.specs.Turns.{TakesOut, HandsBack}
-use Rattle.rt_journal.specs.Agreement.{Agrees, AgreesOnClosing, IsJobOut, AreMarked, names_of}
+use Rattle.rt_journal.specs.Agreement.{Agrees, AgreesOnClosing, IsJobOut, names_of}
 use Rattle.rt_journal.proofs.Kept.{IsKept, plainly_stands, turns-stays}
 use Rattle.rt_journal.proofs.KeptModes.{SameModes, same_modes, closing-stays, return_reason-agrees}
 use Rattle.rt_journal.proofs.KeptPicks as kept_picks
@@ -48,7 +47,7 @@ module _ {J T : Type 0} (terms : Terms) (old new : CoreView J) (name : JobId) (q
   abbrev takes : TakesOut old name queue hands.was_started job middle
   takes = record { next = hands.next; others = hands.others; first = hands.first; line = hands.line; rest = refl }
 
-  first_in_line : line queue journal ≡ name ∷ names_of hands.others
+  pub first_in_line : line queue journal ≡ name ∷ names_of hands.others
   first_in_line = kept_picks.first_in_line terms old middle name queue hands.was_started job journal kept takes
 
   exists : queue < length old.tallies
@@ -95,7 +94,7 @@ module _ {J T : Type 0} (terms : Terms) (old new : CoreView J) (name : JobId) (q
       closing-stays new new (writes.Returned name reason) picked (same_modes new) (record { queues = λ queue. refl; core = refl; gates = λ sender. refl })
       (closing-stays old new (writes.Pick queue runtime) journal modes_stay (record { queues = λ queue. refl; core = refl; gates = λ sender. refl }) kept.agrees.closing)
 
-  pub agrees-returned : Agrees new longer
+  agrees-returned : Agrees new longer
   agrees-returned = record {
     tallied = ap (λ core. length core.tallies) hands.rest ∙ (length-set old.tallies queue _ ∙ (kept.agrees.tallied ∙ sym hands.line.same_count));
     senders = ap (λ core. length core.delivered) hands.rest ∙ (kept.agrees.senders ∙ ap (λ cores. cores + 1) (sym (ap (λ core. core.cores) hands.rest)));
@@ -115,14 +114,20 @@ module _ {J T : Type 0} (terms : Terms) (old new : CoreView J) (name : JobId) (q
     closing = closing_now;
   }
 
+  pub right_return : IsRightPick queue runtime journal
+  right_return = kept_picks.right_pick terms old middle name queue hands.was_started job journal kept takes
+
+  pub returns_told : return_reason queue journal ≡ Some reason
+  returns_told = sym (return_reason-agrees old journal kept.agrees.closing queue) ∙ returns
+
   -- the pick is right, and the job goes back for the reason that the journal gives
-  pub return_stands : turns journal < most_turns → EachNote (MayStand terms) longer
+  return_stands : turns journal < most_turns → EachNote (MayStand terms) longer
   return_stands left = (
     record {
       may_follow = (
         queue,
         record { picked = refl; others = names_of hands.others; first = first_in_line },
-        sym (return_reason-agrees old journal kept.agrees.closing queue) ∙ returns,
+        returns_told,
       );
       turn = refl;
       effect = tt;
@@ -130,7 +135,17 @@ module _ {J T : Type 0} (terms : Terms) (old new : CoreView J) (name : JobId) (q
     },
     (
       plainly_stands terms (writes.Pick queue runtime) journal kept.is_core
-          (record { right = kept_picks.right_pick terms old middle name queue hands.was_started job journal kept takes; turn_left = left }) kept.no_pick kept.no_answer refl tt,
+          (record { right = right_return; turn_left = left }) kept.no_pick kept.no_answer refl tt,
       kept.notes,
     ),
   )
+
+  pub kept-returned : turns journal < most_turns → IsKept terms new longer
+  kept-returned left = record {
+    is_core = kept.is_core;
+    agrees = agrees-returned;
+    notes = return_stands left;
+    no_pick = refl;
+    no_answer = refl;
+    collects_nothing = (tt, (tt, kept.collects_nothing));
+  }

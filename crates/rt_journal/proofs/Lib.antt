@@ -14,6 +14,8 @@ pub mod PollsMade
 pub mod AllOutstanding
 pub mod TakenOrders
 pub mod CarriedOut
+pub mod CarriedClosings
+pub mod Carries
 pub mod EndsKept
 pub mod Received
 pub mod DeliveredEnds
@@ -23,8 +25,9 @@ pub mod QuietSteps
 pub mod QueuesCreated
 pub mod Picked
 pub mod SettledPolls
-pub mod Turned
 pub mod Wrote
+pub mod Shutting
+pub mod Drained
 pub mod Submitted
 pub mod SentNotes
 pub mod DeliveredNames

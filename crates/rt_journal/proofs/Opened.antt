@@ -3,9 +3,9 @@ use Rattle.std.proofs.Common.{false, ◌++◌, length, take, ◌≡◌, ℕ, zer
 use Rattle.std.specs.Prelude.{Option, Some, None, All, replicate, slice_index_or}
 use Rattle.std.proofs.lemmas.List.{length-replicate, get_or-replicate}
 use Rattle.std.proofs.lemmas.List.Elements.{All-nil}
-use Rattle.rt_jobs.specs.declared.job.Step.{Step}
+use Rattle.rt_jobs.specs.Steps.{Owed}
 use Rattle.rt_taskqueue.specs.Queues.{waiting_of, shares_of, mode_of}
-use Rattle.rt_core.specs.State.{CoreView, JobOut, runtime_of, opened}
+use Rattle.rt_core.specs.State.{CoreView, runtime_of, opened}
 use Rattle.rt_journal.specs.Agreement.{Agrees, AreMarked, names_of}
 use Rattle.rt_journal.specs.Recorded.{IsRecorded, HasTask, sum_upto, given_count}
 use Rattle.rt_journal.specs.Steps.{opened_beside}
@@ -70,10 +70,10 @@ no_sum T zero = refl
 no_sum T (suc last) = let rest : sum_upto (given_count {T = T} []) last ≡ 0 = no_sum T last in omega (arith, rest)
 
 -- a core that was just opened is recorded in a journal without a note
-pub recorded-opened : {J T : Type 0} (same : J → J → Type 0) (made : J → ℕ) (polls : J → ℕ → Step T → Option ℕ → Type 0) (core cores cap room : ℕ) → core < cores →
+pub recorded-opened : {J T : Type 0} (same : J → J → Type 0) (made : J → ℕ) (polls : Owed J T) (core cores cap room : ℕ) → core < cores →
     IsRecorded same made polls (opened_beside {J = J} {T = T} core cores cap room)
 recorded-opened {J} {T} same made polls core cores cap room there = record {
-  kept = record { is_core = there; agrees = agrees-opened J core cores cap T; notes = tt; no_pick = refl; no_answer = refl; closes_nothing = tt; collects_nothing = tt };
+  kept = record { is_core = there; agrees = agrees-opened J core cores cap T; notes = tt; no_pick = refl; no_answer = refl; collects_nothing = tt };
   room = refl;
   held = record { each = λ sender known. omega arith; inside = omega (arith, no_sum T cores) };
   taken = λ name order at. absurd (none≢some order at);

@@ -1,39 +1,43 @@
 -- A core beside its journal picks: the right pick takes a job out, or the core says why there is none.
 use Rattle.std.proofs.Common.{◌≡◌, ℕ, ◌+◌, ◌<◌, ◌≤◌, Bool, true, false, List, [], ◌∷◌, ◌++◌, length, reverse, refl, sym, ◌∙◌, ap, subst, arith, add-zero}
-use Rattle.std.specs.Prelude.{◌==◌, Option, Some, None, All, is_some, Result, Ok, Err}
+use Rattle.std.specs.Prelude.{◌==◌, Some, None, All, is_some, Result, Ok, Err}
 use Rattle.std.proofs.lemmas.Bool.{eqb-true, eqb-false}
 use Rattle.std.proofs.lemmas.Option.{same_Some}
 use Rattle.std.proofs.lemmas.List.Elements.{All-head, All-tail}
 use Rattle.rt_ids.specs.Limits.{most_turns}
 use Rattle.rt_ids.specs.declared.names.JobId.{JobId}
 use Rattle.rt_ids.specs.declared.note.Note.{Note}
-use Rattle.rt_ids.specs.declared.note.Note.TheVariants.{Pick}
-use Rattle.rt_ids.specs.declared.order.Order.{Order}
-use Rattle.rt_ids.specs.declared.order.Order.TheVariants.{Job, Create, SetShares}
+use Rattle.rt_ids.specs.declared.note.Note.TheVariants.{Pick, Returned}
+use Rattle.rt_ids.specs.declared.order.Order.TheVariants.{Job}
 use Rattle.rt_ids.specs.declared.order.Reason.{Reason}
 use Rattle.rt_ids.specs.Journal.{Journal}
 use Rattle.rt_ids.specs.Lines.{line}
 use Rattle.rt_ids.specs.Picks.{turns, pick_count}
 use Rattle.rt_ids.specs.Work.{has_work, number_if}
+use Rattle.rt_ids.proofs.Told.{length-with_last_if}
+use Rattle.rt_ids.specs.Filters.{given_outcomes}
 use Rattle.rt_ids.proofs.WorkOfLines.{no_work, work_of_line}
-use Rattle.rt_jobs.specs.declared.job.Step.{Step}
-use Rattle.rt_taskqueue.specs.Queues.{waiting_of, held_count}
+use Rattle.rt_jobs.specs.Steps.{Owed}
+use Rattle.rt_taskqueue.specs.Queues.{waiting_of, held_count, ChangesLine}
 use Rattle.rt_core.specs.declared.turn.Turn.{Turn}
 use Rattle.rt_core.specs.declared.turn.Turn.TheVariants.{Start, Resume, Back, Idle}
 use Rattle.rt_core.specs.declared.turn.PickError.{PickError}
 use Rattle.rt_core.specs.declared.turn.PickError.TheVariants.{Busy, Spent}
 use Rattle.rt_core.specs.State.{CoreView, runtime_of, inside_count}
-use Rattle.rt_core.specs.Turns.{TakesOut}
+use Rattle.rt_core.specs.Closing as core_says
+use Rattle.rt_core.specs.Turns.{TakesOut, HandsBack}
 use Rattle.rt_core.specs.Turns.{Picks as CorePicks}
 use Rattle.rt_journal.specs.Agreement.{IsJobOut, names_of}
 use Rattle.rt_journal.specs.Polls.{polls_made, poll_note}
 use Rattle.rt_journal.specs.Recorded.{RecordedView, terms_at, IsRecorded, HasTask, sum_upto, given_count}
-use Rattle.rt_journal.specs.Turns.{Picks, IsPick}
-use Rattle.rt_journal.proofs.KeptModes.{hands_nothing_back}
+use Rattle.rt_journal.specs.Turns.{Picks, IsPick, IsHandBack}
+use Rattle.rt_journal.proofs.KeptReturns.{kept-returned, right_return, returns_told}
+use Rattle.rt_journal.proofs.KeptReturns as returned
 use Rattle.rt_journal.proofs.KeptPicks.{kept-picked, right_pick, first_in_line, not_returning, start_told}
 use Rattle.rt_journal.proofs.Received.{task_stays}
-use Rattle.rt_journal.proofs.Quiet.{quiet-picked, as_sent-picked}
-use Rattle.rt_journal.proofs.QuietSteps.{stepped, IsQuietStep, nothing_done, nothing_stepped}
+use Rattle.rt_journal.proofs.Quiet.{quiet-picked, gates-picked, quiet-returned, as_sent-picked}
+use Rattle.rt_journal.proofs.QuietSteps.{stepped, IsQuietStep, everyone, nothing_done, nothing_stepped}
+use Rattle.rt_journal.proofs.Sums.{sum_upto-at_most_one}
 
 none≢some : {A : Type 0} (item : A) → None ≡ Some item → ⊥
 none≢some item same = cc
@@ -53,29 +57,23 @@ no_polls : {T : Type 0} (which name : JobId) (queue runtime : ℕ) (was_started 
 no_polls which name queue runtime false journal = add-zero (polls_made which journal + 0) ∙ add-zero (polls_made which journal)
 no_polls which name queue runtime true journal = add-zero (polls_made which journal + 0) ∙ add-zero (polls_made which journal)
 
-module _ {J T : Type 0} {same : J → J → Type 0} {made : J → ℕ} {polls : J → ℕ → Step T → Option ℕ → Type 0}
+module _ {J T : Type 0} {same : J → J → Type 0} {made : J → ℕ} {polls : Owed J T}
     (old : RecordedView J T) (recorded : IsRecorded same made polls old) (left : turns old.journal.notes < most_turns) (core : CoreView J) where
-  module _ (name : JobId) (queue : ℕ) (was_started : Bool) (job : J) (takes : TakesOut old.core name queue was_started job core) where
-    abbrev runtime : ℕ
-    runtime = runtime_of queue old.core
-
-    abbrev written : List (Note T)
-    written = poll_note name was_started ∷ Pick queue runtime ∷ []
-
-    abbrev longer : Journal T
-    longer = written ++ old.journal.notes
-
+  -- the first job of a line leaves it, and no poll is settled by these notes
+  module _ (written : List (Note T)) (unpolled : (which : JobId) → polls_made which (written ++ old.journal.notes) ≡ polls_made which old.journal.notes)
+      (queue : ℕ) (first : JobId × Bool × J) (others : List (JobId × Bool × J)) (line_was : waiting_of queue old.core.queues ≡ first ∷ others)
+      (line_is : ChangesLine old.core.queues core.queues queue others) where
     abbrev Task : ℕ → JobId × Bool × J → Type 0
-    Task other entry = HasTask same made polls old.took old.journal.notes other entry.0 entry.2
+    Task other entry = HasTask same made polls old.took (written ++ old.journal.notes) other entry.0 entry.2
 
-    abbrev TaskNow : ℕ → JobId × Bool × J → Type 0
-    TaskNow other entry = HasTask same made polls old.took longer other entry.0 entry.2
+    all_old : (other : ℕ) → All (Task other) (waiting_of other old.core.queues)
+    all_old other place default within = task_stays (λ order at. at) (unpolled _) (recorded.waiting other place default within)
 
-    task : (other : ℕ) (which : JobId) (it : J) → HasTask same made polls old.took old.journal.notes other which it → HasTask same made polls old.took longer other which it
-    task other which it = task_stays (λ order at. at) (no_polls which name queue runtime was_started old.journal.notes)
+    all_first : All (Task queue) (first ∷ others)
+    all_first = subst (All (Task queue)) line_was (all_old queue)
 
-    all_first : All (Task queue) ((name, was_started, job) ∷ takes.others)
-    all_first = subst (All (Task queue)) takes.first (recorded.waiting queue)
+    its_task : Task queue first
+    its_task = All-head (Task queue) first others all_first
 
     still_waiting : (other : ℕ) → All (Task other) (waiting_of other core.queues)
     still_waiting other = by_test (other == queue) refl
@@ -83,31 +81,45 @@ module _ {J T : Type 0} {same : J → J → Type 0} {made : J → ℕ} {polls : 
         by_test : (test : Bool) → (other == queue) ≡ test → All (Task other) (waiting_of other core.queues)
         by_test true one =
             let here : other ≡ queue = eqb-true other queue one in
-            subst (λ at. All (Task at) (waiting_of at core.queues)) (sym here)
-            (subst (All (Task queue)) (sym takes.line.changed) (All-tail (Task queue) (name, was_started, job) takes.others all_first))
-        by_test false apart = subst (All (Task other)) (sym (takes.line.others other (eqb-false other queue apart))) (recorded.waiting other)
+            subst (λ at. All (Task at) (waiting_of at core.queues)) (sym here) (subst (All (Task queue)) (sym line_is.changed) (All-tail (Task queue) first others all_first))
+        by_test false apart = subst (All (Task other)) (sym (line_is.others other (eqb-false other queue apart))) (all_old other)
+
+    one_fewer : held_count core.queues + 1 ≡ held_count old.core.queues
+    one_fewer = let line : length (waiting_of queue old.core.queues) ≡ length others + 1 = ap length line_was ∙ omega arith in omega (arith, line, line_is.held)
+
+  inside_was : old.core.out ≡ None → inside_count old.core ≡ held_count old.core.queues + 0
+  inside_was free = ap (λ out. held_count old.core.queues + number_if (is_some out)) free
+
+  module _ (name : JobId) (queue : ℕ) (was_started : Bool) (job : J) (takes : TakesOut old.core name queue was_started job core) (keeps : core_says.return_reason queue old.core ≡ None) where
+    abbrev runtime : ℕ
+    runtime = runtime_of queue old.core
+
+    abbrev written : List (Note T)
+    written = poll_note name was_started ∷ Pick queue runtime ∷ []
+
+    unpolled : (which : JobId) → polls_made which (written ++ old.journal.notes) ≡ polls_made which old.journal.notes
+    unpolled which = no_polls which name queue runtime was_started old.journal.notes
 
     same_inside : inside_count core ≡ inside_count old.core
     same_inside =
-        let line : length (waiting_of queue old.core.queues) ≡ length takes.others + 1 = ap length takes.first ∙ omega arith in
         let now : inside_count core ≡ held_count core.queues + 1 = ap (λ out. held_count core.queues + number_if (is_some out)) (ap (λ core. core.out) takes.rest) in
-        let was : inside_count old.core ≡ held_count old.core.queues + 0 = ap (λ out. held_count old.core.queues + number_if (is_some out)) takes.next.free in
-        omega (arith, now, was, line, takes.line.held)
+        omega (arith, now, inside_was takes.next.free, one_fewer written unpolled queue (name, was_started, job) takes.others takes.first takes.line)
 
-    picked : IsQuietStep old core written same made polls
+    picked : IsQuietStep old core written same made polls everyone
     picked = record {
-      kept = kept-picked (terms_at old) old.core core name queue was_started job old.journal.notes recorded.kept takes left;
+      kept = kept-picked (terms_at old) old.core core name queue was_started job old.journal.notes recorded.kept takes keeps left;
       number = ap (λ core. core.core) takes.rest;
       cores = ap (λ core. core.cores) takes.rest;
       room = takes.line.same_room;
       quiet = quiet-picked old.journal.notes name queue runtime was_started;
+      gates = λ sender kept. gates-picked old.journal.notes name queue runtime was_started sender;
       fewer = fewer was_started;
       as_sent = as_sent-picked old.journal.notes _ name queue runtime was_started recorded.as_sent;
-      waiting = λ other place default within. task other _ _ (still_waiting other place default within);
+      waiting = still_waiting written unpolled queue (name, was_started, job) takes.others takes.first takes.line;
       out = λ job_out at.
           let one : record { name = name; queue = queue; job = job } ≡ job_out = same_Some _ job_out (sym (ap (λ core. core.out) takes.rest) ∙ at) in
-          subst (λ job_out. HasTask same made polls old.took longer job_out.queue job_out.name job_out.job) one
-          (task queue name job (All-head (Task queue) (name, was_started, job) takes.others all_first));
+          subst (λ job_out. HasTask same made polls old.took (written ++ old.journal.notes) job_out.queue job_out.name job_out.job) one
+          (its_task written unpolled queue (name, was_started, job) takes.others takes.first takes.line);
     }
       where
         fewer : (before : Bool) → inside_count core + sum_upto (given_count (poll_note name before ∷ Pick queue runtime ∷ old.journal.notes)) old.core.cores
@@ -123,38 +135,84 @@ module _ {J T : Type 0} {same : J → J → Type 0} {made : J → ℕ} {polls : 
       right = right_pick (terms_at old) old.core core name queue was_started job old.journal.notes recorded.kept takes;
       others = names_of takes.others;
       first = first_in_line (terms_at old) old.core core name queue was_started job old.journal.notes recorded.kept takes;
-      kept = not_returning (terms_at old) old.core core name queue was_started job old.journal.notes recorded.kept takes;
+      kept = not_returning (terms_at old) old.core core name queue was_started job old.journal.notes recorded.kept takes keeps;
       started = start_told (terms_at old) old.core core name queue was_started job old.journal.notes recorded.kept takes;
       journal = refl;
       out = ap (λ core. core.out) takes.rest;
       took = refl;
     }
 
-  -- nothing is closed, so no job is handed back
-  never_back : (name : JobId) (reason : Reason) (order : Order J) (notes : List (Note T)) → CorePicks old.core (Ok (Back name reason order)) core notes → ⊥
-  never_back name reason (Job queue job) notes does =
-      none≢some reason (sym (hands_nothing_back old.core old.journal.notes recorded.kept.agrees.closing recorded.kept.closes_nothing queue) ∙ does.1)
-  never_back name reason (Create weight) notes does = does
-  never_back name reason (SetShares queue weight) notes does = does
+  module _ (name : JobId) (queue : ℕ) (job : J) (reason : Reason) (hands : HandsBack old.core name queue job core) (returns : core_says.return_reason queue old.core ≡ Some reason) where
+    abbrev back : List (Note T)
+    back = Returned name reason ∷ Pick queue (runtime_of queue old.core) ∷ []
+
+    unpolled_back : (which : JobId) → polls_made which (back ++ old.journal.notes) ≡ polls_made which old.journal.notes
+    unpolled_back which = add-zero (polls_made which old.journal.notes + 0) ∙ add-zero (polls_made which old.journal.notes)
+
+    nobody_now : core.out ≡ None
+    nobody_now = ap (λ core. core.out) hands.rest ∙ hands.next.free
+
+    handed : IsQuietStep old core back same made polls everyone
+    handed = record {
+      kept = kept-returned (terms_at old) old.core core name queue job reason old.journal.notes recorded.kept hands returns left;
+      number = ap (λ core. core.core) hands.rest;
+      cores = ap (λ core. core.cores) hands.rest;
+      room = hands.line.same_room;
+      quiet = quiet-returned old.journal.notes name reason queue (runtime_of queue old.core);
+      gates = λ sender kept. refl;
+      fewer =
+          let given_more : sum_upto (given_count (back ++ old.journal.notes)) old.core.cores ≤ sum_upto (given_count old.journal.notes) old.core.cores + 1 =
+          sum_upto-at_most_one (given_count old.journal.notes) (given_count (back ++ old.journal.notes)) name.from
+          (λ from. length-with_last_if (given_outcomes from old.journal.notes) _ (name.from == from)) old.core.cores in
+          let now : inside_count core ≡ held_count core.queues + 0 = ap (λ out. held_count core.queues + number_if (is_some out)) nobody_now in
+          omega (arith, given_more, now, inside_was hands.next.free, one_fewer back unpolled_back queue (name, hands.was_started, job) hands.others hands.first hands.line);
+      as_sent = (tt, (tt, recorded.as_sent));
+      waiting = still_waiting back unpolled_back queue (name, hands.was_started, job) hands.others hands.first hands.line;
+      out = λ job_out at. absurd (none≢some job_out (sym nobody_now ∙ at));
+    }
+
+    handed_is : IsHandBack same old name reason (Job queue job) (stepped old core back)
+    handed_is =
+        let task = its_task back unpolled_back queue (name, hands.was_started, job) hands.others hands.first hands.line in
+        record {
+          nobody_out = hands.next.free;
+          turn_left = left;
+          queue = queue;
+          runtime = runtime_of queue old.core;
+          right = right_return (terms_at old) old.core core name queue job reason old.journal.notes recorded.kept hands returns;
+          others = names_of hands.others;
+          first = returned.first_in_line (terms_at old) old.core core name queue job reason old.journal.notes recorded.kept hands returns;
+          returns = returns_told (terms_at old) old.core core name queue job reason old.journal.notes recorded.kept hands returns;
+          sent = task.sent;
+          task = task.task;
+          job = job;
+          back = refl;
+          same_task = task.same_task;
+          journal = refl;
+          out = nobody_now;
+          took = refl;
+        }
 
   pub few-picked : (answer : Result (Turn J) PickError) (notes : List (Note T)) → CorePicks old.core answer core notes → length notes ≤ 2
   few-picked (Ok (Start name queue job)) notes does = omega (arith, ap length does.2)
   few-picked (Ok (Resume name queue job)) notes does = omega (arith, ap length does.2)
-  few-picked (Ok (Back name reason order)) notes does = absurd (never_back name reason order notes does)
+  few-picked (Ok (Back name reason (Job queue job))) notes does = omega (arith, ap length does.2)
+  few-picked (Ok (Back name reason _)) notes does = absurd does
   few-picked (Ok Idle) notes does = omega (arith, ap length does.3)
   few-picked (Err Busy) notes does = omega (arith, ap length does.2)
   few-picked (Err Spent) notes does = omega (arith, ap length does.4)
 
   abbrev Stepped : List (Note T) → Type 0
-  Stepped notes = IsQuietStep old core (reverse notes) same made polls
+  Stepped notes = IsQuietStep old core (reverse notes) same made polls everyone
 
   nothing : (notes : List (Note T)) → core ≡ old.core → notes ≡ [] → Stepped notes
-  nothing notes same_core none = subst Stepped (sym none) (subst (λ core. IsQuietStep old core [] same made polls) (sym same_core) (nothing_done old recorded))
+  nothing notes same_core none = subst Stepped (sym none) (subst (λ core. IsQuietStep old core [] same made polls everyone) (sym same_core) (nothing_done old recorded))
 
   pub step-picked : (answer : Result (Turn J) PickError) (notes : List (Note T)) → CorePicks old.core answer core notes → Stepped notes
-  step-picked (Ok (Start name queue job)) notes does = subst Stepped (sym does.2) (picked name queue false job does.0)
-  step-picked (Ok (Resume name queue job)) notes does = subst Stepped (sym does.2) (picked name queue true job does.0)
-  step-picked (Ok (Back name reason order)) notes does = absurd (never_back name reason order notes does)
+  step-picked (Ok (Start name queue job)) notes does = subst Stepped (sym does.2) (picked name queue false job does.0 does.1)
+  step-picked (Ok (Resume name queue job)) notes does = subst Stepped (sym does.2) (picked name queue true job does.0 does.1)
+  step-picked (Ok (Back name reason (Job queue job))) notes does = subst Stepped (sym does.2) (handed name queue job reason does.0 does.1)
+  step-picked (Ok (Back name reason _)) notes does = absurd does
   step-picked (Ok Idle) notes does = nothing notes does.2 does.3
   step-picked (Err Busy) notes does = nothing notes does.1 does.2
   step-picked (Err Spent) notes does = nothing notes does.3 does.4
@@ -175,12 +233,14 @@ module _ {J T : Type 0} {same : J → J → Type 0} {made : J → ℕ} {polls : 
       by_line (entry ∷ others) first =
           work_of_line (terms_at old) queue old.journal.notes recorded.kept.notes entry.0 (names_of others) (sym (lines queue) ∙ ap names_of first)
 
-  pub picks-now : (answer : Result (Turn J) PickError) (notes : List (Note T)) → CorePicks old.core answer core notes → Picks old answer (stepped old core (reverse notes))
+  pub picks-now : (answer : Result (Turn J) PickError) (notes : List (Note T)) → CorePicks old.core answer core notes → Picks same old answer (stepped old core (reverse notes))
   picks-now (Ok (Start name queue job)) notes does =
-      subst (λ list. IsPick old name queue false job (stepped old core (reverse list))) (sym does.2) (pick_is name queue false job does.0)
+      subst (λ list. IsPick old name queue false job (stepped old core (reverse list))) (sym does.2) (pick_is name queue false job does.0 does.1)
   picks-now (Ok (Resume name queue job)) notes does =
-      subst (λ list. IsPick old name queue true job (stepped old core (reverse list))) (sym does.2) (pick_is name queue true job does.0)
-  picks-now (Ok (Back name reason order)) notes does = never_back name reason order notes does
+      subst (λ list. IsPick old name queue true job (stepped old core (reverse list))) (sym does.2) (pick_is name queue true job does.0 does.1)
+  picks-now (Ok (Back name reason (Job queue job))) notes does =
+      subst (λ list. IsHandBack same old name reason (Job queue job) (stepped old core (reverse list))) (sym does.2) (handed_is name queue job reason does.0 does.1)
+  picks-now (Ok (Back name reason _)) notes does = absurd does
   picks-now (Ok Idle) notes does = (idle does.0 does.1, nothing_stepped old recorded core does.2 (reverse notes) (ap reverse does.3))
   picks-now (Err Busy) notes does = (does.0, nothing_stepped old recorded core does.1 (reverse notes) (ap reverse does.2))
   picks-now (Err Spent) notes does =

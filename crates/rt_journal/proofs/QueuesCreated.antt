@@ -1,6 +1,6 @@
 -- A core beside its journal creates a queue before anything else is done.
 use Rattle.std.proofs.Common.{◌≡◌, ℕ, ◌+◌, ◌≤◌, List, [], ◌∷◌, length, reverse, refl, sym, ◌∙◌, ap, subst, arith, add-zero}
-use Rattle.std.specs.Prelude.{Option, All, is_some, Result, Ok, Err}
+use Rattle.std.specs.Prelude.{All, is_some, Result, Ok, Err}
 use Rattle.rt_shares.specs.Charge.{InRange}
 use Rattle.rt_ids.specs.declared.names.JobId.{JobId}
 use Rattle.rt_ids.specs.declared.note.Note.{Note}
@@ -8,7 +8,7 @@ use Rattle.rt_ids.specs.declared.note.Note.TheVariants as writes
 use Rattle.rt_ids.specs.Journal.{Journal}
 use Rattle.rt_ids.specs.Commands.{created_count, IsOpening}
 use Rattle.rt_ids.specs.Work.{number_if}
-use Rattle.rt_jobs.specs.declared.job.Step.{Step}
+use Rattle.rt_jobs.specs.Steps.{Owed}
 use Rattle.rt_taskqueue.specs.Queues.{queue_count, held_count}
 use Rattle.rt_taskqueue.specs.declared.queues.CreateError.{CreateError}
 use Rattle.rt_taskqueue.specs.declared.queues.CreateError.TheVariants.{TooMany, Memory}
@@ -23,9 +23,9 @@ use Rattle.rt_journal.proofs.KeptCommands.{agrees-created}
 use Rattle.rt_journal.proofs.TakenOrders.{carries_out-opening}
 use Rattle.rt_journal.proofs.Received.{task_stays}
 use Rattle.rt_journal.proofs.Quiet.{quiet-created}
-use Rattle.rt_journal.proofs.QuietSteps.{stepped, IsQuietStep, nothing_done, nothing_stepped}
+use Rattle.rt_journal.proofs.QuietSteps.{stepped, IsQuietStep, nothing_done, nothing_stepped, everyone}
 
-module _ {J T : Type 0} {same : J → J → Type 0} {made : J → ℕ} {polls : J → ℕ → Step T → Option ℕ → Type 0}
+module _ {J T : Type 0} {same : J → J → Type 0} {made : J → ℕ} {polls : Owed J T}
     (old : RecordedView J T) (recorded : IsRecorded same made polls old) (opening : IsOpening old.journal.notes) (weight : ℕ) (in_range : InRange weight) (core : CoreView J) where
   module _ (queue : ℕ) (next : queue ≡ queue_count old.core.queues) (creates : Creates old.core weight core) (delivered : core.delivered ≡ old.core.delivered) where
     number_is : queue ≡ created_count old.journal.notes + 1
@@ -45,7 +45,6 @@ module _ {J T : Type 0} {same : J → J → Type 0} {made : J → ℕ} {polls : 
       );
       no_pick = refl;
       no_answer = refl;
-      closes_nothing = (tt, recorded.kept.closes_nothing);
       collects_nothing = (tt, recorded.kept.collects_nothing);
     }
 
@@ -57,13 +56,14 @@ module _ {J T : Type 0} {same : J → J → Type 0} {made : J → ℕ} {polls : 
     task : (other : ℕ) (name : JobId) (job : J) → HasTask same made polls old.took old.journal.notes other name job → HasTask same made polls old.took longer other name job
     task other name job = task_stays (λ order at. at) (add-zero (polls_made name old.journal.notes))
 
-    created : IsQuietStep old core (writes.Created queue weight ∷ []) same made polls
+    created : IsQuietStep old core (writes.Created queue weight ∷ []) same made polls everyone
     created = record {
       kept = kept;
       number = ap (λ core. core.core) creates.rest;
       cores = ap (λ core. core.cores) creates.rest;
       room = creates.added.same_room;
       quiet = quiet-created old.journal.notes queue weight;
+      gates = λ sender kept. refl;
       fewer = omega (arith, same_inside);
       as_sent = (carries_out-opening _ (writes.Created queue weight) old.journal.notes opening, recorded.as_sent);
       waiting = λ other. subst (All (λ entry. HasTask same made polls old.took longer other entry.0 entry.2)) (sym (creates.added.same_lines other))
@@ -78,14 +78,14 @@ module _ {J T : Type 0} {same : J → J → Type 0} {made : J → ℕ} {polls : 
   few-created (Err Memory) written does = omega (arith, ap length does.2)
 
   abbrev Stepped : List (Note T) → Type 0
-  Stepped written = IsQuietStep old core (reverse written) same made polls
+  Stepped written = IsQuietStep old core (reverse written) same made polls everyone
 
   pub step-created : (answer : Result ℕ CreateError) (written : List (Note T)) → CoreCreates old.core weight answer core written → Stepped written
   step-created (Ok queue) written does = subst Stepped (sym does.3) (created queue does.0 does.1 does.2)
   step-created (Err TooMany) written does =
-      subst Stepped (sym does.2) (subst (λ core. IsQuietStep old core [] same made polls) (sym does.1) (nothing_done old recorded))
+      subst Stepped (sym does.2) (subst (λ core. IsQuietStep old core [] same made polls everyone) (sym does.1) (nothing_done old recorded))
   step-created (Err Memory) written does =
-      subst Stepped (sym does.2) (subst (λ core. IsQuietStep old core [] same made polls) (sym does.1) (nothing_done old recorded))
+      subst Stepped (sym does.2) (subst (λ core. IsQuietStep old core [] same made polls everyone) (sym does.1) (nothing_done old recorded))
 
   pub creates-now : (answer : Result ℕ CreateError) (written : List (Note T)) → CoreCreates old.core weight answer core written →
       CreatesQueue weight old answer (stepped old core (reverse written))

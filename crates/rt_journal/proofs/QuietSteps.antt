@@ -1,12 +1,11 @@
 -- A core beside its journal makes a step by which nothing is delivered and nothing sent: it stays recorded, and the ends of its links stay beside it.
 use Rattle.std.proofs.Common.{◌≡◌, ℕ, ◌+◌, ◌*◌, ◌≤◌, List, [], ◌++◌, refl, sym, ◌∙◌, ap, subst, arith}
-use Rattle.std.specs.Prelude.{Option, Some, All}
-use Rattle.std.proofs.lemmas.List.{append-nil}
+use Rattle.std.specs.Prelude.{Some, All}
 use Rattle.rt_ids.specs.declared.note.Note.{Note}
 use Rattle.rt_ids.specs.Journal.{Journal, EachNote}
-use Rattle.rt_ids.specs.Filters.{given_outcomes}
+use Rattle.rt_ids.specs.Closing.{final_count}
 use Rattle.rt_ids.specs.Joining.{DeliversAs}
-use Rattle.rt_jobs.specs.declared.job.Step.{Step}
+use Rattle.rt_jobs.specs.Steps.{Owed}
 use Rattle.rt_taskqueue.specs.Queues.{waiting_of}
 use Rattle.rt_core.specs.State.{CoreView, JobOut, inside_count}
 use Rattle.rt_journal.specs.Agreement.{IsKept}
@@ -15,11 +14,15 @@ use Rattle.rt_journal.specs.Recorded.{RecordedView, terms_at, desk_of, IsRecorde
 use Rattle.rt_journal.specs.Ends.{KeepsIn, KeepsOuts, IsSameSeat}
 use Rattle.rt_journal.specs.Steps.{with_notes}
 use Rattle.rt_journal.proofs.EndsKept.{keeps_outs}
-use Rattle.rt_journal.proofs.Quiet.{IsQuiet, held-quiet, taken-quiet, ins-quiet}
+use Rattle.rt_journal.proofs.Quiet.{IsQuiet, quiet-nothing, held-quiet, taken-quiet, ins-quiet}
 
 -- what a core agrees with is written as it should be
 pub written_of : {J T : Type 0} (view : RecordedView J T) → IsKept (terms_at view) view.core view.journal.notes → IsWritten (terms_at view) view.journal.notes
 written_of view kept = record { notes = kept.notes; no_pick = kept.no_pick; no_answer = kept.no_answer; collects_nothing = kept.collects_nothing }
+
+-- each sender there is
+abbrev pub everyone : ℕ → Type 0
+everyone sender = Unit {0}
 
 module _ {J T : Type 0} (old : RecordedView J T) (core : CoreView J) (written : List (Note T)) where
   -- the core as it is now, beside a journal that is longer by these notes, the newest first
@@ -29,20 +32,22 @@ module _ {J T : Type 0} (old : RecordedView J T) (core : CoreView J) (written : 
   abbrev longer : Journal T
   longer = written ++ old.journal.notes
 
-  module _ (same : J → J → Type 0) (made : J → ℕ) (polls : J → ℕ → Step T → Option ℕ → Type 0) where
-    pub record IsQuietStep : Type 0 where
+  module _ (same : J → J → Type 0) (made : J → ℕ) (polls : Owed J T) where
+    -- the gates of these senders aren't shut by it
+    pub record IsQuietStep (keeps : ℕ → Type 0) : Type 0 where
       pub kept : IsKept (terms_at old) core longer
       pub number : core.core ≡ old.core.core
       pub cores : core.cores ≡ old.core.cores
       pub room : core.queues.room ≡ old.core.queues.room
       pub quiet : IsQuiet old.journal.notes longer
+      pub gates : (sender : ℕ) → keeps sender → final_count sender longer ≡ final_count sender old.journal.notes
       pub fewer : inside_count core + sum_upto (given_count longer) old.core.cores ≤ inside_count old.core + sum_upto (given_count old.journal.notes) old.core.cores
       pub as_sent : EachNote (DeliversAs (note_taken old.took)) longer
       pub waiting : (queue : ℕ) → All (λ entry. HasTask same made polls old.took longer queue entry.0 entry.2) (waiting_of queue core.queues)
       pub out : (job : JobOut J) → core.out ≡ Some job → HasTask same made polls old.took longer job.queue job.name job.job
 
-module _ {J T : Type 0} {same : J → J → Type 0} {made : J → ℕ} {polls : J → ℕ → Step T → Option ℕ → Type 0}
-    (old : RecordedView J T) (recorded : IsRecorded same made polls old) (core : CoreView J) (written : List (Note T)) (step : IsQuietStep old core written same made polls) where
+module _ {J T : Type 0} {same : J → J → Type 0} {made : J → ℕ} {polls : Owed J T}
+    (old : RecordedView J T) (recorded : IsRecorded same made polls old) (core : CoreView J) (written : List (Note T)) {keeps : ℕ → Type 0} (step : IsQuietStep old core written same made polls keeps) where
   abbrev new : RecordedView J T
   new = stepped old core written
 
@@ -66,28 +71,26 @@ module _ {J T : Type 0} {same : J → J → Type 0} {made : J → ℕ} {polls : 
   pub seat_step : IsSameSeat old new
   seat_step = record { number = step.number; cores = step.cores; cap = refl; room = refl }
 
-  pub ins_step : (sender : ℕ) → KeepsIn sender old new
-  ins_step = ins-quiet old new seat_step step.quiet refl
+  pub ins_step : (sender : ℕ) → keeps sender → KeepsIn sender old new
+  ins_step sender kept = ins-quiet old new seat_step step.quiet refl sender (step.gates sender kept)
 
   pub outs_step : KeepsOuts (desk_of old) (desk_of new)
-  outs_step = keeps_outs (desk_of old) (desk_of new) (λ i. record { actor = step.number i; cores = step.cores i; cap = old.cap; journal = new.journal }) step.quiet.lists
+  outs_step = keeps_outs (desk_of old) (desk_of new) (λ i. record { actor = step.number i; cores = step.cores i; cap = old.cap; journal = new.journal }) step.quiet.sent
 
   pub written_step : IsWritten (terms_at old) (written ++ old.journal.notes)
   written_step = record { notes = step.kept.notes; no_pick = step.kept.no_pick; no_answer = step.kept.no_answer; collects_nothing = step.kept.collects_nothing }
 
 -- where a call did nothing, all is as it was
-module _ {J T : Type 0} {same : J → J → Type 0} {made : J → ℕ} {polls : J → ℕ → Step T → Option ℕ → Type 0}
+module _ {J T : Type 0} {same : J → J → Type 0} {made : J → ℕ} {polls : Owed J T}
     (old : RecordedView J T) (recorded : IsRecorded same made polls old) where
-  pub nothing_done : IsQuietStep old old.core [] same made polls
+  pub nothing_done : IsQuietStep old old.core [] same made polls everyone
   nothing_done = record {
     kept = recorded.kept;
     number = refl;
     cores = refl;
     room = refl;
-    quiet = record {
-      lists = record { accepted = λ core. refl; outstanding = λ core. refl; collected = λ core. refl; given = λ sender. ([], append-nil (given_outcomes sender old.journal.notes)); gates = λ sender. refl };
-      delivered = λ sender. refl;
-    };
+    quiet = quiet-nothing old.journal.notes;
+    gates = λ sender kept. refl;
     fewer = omega arith;
     as_sent = recorded.as_sent;
     waiting = recorded.waiting;

@@ -13,8 +13,7 @@ use Rattle.rt_ids.specs.declared.order.Order.TheVariants.{Job}
 use Rattle.rt_ids.specs.Journal.{Journal}
 use Rattle.rt_ids.specs.Filters.{given_outcomes}
 use Rattle.rt_ids.specs.Work.{number_if}
-use Rattle.rt_jobs.specs.declared.job.Step.{Step}
-use Rattle.rt_jobs.specs.Steps.{IsSameTask}
+use Rattle.rt_jobs.specs.Steps.{Owed, IsSameTask}
 use Rattle.rt_taskqueue.specs.Queues.{waiting_of}
 use Rattle.rt_core.specs.State.{CoreView, inside_count, delivered_of}
 use Rattle.rt_core.specs.Deliveries.{Delivers as CarriesOut}
@@ -30,10 +29,10 @@ use Rattle.rt_journal.specs.Steps.{IsNextIn, Receives}
 use Rattle.rt_journal.proofs.PollsMade.{polls_made-fresh}
 use Rattle.rt_journal.proofs.Sums.{sum_upto-one_more, sum_upto-room}
 use Rattle.rt_journal.proofs.TakenOrders.{order_taken-longer, order_taken-last, order_taken-parts, note_taken-stays, as_sent-stays}
-use Rattle.rt_journal.proofs.CarriedOut.{IsCarriedOut, IsOf, carries_out}
-use Rattle.rt_journal.proofs.Kept.{open_gates}
+use Rattle.rt_journal.proofs.CarriedOut.{IsCarriedOut, IsOf}
+use Rattle.rt_journal.proofs.Carries.{carries_out}
 
-module _ {J T : Type 0} {same : J → J → Type 0} {made : J → ℕ} {polls : J → ℕ → Step T → Option ℕ → Type 0} where
+module _ {J T : Type 0} {same : J → J → Type 0} {made : J → ℕ} {polls : Owed J T} where
   -- a job keeps its task where its order stays under its name and no poll of it is told
   pub task_stays : {old new : List (Envelope J)} {before after : Journal T} {queue : ℕ} {name : JobId} {job : J} →
       ((order : Order J) → order_taken old name ≡ Some order → order_taken new name ≡ Some order) → polls_made name after ≡ polls_made name before →
@@ -45,7 +44,7 @@ module _ {J T : Type 0} {same : J → J → Type 0} {made : J → ℕ} {polls : 
     owes = subst (λ count. OwesAfter same made polls task.sent count job) (sym as_before) task.owes;
   }
 
-module _ {J T : Type 0} {same : J → J → Type 0} {made : J → ℕ} {polls : J → ℕ → Step T → Option ℕ → Type 0} (is_same : IsSameTask same)
+module _ {J T : Type 0} {same : J → J → Type 0} {made : J → ℕ} {polls : Owed J T} (is_same : IsSameTask same)
     (old : RecordedView J T) (recorded : IsRecorded same made polls old) (envelope : Envelope J) (core : CoreView J) (written : List (Note T))
     (done : IsCarriedOut old envelope.name envelope.order core written) (next : IsNextIn old envelope.name) where
   abbrev name : JobId
@@ -124,7 +123,7 @@ module _ {J T : Type 0} {same : J → J → Type 0} {made : J → ℕ} {polls : 
         task = ap (order_taken received.took) is.0 ∙ (here ∙ ap Some is.1);
         same_task = is_same.itself entry.2;
         owes = subst (λ count. OwesAfter same made polls entry.2 count entry.2) (sym (ap (λ which. polls_made which longer) is.0 ∙ never))
-            (λ more step told owed. subst (λ place. polls entry.2 (made entry.2 + place) step told) (sym (zero-add more)) owed);
+            (λ more before after step told owed. subst (λ place. polls entry.2 (made entry.2 + place) before after step told) (sym (zero-add more)) owed);
       }
 
   waiting_now : (queue : ℕ) → All (Task queue) (waiting_of queue core.queues)
@@ -149,24 +148,24 @@ module _ {J T : Type 0} {same : J → J → Type 0} {made : J → ℕ} {polls : 
   }
 
 -- a core has room for what is delivered next
-pub room_in : {J T : Type 0} {same : J → J → Type 0} {made : J → ℕ} {polls : J → ℕ → Step T → Option ℕ → Type 0} (view : RecordedView J T) (name : JobId) →
+pub room_in : {J T : Type 0} {same : J → J → Type 0} {made : J → ℕ} {polls : Owed J T} (view : RecordedView J T) (name : JobId) →
     IsRecorded same made polls view → IsNextIn view name → inside_count view.core < view.core.queues.room
 room_in view name recorded next =
     let left : sum_upto (delivered_count view.journal.notes) view.core.cores < sum_upto (given_count view.journal.notes) view.core.cores + (view.core.cores + 1) * view.cap =
     sum_upto-room (delivered_count view.journal.notes) (given_count view.journal.notes) view.cap name.from view.core.cores next.sender recorded.held.each next.place in
     omega (arith, left, recorded.held.inside, recorded.room)
 
-module _ {J T : Type 0} {same : J → J → Type 0} {made : J → ℕ} {polls : J → ℕ → Step T → Option ℕ → Type 0} (old : RecordedView J T) (name : JobId)
+module _ {J T : Type 0} {same : J → J → Type 0} {made : J → ℕ} {polls : Owed J T} (old : RecordedView J T) (name : JobId)
     (recorded : IsRecorded same made polls old) (next : IsNextIn old name) where
   pub next_delivered : IsNextDelivered (terms_at old) name old.journal.notes
-  next_delivered = record { sender = next.sender; receiver = next.receiver; next = next.next; in_range = next.in_range; gate = rw (open_gates name.from old.journal.notes recorded.kept.closes_nothing) tt }
+  next_delivered = record { sender = next.sender; receiver = next.receiver; next = next.next; in_range = next.in_range; gate = next.gate }
 
   -- the core counts as its journal does
   pub next_for_core : name.number ≡ delivered_of name.from old.core + 1
   next_for_core = let counted = recorded.kept.agrees.delivered name.from next.sender in omega (arith, next.next, counted)
 
 -- what a call that received an order knows of its parts
-module _ {J T : Type 0} {same : J → J → Type 0} {made : J → ℕ} {polls : J → ℕ → Step T → Option ℕ → Type 0} (is_same : IsSameTask same)
+module _ {J T : Type 0} {same : J → J → Type 0} {made : J → ℕ} {polls : Owed J T} (is_same : IsSameTask same)
     (old : RecordedView J T) (recorded : IsRecorded same made polls old) (envelope : Envelope J) (next : IsNextIn old envelope.name)
     (spelled : IsSpelledOrder (without_job envelope.order)) (core : CoreView J) (delivered : Delivered J) (written : List (Note T))
     (does : CarriesOut old.core envelope.name envelope.order delivered core written) where

@@ -1,6 +1,6 @@
 -- A core beside its journal stays recorded as an order is submitted, and the ends that it receives from stay beside it.
 use Rattle.std.proofs.Common.{◌≡◌, ℕ, List, [], ◌∷◌, refl, sym, ◌∙◌, ap, subst, add-zero}
-use Rattle.std.specs.Prelude.{Option, Result, Ok, Err}
+use Rattle.std.specs.Prelude.{Result, Ok, Err}
 use Rattle.std.proofs.lemmas.List.{append-nil}
 use Rattle.rt_ids.specs.declared.names.JobId.{JobId}
 use Rattle.rt_ids.specs.declared.note.Note.TheVariants as writes
@@ -11,7 +11,7 @@ use Rattle.rt_ids.specs.declared.order.SendError.TheVariants.{Closed, Full, Spen
 use Rattle.rt_ids.specs.Journal.{Journal}
 use Rattle.rt_ids.specs.Filters.{given_outcomes}
 use Rattle.rt_ids.specs.Orders.{without_job}
-use Rattle.rt_jobs.specs.declared.job.Step.{Step}
+use Rattle.rt_jobs.specs.Steps.{Owed}
 use Rattle.rt_core.specs.State.{CoreView}
 use Rattle.rt_journal.specs.Polls.{polls_made}
 use Rattle.rt_journal.specs.Submissions.{DeskView, IsWritten, Submits, terms_of_desk}
@@ -24,7 +24,7 @@ use Rattle.rt_journal.proofs.EndsKept.{keeps_in}
 use Rattle.rt_journal.proofs.Received.{task_stays}
 use Rattle.rt_journal.proofs.Wrote.{view_of}
 
-module _ {J T : Type 0} {same : J → J → Type 0} {made : J → ℕ} {polls : J → ℕ → Step T → Option ℕ → Type 0}
+module _ {J T : Type 0} {same : J → J → Type 0} {made : J → ℕ} {polls : Owed J T}
     (old : RecordedView J T) (recorded : IsRecorded same made polls old) (name : JobId) (what : Order (Unit {0})) where
   abbrev journal : Journal T
   journal = old.journal.notes
@@ -60,7 +60,6 @@ module _ {J T : Type 0} {same : J → J → Type 0} {made : J → ℕ} {polls : 
         notes = written.notes;
         no_pick = written.no_pick;
         no_answer = written.no_answer;
-        closes_nothing = (tt, recorded.kept.closes_nothing);
         collects_nothing = written.collects_nothing;
       }
 
@@ -83,7 +82,7 @@ module _ {J T : Type 0} {same : J → J → Type 0} {made : J → ℕ} {polls : 
       keeps_in old new (record { number = refl; cores = refl; cap = refl; room = refl }) sender ([], append-nil (given_outcomes sender journal)) refl refl (λ which order from at. at)
 
 -- whatever the link answered
-module _ {J T : Type 0} {same : J → J → Type 0} {made : J → ℕ} {polls : J → ℕ → Step T → Option ℕ → Type 0}
+module _ {J T : Type 0} {same : J → J → Type 0} {made : J → ℕ} {polls : Owed J T}
     (inside : CoreView J) (took : List (Envelope J)) (said now : DeskView J T)
     (invariant : IsRecorded same made polls (view_of inside took said) × (said ≡ desk_of (view_of inside took said)))
     (to : ℕ) (order : Order J) where

@@ -16,7 +16,7 @@ use Rattle.rt_ids.proofs.LineDistinct.{apart_of}
 use Rattle.rt_ids.proofs.NameLemmas.{among, same_as_itself}
 use Rattle.rt_jobs.specs.declared.job.Step.{Step}
 use Rattle.rt_jobs.specs.declared.job.Step.TheVariants as steps
-use Rattle.rt_jobs.specs.Steps.{AfterPoll, IsSameTask, IfDone, OnYield, OwesOn}
+use Rattle.rt_jobs.specs.Steps.{Owed, AfterPoll, IsSameTask, IfDone, OnYield, OwesOn}
 use Rattle.rt_taskqueue.specs.Queues.{waiting_of, held_count, ChangesLine}
 use Rattle.rt_core.specs.declared.turn.Settled.{Settled}
 use Rattle.rt_core.specs.declared.turn.Settled.TheVariants.{Yielded, Finished}
@@ -32,11 +32,11 @@ use Rattle.rt_journal.proofs.Kept.{IsKept}
 use Rattle.rt_journal.proofs.KeptSettles.{none≢some, kept-yield, kept-done}
 use Rattle.rt_journal.proofs.PollNotes.{other_way}
 use Rattle.rt_journal.proofs.Received.{task_stays}
-use Rattle.rt_journal.proofs.Quiet.{quiet-settled, as_sent-settled}
+use Rattle.rt_journal.proofs.Quiet.{quiet-settled, gates-settled, as_sent-settled}
 use Rattle.rt_journal.proofs.Sums.{sum_upto-at_most_one}
 use Rattle.rt_ids.proofs.Told.{length-with_last_if}
 use Rattle.rt_ids.specs.Filters.{given_outcomes}
-use Rattle.rt_journal.proofs.QuietSteps.{stepped, IsQuietStep}
+use Rattle.rt_journal.proofs.QuietSteps.{stepped, IsQuietStep, everyone}
 
 -- whoever waits is another than one who isn't among them
 among-place : {J : Type 0} (name : JobId) (waiting : List (JobId × Bool × J)) → among name (names_of waiting) ≡ false →
@@ -58,7 +58,7 @@ pub task_out : {J : Type 0} {same : J → J → Type 0} → IsSameTask same → 
 task_out is_same None job is = absurd is
 task_out {same = same} is_same (Some out) job is = subst (same out.job) is (is_same.itself out.job)
 
-module _ {J T : Type 0} {same : J → J → Type 0} {made : J → ℕ} {polls : J → ℕ → Step T → Option ℕ → Type 0} {answers : J → T → Type 0} (is_same : IsSameTask same)
+module _ {J T : Type 0} {same : J → J → Type 0} {made : J → ℕ} {polls : Owed J T} {answers : J → T → Type 0} (is_same : IsSameTask same)
     (answers_same : (a b : J) (out : T) → same a b → answers a out → answers b out)
     (old : RecordedView J T) (recorded : IsRecorded same made polls old) (out : JobOut J) (was_out : old.core.out ≡ Some out)
     (core : CoreView J) (ran : AfterPoll J T) (its_job : out.job ≡ ran.before) (polled : IsPolled same made polls answers ran) (spent : ℕ) where
@@ -113,9 +113,9 @@ module _ {J T : Type 0} {same : J → J → Type 0} {made : J → ℕ} {polls : 
       on = subst (λ job. OwesOn made polls job ran.job) (sym its_job) (subst (λ step. OnYield step (OwesOn made polls ran.before ran.job)) yields polled.later)
 
       owes_on : OwesAfter same made polls its_task.sent (polls_made out.name old.journal.notes + 1) ran.job
-      owes_on more step told owed_now =
-          let first : polls out.job (made out.job + (1 + more)) step told = subst (λ place. polls out.job place step told) (assoc (made out.job) more) (on more step told owed_now) in
-          subst (λ place. polls its_task.sent (made its_task.sent + place) step told) (sym (assoc (polls_made out.name old.journal.notes) more)) (its_task.owes (1 + more) step told first)
+      owes_on more before after step told owed_now =
+          let first : polls out.job (made out.job + (1 + more)) before after step told = subst (λ place. polls out.job place before after step told) (assoc (made out.job) more) (on more before after step told owed_now) in
+          subst (λ place. polls its_task.sent (made its_task.sent + place) before after step told) (sym (assoc (polls_made out.name old.journal.notes) more)) (its_task.owes (1 + more) before after step told first)
 
   inside_old : inside_count old.core ≡ held_count old.core.queues + 1
   inside_old = ap (λ job. held_count old.core.queues + number_if (is_some job)) was_out
@@ -143,7 +143,7 @@ module _ {J T : Type 0} {same : J → J → Type 0} {made : J → ℕ} {polls : 
         let now : inside_count core ≡ held_count core.queues + 0 = ap (λ job. held_count core.queues + number_if (is_some job)) (ap (λ core. core.out) is) in
         omega (arith, now, inside_old, changes.held, length-append (waiting_of out.queue old.core.queues) ((out.name, true, ran.job) ∷ []))
 
-    pub yielded : IsQuietStep old core written same made polls
+    pub yielded : IsQuietStep old core written same made polls everyone
     yielded = record {
       kept = subst (λ step. IsKept (terms_at old) core (settle_note out.name time step ∷ old.journal.notes)) (sym yields)
           (subst (λ core_now. IsKept (terms_at old) core_now (writes.Yield out.name time ∷ old.journal.notes)) (sym is)
@@ -152,6 +152,7 @@ module _ {J T : Type 0} {same : J → J → Type 0} {made : J → ℕ} {polls : 
       cores = ap (λ core. core.cores) is;
       room = changes.same_room;
       quiet = quiet-settled old.journal.notes out.name time ran.step;
+      gates = λ sender kept. gates-settled old.journal.notes out.name time ran.step sender;
       fewer = subst (λ step. inside_count core + sum_upto (given_count (settle_note out.name time step ∷ old.journal.notes)) old.core.cores
           ≤ inside_count old.core + sum_upto (given_count old.journal.notes) old.core.cores) (sym yields) (omega (arith, same_inside));
       as_sent = as_sent-settled old.journal.notes _ out.name time ran.step recorded.as_sent;
@@ -168,7 +169,7 @@ module _ {J T : Type 0} {same : J → J → Type 0} {made : J → ℕ} {polls : 
     given_more = sum_upto-at_most_one (given_count old.journal.notes) (given_count (writes.Done out.name time answer ∷ old.journal.notes)) out.name.from
         (λ from. length-with_last_if (given_outcomes from old.journal.notes) _ (out.name.from == from)) old.core.cores
 
-    pub ended : IsQuietStep old core written same made polls
+    pub ended : IsQuietStep old core written same made polls everyone
     ended = record {
       kept = subst (λ step. IsKept (terms_at old) core (settle_note out.name time step ∷ old.journal.notes)) (sym ends)
           (subst (λ core_now. IsKept (terms_at old) core_now (writes.Done out.name time answer ∷ old.journal.notes)) (sym is)
@@ -177,6 +178,7 @@ module _ {J T : Type 0} {same : J → J → Type 0} {made : J → ℕ} {polls : 
       cores = ap (λ core. core.cores) is;
       room = ap (λ core. core.queues.room) is;
       quiet = quiet-settled old.journal.notes out.name time ran.step;
+      gates = λ sender kept. gates-settled old.journal.notes out.name time ran.step sender;
       fewer = subst (λ step. inside_count core + sum_upto (given_count (settle_note out.name time step ∷ old.journal.notes)) old.core.cores
           ≤ inside_count old.core + sum_upto (given_count old.journal.notes) old.core.cores) (sym ends) (omega (arith, one_fewer, given_more));
       as_sent = as_sent-settled old.journal.notes _ out.name time ran.step recorded.as_sent;
@@ -198,10 +200,10 @@ module _ {J T : Type 0} {same : J → J → Type 0} {made : J → ℕ} {polls : 
     pub few-settled : length notes ≤ 1
     few-settled = omega (arith, ap length notes_are)
 
-    pub step-settled : IsQuietStep old core (reverse notes) same made polls
-    step-settled = subst (λ notes. IsQuietStep old core (reverse notes) same made polls) (sym notes_are) (by_step ran.step refl settled settles)
+    pub step-settled : IsQuietStep old core (reverse notes) same made polls everyone
+    step-settled = subst (λ notes. IsQuietStep old core (reverse notes) same made polls everyone) (sym notes_are) (by_step ran.step refl settled settles)
       where
-        by_step : (step : Step T) → ran.step ≡ step → (settled : Settled T) → CoreSettles old.core out ran spent step settled core notes → IsQuietStep old core written same made polls
+        by_step : (step : Step T) → ran.step ≡ step → (settled : Settled T) → CoreSettles old.core out ran spent step settled core notes → IsQuietStep old core written same made polls everyone
         by_step (steps.Done value) ends (Finished answer) settles = ended value ends settles.1
         by_step (steps.Done value) ends Yielded settles = absurd settles
         by_step steps.Yield yields (Finished answer) settles = absurd settles
@@ -233,10 +235,11 @@ module _ {J T : Type 0} {same : J → J → Type 0} {made : J → ℕ} {polls : 
             answers_same out.job its_task.sent value (is_same.back its_task.sent out.job its_task.same_task) (subst (λ job. answers job value) (sym its_job) right)
         by_step steps.Yield right = tt
 
-    owed : polls its_task.sent (made its_task.sent + polls_made out.name old.journal.notes) ran.step ran.told
-    owed = subst (λ place. polls its_task.sent place ran.step ran.told) (ap (λ count. made its_task.sent + count) (add-zero (polls_made out.name old.journal.notes)))
-        (its_task.owes 0 ran.step ran.told (subst (λ place. polls out.job place ran.step ran.told) (sym (add-zero (made out.job)))
-        (subst (λ job. polls job (made job) ran.step ran.told) (sym its_job) polled.owed)))
+    owed : (before after : Journal T) → polls ran.before (made ran.before) before after ran.step ran.told →
+        polls its_task.sent (made its_task.sent + polls_made out.name old.journal.notes) before after ran.step ran.told
+    owed before after owes = subst (λ place. polls its_task.sent place before after ran.step ran.told) (ap (λ count. made its_task.sent + count) (add-zero (polls_made out.name old.journal.notes)))
+        (its_task.owes 0 before after ran.step ran.told (subst (λ place. polls out.job place before after ran.step ran.told) (sym (add-zero (made out.job)))
+        (subst (λ job. polls job (made job) before after ran.step ran.told) (sym its_job) owes)))
 
     pub settles-now : Settles made polls answers old ran spent settled (stepped old core (reverse notes))
     settles-now = record {

@@ -19,7 +19,7 @@ use Rattle.rt_ids.specs.Journal.{Journal, EachNote}
 use Rattle.rt_ids.specs.Lawful.{IsLawful, MayStand, MayWrite}
 use Rattle.rt_ids.specs.Lines.{jobs_out}
 use Rattle.rt_ids.specs.Orders.{without_job}
-use Rattle.rt_jobs.specs.declared.job.Step.{Step}
+use Rattle.rt_jobs.specs.Steps.{Owed}
 use Rattle.rt_link.specs.declared.ends.Outward.{Outward}
 use Rattle.rt_link.specs.declared.ends.Inward.{Inward}
 use Rattle.rt_link.specs.Ends.{Joined}
@@ -63,7 +63,7 @@ module _ {T : Type 0} (terms : Terms) (outside : terms.cores ≤ terms.actor) wh
 named-prefix : {J T : Type 0} (sender core : ℕ) (front whole : List (ℕ × Outcome J T)) → IsPrefix front whole → IsPrefix (named_outcomes sender core front) (named_outcomes sender core whole)
 named-prefix sender core front whole starts = (named_outcomes sender core starts.0, sym (map-append _ front starts.0) ∙ ap (named_outcomes sender core) starts.1)
 
-module _ {J T : Type 0} {same : J → J → Type 0} {made : J → ℕ} {polls : J → ℕ → Step T → Option ℕ → Type 0}
+module _ {J T : Type 0} {same : J → J → Type 0} {made : J → ℕ} {polls : Owed J T}
     (cores cap : ℕ) (desk : ℕ → DeskView J T) (core : ℕ → RecordedView J T) (out : ℕ → ℕ → Outward J T) (credited : ℕ → ℕ → ℕ) (inward : ℕ → ℕ → Inward J T) (assembly : Assembly T)
     (are : AreTogether same made polls cores cap desk core out credited inward) (is : IsAssemblyOf cores cap desk assembly) where
   abbrev notes_at : ℕ → Journal T

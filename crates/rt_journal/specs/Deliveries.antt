@@ -4,7 +4,7 @@ use Rattle.rt_ids.specs.declared.names.JobId.{JobId}
 use Rattle.rt_ids.specs.declared.note.Note.{Note}
 use Rattle.rt_ids.specs.declared.note.Note.TheVariants as writes
 use Rattle.rt_ids.specs.declared.order.Order.{Order}
-use Rattle.rt_ids.specs.declared.order.Order.TheVariants.{Job, Create, SetShares}
+use Rattle.rt_ids.specs.declared.order.Order.TheVariants.{Job, Create, SetShares, Close, CloseCore}
 use Rattle.rt_ids.specs.declared.order.Reason.{Reason}
 use Rattle.rt_ids.specs.declared.order.Answer.{Answer}
 use Rattle.rt_ids.specs.Journal.{Journal}
@@ -32,3 +32,5 @@ module _ {J T : Type 0} where
   IsDelivery name (Job queue job) before notes = notes ≡ entry_note name queue (refusal queue before) ∷ []
   IsDelivery name (Create weight) before notes = IsAnswered name (Create weight) before notes
   IsDelivery name (SetShares queue weight) before notes = IsAnswered name (SetShares queue weight) before notes
+  IsDelivery name (Close queue mode) before notes = IsAnswered name (Close queue mode) before notes
+  IsDelivery name (CloseCore mode) before notes = IsAnswered name (CloseCore mode) before notes

@@ -25,11 +25,15 @@ name_of sender core number = record { from = sender; to = core; number = number 
 abbrev pub named_outcomes : {J T : Type 0} → ℕ → ℕ → List (ℕ × Outcome J T) → Outcomes T
 named_outcomes sender core outcomes = map (λ outcome. (name_of sender core outcome.0, outcome_note outcome.1)) outcomes
 
--- the lists that a journal tells of its links, except what was delivered, stay as they were or grow at their end; no gate is shut
-pub record KeepsLists {T : Type 0} (old new : Journal T) : Type 0 where
+-- what a journal tells of the links on which its actor sends stays as it was
+pub record KeepsSent {T : Type 0} (old new : Journal T) : Type 0 where
   pub accepted : (core : ℕ) → accepted_orders core new ≡ accepted_orders core old
   pub outstanding : (core : ℕ) → outstanding_count core new ≡ outstanding_count core old
   pub collected : (core : ℕ) → collected_outcomes core new ≡ collected_outcomes core old
+
+-- the lists that a journal tells of its links, except what was delivered, stay as they were or grow at their end; no gate is shut
+pub record KeepsLists {T : Type 0} (old new : Journal T) : Type 0 where
+  pub sent : KeepsSent old new
   pub given : (sender : ℕ) → IsPrefix (given_outcomes sender old) (given_outcomes sender new)
   pub gates : (sender : ℕ) → final_count sender new ≡ final_count sender old
 

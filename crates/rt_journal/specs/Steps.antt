@@ -5,6 +5,7 @@ use Rattle.rt_ids.specs.declared.note.Note.{Note}
 use Rattle.rt_ids.specs.declared.note.Note.TheVariants as writes
 use Rattle.rt_ids.specs.declared.order.Envelope.{Envelope}
 use Rattle.rt_ids.specs.Work.{number_if}
+use Rattle.rt_ids.specs.Closing.{IsCounted, final_count}
 use Rattle.rt_ids.specs.Commands.{created_count}
 use Rattle.rt_taskqueue.specs.declared.queues.CreateError.{CreateError}
 use Rattle.rt_taskqueue.specs.declared.queues.CreateError.TheVariants.{TooMany, Memory}
@@ -31,12 +32,13 @@ module _ {J T : Type 0} where
     took = [];
   }
 
-  -- the name is the next of its sender, who is there and waits for fewer outcomes than it may
+  -- the name is the next of its sender, who is there and waits for fewer outcomes than it may, and within the count of its gate, if that is shut
   pub record IsNextIn (view : RecordedView J T) (name : JobId) : Type 0 where
     pub sender : name.from ≤ view.core.cores
     pub receiver : name.to ≡ view.core.core
     pub next : name.number ≡ delivered_count view.journal.notes name.from + 1
     pub in_range : name.number < 2 ^ 63
+    pub gate : IsCounted (final_count name.from view.journal.notes) name.number
     pub place : delivered_count view.journal.notes name.from < given_count view.journal.notes name.from + view.cap
 
   -- a delivery: the notes that the rules give, and the order stands under its name
@@ -62,3 +64,9 @@ module _ {J T : Type 0} where
       × (new.core.out ≡ old.core.out) × (new.took ≡ old.took)
   CreatesQueue weight old (Err TooMany) new = (created_count old.journal.notes + 1 ≡ 256) × (new ≡ old)
   CreatesQueue weight old (Err Memory) new = (created_count old.journal.notes + 1 < 256) × (new ≡ old)
+
+  -- the gate of this sender is shut, and its count is told
+  pub record TellsShut (old : RecordedView J T) (sender count : ℕ) (new : RecordedView J T) : Type 0 where
+    pub journal : new.journal ≡ with_notes (writes.Shut sender count ∷ []) old.journal
+    pub took : new.took ≡ old.took
+    pub out : new.core.out ≡ old.core.out

@@ -1,8 +1,8 @@
 -- Recorded actors and the ends of their links, together in one house.
-use Rattle.std.specs.Prelude.{◌≡◌, ℕ, ◌+◌, ◌<◌, ◌≤◌, Option, None, length}
+use Rattle.std.specs.Prelude.{◌≡◌, ℕ, ◌+◌, ◌<◌, ◌≤◌, None, length}
 use Rattle.rt_ids.specs.Assembly.{Assembly, journal_of}
 use Rattle.rt_ids.specs.Joining.{AreJoined}
-use Rattle.rt_jobs.specs.declared.job.Step.{Step}
+use Rattle.rt_jobs.specs.Steps.{Owed}
 use Rattle.rt_link.specs.declared.ends.Outward.{Outward}
 use Rattle.rt_link.specs.declared.ends.Inward.{Inward}
 use Rattle.rt_link.specs.Ends.{Joined}
@@ -10,7 +10,7 @@ use Rattle.rt_journal.specs.Submissions.{DeskView, IsWritten, terms_of_desk}
 use Rattle.rt_journal.specs.Recorded.{RecordedView, IsRecorded, desk_of}
 use Rattle.rt_journal.specs.Ends.{IsOutOf, IsInOf}
 
-module _ {J T : Type 0} (same : J → J → Type 0) (made : J → ℕ) (polls : J → ℕ → Step T → Option ℕ → Type 0) where
+module _ {J T : Type 0} (same : J → J → Type 0) (made : J → ℕ) (polls : Owed J T) where
   -- the desks are those of the cores, each recorded and with no job out, and of the outside actor; each end belongs to its actor; and the two ends of each link are joined
   pub record AreTogether (cores cap : ℕ) (desk : ℕ → DeskView J T) (core : ℕ → RecordedView J T) (out : ℕ → ℕ → Outward J T) (credited : ℕ → ℕ → ℕ) (inward : ℕ → ℕ → Inward J T) : Type 0 where
     pub actors : (actor : ℕ) → actor ≤ cores → terms_of_desk (desk actor) ≡ record { actor = actor; cores = cores; cap = cap }
@@ -30,7 +30,7 @@ module _ {J T : Type 0} where
     pub count : length assembly.journals ≡ cores + 1
     pub each : (actor : ℕ) → actor ≤ cores → journal_of actor assembly ≡ (desk actor).journal.notes
 
-module _ {J T : Type 0} (same : J → J → Type 0) (made : J → ℕ) (polls : J → ℕ → Step T → Option ℕ → Type 0) where
+module _ {J T : Type 0} (same : J → J → Type 0) (made : J → ℕ) (polls : Owed J T) where
   -- actors that are recorded each by itself are joined, where the ends of their links are
   abbrev pub TogetherAreJoined : Type 0
   TogetherAreJoined =

@@ -2,8 +2,10 @@
 use Rattle.std.specs.Prelude.{◌≡◌, ℕ, ◌+◌, ◌-◌, ◌^◌, ◌<◌, ◌≢◌, Option, Some, None, unwrap_or, Bool, true, false, List, [], ◌∷◌, Result, Ok, Err}
 use Rattle.rt_ids.specs.declared.names.JobId.{JobId}
 use Rattle.rt_ids.specs.declared.note.Note.TheVariants as writes
+use Rattle.rt_ids.specs.declared.order.Order.{Order}
 use Rattle.rt_ids.specs.declared.order.Order.TheVariants.{Job}
-use Rattle.rt_ids.specs.Journal.{is_told}
+use Rattle.rt_ids.specs.declared.order.Reason.{Reason}
+use Rattle.rt_ids.specs.Journal.{Journal, is_told}
 use Rattle.rt_ids.specs.Filters.{name_started}
 use Rattle.rt_ids.specs.Work.{has_work}
 use Rattle.rt_ids.specs.Lines.{line}
@@ -11,7 +13,7 @@ use Rattle.rt_ids.specs.Picks.{IsRightPick, turns}
 use Rattle.rt_ids.specs.Commands.{return_reason}
 use Rattle.rt_jobs.specs.declared.job.Step.{Step}
 use Rattle.rt_jobs.specs.declared.job.Step.TheVariants as step
-use Rattle.rt_jobs.specs.Steps.{AfterPoll, IfDone, OnYield, OwesOn}
+use Rattle.rt_jobs.specs.Steps.{AfterPoll, Owed, IfDone, OnYield, OwesOn}
 use Rattle.rt_core.specs.State.{JobOut}
 use Rattle.rt_core.specs.declared.turn.Turn.{Turn}
 use Rattle.rt_core.specs.declared.turn.Turn.TheVariants.{Start, Resume, Back, Idle}
@@ -28,9 +30,8 @@ abbrev pub IsOut : {J : Type 0} → Option (JobOut J) → J → Type 0
 IsOut None job = ⊥
 IsOut (Some out) job = out.job ≡ job
 
--- what a poll owed, what may answer it, and what it leaves of its job
-pub record IsPolled {J T : Type 0} (same : J → J → Type 0) (made : J → ℕ) (polls : J → ℕ → Step T → Option ℕ → Type 0) (answers : J → T → Type 0) (ran : AfterPoll J T) : Type 0 where
-  pub owed : polls ran.before (made ran.before) ran.step ran.told
+-- what may answer a poll, and what it leaves of its job
+pub record IsPolled {J T : Type 0} (same : J → J → Type 0) (made : J → ℕ) (polls : Owed J T) (answers : J → T → Type 0) (ran : AfterPoll J T) : Type 0 where
   pub answered : IfDone ran.step (answers ran.before)
   pub same_task : OnYield ran.step (same ran.before ran.job)
   pub later : OnYield ran.step (OwesOn made polls ran.before ran.job)
@@ -55,45 +56,47 @@ module _ {J T : Type 0} where
     pub out : new.core.out ≡ Some (record { name = name; queue = queue; job = job })
     pub took : new.took ≡ old.took
 
-  -- what a pick does, by what it answers
-  abbrev pub Picks : RecordedView J T → Result (Turn J) PickError → RecordedView J T → Type 0
-  Picks old (Ok (Start name queue job)) new = IsPick old name queue false job new
-  Picks old (Ok (Resume name queue job)) new = IsPick old name queue true job new
-  -- nothing is closed yet, so no job is handed back
-  Picks old (Ok (Back name reason order)) new = ⊥
-  Picks old (Ok Idle) new = ((queue : ℕ) → has_work queue old.journal.notes ≡ false) × (new ≡ old)
-  Picks old (Err Busy) new = (old.core.out ≢ None) × (new ≡ old)
-  Picks old (Err Spent) new =
-      (turns old.journal.notes ≡ 2 ^ 64 - 1) × ((queue : ℕ) × (has_work queue old.journal.notes ≡ true)) × (new ≡ old)
+  module _ (same : J → J → Type 0) where
+    -- the right pick hands the first job of its line back, for the reason that the journal gives, in an order of its own queue and task
+    pub record IsHandBack (old : RecordedView J T) (name : JobId) (reason : Reason) (order : Order J) (new : RecordedView J T) : Type 0 where
+      pub nobody_out : old.core.out ≡ None
+      pub turn_left : turns old.journal.notes < 2 ^ 64 - 1
+      pub queue : ℕ
+      pub runtime : ℕ
+      pub right : IsRightPick queue runtime old.journal.notes
+      pub others : List JobId
+      pub first : line queue old.journal.notes ≡ name ∷ others
+      pub returns : return_reason queue old.journal.notes ≡ Some reason
+      pub sent : J
+      pub task : order_taken old.took name ≡ Some (Job queue sent)
+      pub job : J
+      pub back : order ≡ Job queue job
+      pub same_task : same sent job
+      pub journal : new.journal ≡ with_notes (writes.Returned name reason ∷ writes.Pick queue runtime ∷ []) old.journal
+      pub out : new.core.out ≡ None
+      pub took : new.took ≡ old.took
 
-  module _ (made : J → ℕ) (polls : J → ℕ → Step T → Option ℕ → Type 0) (answers : J → T → Type 0) where
-    -- the poll of the job that was out is settled: it owes what the order under its name says, counted from the job as it was sent
+    -- what a pick does, by what it answers
+    abbrev pub Picks : RecordedView J T → Result (Turn J) PickError → RecordedView J T → Type 0
+    Picks old (Ok (Start name queue job)) new = IsPick old name queue false job new
+    Picks old (Ok (Resume name queue job)) new = IsPick old name queue true job new
+    Picks old (Ok (Back name reason order)) new = IsHandBack old name reason order new
+    Picks old (Ok Idle) new = ((queue : ℕ) → has_work queue old.journal.notes ≡ false) × (new ≡ old)
+    Picks old (Err Busy) new = (old.core.out ≢ None) × (new ≡ old)
+    Picks old (Err Spent) new =
+        (turns old.journal.notes ≡ 2 ^ 64 - 1) × ((queue : ℕ) × (has_work queue old.journal.notes ≡ true)) × (new ≡ old)
+
+  module _ (made : J → ℕ) (polls : Owed J T) (answers : J → T → Type 0) where
+    -- the poll of the job that was out is settled: what it owed with the notes of its post before and after, the job that was sent owes, counted from its own polls
     pub record Settles (old : RecordedView J T) (ran : AfterPoll J T) (spent : ℕ) (settled : Settled T) (new : RecordedView J T) : Type 0 where
       pub out : JobOut J
       pub was_out : old.core.out ≡ Some out
       pub sent : J
       pub task : order_taken old.took out.name ≡ Some (Job out.queue sent)
-      pub owed : polls sent (made sent + polls_made out.name old.journal.notes) ran.step ran.told
+      pub owed : (before after : Journal T) → polls ran.before (made ran.before) before after ran.step ran.told →
+          polls sent (made sent + polls_made out.name old.journal.notes) before after ran.step ran.told
       pub answered : IfDone ran.step (answers sent)
       pub tells : TellsStep ran.step settled
       pub journal : new.journal ≡ with_notes (settle_note out.name (unwrap_or ran.told spent) ran.step ∷ []) old.journal
       pub out_now : new.core.out ≡ None
       pub took : new.took ≡ old.took
-
-    -- a turn: the right pick is made, and the first job of that line is polled once, as its task owes
-    pub record IsTurn (old : RecordedView J T) (ran : AfterPoll J T) (spent : ℕ) (new : RecordedView J T) : Type 0 where
-      pub turn_left : turns old.journal.notes < 2 ^ 64 - 1
-      pub queue : ℕ
-      pub runtime : ℕ
-      pub right : IsRightPick queue runtime old.journal.notes
-      pub name : JobId
-      pub others : List JobId
-      pub first : line queue old.journal.notes ≡ name ∷ others
-      pub kept : return_reason queue old.journal.notes ≡ None
-      pub sent : J
-      pub task : order_taken old.took name ≡ Some (Job queue sent)
-      pub owed : polls sent (made sent + polls_made name old.journal.notes) ran.step ran.told
-      pub answered : IfDone ran.step (answers sent)
-      pub journal : new.journal ≡ with_notes (settle_note name (unwrap_or ran.told spent) ran.step ∷ poll_note name (is_told name_started name old.journal.notes) ∷ writes.Pick queue runtime ∷ []) old.journal
-      pub took : new.took ≡ old.took
-      pub out_now : new.core.out ≡ None

@@ -1,14 +1,15 @@
 //! A core beside its journal, over any ends of links.
 
-ghost use Rattle.std.specs.Prelude.{◌≡◌, ℕ, ◌+◌, ◌<◌, ◌≤◌, ◌≢◌, length, IfOk};
+ghost use Rattle.std.specs.Prelude.{◌≡◌, ℕ, ◌+◌, ◌<◌, ◌≤◌, ◌≢◌, ◌↔◌, length, None, is_some, IsSome, IsTrue, IfOk};
+ghost use Rattle.rt_ids.specs.Closing.{IsDrained, core_mode, final_count};
 ghost use Rattle.rt_ids.specs.Commands.{IsOpening};
 ghost use Rattle.rt_jobs.specs.Ready.{HasReadyJob};
 ghost use Rattle.rt_core.specs.Answers.{IsReadyTurn};
-ghost use Rattle.rt_link.specs.Calls.{Sends};
+ghost use Rattle.rt_link.specs.Calls.{Sends, Shuts};
 ghost use Rattle.rt_journal.specs.Submissions.{Submits, numbered};
 ghost use Rattle.rt_journal.specs.Recorded.{IsRecorded, desk_of};
 ghost use Rattle.rt_journal.specs.Ends.{IsOutOf, IsInOf, KeepsIn, KeepsOut, KeepsOuts, IsSameSeat};
-ghost use Rattle.rt_journal.specs.Steps.{opened_beside, IsNextIn, Receives, Delivers, CreatesQueue};
+ghost use Rattle.rt_journal.specs.Steps.{opened_beside, IsNextIn, Receives, Delivers, CreatesQueue, TellsShut};
 ghost use Rattle.rt_journal.specs.Turns.{Picks, IsOut, IsPolled, Settles};
 
 use crate::desk::RecordedDesk;
@@ -154,14 +155,58 @@ impl<J: Task<Out = u64>, A: Allocator + Clone> Recorded<J, A> {
         self.said.write(notes.as_slice());
     }
 
-    /// Picks the queue of least virtual runtime, then least number, and takes its first job out.
+    /// Shuts the gate of this sender, whose end is lent, in a core that is closed. The number is that of the last order that came through.
+    pub fn shut<I: InEnd<J>>(&mut self, end: &mut I, from: ActorNo) -> u64
+        requires beside { IsInOf from self.old (I.inward end.old) }
+        requires closed { IsSome (core_mode self.old.journal.notes) }
+        requires untold { final_count from self.old.journal.notes ≡ None }
+        requires room { length self.old.journal.notes < self.old.journal.room }
+        ensures shuts { Shuts (I.inward end.old) (I.inward end.new) result }
+        ensures tells { TellsShut self.old from result self.new }
+        ensures beside { IsInOf from self.new (I.inward end.new) }
+        ensures others { (sender : ℕ) → sender ≢ from → KeepsIn sender self.old self.new }
+        ensures outs { KeepsOuts (desk_of self.old) (desk_of self.new) }
+        ensures seat { IsSameSeat self.old self.new }
+        ensures sound { IsRecorded J.SameTask J.made J.Polls self.new }
+        ensures untouched { I.untouched end.new ≡ I.untouched end.old }
+    {
+        let count = end.shut();
+        let told = self.core.gate_shut(from, count);
+        self.said.write(told.as_slice());
+        count
+    }
+
+    /// Whether the core is closed, in either mode.
+    pub fn is_closed(&self) -> bool
+        ensures { result ≡ is_some (core_mode self.now.journal.notes) }
+    {
+        self.core.is_closed()
+    }
+
+    /// The final count of this sender's gate, if it is shut.
+    pub fn gate(&self, from: ActorNo) -> Option<u64>
+        requires { from ≤ self.now.core.cores }
+        ensures { result ≡ final_count from self.now.journal.notes }
+    {
+        self.core.gate(from)
+    }
+
+    /// Whether every gate is shut, all behind it was delivered, and no queue has work.
+    pub fn is_drained(&self) -> bool
+        ensures { IsTrue result ↔ IsDrained self.now.core.cores self.now.journal.notes }
+    {
+        self.core.is_drained()
+    }
+
+    /// Picks the queue of least virtual runtime, then least number, and takes its first job out, or hands it back if the queue or the
+    /// core is closed so.
     ///
     /// # Errors
     ///
     /// `Busy` where a job is out; otherwise `Spent` where all turns are used and a queue has work. Nothing changes.
     pub fn pick(&mut self) -> Result<Turn<J>, PickError>
         requires room { length self.old.journal.notes + 2 ≤ self.old.journal.room }
-        ensures picks { Picks self.old result self.new }
+        ensures picks { Picks J.SameTask self.old result self.new }
         ensures ready { IsReadyTurn J.done J.CanPoll result }
         ensures ins { (sender : ℕ) → KeepsIn sender self.old self.new }
         ensures outs { KeepsOuts (desk_of self.old) (desk_of self.new) }

@@ -24,6 +24,8 @@ order_joined : (sent : Order (Unit {0})) → order_text sent ≡ joined (order_w
 order_joined (order.Job queue task) = refl
 order_joined (order.Create weight) = refl
 order_joined (order.SetShares queue weight) = ap (λ text. codes "shares q" ++ text) (spaced (decimal queue) (decimal weight))
+order_joined (order.Close queue closed) = ap (λ text. codes "close q" ++ text) (spaced (decimal queue) (mode_text closed))
+order_joined (order.CloseCore closed) = refl
 
 answer_joined : (a : Answer) → answer_text a ≡ joined (answer_words a)
 answer_joined (answer.Created queue) = refl
@@ -63,6 +65,8 @@ order_some : (sent : Order (Unit {0})) → Some_words (order_words sent)
 order_some (order.Job queue task) = tt
 order_some (order.Create weight) = tt
 order_some (order.SetShares queue weight) = tt
+order_some (order.Close queue closed) = tt
+order_some (order.CloseCore closed) = tt
 
 answer_some : (a : Answer) → Some_words (answer_words a)
 answer_some (answer.Created queue) = tt

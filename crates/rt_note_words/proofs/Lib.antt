@@ -7,4 +7,6 @@ pub mod NoteTexts
 pub mod NoteReads
 pub mod NoteTells
 pub mod JoinedTexts
+pub mod WholeWords
 pub mod LineTexts
+pub mod LineShapes

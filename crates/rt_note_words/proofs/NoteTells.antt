@@ -5,24 +5,25 @@ use Rattle.std.proofs.lemmas.Bool.Decides.{nat_tests}
 use Rattle.rt_ids.specs.declared.names.JobId.{JobId}
 use Rattle.rt_ids.specs.declared.note.Note.{Note}
 use Rattle.rt_ids.specs.declared.note.Note.TheVariants as note
+use Rattle.rt_ids.specs.declared.order.Mode.{Mode}
 use Rattle.rt_ids.specs.Limits.{most_cores, last_number}
 use Rattle.rt_ids.specs.Spelled.{IsOwn, IsReceived, IsSpelledNote}
 use Rattle.rt_ids.specs.Terms.{Terms}
-use Rattle.rt_text.specs.Notes.{name_text, mode_text}
+use Rattle.rt_text.specs.Notes.{name_text}
 use Rattle.rt_note_words.specs.declared.kind.OwnKind.{OwnKind}
 use Rattle.rt_note_words.specs.declared.kind.OwnKind.TheVariants as own
 use Rattle.rt_note_words.specs.declared.kind.ReceivedKind.{ReceivedKind}
 use Rattle.rt_note_words.specs.declared.kind.ReceivedKind.TheVariants as received
 use Rattle.rt_note_words.specs.declared.kind.CoreKind.{CoreKind}
 use Rattle.rt_note_words.specs.declared.kind.CoreKind.TheVariants as inner
-use Rattle.rt_note_words.specs.Fields.{◌>>=◌, number_in, mode_of, count_of}
+use Rattle.rt_note_words.specs.Fields.{◌>>=◌, number_in, count_of}
 use Rattle.rt_note_words.specs.Kinds.{own_kind_of, received_kind_of, core_kind_of}
 use Rattle.rt_note_words.specs.Laws.{HoldsTimes}
-use Rattle.rt_note_words.specs.NoteWords.{own_rest, received_rest, core_rest, done_phrase, closed_phrase, pick_phrase, shut_phrase, own_note, received_note, core_note, if_kind, note_of}
+use Rattle.rt_note_words.specs.NoteWords.{own_rest, received_rest, core_rest, done_phrase, pick_phrase, shut_phrase, own_note, received_note, core_note, if_kind, note_of}
 use Rattle.rt_note_words.proofs.Decimals.{number_in_text}
 use Rattle.rt_note_words.proofs.FieldTexts.{queue_text_read, name_text_read, mode_text_read, back_reason_text_read, return_reason_text_read}
 use Rattle.rt_note_words.proofs.NoteTexts.{note_words}
-use Rattle.rt_note_words.proofs.PhraseTexts.{shares_text_read, order_text_read, answer_text_read, outcome_text_read}
+use Rattle.rt_note_words.proofs.PhraseTexts.{shares_text_read, queue_mode_read, order_text_read, answer_text_read, outcome_text_read}
 
 kept : (actor end : ℕ) (name : JobId) → end ≡ actor → cond (end == actor) (Some name) None ≡ Some name
 kept actor end name same = let e : (end == actor) ≡ true = grind (arith, nat_tests) in ap (λ b. cond b (Some name) None) e
@@ -63,15 +64,14 @@ count_text : (n : ℕ) → n ≤ 18446744073709551615 → count_of (decimal n) �
 count_text n small = number_in_text 0 18446744073709551615 n (omega arith) small (omega arith)
 
 pub note_tells : (terms : Terms) (written : Note ℕ) → terms.cores ≤ most_cores → IsSpelledNote terms written → HoldsTimes written → note_of terms.actor terms.cores (note_words written) ≡ Some written
-unfolding own_kind_of received_kind_of core_kind_of own_rest received_rest core_rest done_phrase closed_phrase pick_phrase shut_phrase
+unfolding own_kind_of received_kind_of core_kind_of own_rest received_rest core_rest done_phrase pick_phrase shut_phrase
 note_tells terms (note.Sent name sent) few spelled times = by_own terms (codes "sent") own.Sent name _ _ few spelled.0 refl (ap (option_map (note.Sent name)) (order_text_read sent spelled.1))
 note_tells terms (note.Took name queue) few spelled times = by_received terms (codes "took") received.Took name _ _ few spelled.0 refl refl (ap (option_map (note.Took name)) (queue_text_read queue (omega (arith, spelled.1))))
 note_tells terms (note.Back name why) few spelled times = by_received terms (codes "back") received.Back name _ _ few spelled.0 refl refl (ap (option_map (note.Back name)) (back_reason_text_read why spelled.1))
 note_tells terms (note.Answered name told) few spelled times = by_received terms (codes "answered") received.Answered name _ _ few spelled.0 refl refl (ap (option_map (note.Answered name)) (answer_text_read told spelled.1))
 note_tells terms (note.Created queue weight) few spelled times = by_core terms (codes "queue") inner.Created _ _ spelled.0 refl refl refl (ap (option_map (λ (p : ℕ × ℕ). note.Created p.0 p.1)) (shares_text_read queue weight (omega (arith, spelled.1)) spelled.2))
 note_tells terms (note.SharesSet queue weight) few spelled times = by_core terms (codes "shares") inner.SharesSet _ _ spelled.0 refl refl refl (ap (option_map (λ (p : ℕ × ℕ). note.SharesSet p.0 p.1)) (shares_text_read queue weight (omega (arith, spelled.1)) spelled.2))
-note_tells terms (note.QueueClosed queue mode) few spelled times = by_core terms (codes "closed") inner.QueueClosed _ _ spelled.0 refl refl refl
-    (ap (λ (o : Option ℕ). o >>= λ q. mode_of (mode_text mode) >>= λ m. Some (note.QueueClosed q m)) (queue_text_read queue (omega (arith, spelled.1))) ∙ ap (λ o. o >>= λ m. Some (note.QueueClosed queue m)) (mode_text_read mode))
+note_tells terms (note.QueueClosed queue mode) few spelled times = by_core terms (codes "closed") inner.QueueClosed _ _ spelled.0 refl refl refl (ap (option_map (λ (p : ℕ × Mode). note.QueueClosed p.0 p.1)) (queue_mode_read queue mode (omega (arith, spelled.1))))
 note_tells terms (note.CoreClosed mode) few spelled times = by_core terms (codes "coreclosed") inner.CoreClosed _ _ spelled refl refl refl (ap (option_map note.CoreClosed) (mode_text_read mode))
 note_tells terms (note.Pick queue runtime) few spelled times = by_core terms (codes "pick") inner.Pick _ _ spelled.0 refl refl refl
     (ap (λ (o : Option ℕ). o >>= λ q. number_in 0 340282366920938463463374607431768211455 (decimal runtime) >>= λ r. Some (note.Pick q r)) (queue_text_read queue (omega (arith, spelled.1)))

@@ -3,6 +3,7 @@ use Rattle.std.proofs.Common.{◌≡◌, ℕ, ◌<◌, ◌≤◌, List, [], ◌�
 use Rattle.rt_ids.specs.declared.names.JobId.{JobId}
 use Rattle.rt_ids.specs.declared.note.Note.{Note}
 use Rattle.rt_ids.specs.declared.note.Note.TheVariants as note
+use Rattle.rt_ids.specs.declared.order.Mode.{Mode}
 use Rattle.rt_ids.specs.Limits.{most_cores, last_number}
 use Rattle.rt_ids.specs.Spelled.{IsOwn, IsReceived, IsSpelledNote}
 use Rattle.rt_ids.specs.Terms.{Terms}
@@ -15,12 +16,12 @@ use Rattle.rt_note_words.specs.declared.kind.ReceivedKind.TheVariants as receive
 use Rattle.rt_note_words.specs.declared.kind.CoreKind.{CoreKind}
 use Rattle.rt_note_words.specs.declared.kind.CoreKind.TheVariants as inner
 use Rattle.rt_note_words.specs.Fields.{◌>>=◌, fixed, number_in, queue_of, mode_of, back_reason_of, return_reason_of, count_of, runtime_of}
-use Rattle.rt_note_words.specs.Phrases.{last, shares_phrase, order_of, answer_of, outcome_of}
-use Rattle.rt_note_words.specs.NoteWords.{own_rest, received_rest, core_rest, done_phrase, closed_phrase, pick_phrase, shut_phrase}
+use Rattle.rt_note_words.specs.Phrases.{last, shares_phrase, mode_phrase, order_of, answer_of, outcome_of}
+use Rattle.rt_note_words.specs.NoteWords.{own_rest, received_rest, core_rest, done_phrase, pick_phrase, shut_phrase}
 use Rattle.rt_note_words.proofs.Decimals.{number_in_read, number_in-none}
 use Rattle.rt_note_words.proofs.FieldTexts.{queue_word, queue_read, queue_of-none, mode_read, mode_of-none, back_reason_read, back_reason_of-none, return_reason_read, return_reason_of-none}
 use Rattle.rt_note_words.proofs.Options.{bind_some, map_some, last_some, told, fixed_some, led, alone}
-use Rattle.rt_note_words.proofs.PhraseTexts.{shares_words_read, order_words, order_read, answer_words, answer_read, outcome_words, outcome_read}
+use Rattle.rt_note_words.proofs.PhraseTexts.{shares_words_read, mode_words_read, order_words, order_read, answer_words, answer_read, outcome_words, outcome_read}
 
 -- the words of a note
 abbrev pub note_words : Note ℕ → List (List ℕ)
@@ -151,22 +152,6 @@ received_rest_read terms received.Returned name ws written mine is =
     subst (WordsOf terms (codes "returned" ∷ name_text name ∷ ws)) one.2 (ap (λ r. codes "returned" ∷ name_text name ∷ r) (end.1 ∙ ap (λ word. word ∷ []) read.0), (mine, read.1))
 
 -- the notes of a core that name no submission
-closed_read : (terms : Terms) (ws : List (List ℕ)) (written : Note ℕ) → terms.actor < terms.cores → closed_phrase ws ≡ Some written → WordsOf terms (codes "closed" ∷ ws) written
-unfolding closed_phrase
-closed_read terms ws written core is =
-    let one = bind_some (queue_of (first ws)) (λ queue. last (mode_of (second ws)) (others (others ws)) >>= λ mode. Some (note.QueueClosed queue mode)) written is in
-    let two = bind_some (last (mode_of (second ws)) (others (others ws))) (λ mode. Some (note.QueueClosed one.0 mode)) written one.2 in
-    let end = alone mode_of (others ws) two.0 mode_of-none two.1 in
-    let queue = queue_read (first ws) one.0 one.1 in
-    let same : note.QueueClosed one.0 two.0 ≡ written = cc in
-    subst (WordsOf terms (codes "closed" ∷ ws)) same (
-      ap (λ r. codes "closed" ∷ r) (
-          led queue_of ws one.0 queue_of-none one.1
-          ∙ ap (λ word. word ∷ others ws) queue.1
-          ∙ ap (λ words. queue_word one.0 ∷ words) (end.1 ∙ ap (λ word. word ∷ []) (mode_read (second ws) two.0 end.0))),
-      (core, omega (arith, queue.0)),
-    )
-
 second_is : (text : List ℕ) (rest : List (List ℕ)) → 1 ≤ length text → first rest ≡ text → rest ≡ text ∷ others rest
 second_is text [] some e = absurd (omega (arith, ap length e))
 second_is text (w ∷ rest) some e = ap (λ word. word ∷ rest) e
@@ -218,7 +203,10 @@ core_rest_read terms inner.SharesSet ws written core few is =
     let one = map_some (λ (p : ℕ × ℕ). note.SharesSet p.0 p.1) (shares_phrase ws) written is in
     let read = shares_words_read ws (one.0).0 (one.0).1 one.1 in
     subst (WordsOf terms (codes "shares" ∷ ws)) one.2 (ap (λ r. codes "shares" ∷ r) read.0, (core, omega (arith, read.1), read.2))
-core_rest_read terms inner.QueueClosed ws written core few is = closed_read terms ws written core is
+core_rest_read terms inner.QueueClosed ws written core few is =
+    let one = map_some (λ (p : ℕ × Mode). note.QueueClosed p.0 p.1) (mode_phrase ws) written is in
+    let read = mode_words_read ws (one.0).0 (one.0).1 one.1 in
+    subst (WordsOf terms (codes "closed" ∷ ws)) one.2 (ap (λ r. codes "closed" ∷ r) read.0, (core, omega (arith, read.1)))
 core_rest_read terms inner.CoreClosed ws written core few is =
     let one = map_some note.CoreClosed (last (mode_of (first ws)) (others ws)) written is in
     let end = alone mode_of ws one.0 mode_of-none one.1 in

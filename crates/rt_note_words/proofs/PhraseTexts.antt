@@ -7,17 +7,18 @@ use Rattle.rt_ids.specs.declared.note.OutcomeNote.{OutcomeNote}
 use Rattle.rt_ids.specs.declared.note.OutcomeNote.TheVariants as outcome
 use Rattle.rt_ids.specs.declared.order.Answer.{Answer}
 use Rattle.rt_ids.specs.declared.order.Answer.TheVariants as answer
+use Rattle.rt_ids.specs.declared.order.Mode.{Mode}
 use Rattle.rt_ids.specs.declared.order.Order.{Order}
 use Rattle.rt_ids.specs.declared.order.Order.TheVariants as order
 use Rattle.rt_ids.specs.Orders.{IsSpelledOrder}
 use Rattle.rt_ids.specs.Spelled.{IsSpelledAnswer, IsSpelledOutcome}
-use Rattle.rt_text.specs.Notes.{reason_text}
+use Rattle.rt_text.specs.Notes.{mode_text, reason_text}
 use Rattle.rt_words.specs.Words.{first, others, second}
-use Rattle.rt_note_words.specs.Fields.{◌>>=◌, queue_of, weight_of, count_of, reason_of, back_reason_of, return_reason_of}
-use Rattle.rt_note_words.specs.Phrases.{last, shares_phrase, order_of, plain_answer_of, answer_of, outcome_of}
+use Rattle.rt_note_words.specs.Fields.{◌>>=◌, queue_of, weight_of, count_of, mode_of, reason_of, back_reason_of, return_reason_of}
+use Rattle.rt_note_words.specs.Phrases.{last, shares_phrase, mode_phrase, closing_of, order_of, plain_answer_of, answer_of, outcome_of}
 use Rattle.rt_note_words.specs.Laws.{HoldsOut}
 use Rattle.rt_note_words.proofs.Decimals.{number_in_read, number_in_text, number_in-none}
-use Rattle.rt_note_words.proofs.FieldTexts.{queue_word, queue_read, queue_text_read, queue_of-none, reason_read, reason_text_read}
+use Rattle.rt_note_words.proofs.FieldTexts.{queue_word, queue_read, queue_text_read, queue_of-none, mode_read, mode_text_read, mode_of-none, reason_read, reason_text_read}
 use Rattle.rt_note_words.proofs.Options.{either, bind_some, map_some, chosen, told, led, alone, keyed}
 
 -- `qQ w`
@@ -45,10 +46,35 @@ shares_text_read queue weight small range =
     ap (λ (o : Option ℕ). o >>= λ q. weight_of (decimal weight) >>= λ w. Some (q, w)) (queue_text_read queue small)
     ∙ ap (λ (o : Option ℕ). o >>= λ w. Some (queue, w)) (number_in_text 1 10000 weight range.positive range.bounded (omega arith))
 
+-- `qQ MODE`
+pub mode_words_read : (ws : List (List ℕ)) (queue : ℕ) (mode : Mode) → mode_phrase ws ≡ Some (queue, mode) → (ws ≡ queue_word queue ∷ mode_text mode ∷ []) × (queue ≤ 255)
+unfolding mode_phrase
+mode_words_read ws queue mode is =
+    let one = bind_some (queue_of (first ws)) (λ q. last (mode_of (second ws)) (others (others ws)) >>= λ m. Some (q, m)) (queue, mode) is in
+    let two = bind_some (last (mode_of (second ws)) (others (others ws))) (λ m. Some (one.0, m)) (queue, mode) one.2 in
+    let pair : ◌≡◌ {A = ℕ × Mode} (one.0, two.0) (queue, mode) = cc in
+    let same_queue : one.0 ≡ queue = ap (λ (p : ℕ × Mode). p.0) pair in
+    let same_mode : two.0 ≡ mode = ap (λ (p : ℕ × Mode). p.1) pair in
+    let read = queue_read (first ws) one.0 one.1 in
+    let rest = alone mode_of (others ws) two.0 mode_of-none two.1 in (
+      led queue_of ws one.0 queue_of-none one.1
+          ∙ ap (λ word. word ∷ others ws) (read.1 ∙ ap queue_word same_queue)
+          ∙ ap (λ words. queue_word queue ∷ words) (rest.1 ∙ ap (λ word. word ∷ []) (mode_read (second ws) two.0 rest.0 ∙ ap mode_text same_mode)),
+      omega (arith, read.0),
+    )
+
+pub queue_mode_read : (queue : ℕ) (mode : Mode) → queue ≤ 255 → mode_phrase (queue_word queue ∷ mode_text mode ∷ []) ≡ Some (queue, mode)
+unfolding mode_phrase
+queue_mode_read queue mode small =
+    ap (λ (o : Option ℕ). o >>= λ q. mode_of (mode_text mode) >>= λ m. Some (q, m)) (queue_text_read queue small)
+    ∙ ap (λ o. o >>= λ m. Some (queue, m)) (mode_text_read mode)
+
 abbrev pub order_words : Order (Unit {0}) → List (List ℕ)
 order_words (order.Job queue task) = codes "job" ∷ queue_word queue ∷ []
 order_words (order.Create weight) = codes "create" ∷ decimal weight ∷ []
 order_words (order.SetShares queue weight) = codes "shares" ∷ queue_word queue ∷ decimal weight ∷ []
+order_words (order.Close queue mode) = codes "close" ∷ queue_word queue ∷ mode_text mode ∷ []
+order_words (order.CloseCore mode) = codes "closecore" ∷ mode_text mode ∷ []
 
 abbrev OrderIs : List (List ℕ) → Order (Unit {0}) → Type 0
 OrderIs ws sent = (ws ≡ order_words sent) × IsSpelledOrder sent
@@ -76,18 +102,40 @@ set_read ws sent key is =
     subst (OrderIs ws) one.2
     (keyed (codes "shares") ws (omega arith) key ∙ ap (λ words. codes "shares" ∷ words) read.0, (omega (arith, read.1), read.2))
 
+close_read : (ws : List (List ℕ)) (sent : Order (Unit {0})) → bytes_eq (first ws) (codes "close") ≡ true → option_map (λ p. order.Close p.0 p.1) (mode_phrase (others ws)) ≡ Some sent → OrderIs ws sent
+close_read ws sent key is =
+    let one = map_some (λ (p : ℕ × Mode). order.Close p.0 p.1) (mode_phrase (others ws)) sent is in
+    let read = mode_words_read (others ws) (one.0).0 (one.0).1 one.1 in
+    subst (OrderIs ws) one.2
+    (keyed (codes "close") ws (omega arith) key ∙ ap (λ words. codes "close" ∷ words) read.0, omega (arith, read.1))
+
+core_read : (ws : List (List ℕ)) (sent : Order (Unit {0})) → bytes_eq (first ws) (codes "closecore") ≡ true → option_map order.CloseCore (last (mode_of (second ws)) (others (others ws))) ≡ Some sent → OrderIs ws sent
+core_read ws sent key is =
+    let one = map_some order.CloseCore (last (mode_of (second ws)) (others (others ws))) sent is in
+    let rest = alone mode_of (others ws) one.0 mode_of-none one.1 in
+    subst (OrderIs ws) one.2
+    (keyed (codes "closecore") ws (omega arith) key ∙ ap (λ words. codes "closecore" ∷ words) (rest.1 ∙ ap (λ word. word ∷ []) (mode_read (second ws) one.0 rest.0)), tt)
+
+closing_read : (ws : List (List ℕ)) (sent : Order (Unit {0})) → closing_of (first ws) (others ws) ≡ Some sent → OrderIs ws sent
+unfolding closing_of
+closing_read ws sent is =
+    either (chosen (bytes_eq (first ws) (codes "close")) _ _ sent is) (λ h. close_read ws sent h.0 h.1)
+    (λ more. either (chosen (bytes_eq (first ws) (codes "closecore")) _ _ sent more.1) (λ h. core_read ws sent h.0 h.1) (λ none. cc))
+
 pub order_read : (ws : List (List ℕ)) (sent : Order (Unit {0})) → order_of ws ≡ Some sent → OrderIs ws sent
 unfolding order_of
 order_read ws sent is =
     either (chosen (bytes_eq (first ws) (codes "job")) _ _ sent is) (λ h. job_read ws sent h.0 h.1)
     (λ more. either (chosen (bytes_eq (first ws) (codes "create")) _ _ sent more.1) (λ h. create_read ws sent h.0 h.1)
-    (λ last. either (chosen (bytes_eq (first ws) (codes "shares")) _ _ sent last.1) (λ h. set_read ws sent h.0 h.1) (λ none. cc)))
+    (λ last. either (chosen (bytes_eq (first ws) (codes "shares")) _ _ sent last.1) (λ h. set_read ws sent h.0 h.1) (λ rest. closing_read ws sent rest.1)))
 
 pub order_text_read : (sent : Order (Unit {0})) → IsSpelledOrder sent → order_of (order_words sent) ≡ Some sent
-unfolding order_of
+unfolding order_of closing_of
 order_text_read (order.Job queue task) spelled = ap (option_map (λ q. order.Job q tt)) (queue_text_read queue (omega arith))
 order_text_read (order.Create weight) spelled = ap (option_map order.Create) (number_in_text 1 10000 weight spelled.positive spelled.bounded (omega arith))
 order_text_read (order.SetShares queue weight) spelled = ap (option_map (λ (p : ℕ × ℕ). order.SetShares p.0 p.1)) (shares_text_read queue weight (omega (arith, spelled.0)) spelled.1)
+order_text_read (order.Close queue mode) spelled = ap (option_map (λ (p : ℕ × Mode). order.Close p.0 p.1)) (queue_mode_read queue mode (omega arith))
+order_text_read (order.CloseCore mode) spelled = ap (option_map order.CloseCore) (mode_text_read mode)
 
 abbrev pub answer_words : Answer → List (List ℕ)
 answer_words (answer.Created queue) = codes "created" ∷ queue_word queue ∷ []

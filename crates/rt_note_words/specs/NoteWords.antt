@@ -14,7 +14,7 @@ use Rattle.rt_note_words.specs.declared.kind.CoreKind.TheVariants as inner
 use Rattle.rt_words.specs.Words.{first, others, second, third}
 use Rattle.rt_note_words.specs.Fields.{◌>>=◌, fixed, name_of, queue_of, mode_of, back_reason_of, return_reason_of, count_of, runtime_of, number_in}
 use Rattle.rt_note_words.specs.Kinds.{own_kind_of, received_kind_of, core_kind_of}
-use Rattle.rt_note_words.specs.Phrases.{last, shares_phrase, order_of, answer_of, outcome_of}
+use Rattle.rt_note_words.specs.Phrases.{last, shares_phrase, mode_phrase, order_of, answer_of, outcome_of}
 
 -- the words behind the name in a note that its sender writes
 unfoldable pub own_rest : OwnKind → JobId → List (List ℕ) → Option (Note ℕ)
@@ -41,13 +41,6 @@ received_rest received.Yield name ws = option_map (note.Yield name) (last (count
 received_rest received.Done name ws = done_phrase name ws
 received_rest received.Returned name ws = option_map (note.Returned name) (last (return_reason_of (first ws)) (others ws))
 
--- `qQ MODE`
-unfoldable pub closed_phrase : List (List ℕ) → Option (Note ℕ)
-closed_phrase ws = do
-  queue ← queue_of (first ws)
-  mode ← last (mode_of (second ws)) (others (others ws))
-  Some (note.QueueClosed queue mode)
-
 -- `qQ at VR`
 unfoldable pub pick_phrase : List (List ℕ) → Option (Note ℕ)
 pick_phrase ws = do
@@ -66,7 +59,7 @@ shut_phrase cores ws = do
 unfoldable pub core_rest : CoreKind → ℕ → List (List ℕ) → Option (Note ℕ)
 core_rest inner.Created cores ws = option_map (λ p. note.Created p.0 p.1) (shares_phrase ws)
 core_rest inner.SharesSet cores ws = option_map (λ p. note.SharesSet p.0 p.1) (shares_phrase ws)
-core_rest inner.QueueClosed cores ws = closed_phrase ws
+core_rest inner.QueueClosed cores ws = option_map (λ p. note.QueueClosed p.0 p.1) (mode_phrase ws)
 core_rest inner.CoreClosed cores ws = option_map note.CoreClosed (last (mode_of (first ws)) (others ws))
 core_rest inner.Pick cores ws = pick_phrase ws
 core_rest inner.Shut cores ws = shut_phrase cores ws

@@ -7,7 +7,7 @@ use crate::field::{
     back_reason_of, count_of, mode_of, name_of, number_in, queue_of, return_reason_of, runtime_of,
 };
 use crate::kind::{CoreKind, OwnKind, ReceivedKind, core_kind_of, own_kind_of, received_kind_of};
-use crate::phrase::{answer_of, last, order_of, outcome_of, shares_phrase};
+use crate::phrase::{answer_of, last, mode_phrase, order_of, outcome_of, shares_phrase};
 use rt_ids::{ActorNo, JobId, LAST_NUMBER, Note};
 use rt_words::Words;
 use rt_words::field::is_word;
@@ -126,7 +126,10 @@ fn core_rest(kind: CoreKind, cores: u8, fields: &mut Words<'_>) -> Option<Note<u
             let (queue, weight) = shares_phrase(fields)?;
             Some(Note::SharesSet(queue, weight))
         }
-        CoreKind::QueueClosed => closed_phrase(fields),
+        CoreKind::QueueClosed => {
+            let (queue, mode) = mode_phrase(fields)?;
+            Some(Note::QueueClosed(queue, mode))
+        }
         CoreKind::CoreClosed => {
             let mode = mode_of(fields.next_word());
             Some(Note::CoreClosed(last(mode, fields)?))
@@ -134,16 +137,6 @@ fn core_rest(kind: CoreKind, cores: u8, fields: &mut Words<'_>) -> Option<Note<u
         CoreKind::Pick => pick_phrase(fields),
         CoreKind::Shut => shut_phrase(cores, fields),
     }
-}
-
-/// `qQ MODE`
-#[tactic(auto, unfolding(crate::specs::NoteWords::closed_phrase))]
-fn closed_phrase(fields: &mut Words<'_>) -> Option<Note<u64>>
-    ensures { result ≡ spec.closed_phrase fields.old }
-{
-    let queue = queue_of(fields.next_word())?;
-    let mode = mode_of(fields.next_word());
-    Some(Note::QueueClosed(queue, last(mode, fields)?))
 }
 
 /// `qQ at VR`

@@ -3,8 +3,8 @@
 ghost use Rattle.std.specs.Prelude.{◌≡◌};
 ghost use Rattle.rt_note_words.specs.Phrases as spec;
 
-use crate::field::{count_of, queue_of, reason_of, weight_of};
-use rt_ids::{Answer, Order, OutcomeNote, QueueNo};
+use crate::field::{count_of, mode_of, queue_of, reason_of, weight_of};
+use rt_ids::{Answer, Mode, Order, OutcomeNote, QueueNo};
 use rt_shares::Shares;
 use rt_words::Words;
 use rt_words::field::is_word;
@@ -27,6 +27,17 @@ pub(crate) fn shares_phrase(fields: &mut Words<'_>) -> Option<(QueueNo, Shares)>
     Some((queue, weight))
 }
 
+/// `qQ MODE`
+#[tactic(auto, unfolding(crate::specs::Phrases::mode_phrase))]
+pub(crate) fn mode_phrase(fields: &mut Words<'_>) -> Option<(QueueNo, Mode)>
+    ensures { result ≡ spec.mode_phrase fields.old }
+{
+    let queue = queue_of(fields.next_word())?;
+    let mode = mode_of(fields.next_word());
+    let mode = last(mode, fields)?;
+    Some((queue, mode))
+}
+
 /// ORDER
 #[tactic(auto, unfolding(crate::specs::Phrases::order_of))]
 pub(crate) fn order_of(fields: &mut Words<'_>) -> Option<Order<()>>
@@ -44,6 +55,22 @@ pub(crate) fn order_of(fields: &mut Words<'_>) -> Option<Order<()>>
     if is_word(word, "shares") {
         let (queue, weight) = shares_phrase(fields)?;
         return Some(Order::SetShares(queue, weight));
+    }
+    closing_of(word, fields)
+}
+
+/// An order that closes a queue or the core, after its first word.
+#[tactic(auto, unfolding(crate::specs::Phrases::closing_of))]
+fn closing_of(word: &[u8], fields: &mut Words<'_>) -> Option<Order<()>>
+    ensures { result ≡ spec.closing_of word.now fields.old }
+{
+    if is_word(word, "close") {
+        let (queue, mode) = mode_phrase(fields)?;
+        return Some(Order::Close(queue, mode));
+    }
+    if is_word(word, "closecore") {
+        let mode = mode_of(fields.next_word());
+        return Some(Order::CloseCore(last(mode, fields)?));
     }
     None
 }

@@ -1,6 +1,6 @@
 //! The notes of one actor.
 
-ghost use Rattle.std.specs.Prelude.{◌≡◌, ◌↔◌, ◌+◌, ◌<◌, ◌≤◌, [], ◌∷◌, ◌++◌, length, reverse, slice_get, IfOk, IsTrue};
+ghost use Rattle.std.specs.Prelude.{◌≡◌, ◌↔◌, ◌+◌, ◌<◌, ◌≤◌, [], ◌∷◌, ◌++◌, length, reverse, slice_get, IfOk, IsTrue, OnErr, OnOk};
 ghost use Rattle.rt_ids.specs.Limits.{most_notes};
 ghost use Rattle.rt_notes.specs.Journals.{free_notes, IsWithinRoom};
 
@@ -8,7 +8,7 @@ use rt_ids::Note;
 use std::alloc::{AllocError, Global};
 use std::marker::Model;
 
-/// The notes of one actor. Only the opening takes memory.
+/// The notes of one actor. Only the opening and `try_push` take memory.
 ///
 /// A contract sees the list of the notes, the newest first, and how many there may be in all.
 #[derive(Drop)]
@@ -56,6 +56,18 @@ impl<T: Copy> Journal<T> {
         ensures limits { IsWithinRoom self.new }
     {
         self.notes.push_reserved(note);
+    }
+
+    /// Adds the newest note, also where no room is left. The room is asked for as the notes grow: where it is used up, for twice as many.
+    pub fn try_push(&mut self, note: Note<T>) -> Result<(), AllocError>
+        requires few { length self.old.notes < most_notes }
+        ensures ok { OnOk result (self.new.notes ≡ note ∷ self.old.notes) }
+        ensures room { OnOk result (length self.new.notes ≤ self.new.room) }
+        ensures err { OnErr result (self.new ≡ self.old) }
+    {
+        self.notes.push(note)?;
+        self.room = self.room.max(self.notes.len() as u32);
+        Ok(())
     }
 
     /// Adds these notes one after another, so that the last of them is the newest.

@@ -1,14 +1,14 @@
 -- What a step borrows of a world: a row of links, and a link of that row.
-use Rattle.std.proofs.Common.{◌≡◌, ℕ, ◌+◌, ◌<◌, ◌≤◌, List, length, refl, sym, ◌∙◌, ap, arith, get_or, set}
-use Rattle.std.specs.Prelude.{Option, map}
+use Rattle.std.proofs.Common.{◌≡◌, ℕ, ◌<◌, ◌≤◌, List, length, sym, ◌∙◌, ap, arith, get_or, set}
+use Rattle.std.specs.Prelude.{map}
 use Rattle.std.proofs.lemmas.List.{length-map}
-use Rattle.rt_jobs.specs.declared.job.Step.{Step}
+use Rattle.rt_jobs.specs.Steps.{Owed}
 use Rattle.rt_link.specs.declared.plain.Whole.{Whole}
 use Rattle.rt_world.specs.Links.{row_of, link_at}
 use Rattle.rt_world.specs.Inside.{Parts, IsWorld}
 use Rattle.rt_world.proofs.LinkRows as by_rows
 
-module _ {J T V : Type 0} {same : J → J → Type 0} {made : J → ℕ} {polls : J → ℕ → Step T → Option ℕ → Type 0} {old : Parts J T}
+module _ {J T V : Type 0} {same : J → J → Type 0} {made : J → ℕ} {polls : Owed J T} {old : Parts J T}
     (world : IsWorld same made polls old) (items : V → List (Whole J T)) (rows : List V) (are : old.links ≡ map items rows) (sender : ℕ) (there : sender ≤ old.cores) where
   pub row_within : sender < length rows
   row_within = omega (arith, world.all_there.rows_are, ap length are, length-map rows items, there)

@@ -1,30 +1,25 @@
 -- A world at rest stays one as a core sends an order.
-use Rattle.std.proofs.Common.{◌≡◌, ◌≢◌, ℕ, ◌+◌, ◌<◌, ◌≤◌, List, length, refl, sym, ◌∙◌, ap, subst, ⊎_elim, arith, set}
-use Rattle.std.specs.Prelude.{Option, Result, map}
-use Rattle.std.proofs.lemmas.Bool.{cases_eq}
+use Rattle.std.proofs.Common.{◌≡◌, ℕ, ◌<◌, ◌≤◌, sym, ◌∙◌, ap, subst, arith}
+use Rattle.std.specs.Prelude.{Result, map}
 use Rattle.rt_ids.specs.declared.names.JobId.{JobId}
 use Rattle.rt_ids.specs.declared.order.Order.{Order}
 use Rattle.rt_ids.specs.declared.order.SendError.{SendError}
-use Rattle.rt_jobs.specs.declared.job.Step.{Step}
+use Rattle.rt_jobs.specs.Steps.{Owed}
 use Rattle.rt_link.specs.declared.plain.Whole.{Whole}
-use Rattle.rt_link.specs.Whole.{out_of, inward_of}
-use Rattle.rt_journal.specs.Submissions.{DeskView, IsWritten, terms_of_desk}
 use Rattle.rt_journal.specs.Recorded.{RecordedView, IsRecorded, desk_of}
-use Rattle.rt_journal.specs.Ends.{IsOutOf, IsInOf, KeepsIn, IsSameSeat}
-use Rattle.rt_world.specs.State.{journal_at}
+use Rattle.rt_journal.specs.Ends.{KeepsIn, IsSameSeat}
 use Rattle.rt_world.specs.Sends.{Sends, sent_reply}
-use Rattle.rt_world.specs.Links.{link_at, ChangesLink}
-use Rattle.rt_world.specs.Inside.{Parts, core_at, desks, desk_at, notes_at, seat_of, world_of, IsWorld}
-use Rattle.rt_world.proofs.Desks.{desk_at-outside, desks-core, desks-outside, journal_at-world}
-use Rattle.rt_world.proofs.LinkRows.{with_link, ChangesLink-with_link}
-use Rattle.rt_world.proofs.LinkSteps.{OnlyReceived, OnlySent, received-same, sent-same, each_link, other_link, in_stays}
-use Rattle.rt_world.proofs.SentLinks.{IsSubmitted, gate_is_open, only_sent, sends_now}
-use Rattle.rt_world.proofs.WorldAfter.{IsStep, world_after}
-use Rattle.rt_world.proofs.CoreSteps.{DidStep, desk_is, parts_now, rests}
+use Rattle.rt_world.specs.Links.{link_at}
+use Rattle.rt_world.specs.Inside.{Parts, core_at, desk_at, world_of, IsWorld}
+use Rattle.rt_world.proofs.Desks.{desks-core}
+use Rattle.rt_world.proofs.LinkRows.{with_link}
+use Rattle.rt_world.proofs.LinkSteps.{in_stays}
+use Rattle.rt_world.proofs.SentLinks.{IsSubmitted, sends_now}
+use Rattle.rt_world.proofs.CoreSteps.{desk_is, parts_now, rests}
 use Rattle.rt_world.proofs.Sending.{changes, all_sent, others_received, outs_sent}
 
 -- what a submission of a core says of it
-pub record IsSentBy {J T : Type 0} (same : J → J → Type 0) (made : J → ℕ) (polls : J → ℕ → Step T → Option ℕ → Type 0)
+pub record IsSentBy {J T : Type 0} (same : J → J → Type 0) (made : J → ℕ) (polls : Owed J T)
     (to : ℕ) (order : Order J) (view : RecordedView J T) (link : Whole J T) (answer : Result JobId (SendError J)) (now : RecordedView J T) (after : Whole J T) : Type 0 where
   pub submitted : IsSubmitted to order (desk_of view) link answer (desk_of now) after
   pub rest : now ≡ record view { journal = now.journal }
@@ -32,7 +27,7 @@ pub record IsSentBy {J T : Type 0} (same : J → J → Type 0) (made : J → ℕ
   pub ins : (from : ℕ) → KeepsIn from view now
   pub sound : IsRecorded same made polls now
 
-module _ {J T : Type 0} {same : J → J → Type 0} {made : J → ℕ} {polls : J → ℕ → Step T → Option ℕ → Type 0} {old : Parts J T}
+module _ {J T : Type 0} {same : J → J → Type 0} {made : J → ℕ} {polls : Owed J T} {old : Parts J T}
     (world : IsWorld same made polls old) (sender to : ℕ) (sender_there : sender < old.cores) (to_there : to < old.cores)
     (order : Order J) (answer : Result JobId (SendError J)) (now : RecordedView J T) (after : Whole J T)
     (core_did : IsSentBy same made polls to order (core_at sender old) (link_at sender to old.links) answer now after) where

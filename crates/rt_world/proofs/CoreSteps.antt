@@ -1,24 +1,22 @@
 -- A step of one core: what it is in its world.
-use Rattle.std.proofs.Common.{◌≡◌, ◌≢◌, ℕ, ◌+◌, ◌<◌, ◌≤◌, List, [], ◌++◌, length, refl, sym, ◌∙◌, ap, subst, arith, get_or, set, get_or-set_same, get_or-set_other, length-set}
-use Rattle.std.specs.Prelude.{Option, None, map}
+use Rattle.std.proofs.Common.{◌≡◌, ◌≢◌, ℕ, ◌+◌, ◌<◌, ◌≤◌, List, [], ◌++◌, length, sym, ◌∙◌, ap, subst, arith, get_or, set, get_or-set_same, get_or-set_other, length-set}
+use Rattle.std.specs.Prelude.{None, map}
 use Rattle.std.proofs.lemmas.List.{get_or_default}
 use Rattle.rt_ids.specs.declared.note.Note.{Note}
-use Rattle.rt_ids.specs.Journal.{Journal}
-use Rattle.rt_jobs.specs.declared.job.Step.{Step}
+use Rattle.rt_jobs.specs.Steps.{Owed}
 use Rattle.rt_link.specs.declared.plain.Whole.{Whole}
 use Rattle.rt_link.specs.Whole.{out_of, inward_of}
-use Rattle.rt_journal.specs.Submissions.{DeskView}
 use Rattle.rt_journal.specs.Recorded.{RecordedView, IsRecorded, desk_of}
 use Rattle.rt_journal.specs.Steps.{opened_beside, with_notes}
 use Rattle.rt_journal.specs.Ends.{IsOutOf, IsInOf, IsSameSeat}
-use Rattle.rt_world.specs.State.{journal_at, noted}
-use Rattle.rt_world.specs.Links.{link_at, ChangesLink}
-use Rattle.rt_world.specs.Inside.{Parts, core_at, desks, desk_at, notes_at, seat_of, world_of, IsWorld}
+use Rattle.rt_world.specs.State.{journal_at}
+use Rattle.rt_world.specs.Links.{link_at}
+use Rattle.rt_world.specs.Inside.{Parts, core_at, desk_at, notes_at, seat_of, world_of, IsWorld}
 use Rattle.rt_world.proofs.Desks.{desk_at-core, desks-core, journal_at-world, journals-noted}
 use Rattle.rt_world.proofs.LinkSteps.{OnlyReceived, OnlySent}
-use Rattle.rt_world.proofs.WorldAfter.{IsStep, new, world_after}
+use Rattle.rt_world.proofs.WorldAfter.{IsStep, world_after}
 
-module _ {J T : Type 0} {same : J → J → Type 0} {made : J → ℕ} {polls : J → ℕ → Step T → Option ℕ → Type 0} {old : Parts J T}
+module _ {J T : Type 0} {same : J → J → Type 0} {made : J → ℕ} {polls : Owed J T} {old : Parts J T}
     (world : IsWorld same made polls old) (core : ℕ) (there : core < old.cores) where
   within : core < length old.inside
   within = omega (arith, there, world.all_there.cores_are)
@@ -35,6 +33,12 @@ module _ {J T : Type 0} {same : J → J → Type 0} {made : J → ℕ} {polls : 
 
   pub room_is : (core_at core old).journal.room ≡ old.room
   room_is = sym (ap (λ desk. desk.journal.room) desk_is) ∙ ap (λ desk. desk.journal.room) (world.all_there.seats_are core (omega (arith, there)))
+
+  pub cores_are : (core_at core old).core.cores ≡ old.cores
+  cores_are = ap (λ desk. desk.cores) (sym desk_is ∙ world.all_there.seats_are core (omega (arith, there)))
+
+  pub number_is : (core_at core old).core.core ≡ core
+  number_is = ap (λ desk. desk.actor) (sym desk_is ∙ world.all_there.seats_are core (omega (arith, there)))
 
   -- the core that a call borrows is the one of this number
   pub viewed : (view : RecordedView J T) → view ≡ get_or old.inside core view → view ≡ core_at core old

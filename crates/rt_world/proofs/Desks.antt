@@ -1,12 +1,11 @@
 -- The world that parts make, read off its actors.
-use Rattle.std.proofs.Common.{◌≡◌, ℕ, ◌+◌, ◌<◌, List, [], ◌∷◌, ◌++◌, length, refl, sym, ◌∙◌, ap, subst, arith, get_or, set}
+use Rattle.std.proofs.Common.{◌≡◌, ℕ, ◌+◌, ◌<◌, List, [], ◌∷◌, ◌++◌, length, sym, ◌∙◌, ap, subst, arith, get_or, set}
 use Rattle.std.specs.Prelude.{map}
 use Rattle.std.proofs.Math.Seq.{set-append_seam}
 use Rattle.std.proofs.lemmas.List.{length_push, length-map, get_or_push, get_or_append_left, map-set, set-append_left}
 use Rattle.std.proofs.lemmas.Option.{unwrap_or-slice_get}
 use Rattle.rt_ids.specs.declared.note.Note.{Note}
 use Rattle.rt_ids.specs.Assembly.{journal_of}
-use Rattle.rt_link.specs.declared.plain.Whole.{Whole}
 use Rattle.rt_journal.specs.Submissions.{DeskView, opened_desk}
 use Rattle.rt_journal.specs.Recorded.{RecordedView, desk_of}
 use Rattle.rt_journal.specs.Steps.{opened_beside}

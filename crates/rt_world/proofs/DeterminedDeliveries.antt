@@ -1,8 +1,8 @@
 -- A delivery has one result, unless there was no memory for a queue.
 use Rattle.std.proofs.Common.{◌≡◌, ℕ, ◌+◌, ◌<◌, Bool, true, false, List, [], ◌∷◌, ◌++◌, length, refl, sym, ◌∙◌, ap, subst, ◌⊎◌, inl, inr, ⊎_elim}
-use Rattle.std.specs.Prelude.{Option, Some, None, slice_get, nat_le}
+use Rattle.std.specs.Prelude.{Option, Some, None, nat_le}
 use Rattle.std.proofs.lemmas.List.{get_or-set_same}
-use Rattle.std.proofs.lemmas.Option.{same_Some}
+use Rattle.std.proofs.lemmas.Option.{none-some, same_Some}
 use Rattle.rt_ids.specs.declared.names.JobId.{JobId}
 use Rattle.rt_ids.specs.declared.note.Note.{Note}
 use Rattle.rt_ids.specs.declared.note.Note.TheVariants as writes
@@ -10,16 +10,15 @@ use Rattle.rt_ids.specs.declared.order.Answer.{Answer}
 use Rattle.rt_ids.specs.declared.order.Answer.TheVariants as answers
 use Rattle.rt_ids.specs.declared.order.Mode.{Mode}
 use Rattle.rt_ids.specs.declared.order.Order.{Order}
-use Rattle.rt_ids.specs.declared.order.Order.TheVariants.{Job, Create, SetShares}
+use Rattle.rt_ids.specs.declared.order.Order.TheVariants.{Job, Create, SetShares, Close, CloseCore}
 use Rattle.rt_ids.specs.Closing.{core_mode}
 use Rattle.rt_ids.specs.Commands.{created_count, IsCreationAnswer, IsAnswer, effect_note}
 use Rattle.rt_ids.specs.Journal.{Journal}
 use Rattle.rt_world.specs.declared.event.Reply.{Reply}
 use Rattle.rt_world.specs.declared.event.Reply.TheVariants as reply
-use Rattle.rt_world.specs.State.{WorldView, journal_at, sent_at, noted}
+use Rattle.rt_world.specs.State.{WorldView, journal_at, noted}
 use Rattle.rt_world.specs.Deliveries.{with_effect, IsAnswered, IsDelivery, next_place, Delivers}
 use Rattle.rt_world.specs.Determined.{tells_refusal, WasRefusedSince}
-use Rattle.rt_world.proofs.DeterminedRefusals.{tells-added}
 
 -- a creation has one answer, unless one of two says that there was no memory
 creation_once : (mode : Option Mode) (full : Bool) (next : ℕ) (answer other : Answer) → IsCreationAnswer mode full next answer → IsCreationAnswer mode full next other →
@@ -49,6 +48,10 @@ module _ {J T : Type 0} (name : JobId) (before : Journal T) where
   delivery_once (Job queue job) notes others first second = inl (first ∙ sym second)
   delivery_once (SetShares queue weight) notes others first second =
       answered_once name (SetShares queue weight) before notes others (λ answer other is is_other. inl (is ∙ sym is_other)) first second
+  delivery_once (Close queue mode) notes others first second =
+      answered_once name (Close queue mode) before notes others (λ answer other is is_other. inl (is ∙ sym is_other)) first second
+  delivery_once (CloseCore mode) notes others first second =
+      answered_once name (CloseCore mode) before notes others (λ answer other is is_other. inl (is ∙ sym is_other)) first second
   delivery_once (Create weight) notes others first second = answered_once name (Create weight) before notes others once first second
     where
       refusal_told : (answer : Answer) → answer ≡ answers.NoMemory → tells_refusal (notes_of name (Create weight) before answer) ≡ true
@@ -73,9 +76,6 @@ module _ {J T : Type 0} (core sender : ℕ) (old : WorldView J T) (there : core 
     told = told;
   }
 
-  some≢none : {A : Type 0} (found : Option A) (item : A) → found ≡ Some item → found ≡ None → ⊥
-  some≢none found item is none = cc
-
   pub delivers_once : (new other : WorldView J T) (answer other_answer : Reply J) → Delivers core sender old new answer → Delivers core sender old other other_answer →
       ((new ≡ other) × (answer ≡ other_answer)) ⊎ (WasRefusedSince old.journals new.journals ⊎ WasRefusedSince old.journals other.journals)
   delivers_once new other reply.Noted reply.Noted first second =
@@ -86,9 +86,9 @@ module _ {J T : Type 0} (core sender : ℕ) (old : WorldView J T) (there : core 
       same_order : second.0 ≡ first.0
       same_order = same_Some second.0 first.0 (sym second.1 ∙ first.1)
   delivers_once new other reply.Noted reply.Empty first second =
-      absurd (some≢none (slice_get (sent_at sender core old) (next_place sender core old)) first.0 first.1 second.0)
+      absurd (none-some first.0 (sym second.0 ∙ first.1))
   delivers_once new other reply.Empty reply.Noted first second =
-      absurd (some≢none (slice_get (sent_at sender core old) (next_place sender core old)) second.0 second.1 first.0)
+      absurd (none-some second.0 (sym first.0 ∙ second.1))
   delivers_once new other reply.Empty reply.Empty first second = inl (first.1 ∙ sym second.1, refl)
   delivers_once new other reply.Noted _ first second = absurd second
   delivers_once new other reply.Empty _ first second = absurd second

@@ -1,12 +1,12 @@
 -- What a journal told of a refusal, each longer one tells.
 use Rattle.std.proofs.Common.{append_assoc, ◌≡◌, ℕ, Bool, true, false, List, [], ◌∷◌, ◌++◌, length, refl, sym, ◌∙◌, ap, subst, ⊎_elim, get_or, set}
-use Rattle.std.specs.Prelude.{Option, ◌||◌}
+use Rattle.std.specs.Prelude.{◌||◌}
 use Rattle.std.proofs.Math.Bool.{or-true}
 use Rattle.std.proofs.lemmas.Bool.{cases_eq, cases_lt}
 use Rattle.std.proofs.lemmas.List.{get_or-set_same, get_or-set_other, set_past}
 use Rattle.rt_ids.specs.declared.note.Note.{Note}
 use Rattle.rt_ids.specs.Journal.{Journal}
-use Rattle.rt_jobs.specs.declared.job.Step.{Step}
+use Rattle.rt_jobs.specs.Steps.{Owed}
 use Rattle.rt_world.specs.declared.event.Event.{Event}
 use Rattle.rt_world.specs.declared.event.Reply.{Reply}
 use Rattle.rt_world.specs.State.{WorldView, journal_at}
@@ -97,7 +97,7 @@ extends-set journals actor notes core =
     )
     (λ other. ([], get_or-set_other journals actor core (notes ++ get_or journals actor []) [] other)) (cases_eq core actor)
 
-module _ {J T : Type 0} (made : J → ℕ) (polls : J → ℕ → Step T → Option ℕ → Type 0) (answers : J → T → Type 0) where
+module _ {J T : Type 0} (made : J → ℕ) (polls : Owed J T) (answers : J → T → Type 0) where
   -- each event keeps what was told
   pub refused-happens : (event : Event J) (old new : WorldView J T) (answer : Reply J) → Happens made polls answers event old new answer → WasRefused old.journals → WasRefused new.journals
   refused-happens event old new answer happens refused =

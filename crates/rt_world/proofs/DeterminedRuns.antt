@@ -1,9 +1,8 @@
 -- A run has one result, unless there was no memory for a queue.
 use Rattle.std.proofs.Common.{◌≡◌, ℕ, List, [], ◌∷◌, refl, sym, ◌∙◌, ap, subst, ◌⊎◌, inl, inr, ⊎_elim, arith}
-use Rattle.std.specs.Prelude.{Option}
-use Rattle.rt_jobs.specs.declared.job.Step.{Step}
+use Rattle.rt_jobs.specs.Steps.{Owed}
 use Rattle.rt_world.specs.declared.event.Event.{Event}
-use Rattle.rt_world.specs.declared.event.Event.TheVariants.{Send, Deliver, Turn}
+use Rattle.rt_world.specs.declared.event.Event.TheVariants.{Send, Deliver, Turn, Shut}
 use Rattle.rt_world.specs.declared.event.Reply.{Reply}
 use Rattle.rt_world.specs.declared.event.Reply.TheVariants as reply
 use Rattle.rt_world.specs.State.{WorldView, IsNearlyFull, assembly_of}
@@ -16,8 +15,9 @@ use Rattle.rt_world.proofs.DeterminedRefusals.{Extends, refused-earlier, refused
 use Rattle.rt_world.proofs.DeterminedSends.{sends_once}
 use Rattle.rt_world.proofs.DeterminedDeliveries.{delivers_once}
 use Rattle.rt_world.proofs.DeterminedTurns.{turns_once}
+use Rattle.rt_world.proofs.DeterminedShuts.{shuts_once}
 
-module _ {J T : Type 0} (made : J → ℕ) (polls : J → ℕ → Step T → Option ℕ → Type 0) (answers : J → T → Type 0) where
+module _ {J T : Type 0} (made : J → ℕ) (polls : Owed J T) (answers : J → T → Type 0) where
   module _ (event : Event J) (old new : WorldView J T) (answer : Reply J) where
     -- an actor of the event doesn't exist
     record IsNoActor : Type 0 where
@@ -53,6 +53,7 @@ module _ {J T : Type 0} (made : J → ℕ) (polls : J → ℕ → Step T → Opt
     steps_once (Deliver core sender) old new other answer other_answer lists there first second =
         delivers_once core sender old (omega (arith, there.0, lists.journals_are)) new other answer other_answer first second
     steps_once (Turn core spent) old new other answer other_answer lists there first second = inl (turns_once made polls answers owes core spent old new other answer other_answer first second)
+    steps_once (Shut core sender) old new other answer other_answer lists there first second = inl (shuts_once core sender old new other answer other_answer first second)
 
     module _ (event : Event J) (old new other : WorldView J T) (answer other_answer : Reply J) (lists : HasAllLists old) where
       one : IsNoActor event old new answer ⊎ (IsNoRoom event old new answer ⊎ IsStep event old new answer) →

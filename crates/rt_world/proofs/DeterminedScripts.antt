@@ -1,6 +1,7 @@
 -- A poll of a script job owes one step and one time, so a run of script jobs has one result.
 use Rattle.std.proofs.Common.{◌≡◌, ℕ, sym, ◌∙◌}
 use Rattle.std.specs.Prelude.{Option, Some, None, slice_get}
+use Rattle.rt_ids.specs.Journal.{Journal}
 use Rattle.rt_jobs.specs.declared.job.Step.{Step}
 use Rattle.rt_jobs.specs.declared.poll.Poll.{Poll}
 use Rattle.rt_jobs.specs.declared.poll.Poll.TheVariants as poll
@@ -9,20 +10,17 @@ use Rattle.rt_world.specs.Determined.{OwesOne}
 use Rattle.rt_world.specs.ScriptRuns.{script_made, ScriptPolls, ScriptAnswers, ScriptRunIsDetermined}
 use Rattle.rt_world.proofs.DeterminedRuns.{run_once}
 
-one_step : (word : Option Poll) (step other : Step ℕ) (told other_told : Option ℕ) → Does word step told → Does word other other_told → step ≡ other
-one_step None step other told other_told first second = absurd first
-one_step (Some (poll.Yield time)) step other told other_told first second = first.0 ∙ sym second.0
-one_step (Some (poll.Done time value)) step other told other_told first second = first.0 ∙ sym second.0
-
-one_time : (word : Option Poll) (step other : Step ℕ) (told other_told : Option ℕ) → Does word step told → Does word other other_told → told ≡ other_told
-one_time None step other told other_told first second = absurd first
-one_time (Some (poll.Yield time)) step other told other_told first second = first.1 ∙ sym second.1
-one_time (Some (poll.Done time value)) step other told other_told first second = first.1 ∙ sym second.1
+module _ (before after other_after : Journal ℕ) (step other : Step ℕ) (told other_told : Option ℕ) where
+  one_step : (word : Option Poll) → Does word before after step told → Does word before other_after other other_told → (step ≡ other) × (told ≡ other_told)
+  one_step None first second = absurd first
+  one_step (Some (poll.Yield time)) first second = (first.1 ∙ sym second.1, first.2 ∙ sym second.2)
+  one_step (Some (poll.Submit time core queue)) first second = (first.1 ∙ sym second.1, first.2 ∙ sym second.2)
+  one_step (Some (poll.Done time value)) first second = (first.1 ∙ sym second.1, first.2 ∙ sym second.2)
 
 pub scripts_owe_one : OwesOne ScriptPolls
 scripts_owe_one = record {
-  step = λ job place step other told other_told. one_step (slice_get job.polls place) step other told other_told;
-  told = λ job place step other told other_told. one_time (slice_get job.polls place) step other told other_told;
+  step = λ job place before after other_after step other told other_told first second. (one_step before after other_after step other told other_told (slice_get job.polls place) first second).0;
+  told = λ job place before after other_after step other told other_told first second. (one_step before after other_after step other told other_told (slice_get job.polls place) first second).1;
 }
 
 pub script_run_once : ScriptRunIsDetermined

@@ -1,9 +1,12 @@
 -- A send has one result.
-use Rattle.std.proofs.Common.{◌≡◌, ℕ, ◌+◌, ◌-◌, ◌^◌, ◌<◌, ◌≤◌, [], ◌∷◌, length, sym, ◌∙◌, ap, subst, ◌⊎◌, inl, inr, arith}
+use Rattle.std.proofs.Common.{◌≡◌, ℕ, ◌+◌, ◌-◌, ◌^◌, ◌<◌, ◌≤◌, [], ◌∷◌, length, refl, sym, ◌∙◌, ap, subst, ◌⊎◌, inl, inr, arith}
+use Rattle.std.specs.Prelude.{Option, Some, None}
+use Rattle.std.proofs.lemmas.Option.{none-some, same_Some}
 use Rattle.rt_ids.specs.declared.names.JobId.{JobId}
 use Rattle.rt_ids.specs.declared.note.Note.TheVariants as writes
 use Rattle.rt_ids.specs.declared.order.Order.{Order}
-use Rattle.rt_ids.specs.declared.order.SendError.TheVariants.{Full, Spent}
+use Rattle.rt_ids.specs.declared.order.SendError.TheVariants.{Closed, Full, Spent}
+use Rattle.rt_ids.specs.Closing.{final_count}
 use Rattle.rt_ids.specs.Filters.{accepted_orders}
 use Rattle.rt_ids.specs.Journal.{Journal}
 use Rattle.rt_ids.specs.Outstanding.{outstanding_count}
@@ -54,8 +57,11 @@ module _ {J T : Type 0} (sender core : ℕ) (order : Order J) (old : WorldView J
       number : name.number ≡ accepted + 1
       number = next.next ∙ ap (λ at. length (accepted_orders at journal) + 1) to
 
-  sorted : (new : WorldView J T) (answer : Reply J) → Sends sender core order old new answer → IsAccepted new answer ⊎ (IsFull new answer ⊎ IsSpent new answer)
-  sorted new (reply.Sent name) sends =
+  abbrev gate : Option ℕ
+  gate = final_count sender (journal_at core old)
+
+  sorted : gate ≡ None → (new : WorldView J T) (answer : Reply J) → Sends sender core order old new answer → IsAccepted new answer ⊎ (IsFull new answer ⊎ IsSpent new answer)
+  sorted is_open new (reply.Sent name) sends =
       let is = name_is name sends.0 sends.1 in
       inl (record {
         credit = subst (λ at. outstanding_count at journal < old.cap) sends.1 sends.0.credit;
@@ -63,11 +69,22 @@ module _ {J T : Type 0} (sender core : ℕ) (order : Order J) (old : WorldView J
         told = ap reply.Sent is;
         changed = sends.2 ∙ ap with_name is;
       })
-  sorted new (reply.NotSent (Full back)) sends =
+  sorted is_open new (reply.NotSent (Closed back final)) sends = absurd (none-some final (sym is_open ∙ sends.1))
+  sorted is_open new (reply.NotSent (Full back)) sends =
       inr (inl (record { no_credit = sends.1; told = ap (λ order. reply.NotSent (Full order)) sends.0; same = sends.2 }))
-  sorted new (reply.NotSent (Spent back)) sends =
+  sorted is_open new (reply.NotSent (Spent back)) sends =
       inr (inr (record { credit = sends.1; all_given = sends.2; told = ap (λ order. reply.NotSent (Spent order)) sends.0; same = sends.3 }))
-  sorted new _ sends = absurd sends
+  sorted is_open new _ sends = absurd sends
+
+  -- where the gate is shut, the sender is told its count
+  told_closed : (final : ℕ) → gate ≡ Some final → (new : WorldView J T) (answer : Reply J) → Sends sender core order old new answer →
+      (new ≡ old) × (answer ≡ reply.NotSent (Closed order final))
+  told_closed final shut new (reply.Sent name) sends = absurd (none-some final (sym sends.3 ∙ shut))
+  told_closed final shut new (reply.NotSent (Closed back count)) sends =
+      (sends.2, (λ i. reply.NotSent (Closed (sends.0 i) (same_Some count final (sym sends.1 ∙ shut) i))))
+  told_closed final shut new (reply.NotSent (Full back)) sends = absurd (none-some final (sym sends.3 ∙ shut))
+  told_closed final shut new (reply.NotSent (Spent back)) sends = absurd (none-some final (sym sends.4 ∙ shut))
+  told_closed final shut new _ sends = absurd sends
 
   module _ (new other : WorldView J T) (answer other_answer : Reply J) where
     one : IsAccepted new answer ⊎ (IsFull new answer ⊎ IsSpent new answer) → IsAccepted other other_answer ⊎ (IsFull other other_answer ⊎ IsSpent other other_answer) →
@@ -83,4 +100,11 @@ module _ {J T : Type 0} (sender core : ℕ) (order : Order J) (old : WorldView J
     one (inr (inr a)) (inr (inr b)) = (a.same ∙ sym b.same, a.told ∙ sym b.told)
 
     pub sends_once : Sends sender core order old new answer → Sends sender core order old other other_answer → (new ≡ other) × (answer ≡ other_answer)
-    sends_once first second = one (sorted new answer first) (sorted other other_answer second)
+    sends_once first second = by_gate gate refl
+      where
+        by_gate : (found : Option ℕ) → gate ≡ found → (new ≡ other) × (answer ≡ other_answer)
+        by_gate None is_open = one (sorted is_open new answer first) (sorted is_open other other_answer second)
+        by_gate (Some final) shut =
+            let a = told_closed final shut new answer first in
+            let b = told_closed final shut other other_answer second in
+            (a.0 ∙ sym b.0, a.1 ∙ sym b.1)

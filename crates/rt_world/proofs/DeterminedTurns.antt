@@ -1,10 +1,13 @@
 -- A turn has one result, if each poll owes one step and one time.
-use Rattle.std.proofs.Common.{◌≡◌, ℕ, ◌+◌, ◌-◌, ◌^◌, false, List, ◌∷◌, refl, sym, ◌∙◌, ap, subst, ⊎_elim, arith}
+use Rattle.std.proofs.Common.{◌≡◌, ℕ, ◌+◌, ◌-◌, ◌^◌, ◌<◌, ◌⊎◌, inl, inr, false, List, [], ◌∷◌, refl, sym, ◌∙◌, ap, subst, ⊎_elim, arith}
 use Rattle.std.specs.Prelude.{Option, Some, unwrap_or}
 use Rattle.std.proofs.lemmas.Bool.{true≢false}
+use Rattle.std.proofs.lemmas.Option.{none-some, same_Some}
 use Rattle.rt_ids.specs.declared.names.JobId.{JobId}
 use Rattle.rt_ids.specs.declared.order.Order.{Order}
 use Rattle.rt_ids.specs.declared.order.Order.TheVariants.{Job}
+use Rattle.rt_ids.specs.declared.order.Reason.{Reason}
+use Rattle.rt_ids.specs.Commands.{return_reason}
 use Rattle.rt_ids.specs.Keys.{KeyAtMost}
 use Rattle.rt_ids.specs.Journal.{Journal}
 use Rattle.rt_ids.specs.Lines.{line}
@@ -12,12 +15,13 @@ use Rattle.rt_ids.specs.Picks.{IsRightPick, turns}
 use Rattle.rt_ids.specs.Runtimes.{virtual_runtime}
 use Rattle.rt_ids.specs.Work.{has_work}
 use Rattle.rt_jobs.specs.declared.job.Step.{Step}
+use Rattle.rt_jobs.specs.Steps.{Owed}
 use Rattle.rt_world.specs.declared.event.Reply.{Reply}
 use Rattle.rt_world.specs.declared.event.Reply.TheVariants as reply
 use Rattle.rt_world.specs.State.{WorldView, journal_at, order_under, noted}
-use Rattle.rt_world.specs.Turns.{polls_made, IsPoll, Turns}
+use Rattle.rt_world.specs.Turns.{polls_made, IsPoll, IsHandBack, Turns}
 use Rattle.rt_world.specs.Determined.{OwesOne}
-use Rattle.rt_world.proofs.KeptLists.{turn_notes}
+use Rattle.rt_world.proofs.KeptLists.{turn_notes, back_notes}
 
 -- of two pairs that are each at most the other, the numbers are the same
 one_key : (runtime queue other_runtime other : ℕ) → KeyAtMost runtime queue other_runtime other → KeyAtMost other_runtime other runtime queue → queue ≡ other
@@ -38,64 +42,124 @@ same_head names name other rest others first second = cc
 same_job : {J : Type 0} (found : Option (Order J)) (queue other_queue : ℕ) (job other : J) → found ≡ Some (Job queue job) → found ≡ Some (Job other_queue other) → job ≡ other
 same_job found queue other_queue job other first second = cc
 
-module _ {J T : Type 0} (made : J → ℕ) (polls : J → ℕ → Step T → Option ℕ → Type 0) (answers : J → T → Type 0) (owes : OwesOne polls)
+-- a turn that is made: a turn is left, and the right pick takes the first job of its line
+record IsMade {T : Type 0} (journal : Journal T) : Type 0 where
+  left : turns journal < 2 ^ 64 - 1
+  queue : ℕ
+  runtime : ℕ
+  right : IsRightPick queue runtime journal
+  name : JobId
+  others : List JobId
+  first : line queue journal ≡ name ∷ others
+
+module _ {T : Type 0} {journal : Journal T} (first second : IsMade journal) where
+  same_queue : first.queue ≡ second.queue
+  same_queue = one_pick journal first.queue first.runtime second.queue second.runtime first.right second.right
+
+  same_runtime : first.runtime ≡ second.runtime
+  same_runtime = first.right.at ∙ (ap (λ queue. virtual_runtime queue journal) same_queue ∙ sym second.right.at)
+
+  same_name : first.name ≡ second.name
+  same_name = same_head (line first.queue journal) first.name second.name first.others second.others first.first (ap (λ queue. line queue journal) same_queue ∙ second.first)
+
+module _ {J T : Type 0} (made : J → ℕ) (polls : Owed J T) (answers : J → T → Type 0) (owes : OwesOne polls)
     (core spent : ℕ) (old : WorldView J T) where
   abbrev journal : Journal T
   journal = journal_at core old
+
+  abbrev Polls : WorldView J T → Type 0
+  Polls new = IsPoll made polls answers core spent old new
+
+  abbrev HandsBack : WorldView J T → Type 0
+  HandsBack new = IsHandBack core old new
+
+  abbrev made_by_poll : (new : WorldView J T) → Polls new → IsMade journal
+  made_by_poll new poll = record { left = poll.turn_left; queue = poll.queue; runtime = poll.runtime; right = poll.right; name = poll.name; others = poll.others; first = poll.first }
+
+  abbrev made_by_back : (new : WorldView J T) → HandsBack new → IsMade journal
+  made_by_back new back = record { left = back.turn_left; queue = back.queue; runtime = back.runtime; right = back.right; name = back.name; others = back.others; first = back.first }
+
+  made_by : (new : WorldView J T) → Polls new ⊎ HandsBack new → IsMade journal
+  made_by new turn = ⊎_elim (made_by_poll new) (made_by_back new) turn
 
   -- the world after a turn with these notes
   abbrev after : JobId → ℕ → ℕ → ℕ → Step T → WorldView J T
   after name queue runtime time step = noted core (turn_notes name queue runtime time step journal) old
 
+  abbrev after_back : JobId → Reason → ℕ → ℕ → WorldView J T
+  after_back name reason queue runtime = noted core (back_notes name reason queue runtime) old
+
   module _ (new other : WorldView J T) where
-    one_poll : IsPoll made polls answers core spent old new → IsPoll made polls answers core spent old other → new ≡ other
+    one_poll : Polls new → Polls other → new ≡ other
     one_poll first second =
-        first.notes
-        ∙ (ap (λ name. after name first.queue first.runtime (unwrap_or first.told spent) first.step) same_name
-        ∙ (ap (λ queue. after second.name queue first.runtime (unwrap_or first.told spent) first.step) same_queue
-        ∙ (ap (λ runtime. after second.name second.queue runtime (unwrap_or first.told spent) first.step) same_runtime
-        ∙ (ap (λ told. after second.name second.queue second.runtime (unwrap_or told spent) first.step) same_told
-        ∙ (ap (after second.name second.queue second.runtime (unwrap_or second.told spent)) same_step ∙ sym second.notes)))))
+        first.notes ∙ ((λ i. after (its_name i) (its_queue i) (its_runtime i) (unwrap_or (its_told i) spent) (its_step i)) ∙ sym second.notes)
       where
-        same_queue : first.queue ≡ second.queue
-        same_queue = one_pick journal first.queue first.runtime second.queue second.runtime first.right second.right
+        its_queue : first.queue ≡ second.queue
+        its_queue = same_queue (made_by_poll new first) (made_by_poll other second)
 
-        same_runtime : first.runtime ≡ second.runtime
-        same_runtime = first.right.at ∙ (ap (λ queue. virtual_runtime queue journal) same_queue ∙ sym second.right.at)
+        its_runtime : first.runtime ≡ second.runtime
+        its_runtime = same_runtime (made_by_poll new first) (made_by_poll other second)
 
-        same_name : first.name ≡ second.name
-        same_name = same_head (line first.queue journal) first.name second.name first.others second.others first.first (ap (λ queue. line queue journal) same_queue ∙ second.first)
+        its_name : first.name ≡ second.name
+        its_name = same_name (made_by_poll new first) (made_by_poll other second)
 
         its_job : first.job ≡ second.job
-        its_job = same_job (order_under first.name old) first.queue second.queue first.job second.job first.task (ap (λ name. order_under name old) same_name ∙ second.task)
+        its_job = same_job (order_under first.name old) first.queue second.queue first.job second.job first.task (ap (λ name. order_under name old) its_name ∙ second.task)
 
-        other_owed : polls first.job (made first.job + polls_made first.name journal) second.step second.told
+        other_owed : polls first.job (made first.job + polls_made first.name journal) [] [] second.step second.told
         other_owed =
-            subst (λ job. polls job (made job + polls_made first.name journal) second.step second.told) (sym its_job)
-            (subst (λ name. polls second.job (made second.job + polls_made name journal) second.step second.told) (sym same_name) second.owed)
+            subst (λ job. polls job (made job + polls_made first.name journal) [] [] second.step second.told) (sym its_job)
+            (subst (λ name. polls second.job (made second.job + polls_made name journal) [] [] second.step second.told) (sym its_name) second.owed)
 
-        same_step : first.step ≡ second.step
-        same_step = owes.step first.job (made first.job + polls_made first.name journal) first.step second.step first.told second.told first.owed other_owed
+        its_step : first.step ≡ second.step
+        its_step = owes.step first.job (made first.job + polls_made first.name journal) [] [] [] first.step second.step first.told second.told first.owed other_owed
 
-        same_told : first.told ≡ second.told
-        same_told = owes.told first.job (made first.job + polls_made first.name journal) first.step second.step first.told second.told first.owed other_owed
+        its_told : first.told ≡ second.told
+        its_told = owes.told first.job (made first.job + polls_made first.name journal) [] [] [] first.step second.step first.told second.told first.owed other_owed
 
-    -- where a poll is made, some queue has work
-    no_idle : IsPoll made polls answers core spent old new → ((queue : ℕ) → has_work queue journal ≡ false) → ⊥
-    no_idle poll idle = true≢false (sym poll.right.eligible.work ∙ idle poll.queue)
+    one_back : HandsBack new → HandsBack other → new ≡ other
+    one_back first second = first.notes ∙ ((λ i. after_back (its_name i) (its_reason i) (its_queue i) (its_runtime i)) ∙ sym second.notes)
+      where
+        its_queue : first.queue ≡ second.queue
+        its_queue = same_queue (made_by_back new first) (made_by_back other second)
 
-    no_spent : IsPoll made polls answers core spent old new → turns journal ≡ 2 ^ 64 - 1 → ⊥
-    no_spent poll used = omega (arith, poll.turn_left, used)
+        its_runtime : first.runtime ≡ second.runtime
+        its_runtime = same_runtime (made_by_back new first) (made_by_back other second)
+
+        its_name : first.name ≡ second.name
+        its_name = same_name (made_by_back new first) (made_by_back other second)
+
+        its_reason : first.reason ≡ second.reason
+        its_reason = same_Some first.reason second.reason (sym first.returns ∙ (ap (λ queue. return_reason queue journal) its_queue ∙ second.returns))
+
+    -- a queue hands its jobs back, or it doesn't
+    one_kind : Polls new → HandsBack other → ⊥
+    one_kind poll back =
+        none-some back.reason
+        (sym poll.kept ∙ (ap (λ queue. return_reason queue journal) (same_queue (made_by_poll new poll) (made_by_back other back)) ∙ back.returns))
+
+  one_turn : (new other : WorldView J T) → Polls new ⊎ HandsBack new → Polls other ⊎ HandsBack other → new ≡ other
+  one_turn new other (inl first) (inl second) = one_poll new other first second
+  one_turn new other (inl first) (inr second) = absurd (one_kind new other first second)
+  one_turn new other (inr first) (inl second) = absurd (one_kind other new second first)
+  one_turn new other (inr first) (inr second) = one_back new other first second
+
+  -- where a turn is made, some queue has work, and a turn was left
+  no_idle : IsMade journal → ((queue : ℕ) → has_work queue journal ≡ false) → ⊥
+  no_idle made idle = true≢false (sym made.right.eligible.work ∙ idle made.queue)
+
+  no_spent : IsMade journal → turns journal ≡ 2 ^ 64 - 1 → ⊥
+  no_spent made used = omega (arith, made.left, used)
 
   pub turns_once : (new other : WorldView J T) (answer other_answer : Reply J) → Turns made polls answers core spent old new answer → Turns made polls answers core spent old other other_answer →
       (new ≡ other) × (answer ≡ other_answer)
-  turns_once new other reply.Noted reply.Noted first second = (one_poll new other first second, refl)
-  turns_once new other reply.Noted reply.Idle first second = absurd (no_idle new other first second.0)
-  turns_once new other reply.Noted reply.Spent first second = absurd (no_spent new other first second.0)
-  turns_once new other reply.Idle reply.Noted first second = absurd (no_idle other new second first.0)
+  turns_once new other reply.Noted reply.Noted first second = (one_turn new other first second, refl)
+  turns_once new other reply.Noted reply.Idle first second = absurd (no_idle (made_by new first) second.0)
+  turns_once new other reply.Noted reply.Spent first second = absurd (no_spent (made_by new first) second.0)
+  turns_once new other reply.Idle reply.Noted first second = absurd (no_idle (made_by other second) first.0)
   turns_once new other reply.Idle reply.Idle first second = (first.1 ∙ sym second.1, refl)
   turns_once new other reply.Idle reply.Spent first second = absurd (true≢false (sym second.1.1 ∙ first.0 second.1.0))
-  turns_once new other reply.Spent reply.Noted first second = absurd (no_spent other new second first.0)
+  turns_once new other reply.Spent reply.Noted first second = absurd (no_spent (made_by other second) first.0)
   turns_once new other reply.Spent reply.Idle first second = absurd (true≢false (sym first.1.1 ∙ second.0 first.1.0))
   turns_once new other reply.Spent reply.Spent first second = (first.2 ∙ sym second.2, refl)
   turns_once new other reply.Noted _ first second = absurd second

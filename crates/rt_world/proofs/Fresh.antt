@@ -1,9 +1,9 @@
 -- A world as it opens: nothing was noted, and it is at rest.
-use Rattle.std.proofs.Common.{◌≡◌, ℕ, zero, suc, ◌+◌, ◌<◌, ◌≤◌, List, [], length, refl, sym, ◌∙◌, ap, subst, ⊎_elim, arith, get_or}
-use Rattle.std.specs.Prelude.{Option, Some, None}
+use Rattle.std.proofs.Common.{◌≡◌, ℕ, ◌+◌, ◌<◌, ◌≤◌, List, [], refl, sym, ◌∙◌, ap, subst, ⊎_elim, arith, get_or}
+use Rattle.std.specs.Prelude.{Some, None}
 use Rattle.std.proofs.lemmas.Bool.{cases_lt}
-use Rattle.std.proofs.lemmas.List.{get_or_past, length-map}
-use Rattle.rt_jobs.specs.declared.job.Step.{Step}
+use Rattle.std.proofs.lemmas.List.{get_or_past}
+use Rattle.rt_jobs.specs.Steps.{Owed}
 use Rattle.rt_link.specs.declared.plain.Whole.{Whole}
 use Rattle.rt_link.specs.Whole.{out_of, inward_of, fresh}
 use Rattle.rt_journal.specs.Submissions.{DeskView, IsWritten, opened_desk, terms_of_desk}
@@ -41,7 +41,7 @@ module _ {J T : Type 0} (sender core cores cap room : ℕ) where
     orders = λ name order from at. absurd (none≢some order at);
   }
 
-module _ {J T : Type 0} (same : J → J → Type 0) (made : J → ℕ) (polls : J → ℕ → Step T → Option ℕ → Type 0) (cores cap room : ℕ)
+module _ {J T : Type 0} (same : J → J → Type 0) (made : J → ℕ) (polls : Owed J T) (cores cap room : ℕ)
     (inside : List (RecordedView J T)) (outside : DeskView J T) (links : List (List (Whole J T)))
     (cores_open : AreOpened cores cap room inside) (outside_open : outside ≡ opened_desk cores cores cap room)
     (written : IsWritten (terms_of_desk outside) outside.journal.notes) (links_open : AreFresh cores cap links) where

@@ -1,8 +1,8 @@
 -- A world without its lists is refused, and a world at rest has them.
 use Rattle.std.proofs.Common.{◌≡◌, ℕ, ◌+◌, [], length, ◌⊎◌, ⊎_elim, ◌∙◌, ap, arith}
-use Rattle.std.specs.Prelude.{Option, map}
+use Rattle.std.specs.Prelude.{map}
 use Rattle.std.proofs.lemmas.List.{length-map}
-use Rattle.rt_jobs.specs.declared.job.Step.{Step}
+use Rattle.rt_jobs.specs.Steps.{Owed}
 use Rattle.rt_world.specs.State.{WorldView}
 use Rattle.rt_world.specs.Links.{row_of}
 use Rattle.rt_world.specs.Inside.{Parts, desks, world_of, IsWorld}
@@ -18,7 +18,7 @@ no_lists world hollow lists =
 pub hollow_refused : (J T : Type 0) → HollowIsRefused J T
 hollow_refused J T cores cap room world hollow = ((λ fresh. no_lists world hollow fresh.lists), (λ unbegun. no_lists world hollow unbegun.lists))
 
-module _ {J T : Type 0} {same : J → J → Type 0} {made : J → ℕ} {polls : J → ℕ → Step T → Option ℕ → Type 0} (parts : Parts J T) (world : IsWorld same made polls parts) where
+module _ {J T : Type 0} {same : J → J → Type 0} {made : J → ℕ} {polls : Owed J T} (parts : Parts J T) (world : IsWorld same made polls parts) where
   pub world_lists : HasAllLists (world_of parts)
   world_lists = record {
     journals_are = length-map (desks parts) (λ desk. desk.journal.notes) ∙ (desk_count parts ∙ ap (λ count. count + 1) world.all_there.cores_are);

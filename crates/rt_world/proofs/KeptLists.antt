@@ -1,24 +1,27 @@
 -- Each event keeps how many journals there are, and how many lists of orders.
 use Rattle.std.proofs.Common.{◌≡◌, ℕ, List, [], ◌∷◌, ◌++◌, length, refl, sym, ◌∙◌, ap, subst, ◌⊎◌, inl, inr, ⊎_elim, get_or, set}
-use Rattle.std.specs.Prelude.{Option, unwrap_or}
+use Rattle.std.specs.Prelude.{unwrap_or}
 use Rattle.std.proofs.lemmas.Bool.{cases_eq, cases_lt}
 use Rattle.std.proofs.lemmas.List.{length-set, get_or-set_same, get_or-set_other, set_past}
 use Rattle.rt_ids.specs.declared.names.JobId.{JobId}
 use Rattle.rt_ids.specs.declared.note.Note.{Note}
 use Rattle.rt_ids.specs.declared.note.Note.TheVariants as writes
 use Rattle.rt_ids.specs.declared.order.Order.{Order}
-use Rattle.rt_ids.specs.declared.order.SendError.TheVariants.{Full, Spent}
-use Rattle.rt_ids.specs.Filters.{name_started}
+use Rattle.rt_ids.specs.declared.order.Reason.{Reason}
+use Rattle.rt_ids.specs.declared.order.SendError.TheVariants.{Closed, Full, Spent}
+use Rattle.rt_ids.specs.Filters.{accepted_orders, name_started}
 use Rattle.rt_ids.specs.Journal.{Journal, is_told}
 use Rattle.rt_jobs.specs.declared.job.Step.{Step}
+use Rattle.rt_jobs.specs.Steps.{Owed}
 use Rattle.rt_world.specs.declared.event.Event.{Event}
-use Rattle.rt_world.specs.declared.event.Event.TheVariants.{Send, Deliver, Turn}
+use Rattle.rt_world.specs.declared.event.Event.TheVariants.{Send, Deliver, Turn, Shut}
 use Rattle.rt_world.specs.declared.event.Reply.{Reply}
 use Rattle.rt_world.specs.declared.event.Reply.TheVariants as reply
 use Rattle.rt_world.specs.State.{WorldView, without_job, journal_at, sent_at, noted, with_sent}
 use Rattle.rt_world.specs.Sends.{Sends}
 use Rattle.rt_world.specs.Deliveries.{Delivers}
 use Rattle.rt_world.specs.Turns.{poll_note, settle_note, Turns}
+use Rattle.rt_world.specs.Closings.{Shuts}
 use Rattle.rt_world.specs.Runs.{Steps, Happens}
 use Rattle.rt_world.specs.Opening.{HasAllLists}
 
@@ -49,6 +52,10 @@ KeepsRows-set rows row items same = record {
 abbrev pub turn_notes : {T : Type 0} → JobId → ℕ → ℕ → ℕ → Step T → Journal T → List (Note T)
 turn_notes name queue runtime time step before = settle_note name time step ∷ poll_note name (is_told name_started name before) ∷ writes.Pick queue runtime ∷ []
 
+-- the notes of a turn that hands a job back, the newest first
+abbrev pub back_notes : {T : Type 0} → JobId → Reason → ℕ → ℕ → List (Note T)
+back_notes name reason queue runtime = writes.Returned name reason ∷ writes.Pick queue runtime ∷ []
+
 module _ {J T : Type 0} where
   -- one journal is longer by some notes, and there are as many lists of orders as before
   pub record IsLonger (old new : WorldView J T) : Type 0 where
@@ -74,6 +81,7 @@ module _ {J T : Type 0} where
   sends : (sender core : ℕ) (order : Order J) (old new : WorldView J T) (answer : Reply J) → Sends sender core order old new answer → (new ≡ old) ⊎ IsLonger old new
   sends sender core order old new (reply.Sent name) happens =
       inr (record { actor = sender; notes = writes.Sent name (without_job order) ∷ []; sent = with_sent sender core order old; kept = sent_rows sender core order old; is = happens.2 })
+  sends sender core order old new (reply.NotSent (Closed back final)) happens = inl happens.2
   sends sender core order old new (reply.NotSent (Full back)) happens = inl happens.2
   sends sender core order old new (reply.NotSent (Spent back)) happens = inl happens.3
   sends sender core order old new _ happens = absurd happens
@@ -84,10 +92,19 @@ module _ {J T : Type 0} where
   delivers core sender old new reply.Empty happens = inl happens.1
   delivers core sender old new _ happens = absurd happens
 
-module _ {J T : Type 0} (made : J → ℕ) (polls : J → ℕ → Step T → Option ℕ → Type 0) (answers : J → T → Type 0) where
+  shuts : (core sender : ℕ) (old new : WorldView J T) (answer : Reply J) → Shuts core sender old new answer → (new ≡ old) ⊎ IsLonger old new
+  shuts core sender old new reply.Noted happens =
+      inr (record { actor = core; notes = writes.Shut sender (length (accepted_orders core (journal_at sender old))) ∷ []; sent = old.sent; kept = same_rows old.sent; is = happens.2 })
+  shuts core sender old new reply.NotClosed happens = inl happens.1
+  shuts core sender old new reply.AlreadyShut happens = inl happens.2
+  shuts core sender old new _ happens = absurd happens
+
+module _ {J T : Type 0} (made : J → ℕ) (polls : Owed J T) (answers : J → T → Type 0) where
   turns : (core spent : ℕ) (old new : WorldView J T) (answer : Reply J) → Turns made polls answers core spent old new answer → (new ≡ old) ⊎ IsLonger old new
-  turns core spent old new reply.Noted happens =
-      inr (record { actor = core; notes = turn_notes happens.name happens.queue happens.runtime (unwrap_or happens.told spent) happens.step (journal_at core old); sent = old.sent; kept = same_rows old.sent; is = happens.notes })
+  turns core spent old new reply.Noted (inl poll) =
+      inr (record { actor = core; notes = turn_notes poll.name poll.queue poll.runtime (unwrap_or poll.told spent) poll.step (journal_at core old); sent = old.sent; kept = same_rows old.sent; is = poll.notes })
+  turns core spent old new reply.Noted (inr back) =
+      inr (record { actor = core; notes = back_notes back.name back.reason back.queue back.runtime; sent = old.sent; kept = same_rows old.sent; is = back.notes })
   turns core spent old new reply.Idle happens = inl happens.1
   turns core spent old new reply.Spent happens = inl happens.2
   turns core spent old new _ happens = absurd happens
@@ -96,6 +113,7 @@ module _ {J T : Type 0} (made : J → ℕ) (polls : J → ℕ → Step T → Opt
   steps (Send sender core order) = sends sender core order
   steps (Deliver core sender) = delivers core sender
   steps (Turn core spent) = turns core spent
+  steps (Shut core sender) = shuts core sender
 
   -- an event changes nothing, or one journal is longer after it
   pub is_longer : (event : Event J) (old new : WorldView J T) (answer : Reply J) → Happens made polls answers event old new answer → (new ≡ old) ⊎ IsLonger old new

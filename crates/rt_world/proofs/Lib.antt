@@ -11,7 +11,9 @@ pub mod CoreSteps
 pub mod SentLinks
 pub mod Sending
 pub mod CoreSending
+pub mod Receiving
 pub mod Delivering
+pub mod Shutting
 pub mod OneTurn
 pub mod Turning
 pub mod Gathered
@@ -22,6 +24,7 @@ pub mod DeterminedRefusals
 pub mod DeterminedSends
 pub mod DeterminedDeliveries
 pub mod DeterminedTurns
+pub mod DeterminedShuts
 pub mod DeterminedRuns
 pub mod DeterminedOpenings
 pub mod DeterminedScripts

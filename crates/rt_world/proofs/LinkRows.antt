@@ -1,7 +1,7 @@
 -- Rows of links, of which one link changes.
-use Rattle.std.proofs.Common.{◌≡◌, ◌≢◌, ℕ, ◌<◌, List, [], length, get_or, set, map, sym, ap, ◌∙◌, subst, ⊎_elim, arith}
+use Rattle.std.proofs.Common.{◌≡◌, ◌≢◌, ℕ, ◌<◌, List, [], length, get_or, set, map, sym, ap, ◌∙◌, subst, ⊎_elim}
 use Rattle.std.proofs.lemmas.Bool.{cases_eq}
-use Rattle.std.proofs.lemmas.List.{get_or-map, get_or_default, length-map, length-set, map-set, get_or-set_same, get_or-set_other, set-get_or}
+use Rattle.std.proofs.lemmas.List.{get_or-map, get_or_default, length-set, map-set, get_or-set_same, get_or-set_other, set-get_or}
 use Rattle.rt_ids.specs.declared.order.Order.{Order}
 use Rattle.rt_link.specs.declared.plain.Whole.{Whole}
 use Rattle.rt_journal.proofs.NumberedOrders as by_place

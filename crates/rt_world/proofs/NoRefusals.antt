@@ -2,35 +2,40 @@
 use Rattle.std.proofs.Common.{◌≡◌, ℕ, zero, suc, ◌+◌, Bool, true, false, cond, List, [], ◌∷◌, ◌++◌, length, refl, sym, ◌∙◌, ap, subst, ◌⊎◌, inl, inr, ⊎_elim, get_or, set}
 use Rattle.std.specs.Prelude.{◌||◌, Option, Some, None, slice_get, nat_le, unwrap_or}
 use Rattle.std.proofs.lemmas.Bool.{cases_eq, cases_lt, true≢false}
+use Rattle.std.proofs.lemmas.Option.{none-some}
 use Rattle.std.proofs.lemmas.List.{get_or-set_same, get_or-set_other, set_past}
 use Rattle.rt_ids.specs.declared.names.JobId.{JobId}
 use Rattle.rt_ids.specs.declared.note.Note.{Note}
 use Rattle.rt_ids.specs.declared.note.Note.TheVariants as writes
 use Rattle.rt_ids.specs.declared.order.Answer.{Answer}
 use Rattle.rt_ids.specs.declared.order.Answer.TheVariants as told_answers
+use Rattle.rt_ids.specs.declared.order.Mode.{Mode}
 use Rattle.rt_ids.specs.declared.order.Order.{Order}
-use Rattle.rt_ids.specs.declared.order.Order.TheVariants.{Job, Create, SetShares}
+use Rattle.rt_ids.specs.declared.order.Order.TheVariants.{Job, Create, SetShares, Close, CloseCore}
 use Rattle.rt_ids.specs.declared.order.Reason.{Reason}
-use Rattle.rt_ids.specs.declared.order.SendError.TheVariants.{Full, Spent}
+use Rattle.rt_ids.specs.declared.order.SendError.TheVariants.{Closed, Full, Spent}
 use Rattle.rt_ids.specs.Commands.{created_count, refusal, effect_note}
-use Rattle.rt_ids.specs.Filters.{name_started}
+use Rattle.rt_ids.specs.Closing.{closes, core_mode, queue_mode}
+use Rattle.rt_ids.specs.Filters.{accepted_orders, name_started}
 use Rattle.rt_ids.specs.Journal.{Journal, is_told}
 use Rattle.rt_ids.specs.Commands.{IsOpening}
 use Rattle.rt_jobs.specs.declared.job.Step.{Step}
+use Rattle.rt_jobs.specs.Steps.{Owed}
 use Rattle.rt_jobs.specs.declared.job.Step.TheVariants as steps
 use Rattle.rt_world.specs.declared.event.Event.{Event}
-use Rattle.rt_world.specs.declared.event.Event.TheVariants.{Send, Deliver, Turn}
+use Rattle.rt_world.specs.declared.event.Event.TheVariants.{Send, Deliver, Turn, Shut}
 use Rattle.rt_world.specs.declared.event.Reply.{Reply}
 use Rattle.rt_world.specs.declared.event.Reply.TheVariants as reply
 use Rattle.rt_world.specs.State.{WorldView, without_job, journal_at, sent_at, noted, with_sent}
 use Rattle.rt_world.specs.Sends.{Sends}
 use Rattle.rt_world.specs.Deliveries.{entry_note, with_effect, IsDelivery, next_place, Delivers}
 use Rattle.rt_world.specs.Turns.{poll_note, settle_note, Turns}
+use Rattle.rt_world.specs.Closings.{Shuts}
 use Rattle.rt_world.specs.Runs.{Steps, Happens}
 use Rattle.rt_world.specs.Opening.{IsUnbegun}
 use Rattle.rt_world.specs.Determined.{is_refusal, tells_refusal, WasRefused, IsToldRun}
 use Rattle.rt_world.specs.Creations.{IsNoCreation, OrdersNoQueue, OrderNoQueues, RunOfJobsIsDetermined}
-use Rattle.rt_world.proofs.KeptLists.{turn_notes}
+use Rattle.rt_world.proofs.KeptLists.{turn_notes, back_notes}
 use Rattle.rt_world.proofs.DeterminedRefusals.{was_refused}
 use Rattle.rt_world.proofs.DeterminedRuns.{run_once}
 
@@ -68,12 +73,22 @@ module _ (T : Type 0) where
   taken_plain name queue None = refl
   taken_plain name queue (Some reason) = refl
 
-  abbrev shares_notes : JobId → ℕ → ℕ → Answer → List (Note T)
-  shares_notes name queue weight answer = with_effect (effect_note (SetShares queue weight) answer) (writes.Answered name answer ∷ [])
+  abbrev notes_of : JobId → Order (Unit {0}) → Answer → List (Note T)
+  notes_of name order answer = with_effect (effect_note order answer) (writes.Answered name answer ∷ [])
 
-  shares_plain : (name : JobId) (queue weight : ℕ) (there : Bool) → tells_refusal (shares_notes name queue weight (cond there told_answers.SharesSet told_answers.NoQueue)) ≡ false
+  shares_plain : (name : JobId) (queue weight : ℕ) (there : Bool) → tells_refusal (notes_of name (SetShares queue weight) (cond there told_answers.SharesSet told_answers.NoQueue)) ≡ false
   shares_plain name queue weight true = refl
   shares_plain name queue weight false = refl
+
+  close_plain : (name : JobId) (queue : ℕ) (mode : Mode) (there changes : Bool) →
+      tells_refusal (notes_of name (Close queue mode) (cond there (cond changes told_answers.Closed told_answers.AlreadyClosed) told_answers.NoQueue)) ≡ false
+  close_plain name queue mode true true = refl
+  close_plain name queue mode true false = refl
+  close_plain name queue mode false changes = refl
+
+  close_core_plain : (name : JobId) (mode : Mode) (changes : Bool) → tells_refusal (notes_of name (CloseCore mode) (cond changes told_answers.Closed told_answers.AlreadyClosed)) ≡ false
+  close_core_plain name mode true = refl
+  close_core_plain name mode false = refl
 
 module _ {T : Type 0} where
   turn_plain : (name : JobId) (queue runtime time : ℕ) (step : Step T) (started : Bool) → tells_refusal (settle_note name time step ∷ poll_note name started ∷ writes.Pick queue runtime ∷ []) ≡ false
@@ -87,13 +102,12 @@ module _ {T : Type 0} where
   opening_plain (writes.Created queue weight ∷ before) opening = opening_plain before opening
   opening_plain (_ ∷ before) opening = absurd opening
 
-some≢none : {A : Type 0} (item : A) → None ≡ Some item → ⊥
-some≢none item same = cc
-
 no_creation : {J : Type 0} (order : Order J) → ((weight : ℕ) → order ≡ Create weight → ⊥) → IsNoCreation order
 no_creation (Create weight) none = none weight refl
 no_creation (Job queue job) none = tt
 no_creation (SetShares queue weight) none = tt
+no_creation (Close queue mode) none = tt
+no_creation (CloseCore mode) none = tt
 
 module _ {J T : Type 0} where
   -- no queue was ordered, and no refusal told
@@ -103,7 +117,7 @@ module _ {J T : Type 0} where
 
   pub plain_unbegun : (world : WorldView J T) → IsUnbegun world → IsPlain world
   plain_unbegun world unbegun = record {
-    orders = λ sender core place weight at. some≢none (Create weight) (sym (ap (λ orders. slice_get orders place) (unbegun.no_order sender core)) ∙ at);
+    orders = λ sender core place weight at. none-some (Create weight) (sym (ap (λ orders. slice_get orders place) (unbegun.no_order sender core)) ∙ at);
     told = λ refused. true≢false (sym refused.1 ∙ opening_plain (journal_at refused.0 world) (unbegun.opening refused.0));
   }
 
@@ -141,6 +155,7 @@ module _ {J T : Type 0} where
   sends_plain sender core order plain_order old new (reply.Sent name) happens plain =
       subst (λ world. IsPlain world) (sym happens.2)
       (record { orders = in_rows sender core order plain_order old plain; told = not_told old sender (writes.Sent name (without_job order) ∷ []) refl plain.told })
+  sends_plain sender core order plain_order old new (reply.NotSent (Closed back final)) happens plain = subst (λ world. IsPlain world) (sym happens.2) plain
   sends_plain sender core order plain_order old new (reply.NotSent (Full back)) happens plain = subst (λ world. IsPlain world) (sym happens.2) plain
   sends_plain sender core order plain_order old new (reply.NotSent (Spent back)) happens plain = subst (λ world. IsPlain world) (sym happens.3) plain
   sends_plain sender core order plain_order old new _ happens plain = absurd happens
@@ -150,7 +165,13 @@ module _ {J T : Type 0} where
   delivery_plain name (Create weight) before notes plain delivery = absurd plain
   delivery_plain name (SetShares queue weight) before notes plain delivery =
       ap tells_refusal delivery.2
-      ∙ (ap (λ answer. tells_refusal (shares_notes T name queue weight answer)) delivery.1 ∙ shares_plain T name queue weight (nat_le queue (created_count before)))
+      ∙ (ap (λ answer. tells_refusal (notes_of T name (SetShares queue weight) answer)) delivery.1 ∙ shares_plain T name queue weight (nat_le queue (created_count before)))
+  delivery_plain name (Close queue mode) before notes plain delivery =
+      ap tells_refusal delivery.2
+      ∙ (ap (λ answer. tells_refusal (notes_of T name (Close queue mode) answer)) delivery.1 ∙ close_plain T name queue mode (nat_le queue (created_count before)) (closes (queue_mode queue before) mode))
+  delivery_plain name (CloseCore mode) before notes plain delivery =
+      ap tells_refusal delivery.2
+      ∙ (ap (λ answer. tells_refusal (notes_of T name (CloseCore mode) answer)) delivery.1 ∙ close_core_plain T name mode (closes (core_mode before) mode))
 
   delivers_plain : (core sender : ℕ) (old new : WorldView J T) (answer : Reply J) → Delivers core sender old new answer → IsPlain old → IsPlain new
   delivers_plain core sender old new reply.Noted happens plain =
@@ -165,14 +186,23 @@ module _ {J T : Type 0} where
   delivers_plain core sender old new reply.Empty happens plain = subst (λ world. IsPlain world) (sym happens.1) plain
   delivers_plain core sender old new _ happens plain = absurd happens
 
-module _ {J T : Type 0} (made : J → ℕ) (polls : J → ℕ → Step T → Option ℕ → Type 0) (answers : J → T → Type 0) where
+  shuts_plain : (core sender : ℕ) (old new : WorldView J T) (answer : Reply J) → Shuts core sender old new answer → IsPlain old → IsPlain new
+  shuts_plain core sender old new reply.Noted happens plain =
+      subst (λ world. IsPlain world) (sym happens.2) (plain_noted old core (writes.Shut sender (length (accepted_orders core (journal_at sender old))) ∷ []) refl plain)
+  shuts_plain core sender old new reply.NotClosed happens plain = subst (λ world. IsPlain world) (sym happens.1) plain
+  shuts_plain core sender old new reply.AlreadyShut happens plain = subst (λ world. IsPlain world) (sym happens.2) plain
+  shuts_plain core sender old new _ happens plain = absurd happens
+
+module _ {J T : Type 0} (made : J → ℕ) (polls : Owed J T) (answers : J → T → Type 0) where
   turns_plain : (core spent : ℕ) (old new : WorldView J T) (answer : Reply J) → Turns made polls answers core spent old new answer → IsPlain old → IsPlain new
-  turns_plain core spent old new reply.Noted happens plain =
-      subst (λ world. IsPlain world) (sym happens.notes)
+  turns_plain core spent old new reply.Noted (inl poll) plain =
+      subst (λ world. IsPlain world) (sym poll.notes)
       (
-      plain_noted old core (turn_notes happens.name happens.queue happens.runtime (unwrap_or happens.told spent) happens.step (journal_at core old))
-      (turn_plain happens.name happens.queue happens.runtime (unwrap_or happens.told spent) happens.step (is_told name_started happens.name (journal_at core old))) plain
+      plain_noted old core (turn_notes poll.name poll.queue poll.runtime (unwrap_or poll.told spent) poll.step (journal_at core old))
+      (turn_plain poll.name poll.queue poll.runtime (unwrap_or poll.told spent) poll.step (is_told name_started poll.name (journal_at core old))) plain
       )
+  turns_plain core spent old new reply.Noted (inr back) plain =
+      subst (λ world. IsPlain world) (sym back.notes) (plain_noted old core (back_notes back.name back.reason back.queue back.runtime) refl plain)
   turns_plain core spent old new reply.Idle happens plain = subst (λ world. IsPlain world) (sym happens.1) plain
   turns_plain core spent old new reply.Spent happens plain = subst (λ world. IsPlain world) (sym happens.2) plain
   turns_plain core spent old new _ happens plain = absurd happens
@@ -181,6 +211,7 @@ module _ {J T : Type 0} (made : J → ℕ) (polls : J → ℕ → Step T → Opt
   steps_plain (Send sender core order) none = sends_plain sender core order none
   steps_plain (Deliver core sender) none = delivers_plain core sender
   steps_plain (Turn core spent) none = turns_plain core spent
+  steps_plain (Shut core sender) none = shuts_plain core sender
 
   happens_plain : (event : Event J) → OrdersNoQueue event → (old new : WorldView J T) (answer : Reply J) → Happens made polls answers event old new answer → IsPlain old → IsPlain new
   happens_plain event none old new (reply.NoActor back) happens plain = subst (λ world. IsPlain world) (sym happens.2) plain

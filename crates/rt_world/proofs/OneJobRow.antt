@@ -1,5 +1,5 @@
 -- One job, from its submission to its answer.
-use Rattle.std.proofs.Common.{◌≡◌, ℕ, ◌≤◌, false, [], ◌∷◌, refl, inr, arith}
+use Rattle.std.proofs.Common.{◌≡◌, ℕ, ◌≤◌, false, [], ◌∷◌, refl, inl, inr, arith}
 use Rattle.std.specs.Prelude.{Some, ◌==◌}
 use Rattle.rt_ids.specs.declared.note.Note.TheVariants.{Sent, Took, Pick, Start, Done}
 use Rattle.rt_ids.specs.declared.order.Order.TheVariants.{Job}
@@ -50,7 +50,7 @@ module _ (room : ℕ) (enough : 100 ≤ room) where
   sends = (
     (omega arith, omega arith),
     some_room room 0 enough (omega arith),
-    (record { sender = refl; receiver = omega arith; next = refl; in_range = few_names 1 (omega arith); credit = omega arith; spelled = omega arith }, refl, refl),
+    (record { sender = refl; receiver = omega arith; next = refl; in_range = few_names 1 (omega arith); credit = omega arith; spelled = omega arith }, refl, refl, refl),
   )
 
   delivers : Happens script_made ScriptPolls ScriptAnswers (Deliver 0 0) sent delivered reply.Noted
@@ -60,7 +60,7 @@ module _ (room : ℕ) (enough : 100 ≤ room) where
   turns = (
     omega arith,
     some_room room 2 enough (omega arith),
-    record {
+    inl (record {
       turn_left = few_turns 0 (omega arith);
       queue = 0;
       runtime = 0;
@@ -73,10 +73,10 @@ module _ (room : ℕ) (enough : 100 ≤ room) where
       task = refl;
       step = steps.Done 7;
       told = Some 40;
-      owed = (refl, refl);
+      owed = (refl, refl, refl);
       answered = refl;
       notes = refl;
-    },
+    }),
   )
 
 -- the row, as it is written

@@ -1,33 +1,30 @@
 -- A pick and the poll that it begins are one turn of a core.
-use Rattle.std.proofs.Common.{◌≡◌, ℕ, ◌+◌, ◌≤◌, Bool, true, false, List, [], ◌∷◌, ◌++◌, length, refl, sym, ◌∙◌, ap, subst, arith, add-zero}
-use Rattle.std.specs.Prelude.{Option, Some, None, Result, Ok, Err, unwrap_or}
+use Rattle.std.proofs.Common.{◌≡◌, ℕ, ◌+◌, ◌≤◌, Bool, true, false, [], ◌∷◌, length, inr, sym, ◌∙◌, ap, subst, arith, add-zero}
+use Rattle.std.specs.Prelude.{Some, None, Result, Ok, Err, unwrap_or}
 use Rattle.std.proofs.lemmas.Option.{same_Some}
 use Rattle.rt_ids.specs.declared.names.JobId.{JobId}
 use Rattle.rt_ids.specs.declared.note.Note.TheVariants as writes
 use Rattle.rt_ids.specs.declared.order.Order.TheVariants.{Job}
-use Rattle.rt_ids.specs.Filters.{name_started}
-use Rattle.rt_ids.specs.Journal.{Journal, is_told}
-use Rattle.rt_jobs.specs.declared.job.Step.{Step}
-use Rattle.rt_jobs.specs.Steps.{AfterPoll}
+use Rattle.rt_ids.specs.Journal.{Journal}
+use Rattle.rt_jobs.specs.Steps.{AfterPoll, Owed}
 use Rattle.rt_core.specs.State.{JobOut}
 use Rattle.rt_core.specs.declared.turn.Turn.{Turn}
-use Rattle.rt_core.specs.declared.turn.Turn.TheVariants.{Start, Resume, Back, Idle}
+use Rattle.rt_core.specs.declared.turn.Turn.TheVariants.{Idle}
 use Rattle.rt_core.specs.declared.turn.PickError.{PickError}
 use Rattle.rt_core.specs.declared.turn.PickError.TheVariants.{Busy}
 use Rattle.rt_core.specs.declared.turn.Settled.{Settled}
-use Rattle.rt_notes.specs.Journals.{JournalView}
 use Rattle.rt_journal.specs.Polls.{polls_made, poll_note, settle_note}
 use Rattle.rt_journal.specs.Recorded.{RecordedView, IsRecorded, desk_of, order_taken}
 use Rattle.rt_journal.specs.Steps.{with_notes}
-use Rattle.rt_journal.specs.Turns.{IsPick, Picks, IsOut, Settles}
+use Rattle.rt_journal.specs.Turns.{IsPick, IsHandBack, Picks, IsOut, Settles}
 use Rattle.rt_journal.specs.Ends.{KeepsIn, KeepsOuts, IsSameSeat}
 use Rattle.rt_world.specs.declared.event.Reply.{Reply}
 use Rattle.rt_world.specs.declared.event.Reply.TheVariants as reply
 use Rattle.rt_world.specs.OneTurn.{StaysBeside, PollsOne, Turns}
-use Rattle.rt_world.specs.PickedJobs.{turn_of, TookOut, TookNone, HandsNothingBack}
+use Rattle.rt_world.specs.PickedJobs.{turn_of, TookOut, TookNone}
 
 -- what one call says of a core, of its seat and of the ends beside it
-pub record IsKeptBeside {J T : Type 0} (same : J → J → Type 0) (made : J → ℕ) (polls : J → ℕ → Step T → Option ℕ → Type 0) (old new : RecordedView J T) : Type 0 where
+pub record IsKeptBeside {J T : Type 0} (same : J → J → Type 0) (made : J → ℕ) (polls : Owed J T) (old new : RecordedView J T) : Type 0 where
   pub sound : IsRecorded same made polls new
   pub seat : IsSameSeat old new
   pub ins : (sender : ℕ) → KeepsIn sender old new
@@ -39,56 +36,37 @@ polls_made-picked : {T : Type 0} (name which : JobId) (queue runtime : ℕ) (was
 polls_made-picked name which queue runtime false notes = add-zero (polls_made which notes + 0) ∙ add-zero (polls_made which notes)
 polls_made-picked name which queue runtime true notes = add-zero (polls_made which notes + 0) ∙ add-zero (polls_made which notes)
 
-module _ {J T : Type 0} {same : J → J → Type 0} {made : J → ℕ} {polls : J → ℕ → Step T → Option ℕ → Type 0}
+module _ {J T : Type 0} {same : J → J → Type 0} {made : J → ℕ} {polls : Owed J T}
     (old : RecordedView J T) (free : old.core.out ≡ None) (picked : Result (Turn J) PickError) (middle : RecordedView J T)
-    (picks : Picks old picked middle) (kept : IsKeptBeside same made polls old middle) where
+    (picks : Picks same old picked middle) (kept : IsKeptBeside same made polls old middle) where
   pub not_busy : picked ≡ Err Busy → ⊥
-  not_busy busy = (subst (λ answer. Picks old answer middle) busy picks).0 free
+  not_busy busy = (subst (λ answer. Picks same old answer middle) busy picks).0 free
 
-  -- nothing is closed, so no job is handed back
-  pub nothing_back : HandsNothingBack picked
-  nothing_back = by_turn picked picks
-    where
-      by_turn : (picked : Result (Turn J) PickError) → Picks old picked middle → HandsNothingBack picked
-      by_turn (Ok (Start name queue job)) does = tt
-      by_turn (Ok (Resume name queue job)) does = tt
-      by_turn (Ok (Back name reason order)) does = does
-      by_turn (Ok Idle) does = tt
-      by_turn (Err error) does = tt
-
-  -- where no job is taken out, the reply is that of a turn that changes nothing
-  pub no_turn : (answers : J → T → Type 0) (spent : ℕ) (told : Reply J) → TookNone picked told → Turns made polls answers spent old middle told
-  no_turn answers spent reply.Idle none = subst (λ answer. Picks old answer middle) none picks
-  no_turn answers spent reply.Spent none = subst (λ answer. Picks old answer middle) none picks
-  no_turn answers spent (reply.Sent name) none = absurd none
-  no_turn answers spent (reply.NotSent error) none = absurd none
-  no_turn answers spent reply.Noted none = absurd none
-  no_turn answers spent reply.Empty none = absurd none
-  no_turn answers spent (reply.NoActor back) none = absurd none
-  no_turn answers spent (reply.NoRoom back) none = absurd none
+  -- where no job is taken out, the reply is that of a turn that hands one back, or changes nothing
+  pub no_turn : (answers : J → T → Type 0) (spent : ℕ) (told : Reply J) → TookNone picked told → Turns same made polls answers spent old middle told
+  no_turn answers spent reply.Noted none =
+      inr (record { name = none.0; reason = none.1; order = none.2; did = subst (λ answer. Picks same old answer middle) none.3 picks })
+  no_turn answers spent reply.Idle none = subst (λ answer. Picks same old answer middle) none picks
+  no_turn answers spent reply.Spent none = subst (λ answer. Picks same old answer middle) none picks
+  no_turn answers spent _ none = absurd none
 
   pub no_turn_stays : (told : Reply J) → TookNone picked told → StaysBeside same made polls old middle
-  no_turn_stays told none =
-      record { recorded = kept.sound; at_rest = ap (λ view. view.core.out) (by_reply told none) ∙ free; seat = kept.seat; ins = kept.ins; outs = kept.outs }
+  no_turn_stays told none = record { recorded = kept.sound; at_rest = by_reply told none; seat = kept.seat; ins = kept.ins; outs = kept.outs }
     where
-      by_reply : (told : Reply J) → TookNone picked told → middle ≡ old
-      by_reply reply.Idle none = (subst (λ answer. Picks old answer middle) none picks).1
-      by_reply reply.Spent none = (subst (λ answer. Picks old answer middle) none picks).2
-      by_reply (reply.Sent name) none = absurd none
-      by_reply (reply.NotSent error) none = absurd none
-      by_reply reply.Noted none = absurd none
-      by_reply reply.Empty none = absurd none
-      by_reply (reply.NoActor back) none = absurd none
-      by_reply (reply.NoRoom back) none = absurd none
+      by_reply : (told : Reply J) → TookNone picked told → middle.core.out ≡ None
+      by_reply reply.Noted none = let back : IsHandBack same old none.0 none.1 none.2 middle = subst (λ answer. Picks same old answer middle) none.3 picks in back.out
+      by_reply reply.Idle none = ap (λ view. view.core.out) (subst (λ answer. Picks same old answer middle) none picks).1 ∙ free
+      by_reply reply.Spent none = ap (λ view. view.core.out) (subst (λ answer. Picks same old answer middle) none picks).2 ∙ free
+      by_reply _ none = absurd none
 
   module _ (job : J) (is_job : TookOut picked job) where
     abbrev out : JobOut J
     out = record { name = is_job.name; queue = is_job.queue; job = job }
 
     pick : IsPick old is_job.name is_job.queue is_job.was_started job middle
-    pick = by_start is_job.was_started (subst (λ answer. Picks old answer middle) is_job.turn picks)
+    pick = by_start is_job.was_started (subst (λ answer. Picks same old answer middle) is_job.turn picks)
       where
-        by_start : (before : Bool) → Picks old (Ok (turn_of before is_job.name is_job.queue job)) middle → IsPick old is_job.name is_job.queue before job middle
+        by_start : (before : Bool) → Picks same old (Ok (turn_of before is_job.name is_job.queue job)) middle → IsPick old is_job.name is_job.queue before job middle
         by_start false first = first
         by_start true further = further
 
@@ -117,8 +95,8 @@ module _ {J T : Type 0} {same : J → J → Type 0} {made : J → ℕ} {polls : 
       settle_is = settles.journal ∙ ap (λ out. with_notes (settle_note out.name (unwrap_or ran.told spent) ran.step ∷ []) middle.journal) out_is
 
       -- the turn is one poll
-      pub turned : PollsOne made polls answers spent old new
-      turned = record {
+      pub turned : polls ran.before (made ran.before) [] [] ran.step ran.told → PollsOne made polls answers spent old new
+      turned owed = record {
         turn_left = pick.turn_left;
         queue = is_job.queue;
         runtime = pick.runtime;
@@ -133,7 +111,7 @@ module _ {J T : Type 0} {same : J → J → Type 0} {made : J → ℕ} {polls : 
             ∙ (ap (λ out. order_taken middle.took out.name) (sym out_is) ∙ (settles.task ∙ ap (λ out. Some (Job out.queue settles.sent)) out_is));
         step = ran.step;
         told = ran.told;
-        owed = subst (λ count. polls settles.sent (made settles.sent + count) ran.step ran.told) counted settles.owed;
+        owed = subst (λ count. polls settles.sent (made settles.sent + count) [] [] ran.step ran.told) counted (settles.owed [] [] owed);
         answered = settles.answered;
         notes =
             settle_is

@@ -1,13 +1,12 @@
 -- A run, one event longer.
 use Rattle.std.proofs.Common.{ℕ, List, [], ◌∷◌, ◌++◌, refl, subst}
-use Rattle.std.specs.Prelude.{Option}
-use Rattle.rt_jobs.specs.declared.job.Step.{Step}
+use Rattle.rt_jobs.specs.Steps.{Owed}
 use Rattle.rt_world.specs.declared.event.Event.{Event}
 use Rattle.rt_world.specs.declared.event.Reply.{Reply}
 use Rattle.rt_world.specs.State.{WorldView}
 use Rattle.rt_world.specs.Runs.{Happens, IsRun}
 
-module _ {J T : Type 0} (made : J → ℕ) (polls : J → ℕ → Step T → Option ℕ → Type 0) (answers : J → T → Type 0) where
+module _ {J T : Type 0} (made : J → ℕ) (polls : Owed J T) (answers : J → T → Type 0) where
   pub run_longer : (events : List (Event J)) (old between new : WorldView J T) (event : Event J) (answer : Reply J) →
       IsRun made polls answers events old between → Happens made polls answers event between new answer → IsRun made polls answers (events ++ event ∷ []) old new
   run_longer [] old between new event answer run happens =

@@ -1,28 +1,27 @@
 -- A world at rest stays one as the outside actor sends an order.
 use Rattle.std.proofs.Common.{◌≡◌, ◌≢◌, ℕ, ◌+◌, ◌<◌, ◌≤◌, List, length, refl, sym, ◌∙◌, ap, subst, ⊎_elim, arith, set}
-use Rattle.std.specs.Prelude.{Option, Result, map}
+use Rattle.std.specs.Prelude.{Result, map}
 use Rattle.std.proofs.lemmas.Bool.{cases_eq}
 use Rattle.rt_ids.specs.declared.names.JobId.{JobId}
 use Rattle.rt_ids.specs.declared.order.Order.{Order}
 use Rattle.rt_ids.specs.declared.order.SendError.{SendError}
-use Rattle.rt_jobs.specs.declared.job.Step.{Step}
+use Rattle.rt_jobs.specs.Steps.{Owed}
 use Rattle.rt_link.specs.declared.plain.Whole.{Whole}
-use Rattle.rt_link.specs.Whole.{out_of, inward_of}
+use Rattle.rt_link.specs.Whole.{out_of}
 use Rattle.rt_journal.specs.Submissions.{DeskView, IsWritten, terms_of_desk}
-use Rattle.rt_journal.specs.Recorded.{RecordedView, IsRecorded, desk_of}
-use Rattle.rt_journal.specs.Ends.{IsOutOf, IsInOf, KeepsIn, IsSameSeat}
+use Rattle.rt_journal.specs.Ends.{IsOutOf}
 use Rattle.rt_world.specs.State.{journal_at}
 use Rattle.rt_world.specs.Sends.{Sends, sent_reply}
 use Rattle.rt_world.specs.Links.{link_at, ChangesLink}
-use Rattle.rt_world.specs.Inside.{Parts, core_at, desks, desk_at, notes_at, seat_of, world_of, IsWorld}
-use Rattle.rt_world.proofs.Desks.{desk_at-outside, desks-core, desks-outside, journal_at-world}
+use Rattle.rt_world.specs.Inside.{Parts, desks, desk_at, world_of, IsWorld}
+use Rattle.rt_world.proofs.Desks.{desk_at-outside, desks-outside, journal_at-world}
 use Rattle.rt_world.proofs.LinkRows.{with_link, ChangesLink-with_link}
-use Rattle.rt_world.proofs.LinkSteps.{OnlyReceived, OnlySent, received-same, sent-same, each_link, other_link, in_stays}
-use Rattle.rt_world.proofs.SentLinks.{IsSubmitted, gate_is_open, only_sent, sends_now}
-use Rattle.rt_world.proofs.WorldAfter.{IsStep, world_after}
-use Rattle.rt_world.proofs.CoreSteps.{DidStep, desk_is, parts_now, rests}
+use Rattle.rt_world.proofs.LinkSteps.{OnlyReceived, OnlySent, received-same, sent-same, each_link, other_link}
+use Rattle.rt_world.proofs.SentLinks.{IsSubmitted, only_sent, sends_now}
+use Rattle.rt_world.proofs.WorldAfter.{world_after}
+use Rattle.rt_world.proofs.CoreSteps.{desk_is}
 
-module _ {J T : Type 0} {same : J → J → Type 0} {made : J → ℕ} {polls : J → ℕ → Step T → Option ℕ → Type 0} {old : Parts J T}
+module _ {J T : Type 0} {same : J → J → Type 0} {made : J → ℕ} {polls : Owed J T} {old : Parts J T}
     (world : IsWorld same made polls old) (sender to : ℕ) (there : sender ≤ old.cores) (to_there : to < old.cores)
     (order : Order J) (answer : Result JobId (SendError J)) (now : DeskView J T) (after : Whole J T)
     (did : IsSubmitted to order (desk_at sender old) (link_at sender to old.links) answer now after) where
@@ -36,7 +35,7 @@ module _ {J T : Type 0} {same : J → J → Type 0} {made : J → ℕ} {polls : 
   pub all_sent : (r e : ℕ) → OnlySent (link_at r e old.links) (link_at r e links)
   all_sent =
       each_link OnlySent sent-same old.links links sender to after changes
-      (only_sent to order (desk_at sender old) (link_at sender to old.links) answer now after did (gate_is_open world sender to there to_there))
+      (only_sent to order (desk_at sender old) (link_at sender to old.links) answer now after did)
 
   pub others_received : (r e : ℕ) → r ≢ sender → OnlyReceived (link_at r e old.links) (link_at r e links)
   others_received r e away = other_link OnlyReceived received-same old.links links sender to after changes r e (λ one two. away one)
@@ -51,7 +50,7 @@ module _ {J T : Type 0} {same : J → J → Type 0} {made : J → ℕ} {polls : 
       (cases_eq e to)
 
 -- the end is beside the actor that sends on it
-pub may_send : {J T : Type 0} {same : J → J → Type 0} {made : J → ℕ} {polls : J → ℕ → Step T → Option ℕ → Type 0} {old : Parts J T}
+pub may_send : {J T : Type 0} {same : J → J → Type 0} {made : J → ℕ} {polls : Owed J T} {old : Parts J T}
     (world : IsWorld same made polls old) (sender to : ℕ) → sender ≤ old.cores → to < old.cores → (desk : DeskView J T) → desk ≡ desk_at sender old →
     (link : Whole J T) → link ≡ link_at sender to old.links → IsOutOf to desk (out_of link) link.credited
 may_send {old = old} world sender to there to_there desk desk_is link link_is =
@@ -59,7 +58,7 @@ may_send {old = old} world sender to there to_there desk desk_is link link_is =
     (subst (λ at. IsOutOf to at (out_of (link_at sender to old.links)) (link_at sender to old.links).credited) (sym desk_is) (world.beside.outs sender to there to_there))
 
 -- the outside actor's desk, and the room that it has
-module _ {J T : Type 0} {same : J → J → Type 0} {made : J → ℕ} {polls : J → ℕ → Step T → Option ℕ → Type 0} {old : Parts J T}
+module _ {J T : Type 0} {same : J → J → Type 0} {made : J → ℕ} {polls : Owed J T} {old : Parts J T}
     (world : IsWorld same made polls old) (sender : ℕ) (is_last : sender ≡ old.cores) where
   pub outside_desk : desk_at sender old ≡ old.outside
   outside_desk = desk_at-outside old sender (world.all_there.cores_are ∙ sym is_last)
@@ -81,7 +80,7 @@ pub record IsSentOutside {J T : Type 0} (to : ℕ) (order : Order J) (desk : Des
   pub room : now.journal.room ≡ desk.journal.room
   pub written : IsWritten (terms_of_desk now) now.journal.notes
 
-module _ {J T : Type 0} {same : J → J → Type 0} {made : J → ℕ} {polls : J → ℕ → Step T → Option ℕ → Type 0} {old : Parts J T}
+module _ {J T : Type 0} {same : J → J → Type 0} {made : J → ℕ} {polls : Owed J T} {old : Parts J T}
     (world : IsWorld same made polls old) (sender to : ℕ) (is_last : sender ≡ old.cores) (to_there : to < old.cores)
     (order : Order J) (answer : Result JobId (SendError J)) (now : DeskView J T) (after : Whole J T)
     (outside_did : IsSentOutside to order old.outside (link_at sender to old.links) answer now after) where

@@ -1,48 +1,39 @@
 -- A send as its world sees it: what the link's sender did on it, and what the sender is told.
 use Rattle.std.proofs.Common.{◌≡◌, ◌≢◌, ℕ, ◌+◌, ◌<◌, ◌≤◌, Bool, true, false, List, [], ◌∷◌, ◌++◌, length, refl, sym, ◌∙◌, ap, subst, arith, get_or, set}
-use Rattle.std.specs.Prelude.{Option, Some, None, Result, Ok, Err, map}
+use Rattle.std.specs.Prelude.{Some, Result, Ok, Err, map}
+use Rattle.std.proofs.lemmas.Bool.{true≢false}
 use Rattle.std.proofs.lemmas.List.{append-nil, set-get_or}
 use Rattle.rt_ids.specs.declared.names.JobId.{JobId}
-use Rattle.rt_ids.specs.declared.note.Note.{Note}
 use Rattle.rt_ids.specs.declared.note.Note.TheVariants as writes
 use Rattle.rt_ids.specs.declared.order.Order.{Order}
 use Rattle.rt_ids.specs.declared.order.SendError.{SendError}
 use Rattle.rt_ids.specs.declared.order.SendError.TheVariants.{Closed, Full, Spent, NoCore}
-use Rattle.rt_ids.specs.Journal.{Journal, EachNote}
+use Rattle.rt_ids.specs.Journal.{Journal}
 use Rattle.rt_ids.specs.Closing.{final_count}
 use Rattle.rt_ids.specs.Filters.{accepted_orders}
 use Rattle.rt_ids.specs.Lawful.{IsNextSent}
 use Rattle.rt_ids.specs.Orders.{without_job}
 use Rattle.rt_ids.specs.Outstanding.{outstanding_count}
-use Rattle.rt_ids.specs.Terms.{Terms}
-use Rattle.rt_jobs.specs.declared.job.Step.{Step}
-use Rattle.rt_link.specs.declared.ends.Inward.{Inward}
+use Rattle.rt_jobs.specs.Steps.{Owed}
 use Rattle.rt_link.specs.declared.plain.Whole.{Whole}
 use Rattle.rt_link.specs.Calls.{Sends as SendsOn, final_of}
 use Rattle.rt_link.specs.Whole.{out_of, inward_of, gate_number, kept_by_sender}
 use Rattle.rt_journal.specs.Submissions.{DeskView, Submits, numbered, opened_desk, terms_of_desk}
 use Rattle.rt_journal.specs.Ends.{IsOutOf, KeepsOut}
-use Rattle.rt_journal.specs.Yet.{ClosesNothing}
-use Rattle.rt_world.specs.State.{WorldView, journal_at, sent_at, terms_at}
+use Rattle.rt_world.specs.State.{WorldView, journal_at, terms_at}
 use Rattle.rt_world.specs.Sends.{Sends, sent_reply}
-use Rattle.rt_world.specs.Links.{row_of, link_at, no_link}
-use Rattle.rt_world.specs.Inside.{Parts, core_at, desks, desk_at, notes_at, seat_of, world_of, IsWorld}
+use Rattle.rt_world.specs.Links.{link_at}
+use Rattle.rt_world.specs.Inside.{Parts, desks, desk_at, notes_at, world_of, IsWorld}
 use Rattle.rt_world.proofs.Desks.{journal_at-world, sent_at-world, journals-noted}
 use Rattle.rt_world.proofs.LinkRows.{with_link, sent-with_link, same_sent}
 use Rattle.rt_world.proofs.LinkSteps.{OnlySent}
+use Rattle.rt_world.proofs.CoreSteps.{journal_is}
 
--- no gate is shut where nothing was closed
-nothing_shut : {T : Type 0} (sender : ℕ) (journal : Journal T) → EachNote ClosesNothing journal → final_count sender journal ≡ None
-nothing_shut sender [] notes = refl
-nothing_shut {T} sender (note ∷ before) notes = by_note note notes.0 (nothing_shut sender before notes.1)
-  where
-    by_note : (note : Note T) → ClosesNothing note before → final_count sender before ≡ None → final_count sender (note ∷ before) ≡ None
-    by_note (writes.Shut other count) closes stays = absurd closes
-    by_note _ closes stays = stays
-
-open_end : {J T : Type 0} (inward : Inward J T) (gate : Bool) → final_of inward gate ≡ None → gate ≡ false
-open_end inward true some = cc
-open_end inward false none = refl
+one_gate : (gate other : Bool) → gate_number gate ≡ gate_number other → gate ≡ other
+one_gate true true same = refl
+one_gate true false same = absurd (omega (arith, same))
+one_gate false true same = absurd (omega (arith, same))
+one_gate false false same = refl
 
 -- what the link has sent more
 abbrev pub added : {J : Type 0} → Order J → Result JobId (SendError J) → List (Order J)
@@ -59,9 +50,10 @@ pub record IsSubmitted {J T : Type 0} (core : ℕ) (order : Order J) (desk : Des
   pub untouched : kept_by_sender after ≡ kept_by_sender link
 
 module _ {J T : Type 0} (core : ℕ) (order : Order J) (desk : DeskView J T) (link : Whole J T) (answer : Result JobId (SendError J)) (now : DeskView J T) (after : Whole J T)
-    (did : IsSubmitted core order desk link answer now after) (open_gate : link.shut ≡ false) where
-  shut_apart : (gate : Bool) → gate ≡ true → gate_number gate ≡ gate_number link.shut → ⊥
-  shut_apart gate shut same = omega (arith, same, ap gate_number shut, ap gate_number open_gate)
+    (did : IsSubmitted core order desk link answer now after) where
+  -- the sender doesn't shut the gate
+  pub same_gate : after.shut ≡ link.shut
+  same_gate = one_gate after.shut link.shut (ap (λ kept. get_or kept 2 0) did.untouched)
 
   out_is : out_of after ≡ record (out_of link) { sent = link.sent ++ added order answer }
   out_is = by_answer answer did.sends
@@ -70,7 +62,8 @@ module _ {J T : Type 0} (core : ℕ) (order : Order J) (desk : DeskView J T) (li
           out_of after ≡ record (out_of link) { sent = link.sent ++ added order answer }
       by_answer (Ok name) sends = sends.4
       by_answer (Err (Closed back final)) sends =
-          absurd (shut_apart after.shut (ap (λ out. out.closed) sends.2) (ap (λ kept. get_or kept 2 0) did.untouched))
+          let shut : true ≡ link.shut = sym (ap (λ out. out.closed) sends.2) ∙ same_gate in
+          sends.2 ∙ (λ i. record (out_of link) { sent = sym (append-nil link.sent) i; closed = shut i })
       by_answer (Err (Full back)) sends = sends.3 ∙ ap (λ orders. record (out_of link) { sent = orders }) (sym (append-nil link.sent))
       by_answer (Err (Spent back)) sends = sends.4 ∙ ap (λ orders. record (out_of link) { sent = orders }) (sym (append-nil link.sent))
       by_answer (Err (NoCore back)) sends = absurd sends
@@ -93,19 +86,23 @@ module _ {J T : Type 0} (core : ℕ) (order : Order J) (desk : DeskView J T) (li
       shut = ap (λ out. out.closed) out_is i;
     };
     sent = (added order answer, sent_is);
-    gate = λ shut. let no : true ≡ false = sym shut ∙ open_gate in cc;
+    gate = λ shut. by_answer answer shut did.sends sent_is;
   }
+    where
+      -- behind a shut gate nothing is sent
+      by_answer : (answer : Result JobId (SendError J)) → link.shut ≡ true → SendsOn (out_of link) link.credited order (out_of after) (numbered answer) →
+          after.sent ≡ link.sent ++ added order answer → after.sent ≡ link.sent
+      by_answer (Ok name) shut sends sent = absurd (true≢false (sym shut ∙ sends.0))
+      by_answer (Err error) shut sends sent = sent ∙ append-nil link.sent
 
-module _ {J T : Type 0} {same : J → J → Type 0} {made : J → ℕ} {polls : J → ℕ → Step T → Option ℕ → Type 0} {old : Parts J T}
+module _ {J T : Type 0} {same : J → J → Type 0} {made : J → ℕ} {polls : Owed J T} {old : Parts J T}
     (world : IsWorld same made polls old) (sender core : ℕ) (there : sender ≤ old.cores) (core_there : core < old.cores) where
   abbrev link : Whole J T
   link = link_at sender core old.links
 
-  -- no gate is shut by now
-  pub gate_is_open : link.shut ≡ false
-  gate_is_open =
-      open_end (inward_of link) link.shut
-      (sym (world.beside.ins sender core there core_there).gate ∙ nothing_shut sender (core_at core old).journal.notes (world.recorded core core_there).kept.closes_nothing)
+  -- the gate of the link is the one of the core's journal
+  pub gate_told : final_count sender (journal_at core (world_of old)) ≡ final_of (inward_of link) link.shut
+  gate_told = ap (final_count sender) (journal_is world core core_there) ∙ (world.beside.ins sender core there core_there).gate
 
   module _ (order : Order J) (answer : Result JobId (SendError J)) (now : DeskView J T) (after : Whole J T)
       (did : IsSubmitted core order (desk_at sender old) link answer now after) (journals : List (Journal T))
@@ -128,7 +125,7 @@ module _ {J T : Type 0} {same : J → J → Type 0} {made : J → ℕ} {polls : 
 
     -- the send is the step of its event
     pub sends_now : Sends sender core order (world_of old) later (sent_reply answer)
-    sends_now = by_answer answer did.submits (sent_is core order (desk_at sender old) link answer now after did gate_is_open) did.sends
+    sends_now = by_answer answer did.submits (sent_is core order (desk_at sender old) link answer now after did) did.sends
       where
         here : journal_at sender (world_of old) ≡ notes_at sender old
         here = journal_at-world old sender
@@ -155,20 +152,22 @@ module _ {J T : Type 0} {same : J → J → Type 0} {made : J → ℕ} {polls : 
                 (sent ∙ ap (λ orders. orders ++ order ∷ []) (sym (sent_at-world old sender core)))
                 ) i;
           },
+          gate_told ∙ ap (final_of (inward_of link)) sends.0,
         )
         by_answer (Err (Closed back final)) submits sent sends =
-            let shut : after.shut ≡ true = ap (λ out. out.closed) sends.2 in
-            let same : gate_number after.shut ≡ gate_number link.shut = ap (λ kept. get_or kept 2 0) did.untouched in
-            absurd (omega (arith, same, ap gate_number shut, ap gate_number gate_is_open))
+            let shut : link.shut ≡ true = sym (same_gate core order (desk_at sender old) link answer now after did) ∙ ap (λ out. out.closed) sends.2 in
+            (submits.0, gate_told ∙ (ap (final_of (inward_of link)) shut ∙ ap Some (sym sends.1)), unchanged submits.2 sent)
         by_answer (Err (Full back)) submits sent sends = (
           submits.0,
           subst (λ cap. cap ≤ outstanding_count core (journal_at sender (world_of old))) cap_is (subst (λ notes. (desk_at sender old).cap ≤ outstanding_count core notes) (sym here) submits.1),
           unchanged submits.2 sent,
+          gate_told ∙ ap (final_of (inward_of link)) sends.1,
         )
         by_answer (Err (Spent back)) submits sent sends = (
           submits.0,
           subst (λ cap. outstanding_count core (journal_at sender (world_of old)) < cap) cap_is (subst (λ notes. outstanding_count core notes < (desk_at sender old).cap) (sym here) submits.1),
           ap (λ notes. length (accepted_orders core notes)) here ∙ submits.2,
           unchanged submits.3 sent,
+          gate_told ∙ ap (final_of (inward_of link)) sends.1,
         )
         by_answer (Err (NoCore back)) submits sent sends = absurd submits

@@ -1,6 +1,6 @@
 -- A world at rest stays one as a core makes a turn, or creates a queue before the first event.
-use Rattle.std.proofs.Common.{◌≡◌, ◌≢◌, ℕ, ◌+◌, ◌-◌, ◌^◌, ◌<◌, ◌≤◌, List, [], ◌∷◌, ◌++◌, length, refl, sym, ◌∙◌, ap, subst, arith, set}
-use Rattle.std.specs.Prelude.{Option, Some, Result, Ok, Err, unwrap_or, slice_get}
+use Rattle.std.proofs.Common.{◌≡◌, ℕ, ◌+◌, ◌-◌, ◌^◌, ◌<◌, ◌≤◌, [], ◌∷◌, ◌++◌, inl, inr, ⊎_elim, refl, sym, ◌∙◌, ap, subst, arith, set}
+use Rattle.std.specs.Prelude.{Some, Result, Ok, Err, unwrap_or, slice_get}
 use Rattle.std.proofs.lemmas.List.{set-get_or}
 use Rattle.rt_ids.specs.declared.names.JobId.{JobId}
 use Rattle.rt_ids.specs.declared.note.Note.TheVariants as writes
@@ -12,28 +12,28 @@ use Rattle.rt_ids.specs.Journal.{is_told}
 use Rattle.rt_ids.specs.Lines.{line}
 use Rattle.rt_ids.specs.Picks.{IsRightPick, turns}
 use Rattle.rt_ids.specs.Work.{has_work}
-use Rattle.rt_jobs.specs.declared.job.Step.{Step}
+use Rattle.rt_jobs.specs.Steps.{Owed}
 use Rattle.rt_taskqueue.specs.declared.queues.CreateError.{CreateError}
 use Rattle.rt_taskqueue.specs.declared.queues.CreateError.TheVariants.{TooMany, Memory}
 use Rattle.rt_journal.specs.Polls.{polls_made, poll_note, settle_note}
-use Rattle.rt_journal.specs.Recorded.{RecordedView, desk_of, order_taken}
+use Rattle.rt_journal.specs.Recorded.{RecordedView, order_taken}
 use Rattle.rt_journal.specs.Steps.{CreatesQueue}
-use Rattle.rt_link.specs.Whole.{out_of, inward_of}
+use Rattle.rt_link.specs.Whole.{out_of}
 use Rattle.rt_journal.specs.Ends.{IsOutOf}
 use Rattle.rt_world.specs.declared.event.Reply.{Reply}
 use Rattle.rt_world.specs.declared.event.Reply.TheVariants as reply
-use Rattle.rt_world.specs.State.{journal_at, order_under, noted}
-use Rattle.rt_world.specs.Turns.{IsPoll, Turns}
+use Rattle.rt_world.specs.State.{journal_at, order_under}
+use Rattle.rt_world.specs.Turns.{IsPoll, IsHandBack, Turns}
 use Rattle.rt_world.specs.OneTurn as one
 use Rattle.rt_world.specs.Opening.{CreatesAtOpening}
 use Rattle.rt_world.specs.Links.{link_at}
-use Rattle.rt_world.specs.Inside.{Parts, core_at, desk_at, notes_at, seat_of, world_of, IsWorld}
+use Rattle.rt_world.specs.Inside.{Parts, core_at, world_of, IsWorld}
 use Rattle.rt_world.proofs.Desks.{sent_at-world}
 use Rattle.rt_world.proofs.LinkSteps.{received-same, sent-same}
 use Rattle.rt_world.proofs.OneTurn.{IsKeptBeside}
-use Rattle.rt_world.proofs.CoreSteps.{desk_is, parts_now, rests, journal_is, journals_now}
+use Rattle.rt_world.proofs.CoreSteps.{cores_are, number_is, desk_is, parts_now, rests, journal_is, journals_now}
 
-module _ {J T : Type 0} {same : J → J → Type 0} {made : J → ℕ} {polls : J → ℕ → Step T → Option ℕ → Type 0} {old : Parts J T}
+module _ {J T : Type 0} {same : J → J → Type 0} {made : J → ℕ} {polls : Owed J T} {old : Parts J T}
     (world : IsWorld same made polls old) (core : ℕ) (there : core < old.cores) (now : RecordedView J T) where
   abbrev view : RecordedView J T
   view = core_at core old
@@ -67,21 +67,12 @@ module _ {J T : Type 0} {same : J → J → Type 0} {made : J → ℕ} {polls : 
   -- the order that was delivered under a name was sent under it
   task_sent : (name : JobId) (order : Order J) → order_taken view.took name ≡ Some order → order_under name (world_of old) ≡ Some order
   task_sent name order at =
-      let sender : name.from ≤ old.cores = subst (λ cores. name.from ≤ cores) cores_are ((world.recorded core there).taken name order at).sender in
+      let sender : name.from ≤ old.cores = subst (λ cores. name.from ≤ cores) (cores_are world core there) ((world.recorded core there).taken name order at).sender in
       let found = (world.beside.ins name.from core sender there).orders name order refl at in
-      let to_is : name.to ≡ core = ap (λ id. id.to) found.1 ∙ number_is in
+      let to_is : name.to ≡ core = ap (λ id. id.to) found.1 ∙ number_is world core there in
       let place : name.number - 1 ≡ found.0 = omega (arith, ap (λ id. id.number) found.1) in
       ap (λ orders. slice_get orders (name.number - 1)) (sent_at-world old name.from name.to ∙ ap (λ to. (link_at name.from to old.links).sent) to_is)
       ∙ (ap (slice_get (link_at name.from core old.links).sent) place ∙ found.2)
-    where
-      was : desk_of view ≡ seat_of core (notes_at core old) old
-      was = sym (desk_is world core there) ∙ world.all_there.seats_are core (omega (arith, there))
-
-      cores_are : view.core.cores ≡ old.cores
-      cores_are = ap (λ desk. desk.cores) was
-
-      number_is : view.core.core ≡ core
-      number_is = ap (λ desk. desk.actor) was
 
   module _ (answers : J → T → Type 0) (spent : ℕ) where
     polled : one.PollsOne made polls answers spent view now → IsPoll made polls answers core spent (world_of old) (world_of quiet)
@@ -98,7 +89,7 @@ module _ {J T : Type 0} {same : J → J → Type 0} {made : J → ℕ} {polls : 
       task = task_sent did.name (Job did.queue did.job) did.task;
       step = did.step;
       told = did.told;
-      owed = subst (λ journal. polls did.job (made did.job + polls_made did.name journal) did.step did.told) (sym here) did.owed;
+      owed = subst (λ journal. polls did.job (made did.job + polls_made did.name journal) [] [] did.step did.told) (sym here) did.owed;
       answered = did.answered;
       notes =
           let journals =
@@ -110,16 +101,28 @@ module _ {J T : Type 0} {same : J → J → Type 0} {made : J → ℕ} {polls : 
           λ i. record { cores = old.cores; cap = old.cap; room = old.room; journals = journals i; sent = (world_of old).sent };
     }
 
+    handed_back : one.HandsOneBack same view now → IsHandBack core (world_of old) (world_of quiet)
+    handed_back did = record {
+      turn_left = subst (λ journal. turns journal < 2 ^ 64 - 1) (sym here) did.did.turn_left;
+      queue = did.did.queue;
+      runtime = did.did.runtime;
+      right = subst (IsRightPick did.did.queue did.did.runtime) (sym here) did.did.right;
+      name = did.name;
+      others = did.did.others;
+      first = ap (line did.did.queue) here ∙ did.did.first;
+      reason = did.reason;
+      returns = ap (return_reason did.did.queue) here ∙ did.did.returns;
+      notes =
+          let journals = journals_now world core there now old.links (writes.Returned did.name did.reason ∷ writes.Pick did.did.queue did.did.runtime ∷ []) did.did.journal in
+          λ i. record { cores = old.cores; cap = old.cap; room = old.room; journals = journals i; sent = (world_of old).sent };
+    }
+
     -- the turn is the step of its event
-    pub turns_now : (answer : Reply J) → one.Turns made polls answers spent view now answer → Turns made polls answers core spent (world_of old) (world_of quiet) answer
-    turns_now reply.Noted did = polled did
+    pub turns_now : (answer : Reply J) → one.Turns same made polls answers spent view now answer → Turns made polls answers core spent (world_of old) (world_of quiet) answer
+    turns_now reply.Noted did = ⊎_elim (λ poll. inl (polled poll)) (λ back. inr (handed_back back)) did
     turns_now reply.Idle did = ((λ queue. ap (has_work queue) here ∙ did.0 queue), unchanged did.1)
     turns_now reply.Spent did = (ap turns here ∙ did.0, (did.1.0, ap (has_work did.1.0) here ∙ did.1.1), unchanged did.2)
-    turns_now (reply.Sent name) did = absurd did
-    turns_now (reply.NotSent error) did = absurd did
-    turns_now reply.Empty did = absurd did
-    turns_now (reply.NoActor back) did = absurd did
-    turns_now (reply.NoRoom back) did = absurd did
+    turns_now _ did = absurd did
 
   -- a creation leaves the core at rest
   pub created_stays : (weight : ℕ) (told : Result ℕ CreateError) → CreatesQueue weight view told now → IsKeptBeside same made polls view now → one.StaysBeside same made polls view now

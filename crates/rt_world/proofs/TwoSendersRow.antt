@@ -1,5 +1,5 @@
 -- Two senders of one core: each has its own link, and their jobs are polled in the order in which they came.
-use Rattle.std.proofs.Common.{◌≡◌, ℕ, ◌≤◌, false, [], ◌∷◌, refl, inr, arith}
+use Rattle.std.proofs.Common.{◌≡◌, ℕ, ◌≤◌, false, [], ◌∷◌, refl, inl, inr, arith}
 use Rattle.std.specs.Prelude.{Some, ◌==◌}
 use Rattle.rt_ids.specs.declared.note.Note.TheVariants.{Sent, Took, Pick, Start, Done}
 use Rattle.rt_ids.specs.declared.order.Order.TheVariants.{Job}
@@ -65,22 +65,22 @@ module _ (room : ℕ) (enough : 100 ≤ room) where
   sent_1 = record (noted 2 (Sent (name 2 0 1) (Job 0 tt) ∷ []) start) { sent = with_sent 2 0 (Job 0 (short_job 1)) start }
 
   sends_1 : Occurs (Send 2 0 (Job 0 (short_job 1))) start sent_1 (reply.Sent (name 2 0 1))
-  sends_1 = ((omega arith, omega arith), some_room room 0 enough (omega arith), (record { sender = refl; receiver = omega arith; next = refl; in_range = few_names 1 (omega arith); credit = omega arith; spelled = omega arith }, refl, refl))
+  sends_1 = ((omega arith, omega arith), some_room room 0 enough (omega arith), (record { sender = refl; receiver = omega arith; next = refl; in_range = few_names 1 (omega arith); credit = omega arith; spelled = omega arith }, refl, refl, refl))
 
   abbrev sent_2 : WorldView Script ℕ
   sent_2 = record (noted 1 (Sent (name 1 0 1) (Job 0 tt) ∷ []) sent_1) { sent = with_sent 1 0 (Job 0 (short_job 2)) sent_1 }
 
   sends_2 : Occurs (Send 1 0 (Job 0 (short_job 2))) sent_1 sent_2 (reply.Sent (name 1 0 1))
-  sends_2 = ((omega arith, omega arith), some_room room 0 enough (omega arith), (record { sender = refl; receiver = omega arith; next = refl; in_range = few_names 1 (omega arith); credit = omega arith; spelled = omega arith }, refl, refl))
+  sends_2 = ((omega arith, omega arith), some_room room 0 enough (omega arith), (record { sender = refl; receiver = omega arith; next = refl; in_range = few_names 1 (omega arith); credit = omega arith; spelled = omega arith }, refl, refl, refl))
 
   abbrev sent_3 : WorldView Script ℕ
   sent_3 = record (noted 2 (Sent (name 2 0 2) (Job 0 tt) ∷ []) sent_2) { sent = with_sent 2 0 (Job 0 (short_job 3)) sent_2 }
 
   sends_3 : Occurs (Send 2 0 (Job 0 (short_job 3))) sent_2 sent_3 (reply.Sent (name 2 0 2))
-  sends_3 = ((omega arith, omega arith), some_room room 1 enough (omega arith), (record { sender = refl; receiver = omega arith; next = refl; in_range = few_names 2 (omega arith); credit = omega arith; spelled = omega arith }, refl, refl))
+  sends_3 = ((omega arith, omega arith), some_room room 1 enough (omega arith), (record { sender = refl; receiver = omega arith; next = refl; in_range = few_names 2 (omega arith); credit = omega arith; spelled = omega arith }, refl, refl, refl))
 
   full_4 : Occurs (Send 2 0 (Job 0 (short_job 4))) sent_3 sent_3 (reply.NotSent (Full (Job 0 (short_job 4))))
-  full_4 = ((omega arith, omega arith), some_room room 2 enough (omega arith), (refl, omega arith, refl))
+  full_4 = ((omega arith, omega arith), some_room room 2 enough (omega arith), (refl, omega arith, refl, refl))
 
   abbrev taken_5 : WorldView Script ℕ
   taken_5 = noted 0 (Took (name 2 0 1) 0 ∷ []) sent_3
@@ -104,19 +104,19 @@ module _ (room : ℕ) (enough : 100 ≤ room) where
   turned_8 = noted 0 (Done (name 2 0 1) 5 1 ∷ Start (name 2 0 1) ∷ Pick 0 0 ∷ []) taken_7
 
   turns_8 : Occurs (Turn 0 0) taken_7 turned_8 reply.Noted
-  turns_8 = (omega arith, some_room room 3 enough (omega arith), record { turn_left = few_turns 0 (omega arith); queue = 0; runtime = 0; right = pick_1; name = (name 2 0 1); others = (name 1 0 1) ∷ (name 2 0 2) ∷ []; first = refl; kept = refl; job = (short_job 1); task = refl; step = steps.Done 1; told = Some 5; owed = (refl, refl); answered = refl; notes = refl })
+  turns_8 = (omega arith, some_room room 3 enough (omega arith), inl (record { turn_left = few_turns 0 (omega arith); queue = 0; runtime = 0; right = pick_1; name = (name 2 0 1); others = (name 1 0 1) ∷ (name 2 0 2) ∷ []; first = refl; kept = refl; job = (short_job 1); task = refl; step = steps.Done 1; told = Some 5; owed = (refl, refl, refl); answered = refl; notes = refl }))
 
   abbrev turned_9 : WorldView Script ℕ
   turned_9 = noted 0 (Done (name 1 0 1) 5 2 ∷ Start (name 1 0 1) ∷ Pick 0 5 ∷ []) turned_8
 
   turns_9 : Occurs (Turn 0 0) turned_8 turned_9 reply.Noted
-  turns_9 = (omega arith, some_room room 6 enough (omega arith), record { turn_left = few_turns 1 (omega arith); queue = 0; runtime = 5; right = pick_2; name = (name 1 0 1); others = (name 2 0 2) ∷ []; first = refl; kept = refl; job = (short_job 2); task = refl; step = steps.Done 2; told = Some 5; owed = (refl, refl); answered = refl; notes = refl })
+  turns_9 = (omega arith, some_room room 6 enough (omega arith), inl (record { turn_left = few_turns 1 (omega arith); queue = 0; runtime = 5; right = pick_2; name = (name 1 0 1); others = (name 2 0 2) ∷ []; first = refl; kept = refl; job = (short_job 2); task = refl; step = steps.Done 2; told = Some 5; owed = (refl, refl, refl); answered = refl; notes = refl }))
 
   abbrev turned_10 : WorldView Script ℕ
   turned_10 = noted 0 (Done (name 2 0 2) 5 3 ∷ Start (name 2 0 2) ∷ Pick 0 10 ∷ []) turned_9
 
   turns_10 : Occurs (Turn 0 0) turned_9 turned_10 reply.Noted
-  turns_10 = (omega arith, some_room room 9 enough (omega arith), record { turn_left = few_turns 2 (omega arith); queue = 0; runtime = 10; right = pick_3; name = (name 2 0 2); others = []; first = refl; kept = refl; job = (short_job 3); task = refl; step = steps.Done 3; told = Some 5; owed = (refl, refl); answered = refl; notes = refl })
+  turns_10 = (omega arith, some_room room 9 enough (omega arith), inl (record { turn_left = few_turns 2 (omega arith); queue = 0; runtime = 10; right = pick_3; name = (name 2 0 2); others = []; first = refl; kept = refl; job = (short_job 3); task = refl; step = steps.Done 3; told = Some 5; owed = (refl, refl, refl); answered = refl; notes = refl }))
 
   empty_11 : Occurs (Deliver 0 2) turned_10 turned_10 reply.Empty
   empty_11 = ((omega arith, omega arith), some_room room 12 enough (omega arith), (refl, refl))

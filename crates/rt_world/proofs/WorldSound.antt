@@ -1,12 +1,10 @@
 -- The journals of a world at rest are joined, and so they are sound together.
-use Rattle.std.proofs.Common.{◌≡◌, ℕ, ◌+◌, [], refl, sym, ◌∙◌, ap, subst, arith}
-use Rattle.std.specs.Prelude.{Option}
+use Rattle.std.proofs.Common.{ℕ, ◌+◌, [], refl, sym, ◌∙◌, ap, subst, arith}
 use Rattle.std.proofs.lemmas.List.{length-map, append-nil}
-use Rattle.rt_ids.specs.Assembly.{Assembly}
 use Rattle.rt_ids.specs.Joining.{AreJoined}
 use Rattle.rt_ids.specs.Sound.{IsSound}
 use Rattle.rt_ids.proofs.Joining.{joining_is_sound}
-use Rattle.rt_jobs.specs.declared.job.Step.{Step}
+use Rattle.rt_jobs.specs.Steps.{Owed}
 use Rattle.rt_link.specs.Whole.{out_of, inward_of}
 use Rattle.rt_journal.specs.Submissions.{IsWritten, terms_of_desk}
 use Rattle.rt_journal.specs.Together.{AreTogether, IsAssemblyOf}
@@ -16,7 +14,7 @@ use Rattle.rt_world.specs.Links.{link_at}
 use Rattle.rt_world.specs.Inside.{Parts, core_at, desks, desk_at, world_of, IsWorld}
 use Rattle.rt_world.proofs.Desks.{desk_count, desk_at-core, desk_at-outside, journal_of-world}
 
-module _ {J : Type 0} {same : J → J → Type 0} {made : J → ℕ} {polls : J → ℕ → Step ℕ → Option ℕ → Type 0} (parts : Parts J ℕ) (world : IsWorld same made polls parts) where
+module _ {J : Type 0} {same : J → J → Type 0} {made : J → ℕ} {polls : Owed J ℕ} (parts : Parts J ℕ) (world : IsWorld same made polls parts) where
   -- a plain link shows each end all that the other did
   together : AreTogether same made polls parts.cores parts.cap (λ actor. desk_at actor parts) (λ core. core_at core parts)
       (λ sender core. out_of (link_at sender core parts.links)) (λ sender core. (link_at sender core parts.links).credited) (λ sender core. inward_of (link_at sender core parts.links))

@@ -1,10 +1,10 @@
 -- Queues that are made before the first event, and events that order none.
-use Rattle.std.specs.Prelude.{◌≡◌, ℕ, ◌+◌, Option, List, [], ◌∷◌}
+use Rattle.std.specs.Prelude.{◌≡◌, ℕ, ◌+◌, List, [], ◌∷◌}
 use Rattle.rt_ids.specs.declared.note.Note.TheVariants.{Created}
 use Rattle.rt_ids.specs.declared.order.Order.{Order}
 use Rattle.rt_ids.specs.declared.order.Order.TheVariants.{Create}
 use Rattle.rt_ids.specs.Commands.{created_count}
-use Rattle.rt_jobs.specs.declared.job.Step.{Step}
+use Rattle.rt_jobs.specs.Steps.{Owed}
 use Rattle.rt_world.specs.declared.event.Event.{Event}
 use Rattle.rt_world.specs.declared.event.Event.TheVariants.{Send}
 use Rattle.rt_world.specs.declared.event.Reply.{Reply}
@@ -34,7 +34,7 @@ module _ {J : Type 0} where
   OrderNoQueues [] = Unit {0}
   OrderNoQueues (event ∷ events) = OrdersNoQueue event × OrderNoQueues events
 
-module _ {J T : Type 0} (made : J → ℕ) (polls : J → ℕ → Step T → Option ℕ → Type 0) (answers : J → T → Type 0) where
+module _ {J T : Type 0} (made : J → ℕ) (polls : Owed J T) (answers : J → T → Type 0) where
   -- before its first event, a world and events that order no queue have one result
   abbrev pub RunOfJobsIsDetermined : Type 0
   RunOfJobsIsDetermined =

@@ -6,6 +6,7 @@ use Rattle.rt_ids.specs.declared.order.Answer.TheVariants.{NoMemory}
 use Rattle.rt_ids.specs.Assembly.{Assembly}
 use Rattle.rt_ids.specs.Journal.{Journal}
 use Rattle.rt_jobs.specs.declared.job.Step.{Step}
+use Rattle.rt_jobs.specs.Steps.{Owed}
 use Rattle.rt_world.specs.declared.event.Event.{Event}
 use Rattle.rt_world.specs.declared.event.Reply.{Reply}
 use Rattle.rt_world.specs.State.{WorldView}
@@ -34,13 +35,15 @@ module _ {T : Type 0} where
     pub since : slice_index_or new core [] ≡ notes ++ slice_index_or old core []
     pub told : IsTrue (tells_refusal notes)
 
-module _ {J T : Type 0} (polls : J → ℕ → Step T → Option ℕ → Type 0) where
-  -- each poll of a job owes one step, and one time
+module _ {J T : Type 0} (polls : Owed J T) where
+  -- each poll of a job owes one step, and one time, whatever became of what it posted
   pub record OwesOne : Type 0 where
-    pub step : (job : J) (place : ℕ) (step other : Step T) (told other_told : Option ℕ) → polls job place step told → polls job place other other_told → step ≡ other
-    pub told : (job : J) (place : ℕ) (step other : Step T) (told other_told : Option ℕ) → polls job place step told → polls job place other other_told → told ≡ other_told
+    pub step : (job : J) (place : ℕ) (before after other_after : Journal T) (step other : Step T) (told other_told : Option ℕ) →
+        polls job place before after step told → polls job place before other_after other other_told → step ≡ other
+    pub told : (job : J) (place : ℕ) (before after other_after : Journal T) (step other : Step T) (told other_told : Option ℕ) →
+        polls job place before after step told → polls job place before other_after other other_told → told ≡ other_told
 
-module _ {J T : Type 0} (made : J → ℕ) (polls : J → ℕ → Step T → Option ℕ → Type 0) (answers : J → T → Type 0) where
+module _ {J T : Type 0} (made : J → ℕ) (polls : Owed J T) (answers : J → T → Type 0) where
   -- events, one after another, and what their actors are told
   abbrev pub IsToldRun : List (Event J) → WorldView J T → WorldView J T → List (Reply J) → Type 0
   IsToldRun [] old new replies = (new ≡ old) × (replies ≡ [])

@@ -1,7 +1,7 @@
 -- What the parts of a world are to each other: each actor to its number, and each end of a link to the journal of its actor.
-use Rattle.std.specs.Prelude.{◌≡◌, ℕ, ◌+◌, ◌<◌, ◌≤◌, Option, None, List, [], ◌∷◌, ◌++◌, length, map, slice_index_or}
+use Rattle.std.specs.Prelude.{◌≡◌, ℕ, ◌+◌, ◌<◌, ◌≤◌, None, List, [], ◌∷◌, ◌++◌, length, map, slice_index_or}
 use Rattle.rt_ids.specs.Journal.{Journal}
-use Rattle.rt_jobs.specs.declared.job.Step.{Step}
+use Rattle.rt_jobs.specs.Steps.{Owed}
 use Rattle.rt_link.specs.declared.plain.Whole.{Whole}
 use Rattle.rt_link.specs.Whole.{out_of, inward_of}
 use Rattle.rt_journal.specs.Submissions.{DeskView, IsWritten, terms_of_desk, opened_desk}
@@ -63,7 +63,7 @@ module _ {J T : Type 0} where
     pub ins : (sender core : ℕ) → sender ≤ parts.cores → core < parts.cores →
         IsInOf sender (core_at core parts) (inward_of (link_at sender core parts.links))
 
-module _ {J T : Type 0} (same : J → J → Type 0) (made : J → ℕ) (polls : J → ℕ → Step T → Option ℕ → Type 0) where
+module _ {J T : Type 0} (same : J → J → Type 0) (made : J → ℕ) (polls : Owed J T) where
   -- a world at rest: each core is recorded and has no job out, and the ends of its links are beside their actors
   pub record IsWorld (parts : Parts J T) : Type 0 where
     pub all_there : AreAllThere parts

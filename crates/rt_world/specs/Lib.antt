@@ -1,4 +1,5 @@
 pub mod State
+pub mod Closings
 pub mod Sends
 pub mod Deliveries
 pub mod OneTurn

@@ -1,8 +1,10 @@
 -- What a turn is to its core and the journal beside it.
-use Rattle.std.specs.Prelude.{◌≡◌, ℕ, ◌+◌, ◌-◌, ◌^◌, ◌<◌, Option, Some, None, true, false, unwrap_or, List, [], ◌∷◌}
+use Rattle.std.specs.Prelude.{◌≡◌, ◌⊎◌, ℕ, ◌+◌, ◌-◌, ◌^◌, ◌<◌, Option, Some, None, true, false, unwrap_or, List, [], ◌∷◌}
 use Rattle.rt_ids.specs.declared.names.JobId.{JobId}
 use Rattle.rt_ids.specs.declared.note.Note.TheVariants as writes
+use Rattle.rt_ids.specs.declared.order.Order.{Order}
 use Rattle.rt_ids.specs.declared.order.Order.TheVariants.{Job}
+use Rattle.rt_ids.specs.declared.order.Reason.{Reason}
 use Rattle.rt_ids.specs.Journal.{is_told}
 use Rattle.rt_ids.specs.Filters.{name_started}
 use Rattle.rt_ids.specs.Work.{has_work}
@@ -10,15 +12,16 @@ use Rattle.rt_ids.specs.Lines.{line}
 use Rattle.rt_ids.specs.Picks.{IsRightPick, turns}
 use Rattle.rt_ids.specs.Commands.{return_reason}
 use Rattle.rt_jobs.specs.declared.job.Step.{Step}
-use Rattle.rt_jobs.specs.Steps.{IfDone}
+use Rattle.rt_jobs.specs.Steps.{IfDone, Owed}
 use Rattle.rt_journal.specs.Polls.{polls_made, poll_note, settle_note}
 use Rattle.rt_journal.specs.Recorded.{RecordedView, IsRecorded, desk_of, order_taken}
 use Rattle.rt_journal.specs.Steps.{with_notes}
+use Rattle.rt_journal.specs.Turns.{IsHandBack}
 use Rattle.rt_journal.specs.Ends.{KeepsIn, KeepsOuts, IsSameSeat}
 use Rattle.rt_world.specs.declared.event.Reply.{Reply}
 use Rattle.rt_world.specs.declared.event.Reply.TheVariants as reply
 
-module _ {J T : Type 0} (same : J → J → Type 0) (made : J → ℕ) (polls : J → ℕ → Step T → Option ℕ → Type 0) where
+module _ {J T : Type 0} (same : J → J → Type 0) (made : J → ℕ) (polls : Owed J T) where
   -- the core is recorded and has no job out, its seat is the same, and the ends of its links are beside it as before
   pub record StaysBeside (old new : RecordedView J T) : Type 0 where
     pub recorded : IsRecorded same made polls new
@@ -27,7 +30,15 @@ module _ {J T : Type 0} (same : J → J → Type 0) (made : J → ℕ) (polls : 
     pub ins : (sender : ℕ) → KeepsIn sender old new
     pub outs : KeepsOuts (desk_of old) (desk_of new)
 
-module _ {J T : Type 0} (made : J → ℕ) (polls : J → ℕ → Step T → Option ℕ → Type 0) (answers : J → T → Type 0) where
+module _ {J T : Type 0} (same : J → J → Type 0) where
+  -- the first job of the line of the right pick is handed back
+  pub record HandsOneBack (old new : RecordedView J T) : Type 0 where
+    pub name : JobId
+    pub reason : Reason
+    pub order : Order J
+    pub did : IsHandBack same old name reason order new
+
+module _ {J T : Type 0} (made : J → ℕ) (polls : Owed J T) (answers : J → T → Type 0) where
   -- a turn is left, and the right pick is made: the first job of that line is polled once, and the poll owes what the order under its name says
   pub record PollsOne (spent : ℕ) (old new : RecordedView J T) : Type 0 where
     pub turn_left : turns old.journal.notes < 2 ^ 64 - 1
@@ -42,7 +53,7 @@ module _ {J T : Type 0} (made : J → ℕ) (polls : J → ℕ → Step T → Opt
     pub task : order_taken old.took name ≡ Some (Job queue job)
     pub step : Step T
     pub told : Option ℕ
-    pub owed : polls job (made job + polls_made name old.journal.notes) step told
+    pub owed : polls job (made job + polls_made name old.journal.notes) [] [] step told
     pub answered : IfDone step (answers job)
     pub notes : new.journal
         ≡ with_notes
@@ -52,9 +63,10 @@ module _ {J T : Type 0} (made : J → ℕ) (polls : J → ℕ → Step T → Opt
         ∷ writes.Pick queue runtime ∷ []
         ) old.journal
 
-  -- a poll; nothing where no queue has work, and nothing where all turns are used
+module _ {J T : Type 0} (same : J → J → Type 0) (made : J → ℕ) (polls : Owed J T) (answers : J → T → Type 0) where
+  -- a poll, or a job is handed back; nothing where no queue has work, and nothing where all turns are used
   abbrev pub Turns : ℕ → RecordedView J T → RecordedView J T → Reply J → Type 0
-  Turns spent old new reply.Noted = PollsOne spent old new
+  Turns spent old new reply.Noted = PollsOne made polls answers spent old new ⊎ HandsOneBack same old new
   Turns spent old new reply.Idle = ((queue : ℕ) → has_work queue old.journal.notes ≡ false) × (new ≡ old)
   Turns spent old new reply.Spent =
       (turns old.journal.notes ≡ 2 ^ 64 - 1) × ((queue : ℕ) × (has_work queue old.journal.notes ≡ true)) × (new ≡ old)

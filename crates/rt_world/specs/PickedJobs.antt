@@ -1,6 +1,8 @@
 -- What a core's pick came to: a job that it took out, or why it took none.
 use Rattle.std.specs.Prelude.{◌≡◌, ℕ, Bool, true, false, Result, Ok, Err}
 use Rattle.rt_ids.specs.declared.names.JobId.{JobId}
+use Rattle.rt_ids.specs.declared.order.Order.{Order}
+use Rattle.rt_ids.specs.declared.order.Reason.{Reason}
 use Rattle.rt_core.specs.declared.turn.Turn.{Turn}
 use Rattle.rt_core.specs.declared.turn.Turn.TheVariants.{Start, Resume, Back, Idle}
 use Rattle.rt_core.specs.declared.turn.PickError.{PickError}
@@ -21,13 +23,9 @@ module _ {J : Type 0} where
     pub was_started : Bool
     pub turn : picked ≡ Ok (turn_of was_started name queue job)
 
-  -- the pick hands no job back
-  abbrev pub HandsNothingBack : Result (Turn J) PickError → Type 0
-  HandsNothingBack (Ok (Back name reason order)) = ⊥
-  HandsNothingBack picked = Unit {0}
-
-  -- the pick took no job out, which the reply says: no queue has work, or all turns are used
+  -- the pick took no job out, which the reply says: a job was handed back, no queue has work, or all turns are used
   abbrev pub TookNone : Result (Turn J) PickError → Reply J → Type 0
+  TookNone picked reply.Noted = (name : JobId) × (reason : Reason) × (order : Order J) × (picked ≡ Ok (Back name reason order))
   TookNone picked reply.Idle = picked ≡ Ok Idle
   TookNone picked reply.Spent = picked ≡ Err Spent
   TookNone picked _ = ⊥

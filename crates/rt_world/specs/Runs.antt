@@ -1,8 +1,8 @@
 -- Runs: events, one after another, each with the notes of its step and the reply of its actor. Links show all that was sent.
-use Rattle.std.specs.Prelude.{◌≡◌, ℕ, Option, List, [], ◌∷◌}
-use Rattle.rt_jobs.specs.declared.job.Step.{Step}
+use Rattle.std.specs.Prelude.{◌≡◌, ℕ, List, [], ◌∷◌}
+use Rattle.rt_jobs.specs.Steps.{Owed}
 use Rattle.rt_world.specs.declared.event.Event.{Event}
-use Rattle.rt_world.specs.declared.event.Event.TheVariants.{Send, Deliver, Turn}
+use Rattle.rt_world.specs.declared.event.Event.TheVariants.{Send, Deliver, Turn, Shut}
 use Rattle.rt_world.specs.declared.event.Reply.{Reply}
 use Rattle.rt_world.specs.declared.event.Reply.TheVariants as reply
 use Rattle.rt_ids.specs.Assembly.{Assembly}
@@ -10,14 +10,16 @@ use Rattle.rt_world.specs.State.{WorldView, IsNearlyFull, assembly_of}
 use Rattle.rt_world.specs.Sends.{actor_of, AreThere, Sends}
 use Rattle.rt_world.specs.Deliveries.{Delivers}
 use Rattle.rt_world.specs.Turns.{Turns}
+use Rattle.rt_world.specs.Closings.{Shuts}
 
 -- the words of a task: the polls that it made before, what a poll owes, and what may answer it
-module _ {J T : Type 0} (made : J → ℕ) (polls : J → ℕ → Step T → Option ℕ → Type 0) (answers : J → T → Type 0) where
+module _ {J T : Type 0} (made : J → ℕ) (polls : Owed J T) (answers : J → T → Type 0) where
   -- the step of an event whose actors exist, and for which the journal has room
   abbrev pub Steps : Event J → WorldView J T → WorldView J T → Reply J → Type 0
   Steps (Send sender core order) old new answer = Sends sender core order old new answer
   Steps (Deliver core sender) old new answer = Delivers core sender old new answer
   Steps (Turn core spent) old new answer = Turns made polls answers core spent old new answer
+  Steps (Shut core sender) old new answer = Shuts core sender old new answer
 
   -- one event: first it is asked whether its actors exist, then whether the journal has room
   abbrev pub Happens : Event J → WorldView J T → WorldView J T → Reply J → Type 0

@@ -1,6 +1,6 @@
 -- Runs of script jobs.
-use Rattle.std.specs.Prelude.{◌≡◌, ◌⊎◌, ℕ, Option, slice_get, List}
-use Rattle.rt_jobs.specs.declared.job.Step.{Step}
+use Rattle.std.specs.Prelude.{◌≡◌, ◌⊎◌, ℕ, slice_get, List}
+use Rattle.rt_jobs.specs.Steps.{Owed}
 use Rattle.rt_jobs.specs.Scripts.{Script, Does, IsAnswer}
 use Rattle.rt_world.specs.declared.event.Event.{Event}
 use Rattle.rt_world.specs.declared.event.Reply.{Reply}
@@ -12,8 +12,8 @@ use Rattle.rt_world.specs.Determined.{WasRefusedSince, IsToldRun}
 abbrev pub script_made : Script → ℕ
 script_made job = job.polled
 
-abbrev pub ScriptPolls : Script → ℕ → Step ℕ → Option ℕ → Type 0
-ScriptPolls job place step told = Does (slice_get job.polls place) step told
+abbrev pub ScriptPolls : Owed Script ℕ
+ScriptPolls job place before after step told = Does (slice_get job.polls place) before after step told
 
 abbrev pub ScriptAnswers : Script → ℕ → Type 0
 ScriptAnswers job out = IsAnswer job.polls out

@@ -1,8 +1,9 @@
--- Turns: the right pick, and one poll of the first job of its line.
-use Rattle.std.specs.Prelude.{◌≡◌, ℕ, ◌+◌, ◌-◌, ◌^◌, ◌<◌, Option, Some, None, true, false, unwrap_or, List, [], ◌∷◌}
+-- Turns: the right pick, and one poll of the first job of its line, or the job is handed back.
+use Rattle.std.specs.Prelude.{◌≡◌, ◌⊎◌, ℕ, ◌+◌, ◌-◌, ◌^◌, ◌<◌, Option, Some, None, true, false, unwrap_or, List, [], ◌∷◌}
 use Rattle.rt_ids.specs.declared.names.JobId.{JobId}
 use Rattle.rt_ids.specs.declared.note.Note.TheVariants as writes
 use Rattle.rt_ids.specs.declared.order.Order.TheVariants.{Job}
+use Rattle.rt_ids.specs.declared.order.Reason.{Reason}
 use Rattle.rt_ids.specs.Journal.{is_told}
 use Rattle.rt_ids.specs.Filters.{name_started}
 use Rattle.rt_ids.specs.Work.{has_work}
@@ -10,14 +11,28 @@ use Rattle.rt_ids.specs.Lines.{line}
 use Rattle.rt_ids.specs.Picks.{IsRightPick, turns}
 use Rattle.rt_ids.specs.Commands.{return_reason}
 use Rattle.rt_jobs.specs.declared.job.Step.{Step}
-use Rattle.rt_jobs.specs.Steps.{IfDone}
+use Rattle.rt_jobs.specs.Steps.{IfDone, Owed}
 use Rattle.rt_world.specs.declared.event.Reply.{Reply}
 use Rattle.rt_world.specs.declared.event.Reply.TheVariants as reply
 pub use Rattle.rt_journal.specs.Polls.{polls_made, poll_note, settle_note}
 use Rattle.rt_world.specs.State.{WorldView, journal_at, order_under, noted}
 
+module _ {J T : Type 0} where
+  -- a turn is left, and the right pick is made: its queue or the core hands back, and so the first job of that line is returned, which charges nothing
+  pub record IsHandBack (core : ℕ) (old new : WorldView J T) : Type 0 where
+    pub turn_left : turns (journal_at core old) < 2 ^ 64 - 1
+    pub queue : ℕ
+    pub runtime : ℕ
+    pub right : IsRightPick queue runtime (journal_at core old)
+    pub name : JobId
+    pub others : List JobId
+    pub first : line queue (journal_at core old) ≡ name ∷ others
+    pub reason : Reason
+    pub returns : return_reason queue (journal_at core old) ≡ Some reason
+    pub notes : new ≡ noted core (writes.Returned name reason ∷ writes.Pick queue runtime ∷ []) old
+
 -- the words of a task: the polls that it made before, what a poll owes, and what may answer it
-module _ {J T : Type 0} (made : J → ℕ) (polls : J → ℕ → Step T → Option ℕ → Type 0) (answers : J → T → Type 0) where
+module _ {J T : Type 0} (made : J → ℕ) (polls : Owed J T) (answers : J → T → Type 0) where
   -- a turn is left, and the right pick is made: the first job of that line is polled once, and the poll owes what the task says of it, counted from the job as it was sent
   pub record IsPoll (core spent : ℕ) (old new : WorldView J T) : Type 0 where
     pub turn_left : turns (journal_at core old) < 2 ^ 64 - 1
@@ -32,7 +47,8 @@ module _ {J T : Type 0} (made : J → ℕ) (polls : J → ℕ → Step T → Opt
     pub task : order_under name old ≡ Some (Job queue job)
     pub step : Step T
     pub told : Option ℕ
-    pub owed : polls job (made job + polls_made name (journal_at core old)) step told
+    -- no job has a post by now: it submits nothing, and no note is made by its poll
+    pub owed : polls job (made job + polls_made name (journal_at core old)) [] [] step told
     pub answered : IfDone step (answers job)
     pub notes : new ≡ noted core
         (
@@ -41,9 +57,9 @@ module _ {J T : Type 0} (made : J → ℕ) (polls : J → ℕ → Step T → Opt
         ∷ writes.Pick queue runtime ∷ []
         ) old
 
-  -- Turn: a poll; nothing where no queue has work, and nothing where all turns are used
+  -- Turn: a poll, or a job is handed back; nothing where no queue has work, and nothing where all turns are used
   abbrev pub Turns : ℕ → ℕ → WorldView J T → WorldView J T → Reply J → Type 0
-  Turns core spent old new reply.Noted = IsPoll core spent old new
+  Turns core spent old new reply.Noted = IsPoll core spent old new ⊎ IsHandBack core old new
   Turns core spent old new reply.Idle = ((queue : ℕ) → has_work queue (journal_at core old) ≡ false) × (new ≡ old)
   Turns core spent old new reply.Spent =
       (turns (journal_at core old) ≡ 2 ^ 64 - 1) × ((queue : ℕ) × (has_work queue (journal_at core old) ≡ true)) × (new ≡ old)

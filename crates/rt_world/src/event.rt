@@ -14,6 +14,8 @@ pub enum Event<J> {
     Deliver(CoreNo, ActorNo),
     /// The core picks a queue and polls its first job once. The time, in nanoseconds, counts where the job tells none of its own.
     Turn(CoreNo, u64),
+    /// The core shuts the gate of the actor, once it is closed.
+    Shut(CoreNo, ActorNo),
 }
 
 impl<J> Event<J> {
@@ -25,6 +27,7 @@ impl<J> Event<J> {
             Event::Send(from, _, _) => *from,
             Event::Deliver(core, _) => ActorNo(core.0),
             Event::Turn(core, _) => ActorNo(core.0),
+            Event::Shut(core, _) => ActorNo(core.0),
         }
     }
 }
@@ -44,6 +47,10 @@ pub enum Reply<J> {
     Idle,
     /// All turns of the core are used.
     Spent,
+    /// The core isn't closed, so it shuts no gate.
+    NotClosed,
+    /// The gate of the actor is shut.
+    AlreadyShut,
     /// An actor or a core of the event doesn't exist. The event comes back.
     NoActor(Event<J>),
     /// The actor's journal has too few notes free. The event comes back.

@@ -44,7 +44,15 @@ const JOB_NOTES: [(Note<u64>, &str); 12] = [
 ];
 
 /// The other notes.
-const CORE_NOTES: [(Note<u64>, &str); 4] = [
+const CORE_NOTES: [(Note<u64>, &str); 6] = [
+    (
+        Note::Sent(NAME, Order::Close(QueueNo(4), Mode::Return)),
+        "1 sent 2>1#3 close q4 return",
+    ),
+    (
+        Note::Sent(NAME, Order::CloseCore(Mode::Finish)),
+        "1 sent 2>1#3 closecore finish",
+    ),
     (
         Note::QueueClosed(QueueNo(7), Mode::Finish),
         "1 closed q7 finish",
@@ -68,14 +76,20 @@ const ANSWERS: [(Answer, &str); 7] = [
     (Answer::AlreadyClosed, "1 answered 2>1#3 alreadyclosed"),
 ];
 
-/// What events come to that made no note, at actor 3 and with 12 at the other end.
-const REPLIES: [(Quiet, &str); 6] = [
+/// What events come to that made no note, at actor 3, with 12 at the other end, and of their submission 7.
+const REPLIES: [(Quiet, &str); 12] = [
     (Quiet::Idle, "3 idle"),
     (Quiet::NoTurnLeft, "3 spent"),
     (Quiet::Full, "3 full 12"),
     (Quiet::Closed(5), "3 closed 12 5"),
     (Quiet::NoNumberLeft, "3 spent 12"),
     (Quiet::Empty, "3 empty 12"),
+    (Quiet::Nothing, "3 none 12"),
+    (Quiet::Pending, "3 pending 3>12#7"),
+    (Quiet::Gone, "3 gone 3>12#7"),
+    (Quiet::Unknown, "3 unknown 3>12#7"),
+    (Quiet::NotClosed, "3 notclosed"),
+    (Quiet::AlreadyShut, "3 alreadyshut 12"),
 ];
 
 fn is_line(alloc: Global, note: Note<u64>, text: &str) -> Result<bool, AllocError> {
@@ -87,6 +101,7 @@ fn is_reply(alloc: Global, quiet: Quiet, text: &str) -> Result<bool, AllocError>
     let ends = Ends {
         actor: ActorNo(3),
         other: 12,
+        number: 7,
     };
     let line = ReplyLine(ends, quiet);
     Ok(format!(in alloc; "{line}")?.as_str() == text)

@@ -2,7 +2,11 @@
 #![tactic(auto)]
 
 #[cfg(test)]
+mod acts;
+#[cfg(test)]
 mod boxed;
+#[cfg(test)]
+mod closings;
 #[cfg(test)]
 mod journal;
 #[cfg(test)]

@@ -16,7 +16,7 @@ impl ScriptJob {
         ensures polls { self.new.polls ≡ spec.with_yield told self.old.polls }
         ensures fresh { self.new.polled ≡ 0 }
     {
-        self.yields.push(Yielding::Alone(told));
+        self.yields.push(Yielding { told, to: None });
     }
 
     /// One more poll that submits and yields, before the last one. A job has at most 64 polls.
@@ -26,7 +26,10 @@ impl ScriptJob {
         ensures polls { self.new.polls ≡ spec.with_poll (Submit told core queue) self.old.polls }
         ensures fresh { self.new.polled ≡ 0 }
     {
-        self.yields.push(Yielding::Submits(told, core, queue));
+        self.yields.push(Yielding {
+            told,
+            to: Some((core, queue)),
+        });
     }
 
     /// Another last poll, which tells the time and is done with the value.

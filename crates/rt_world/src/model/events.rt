@@ -25,6 +25,7 @@ impl<J: Task<Out = u64>, A: Allocator + Clone> World<J, A> {
             Event::Send(from, to, _) => from.0 <= self.cores && to.0 < self.cores,
             Event::Deliver(core, from) => core.0 < self.cores && from.0 <= self.cores,
             Event::Turn(core, _) => core.0 < self.cores,
+            Event::Shut(core, from) => core.0 < self.cores && from.0 <= self.cores,
         }
     }
 
@@ -59,6 +60,7 @@ impl<J: Job + Task<Out = u64>, A: Allocator + Clone> World<J, A> {
             Event::Send(from, to, order) => self.send(from, to, order),
             Event::Deliver(core, from) => self.deliver(core, from),
             Event::Turn(core, spent) => self.turn(core, spent),
+            Event::Shut(core, from) => self.shut(core, from),
         }
     }
 

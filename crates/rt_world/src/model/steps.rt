@@ -1,4 +1,4 @@
-//! The three steps: an order is sent, the next one is delivered, a core makes a turn.
+//! The steps: an order is sent, the next one is delivered, a core makes a turn.
 
 ghost use Rattle.std.specs.Prelude.{◌≡◌, ◌≢◌, ◌≤◌, ◌<◌, ◌+◌, length, None, Err, IfOk, IfErr};
 ghost use Rattle.rt_core.specs.declared.turn.PickError.TheVariants.{Busy};
@@ -8,13 +8,13 @@ ghost use Rattle.rt_world.specs.Sends.{Sends, sent_reply};
 ghost use Rattle.rt_world.specs.Deliveries.{Delivers, taken_reply};
 ghost use Rattle.rt_world.specs.Turns.{Turns};
 ghost use Rattle.rt_world.specs.OneTurn as one;
-ghost use Rattle.rt_world.specs.PickedJobs.{TookOut, TookNone, HandsNothingBack};
+ghost use Rattle.rt_world.specs.PickedJobs.{TookOut, TookNone};
 
 use super::World;
 use crate::event::Reply;
 use rt_core::{PickError, Turn};
 use rt_ids::{ActorNo, CoreNo, Order, SendError, Ticket};
-use rt_jobs::{Job, Ran, Task};
+use rt_jobs::{Job, NoPost, Ran, Task};
 use rt_journal::Recorded;
 use std::alloc::Allocator;
 
@@ -50,7 +50,7 @@ impl<J: Task<Out = u64>, A: Allocator + Clone> World<J, A> {
 }
 
 impl<J: Job + Task<Out = u64>, A: Allocator + Clone> World<J, A> {
-    /// Picks a queue of the core and polls its first job once.
+    /// Picks a queue of the core and polls its first job once, or hands it back.
     pub(super) fn turn(&mut self, core: CoreNo, spent: u64) -> Reply<J>
         requires core { core < self.old.cores }
         requires room { length (journal_at core self.old) + 4 ≤ self.old.room }
@@ -60,21 +60,22 @@ impl<J: Job + Task<Out = u64>, A: Allocator + Clone> World<J, A> {
     }
 }
 
-// One core picks a queue and polls its first job once.
+// One core picks a queue and polls its first job once, or hands it back.
 fn turn_of<J: Job + Task<Out = u64>, A: Allocator + Clone>(
     core: &mut Recorded<J, A>,
     spent: u64,
 ) -> Reply<J>
     requires free { core.old.core.out ≡ None }
     requires room { length core.old.journal.notes + 3 ≤ core.old.journal.room }
-    ensures turns { one.Turns J.made J.Polls J.Answers spent core.old core.new result }
+    ensures turns { one.Turns J.SameTask J.made J.Polls J.Answers spent core.old core.new result }
     ensures beside { one.StaysBeside J.SameTask J.made J.Polls core.old core.new }
 {
     let job = match job_or_reply(core.pick()) {
         Ok(job) => job,
         Err(reply) => return reply,
     };
-    drop(core.settle(Ran::poll(job), spent));
+    // No outcome is collected by now, so a job that is polled gets a post without links.
+    drop(core.settle(Ran::poll(job, &mut NoPost), spent));
     Reply::Noted
 }
 
@@ -98,14 +99,13 @@ fn reply_to<J: Drop>(sent: Result<Ticket, SendError<J>>) -> Reply<J>
 // The job that a pick took out, or what the actor is told where it took none.
 fn job_or_reply<J: Drop>(picked: Result<Turn<J>, PickError>) -> Result<J, Reply<J>>
     requires free { picked ≢ Err Busy }
-    requires kept { HandsNothingBack picked }
     ensures job { IfOk result (TookOut picked) }
     ensures reply { IfErr result (TookNone picked) }
 {
     match picked {
         Ok(Turn::Start(_, _, job)) => Ok(job),
         Ok(Turn::Resume(_, _, job)) => Ok(job),
-        Ok(Turn::Back(_, _, _)) => unreachable!(),
+        Ok(Turn::Back(_, _, _)) => Err(Reply::Noted),
         Ok(Turn::Idle) => Err(Reply::Idle),
         Err(PickError::Spent) => Err(Reply::Spent),
         Err(PickError::Busy) => unreachable!(),

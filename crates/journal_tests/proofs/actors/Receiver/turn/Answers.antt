@@ -5,3 +5,6 @@ invariant_of-self g c = (c.settle.ensures.ins 1).each _ ((c.pick.ensures.ins 1).
 
 pub invariant_of-self-in-Resume-1 : goal.invariant_of-self-in-Resume-1
 invariant_of-self-in-Resume-1 g c = (c.settle-in-Ok-Resume.ensures.ins 1).each _ ((c.pick.ensures.ins 1).each _ c.self.invariant)
+
+pub invariant_of-self-in_default : goal.invariant_of-self-in_default
+invariant_of-self-in_default g c = (c.pick.ensures.ins 1).each _ c.self.invariant

@@ -1,5 +1,4 @@
-use Rattle.std.proofs.Common.{◌≡◌, ◌<◌, Bool, Some, true, refl, sym, ◌∙◌, ap, subst}
-use Rattle.rt_ids.specs.declared.order.Mode.{Mode}
+use Rattle.std.proofs.Common.{◌<◌, refl, sym, ◌∙◌, ap, subst}
 use Rattle.rt_ids.specs.Closing.{closes}
 use Rattle.rt_taskqueue.specs.Queues.{queue_count, mode_of}
 use Rattle.rt_taskqueue.specs.Slips.{queues_alone}

@@ -1,9 +1,8 @@
-use Rattle.std.proofs.Common.{◌≡◌, ◌+◌, ◌<◌, ◌≤◌, length, set, get_or, map, ap, sym, ◌∙◌, arith, length-set}
-use Rattle.std.specs.Prelude.{slice_set}
+use Rattle.std.proofs.Common.{set, ap, arith, length-set}
 use Rattle.std.proofs.lemmas.List.{map-set}
 use Rattle.std.proofs.lemmas.List.Sums.{sum_by-set}
 use Rattle.rt_core.specs.declared.senders.Sender.{Sender}
-use Rattle.rt_core.specs.Senders.{is_awaited, awaited_count}
+use Rattle.rt_core.specs.Senders.{is_awaited}
 use Rattle.rt_core.proofs.Awaited.{awaited-few, within-view}
 use Rattle.rt_core.proofs.senders.Senders.put.Goals as goal
 

@@ -1,5 +1,4 @@
 use Rattle.std.proofs.Common.{◌-◌, get_or, Some, ap, ◌∙◌, arith}
-use Rattle.rt_jobs.specs.Scripts.{kept_time}
 use Rattle.rt_jobs.proofs.ScriptLemmas.{length-script_polls, time_told-yield, time_told-last}
 use Rattle.rt_jobs.proofs.script.ScriptJobTask.told.Goals as goal
 
@@ -7,7 +6,7 @@ pub returns-then-self-len : goal.returns-then-self-len
 returns-then-self-len c =
     let job = c.self.inside in
     rw (← c.self.view_is)
-    (ap Some (c.told.ensures ∙ ap kept_time (c.index-deref-place.is ∙ ap (λ yields. get_or yields (job.polled - 1) c.index-deref-place.result) c.deref.ensures.0))
+    (ap (λ yields. Some (get_or yields (job.polled - 1) c.index-deref-place.result).told) c.deref.ensures.0
     ∙ time_told-yield job.yields.items job.last_told job.answer job.polled (job.polled - 1) c.index-deref-place.result (omega arith) (omega arith))
 
 pub returns-else-self-len : goal.returns-else-self-len

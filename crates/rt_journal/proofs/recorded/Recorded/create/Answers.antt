@@ -1,16 +1,16 @@
-use Rattle.std.proofs.Common.{length, sym, subst, ap, arith}
+use Rattle.std.proofs.Common.{length, sym, ◌∙◌, subst, ap, arith}
 use Rattle.rt_shares.specs.Charge.{InRange}
 use Rattle.rt_ids.specs.Commands.{IsOpening}
 use Rattle.rt_journal.specs.Steps.{CreatesQueue}
 use Rattle.rt_journal.proofs.QueuesCreated.{few-created, step-created, creates-now}
-use Rattle.rt_journal.proofs.KeptModes.{core_is_open}
+use Rattle.rt_journal.proofs.KeptModes.{opening_is_open}
 use Rattle.rt_journal.proofs.Wrote.{view_of, quiet_written, now_is, quiet_sound, quiet_invariant, quiet_seat, quiet_ins, quiet_outs}
 use Rattle.rt_journal.proofs.recorded.Recorded.create.Goals as goal
 
 pub create-created-requires : goal.create-created-requires
 create-created-requires g c =
     let kept = c.self.invariant.0.kept in
-    (omega arith, core_is_open c.self.inside.core c.self.inside.said.journal.notes kept.agrees.closing kept.closes_nothing)
+    (omega arith, kept.agrees.closing.mode ∙ opening_is_open c.self.inside.said.journal.notes (subst (λ view. IsOpening view.journal.notes) (sym c.self.view_is) c.requires.opening))
 
 pub write-requires-clause-room : goal.write-requires-clause-room
 write-requires-clause-room g c =
@@ -49,8 +49,8 @@ returns-clause-ins g c =
     let opening = subst (λ view. IsOpening view.journal.notes) (sym c.self.view_is) c.requires.opening in
     let in_range : InRange c.args.shares = record { positive = omega (arith, c.get-in_range.ensures.value, c.get-in_range.ensures.positive); bounded = omega (arith, c.get-in_range.ensures.value, c.get-in_range.ensures.bounded) } in
     let step = step-created (view_of c.self.inside.core c.self.inside.took.items c.self.inside.said) c.self.invariant.0 opening c.args.shares in_range c.create-created.new.self c.create-created.result.0 c.create-created.result.1.items c.create-created.ensures.creates in
-    rw (← c.self.view_is) (quiet_ins c.self.inside.core c.self.inside.took.items c.self.inside.said c.self.invariant c.create-created.new.self c.create-created.result.1.items c.as_slice.result.now c.as_slice.ensures.value
-    step c.write.new.self c.write.ensures)
+    rw (← c.self.view_is) (λ sender. quiet_ins c.self.inside.core c.self.inside.took.items c.self.inside.said c.self.invariant c.create-created.new.self c.create-created.result.1.items c.as_slice.result.now c.as_slice.ensures.value
+    step c.write.new.self c.write.ensures sender tt)
 
 pub returns-clause-outs : goal.returns-clause-outs
 returns-clause-outs g c =

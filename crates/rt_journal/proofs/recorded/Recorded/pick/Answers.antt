@@ -30,7 +30,7 @@ pub returns-clause-picks : goal.returns-clause-picks
 returns-clause-picks g c =
     let left : turns c.self.inside.said.journal.notes < most_turns = omega (arith, turns-within c.self.inside.said.journal.notes, c.requires.room, ap (λ view. view.journal.room) c.self.view_is, ap (λ view. length view.journal.notes) c.self.view_is, ap (λ view. view.room) c.journal.ensures, c.room-room.ensures.value) in
     let step = step-picked (view_of c.self.inside.core c.self.inside.took.items c.self.inside.said) c.self.invariant.0 left c.pick-picked.new.self c.pick-picked.result.0 c.pick-picked.result.1.items c.pick-picked.ensures.picks in
-    rw (← c.self.view_is) (subst (Picks (view_of c.self.inside.core c.self.inside.took.items c.self.inside.said) c.pick-picked.result.0) (sym (now_is c.self.inside.core c.self.inside.took.items c.self.inside.said c.self.invariant c.pick-picked.new.self c.pick-picked.result.1.items c.as_slice.result.now c.as_slice.ensures.value
+    rw (← c.self.view_is) (subst (Picks g.J.Task.SameTask (view_of c.self.inside.core c.self.inside.took.items c.self.inside.said) c.pick-picked.result.0) (sym (now_is c.self.inside.core c.self.inside.took.items c.self.inside.said c.self.invariant c.pick-picked.new.self c.pick-picked.result.1.items c.as_slice.result.now c.as_slice.ensures.value
     step c.write.new.self c.write.ensures))
     (picks-now (view_of c.self.inside.core c.self.inside.took.items c.self.inside.said) c.self.invariant.0 left c.pick-picked.new.self c.pick-picked.result.0 c.pick-picked.result.1.items c.pick-picked.ensures.picks))
 
@@ -38,8 +38,8 @@ pub returns-clause-ins : goal.returns-clause-ins
 returns-clause-ins g c =
     let left : turns c.self.inside.said.journal.notes < most_turns = omega (arith, turns-within c.self.inside.said.journal.notes, c.requires.room, ap (λ view. view.journal.room) c.self.view_is, ap (λ view. length view.journal.notes) c.self.view_is, ap (λ view. view.room) c.journal.ensures, c.room-room.ensures.value) in
     let step = step-picked (view_of c.self.inside.core c.self.inside.took.items c.self.inside.said) c.self.invariant.0 left c.pick-picked.new.self c.pick-picked.result.0 c.pick-picked.result.1.items c.pick-picked.ensures.picks in
-    rw (← c.self.view_is) (quiet_ins c.self.inside.core c.self.inside.took.items c.self.inside.said c.self.invariant c.pick-picked.new.self c.pick-picked.result.1.items c.as_slice.result.now c.as_slice.ensures.value
-    step c.write.new.self c.write.ensures)
+    rw (← c.self.view_is) (λ sender. quiet_ins c.self.inside.core c.self.inside.took.items c.self.inside.said c.self.invariant c.pick-picked.new.self c.pick-picked.result.1.items c.as_slice.result.now c.as_slice.ensures.value
+    step c.write.new.self c.write.ensures sender tt)
 
 pub returns-clause-outs : goal.returns-clause-outs
 returns-clause-outs g c =

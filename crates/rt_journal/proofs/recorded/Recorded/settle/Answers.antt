@@ -47,8 +47,8 @@ returns-clause-ins g c =
     let its_job = its_job_out c.self.inside.core.out out.0 out.1 c.args.ran.before (subst (λ view. IsOut view.core.out c.args.ran.before) (sym c.self.view_is) c.requires.out) in
     let step = step-settled g.met.J.Task.same_task g.met.J.Task.answers_same (view_of c.self.inside.core c.self.inside.took.items c.self.inside.said) c.self.invariant.0 out.0 out.1 c.settle-settled.new.self c.args.ran its_job c.requires.polled c.args.spent
     c.settle-settled.result.0 c.settle-settled.result.1.items out.2 in
-    rw (← c.self.view_is) (quiet_ins c.self.inside.core c.self.inside.took.items c.self.inside.said c.self.invariant c.settle-settled.new.self c.settle-settled.result.1.items c.as_slice.result.now c.as_slice.ensures.value
-    step c.write.new.self c.write.ensures)
+    rw (← c.self.view_is) (λ sender. quiet_ins c.self.inside.core c.self.inside.took.items c.self.inside.said c.self.invariant c.settle-settled.new.self c.settle-settled.result.1.items c.as_slice.result.now c.as_slice.ensures.value
+    step c.write.new.self c.write.ensures sender tt)
 
 pub returns-clause-outs : goal.returns-clause-outs
 returns-clause-outs g c =

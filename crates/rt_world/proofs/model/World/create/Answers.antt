@@ -1,10 +1,8 @@
-use Rattle.std.proofs.Common.{◌≡◌, ◌≤◌, ◌<◌, ◌+◌, length, sym, ◌∙◌, ap, subst, arith}
-use Rattle.std.specs.Prelude.{Option, None}
+use Rattle.std.proofs.Common.{◌<◌, length, sym, ◌∙◌, ap, subst, arith}
 use Rattle.rt_ids.specs.Commands.{IsOpening}
 use Rattle.rt_journal.specs.Steps.{CreatesQueue}
 use Rattle.rt_world.specs.State.{journal_at}
 use Rattle.rt_world.specs.Opening.{IsUnbegun}
-use Rattle.rt_world.specs.OneTurn as one
 use Rattle.rt_world.proofs.CoreSteps.{viewed, free, journal_is}
 use Rattle.rt_world.proofs.OneTurn.{IsKeptBeside}
 use Rattle.rt_world.proofs.Turning.{quiet_rests, created_stays, creates_now}

@@ -1,12 +1,11 @@
-use Rattle.std.proofs.Common.{◌≡◌, ◌≤◌, ◌<◌, ◌+◌, length, refl, sym, ap, subst, arith, vec_items}
+use Rattle.std.proofs.Common.{◌≤◌, ◌<◌, ◌+◌, length, refl, sym, ap, subst, arith, vec_items}
 use Rattle.std.specs.Prelude.{map}
 use Rattle.std.specs.Vec.{with_item}
 use Rattle.rt_world.specs.State.{journal_at}
-use Rattle.rt_world.specs.Inside.{core_at}
 use Rattle.rt_world.specs.Links.{link_at}
 use Rattle.rt_world.proofs.Borrowed.{row_within, link_within, link_here, links_now}
 use Rattle.rt_world.proofs.CoreSteps.{viewed, free}
-use Rattle.rt_world.proofs.Delivering.{IsTakenBy, may_take, delivered_rests, delivers_now}
+use Rattle.rt_world.proofs.Delivering.{IsTakenBy, may_take_from, delivered_rests, delivers_now}
 use Rattle.rt_world.proofs.model.World.deliver.Goals as goal
 
 pub index_mut-row-requires : goal.index_mut-row-requires
@@ -32,7 +31,7 @@ deliver-requires g c =
     (subst (λ core. length (journal_at core c.args.self.now) + 4 ≤ c.args.self.now.room) (sym c.core.view_is) c.requires.room) in
     let places = free c.self.invariant.1 c.core.inside.0 core_there 4 room in
     record {
-      beside = may_take c.self.invariant.1 c.from.inside.0 c.core.inside.0 there core_there _ view _ link;
+      beside = may_take_from c.self.invariant.1 c.from.inside.0 c.core.inside.0 there core_there _ view _ link;
       room = omega (arith, places, ap (λ at. length at.journal.notes) view, ap (λ at. at.journal.room) view);
     }
 

@@ -2,12 +2,10 @@ use Rattle.std.proofs.Common.{◌≡◌, ◌≤◌, ◌<◌, ◌+◌, length, re
 use Rattle.std.specs.Prelude.{map}
 use Rattle.std.specs.Vec.{with_item}
 use Rattle.rt_world.specs.State.{journal_at}
-use Rattle.rt_ids.specs.declared.order.Order.{Order}
 use Rattle.rt_journal.specs.Recorded.{desk_of}
 use Rattle.rt_world.specs.Links.{link_at}
 use Rattle.rt_world.proofs.Borrowed.{row_within, link_within, link_here, links_now}
 use Rattle.rt_world.proofs.CoreSteps.{viewed, free, desk_is}
-use Rattle.rt_world.proofs.Desks.{journal_at-world}
 use Rattle.rt_world.proofs.Sending.{IsSentOutside, may_send, outside_desk, outside_free, outside_rests, outside_sends}
 use Rattle.rt_world.proofs.CoreSending.{IsSentBy, core_rests, core_sends}
 use Rattle.rt_world.proofs.model.World.send.Goals as goal

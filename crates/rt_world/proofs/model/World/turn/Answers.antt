@@ -1,5 +1,4 @@
-use Rattle.std.proofs.Common.{◌≡◌, ◌≤◌, ◌<◌, ◌+◌, length, sym, ◌∙◌, ap, subst, arith}
-use Rattle.std.specs.Prelude.{Option, None}
+use Rattle.std.proofs.Common.{◌≤◌, ◌<◌, ◌+◌, length, sym, ◌∙◌, ap, subst, arith}
 use Rattle.rt_world.specs.State.{journal_at}
 use Rattle.rt_world.specs.OneTurn as one
 use Rattle.rt_world.proofs.CoreSteps.{viewed, free}
@@ -29,5 +28,5 @@ pub returns : goal.returns
 returns g c =
     let there : c.core.inside.0 < c.self.inside.cores = omega (arith, c.core.view_is, c.requires.core, ap (λ world. world.cores) c.self.view_is) in
     let view = viewed c.self.invariant.1 c.core.inside.0 there _ c.index_mut.ensures.value in
-    let turns = subst (λ at. one.Turns g.J.Task.made g.J.Task.Polls g.J.Task.Answers c.args.spent at c.turn_of.new.core c.turn_of.result) view c.turn_of.ensures.turns in
+    let turns = subst (λ at. one.Turns g.J.Task.SameTask g.J.Task.made g.J.Task.Polls g.J.Task.Answers c.args.spent at c.turn_of.new.core c.turn_of.result) view c.turn_of.ensures.turns in
     rw (← c.self.view_is, ← c.core.view_is) (turns_now c.self.invariant.1 c.core.inside.0 there c.turn_of.new.core g.J.Task.Answers c.args.spent c.turn_of.result turns)

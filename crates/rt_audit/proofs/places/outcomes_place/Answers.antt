@@ -1,0 +1,22 @@
+use Rattle.std.proofs.Common.{ℕ, sym, ◌∙◌, arith, below_more}
+use Rattle.rt_rules.specs.Links.{KnowsOrders, KnowsOutcomes}
+use Rattle.rt_turns.proofs.PickSteps.{none_left}
+use Rattle.rt_audit.specs.Places.{OutcomesOf}
+use Rattle.rt_audit.proofs.places.outcomes_place.Goals as goal
+
+pub loop-actor-preserved : goal.loop-actor-preserved
+loop-actor-preserved c =
+    below_more
+    (
+    λ (actor : ℕ).
+    KnowsOrders c.args.orders.now c.args.assembly.now → KnowsOutcomes c.args.outcomes.now c.args.assembly.now → OutcomesOf c.args.assembly.now actor
+    )
+    c.loop-actor.actor c.loop-actor.invariant (c.in_ok-line.ensures (none_left c.in_ok-line.line (sym c.is_some.ensures ∙ c.if-is_some.false)))
+
+pub returns : goal.returns
+returns c =
+    λ none knows given.
+    record {
+      notes = λ actor within. (c.loop-actor.invariant actor (omega arith) knows given).notes;
+      all_ended = λ core within. (c.loop-actor.invariant core (omega arith) knows given).all_ended within;
+    }

@@ -1,0 +1,31 @@
+-- What each rule asks of one actor.
+use Rattle.std.specs.Prelude.{ℕ, ◌<◌, ◌≤◌}
+use Rattle.rt_ids.specs.Assembly.{Assembly, journal_of, IsPrefix, names_of}
+use Rattle.rt_ids.specs.Clauses.{StandsInOrder, OutcomesRight}
+use Rattle.rt_ids.specs.Closing.{IsDrained}
+use Rattle.rt_ids.specs.Filters.{accepted_orders, delivered_names, given_outcomes, collected_outcomes}
+use Rattle.rt_ids.specs.Journal.{EachNote}
+use Rattle.rt_ids.specs.Sound.{AllEnded}
+
+-- what a core was delivered of each actor is a prefix of what that actor sent to it
+abbrev pub DeliveriesOf : Assembly ℕ → ℕ → Type 0
+DeliveriesOf assembly core =
+    (sender : ℕ) → sender ≤ assembly.cores →
+    IsPrefix (delivered_names sender (journal_of core assembly)) (names_of (accepted_orders core (journal_of sender assembly)))
+
+-- what an actor collected of each core is a prefix of what that core gave it
+abbrev pub CollectionsOf : Assembly ℕ → ℕ → Type 0
+CollectionsOf assembly sender =
+    (core : ℕ) → core < assembly.cores →
+    IsPrefix (names_of (collected_outcomes core (journal_of sender assembly))) (names_of (given_outcomes sender (journal_of core assembly)))
+
+-- the second rule, of one actor
+pub record IsInOrder (assembly : Assembly ℕ) (actor : ℕ) : Type 0 where
+  pub notes : EachNote (StandsInOrder assembly) (journal_of actor assembly)
+  pub deliveries : actor < assembly.cores → DeliveriesOf assembly actor
+  pub collections : CollectionsOf assembly actor
+
+-- the fourth rule, of one actor
+pub record OutcomesOf (assembly : Assembly ℕ) (actor : ℕ) : Type 0 where
+  pub notes : EachNote (OutcomesRight assembly) (journal_of actor assembly)
+  pub all_ended : actor < assembly.cores → IsDrained assembly.cores (journal_of actor assembly) → AllEnded assembly actor

@@ -1,0 +1,113 @@
+//! The audit of the journals of all actors.
+
+ghost use Rattle.std.specs.Prelude.{◌≡◌, ◌≤◌, IfOk, None};
+ghost use Rattle.rt_ids.specs.Limits.{most_cores};
+ghost use Rattle.rt_ids.specs.Sound.{IsSound, OutcomesAreSound};
+ghost use Rattle.rt_ids.specs.Spelled.{IsSpelled};
+ghost use Rattle.rt_audit.specs.declared.judge.Verdict.TheVariants.{Sound};
+ghost use Rattle.rt_rules.specs.Links.{KnowsOrders};
+
+use crate::places::{Place, closes_place, order_place, outcomes_place, picks_place, starts_place};
+use rt_ids::{ActorNo, Order};
+use rt_notes::Assembly;
+use rt_rules::links::{orders_sent, outcomes_given};
+use rt_spelling::is_spelled;
+use rt_tables::NameTable;
+use std::alloc::{AllocError, Global};
+
+/// What an audit finds.
+#[derive(Clone, Copy, PartialEq, Eq, Debug)]
+pub enum Verdict {
+    /// The journals are spelled and sound.
+    Sound,
+    /// A rule is broken at this line of this actor's journal, counted from 1, or 0 if no single note is at fault.
+    /// The rules are 1 starts, 2 order, 3 closes, 4 outcomes and 5 picks.
+    Fault {
+        actor: ActorNo,
+        line: usize,
+        rule: u8,
+    },
+}
+
+/// Why there is no verdict.
+#[derive(Clone, Copy, PartialEq, Eq, Debug, thiserror::Error)]
+pub enum AuditError {
+    /// There is not enough memory.
+    #[error("out of memory")]
+    Memory,
+}
+
+/// Whether the journals are spelled and sound, and if not, their first fault: of the least rule, then of the least actor, then of the least line.
+///
+/// Journals that aren't spelled are a fault of rule 1 at line 0 of actor 0.
+pub fn audit(alloc: Global, assembly: &Assembly) -> Result<Verdict, AuditError>
+    ensures { IfOk result (λ verdict. verdict ≡ Sound → IsSpelled assembly.now × IsSound assembly.now) }
+{
+    if !is_spelled(assembly) {
+        return Ok(Verdict::Fault {
+            actor: ActorNo(0),
+            line: 0,
+            rule: 1,
+        });
+    }
+    match verdict_of(alloc, assembly) {
+        Ok(verdict) => Ok(verdict),
+        Err(_) => Err(AuditError::Memory),
+    }
+}
+
+/// The fault of this rule at this place, if there is one.
+fn told(place: Option<Place>, rule: u8) -> Verdict
+    ensures { result ≡ Sound → place ≡ None }
+{
+    match place {
+        Some(place) => Verdict::Fault {
+            actor: place.actor,
+            line: place.line,
+            rule,
+        },
+        None => Verdict::Sound,
+    }
+}
+
+/// Whether the journals are sound, and if not, their first fault.
+fn verdict_of(alloc: Global, assembly: &Assembly) -> Result<Verdict, AllocError>
+    requires { assembly.now.cores ≤ most_cores }
+    ensures { IfOk result (λ verdict. verdict ≡ Sound → IsSound assembly.now) }
+{
+    let orders = orders_sent(alloc, assembly)?;
+    let sent = orders.as_slice();
+    let starts = starts_place(alloc, sent, assembly)?;
+    if starts.is_some() {
+        return Ok(told(starts, 1));
+    }
+    let order = order_place(alloc, sent, assembly)?;
+    if order.is_some() {
+        return Ok(told(order, 2));
+    }
+    let closes = closes_place(assembly);
+    if closes.is_some() {
+        return Ok(told(closes, 3));
+    }
+    let outcomes = ends_place(alloc, sent, assembly)?;
+    if outcomes.is_some() {
+        return Ok(told(outcomes, 4));
+    }
+    let picks = picks_place(alloc, assembly)?;
+    Ok(told(picks, 5))
+}
+
+/// Where the fourth rule is broken first.
+fn ends_place(
+    alloc: Global,
+    sent: &[NameTable<Order<()>>],
+    assembly: &Assembly,
+) -> Result<Option<Place>, AllocError>
+    requires { assembly.now.cores ≤ most_cores }
+    ensures { IfOk result (λ place. place ≡ None → KnowsOrders sent.now assembly.now → OutcomesAreSound assembly.now) }
+{
+    let outcomes = outcomes_given(alloc, assembly)?;
+    let given = outcomes.as_slice();
+    let place = outcomes_place(alloc, sent, given, assembly)?;
+    Ok(place)
+}

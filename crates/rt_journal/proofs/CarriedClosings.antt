@@ -1,0 +1,128 @@
+-- What a core does with an order that closes a queue or the core.
+use Rattle.std.proofs.Common.{◌≡◌, ℕ, ◌+◌, ◌≤◌, true, [], ◌∷◌, refl, sym, ◌∙◌, ap, arith, add-zero}
+use Rattle.std.specs.Prelude.{Some, is_some}
+use Rattle.std.proofs.lemmas.Bool.{le-leb}
+use Rattle.std.proofs.lemmas.List.{append-nil}
+use Rattle.std.proofs.lemmas.List.Elements.{All-nil}
+use Rattle.rt_ids.specs.declared.names.JobId.{JobId}
+use Rattle.rt_ids.specs.declared.note.Note.TheVariants as writes
+use Rattle.rt_ids.specs.declared.order.Order.TheVariants.{Close, CloseCore}
+use Rattle.rt_ids.specs.declared.order.Mode.{Mode}
+use Rattle.rt_ids.specs.declared.order.Answer.TheVariants as answers
+use Rattle.rt_ids.specs.Journal.{Journal}
+use Rattle.rt_ids.specs.Filters.{given_outcomes}
+use Rattle.rt_ids.specs.Work.{number_if}
+use Rattle.rt_ids.specs.Closing.{closes, queue_mode, core_mode}
+use Rattle.rt_ids.specs.Commands.{created_count, IsAnswer}
+use Rattle.rt_ids.specs.Lawful.{IsNextDelivered}
+use Rattle.rt_taskqueue.specs.Queues.{waiting_of, mode_of, held_count}
+use Rattle.rt_core.specs.State.{CoreView, inside_count}
+use Rattle.rt_core.specs.Deliveries.{counted}
+use Rattle.rt_core.specs.Closing.{HasClosed}
+use Rattle.rt_journal.specs.Polls.{polls_made}
+use Rattle.rt_journal.specs.Agreement.{IsKept, Agrees}
+use Rattle.rt_journal.specs.Recorded.{RecordedView, terms_at}
+use Rattle.rt_journal.proofs.CarriedOut.{IsCarriedOut, IsOf, answered_more, counted_one, prefix-with_last}
+use Rattle.rt_journal.proofs.KeptAnswers.{agrees-answered, answered_stands}
+use Rattle.rt_journal.proofs.KeptClosings.{agrees-core_closed, agrees-queue_closed}
+
+module _ {J T : Type 0} (old : RecordedView J T) (name : JobId)
+    (kept : IsKept (terms_at old) old.core old.journal.notes) (next : IsNextDelivered (terms_at old) name old.journal.notes) (sender : name.from ≤ old.core.cores)
+    (core : CoreView J) where
+  abbrev journal : Journal T
+  journal = old.journal.notes
+
+  -- the core that has counted the delivery
+  abbrev middle : CoreView J
+  middle = record old.core { delivered = counted name old.core }
+
+  abbrev answered : Journal T
+  answered = writes.Answered name answers.Closed ∷ journal
+
+  answered_agrees : Agrees middle answered
+  answered_agrees = agrees-answered (terms_at old) old.core middle name journal kept next sender refl answers.Closed
+
+  unpolled : (which : JobId) → polls_made which journal + 0 + 0 ≡ polls_made which journal
+  unpolled which = add-zero (polls_made which journal + 0) ∙ add-zero (polls_made which journal)
+
+  -- a queue is closed
+  pub closes_queue : (queue : ℕ) (mode : Mode) → closes (mode_of queue old.core.queues) mode ≡ true → HasClosed middle queue mode core →
+      IsCarriedOut old name (Close queue mode) core (writes.QueueClosed queue mode ∷ writes.Answered name answers.Closed ∷ [])
+  closes_queue queue mode changes has = record {
+    kept = record {
+      is_core = kept.is_core;
+      agrees = agrees-queue_closed middle core answered answered_agrees queue mode has;
+      notes = (
+        record { may_follow = (exists, changes_told); turn = refl; effect = refl; writer = kept.is_core },
+        (answered_stands (terms_at old) old.core middle name journal kept next sender refl (Close queue mode) answers.Closed right, kept.notes),
+      );
+      no_pick = refl;
+      no_answer = refl;
+      collects_nothing = (tt, (tt, kept.collects_nothing));
+    };
+    number = ap (λ core. core.core) has.rest;
+    cores = ap (λ core. core.cores) has.rest;
+    room = has.closed.same_room;
+    out = ap (λ core. core.out) has.rest;
+    lists = record { sent = record { accepted = λ core. refl; outstanding = λ core. refl; collected = λ core. refl }; given = λ from. prefix-with_last (given_outcomes from journal) _; gates = λ from. refl };
+    delivered = counted_one old name kept next sender core;
+    held = omega (arith, inside, answered_more old name kept next sender core answers.Closed);
+    polls = unpolled;
+    delivery = (answers.Closed, right, refl);
+    as_sent = λ under at before. (λ has. (Close queue mode, at, refl), ((Close queue mode, at, right), before));
+    more = λ other. [];
+    lines = λ other. has.closed.same_lines other ∙ sym (append-nil (waiting_of other old.core.queues));
+    came = λ other. All-nil (IsOf name (Close queue mode) other);
+    few = omega arith;
+  }
+    where
+      exists : queue ≤ created_count journal
+      exists = omega (arith, has.exists, kept.agrees.last)
+
+      changes_told : closes (queue_mode queue journal) mode ≡ true
+      changes_told = ap (λ was. closes was mode) (sym (kept.agrees.closing.modes queue)) ∙ changes
+
+      right : IsAnswer (Close queue mode) answers.Closed journal
+      right = rw (le-leb queue (created_count journal) exists, changes_told) refl
+
+      inside : inside_count core ≡ inside_count old.core
+      inside =
+          ap (λ out. held_count core.queues + number_if (is_some out)) (ap (λ core. core.out) has.rest)
+          ∙ ap (λ held. held + number_if (is_some old.core.out)) has.closed.same_held
+
+  -- the core is closed
+  pub closes_core : (mode : Mode) → closes old.core.mode mode ≡ true → core ≡ record middle { mode = Some mode } →
+      IsCarriedOut old name (CloseCore mode) core (writes.CoreClosed mode ∷ writes.Answered name answers.Closed ∷ [])
+  closes_core mode changes is = record {
+    kept = record {
+      is_core = kept.is_core;
+      agrees = agrees-core_closed middle core answered answered_agrees mode is;
+      notes = (
+        record { may_follow = changes_told; turn = refl; effect = refl; writer = kept.is_core },
+        (answered_stands (terms_at old) old.core middle name journal kept next sender refl (CloseCore mode) answers.Closed right, kept.notes),
+      );
+      no_pick = refl;
+      no_answer = refl;
+      collects_nothing = (tt, (tt, kept.collects_nothing));
+    };
+    number = ap (λ core. core.core) is;
+    cores = ap (λ core. core.cores) is;
+    room = ap (λ core. core.queues.room) is;
+    out = ap (λ core. core.out) is;
+    lists = record { sent = record { accepted = λ core. refl; outstanding = λ core. refl; collected = λ core. refl }; given = λ from. prefix-with_last (given_outcomes from journal) _; gates = λ from. refl };
+    delivered = counted_one old name kept next sender core;
+    held = omega (arith, ap inside_count is, answered_more old name kept next sender core answers.Closed);
+    polls = unpolled;
+    delivery = (answers.Closed, right, refl);
+    as_sent = λ under at before. (λ has. (CloseCore mode, at, refl), ((CloseCore mode, at, right), before));
+    more = λ other. [];
+    lines = λ other. ap (λ core. waiting_of other core.queues) is ∙ sym (append-nil (waiting_of other old.core.queues));
+    came = λ other. All-nil (IsOf name (CloseCore mode) other);
+    few = omega arith;
+  }
+    where
+      changes_told : closes (core_mode journal) mode ≡ true
+      changes_told = ap (λ was. closes was mode) (sym kept.agrees.closing.mode) ∙ changes
+
+      right : IsAnswer (CloseCore mode) answers.Closed journal
+      right = rw changes_told refl

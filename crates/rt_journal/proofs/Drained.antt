@@ -1,0 +1,27 @@
+-- A core is drained where its journal says so.
+use Rattle.std.proofs.Common.{◌≡◌, ℕ, sym, ◌∙◌, ap}
+use Rattle.std.specs.Prelude.{Some}
+use Rattle.std.proofs.lemmas.Bool.{false_from_ne_true, true≢false}
+use Rattle.rt_ids.specs.Work.{has_work}
+use Rattle.rt_ids.specs.Closing as told
+use Rattle.rt_jobs.specs.Steps.{Owed}
+use Rattle.rt_core.specs.State.{is_working}
+use Rattle.rt_core.specs.Closing as core
+use Rattle.rt_journal.specs.Recorded.{RecordedView, terms_at, IsRecorded}
+use Rattle.rt_journal.proofs.Kept.{working}
+
+module _ {J T : Type 0} {same : J → J → Type 0} {made : J → ℕ} {polls : Owed J T} (view : RecordedView J T) (recorded : IsRecorded same made polls view) where
+  works : (queue : ℕ) → is_working queue view.core ≡ has_work queue view.journal.notes
+  works queue = working view.core view.journal.notes (terms_at view) queue recorded.kept.notes recorded.kept.agrees
+
+  pub drained_told : core.IsDrained view.core → told.IsDrained view.core.cores view.journal.notes
+  drained_told drained = record {
+    delivered_all = λ sender known. sym (recorded.kept.agrees.closing.gates sender) ∙ (drained.delivered_all sender known ∙ ap Some (recorded.kept.agrees.delivered sender known));
+    idle = λ queue busy. true≢false (sym busy ∙ (sym (works queue) ∙ drained.idle queue));
+  }
+
+  pub drained_here : told.IsDrained view.core.cores view.journal.notes → core.IsDrained view.core
+  drained_here drained = record {
+    delivered_all = λ sender known. recorded.kept.agrees.closing.gates sender ∙ (drained.delivered_all sender known ∙ ap Some (sym (recorded.kept.agrees.delivered sender known)));
+    idle = λ queue. works queue ∙ false_from_ne_true (has_work queue view.journal.notes) (drained.idle queue);
+  }

@@ -1,0 +1,32 @@
+use Rattle.std.proofs.Common.{◌≡◌, ℕ, sym, ap, subst, ◌∙◌, arith}
+use Rattle.rt_ids.specs.Assembly.{IsPrefix}
+use Rattle.rt_ids.specs.Journal.{Journal, list_told, with_last, at_place}
+use Rattle.rt_tables.proofs.Walks.{at_start, whole_walk}
+use Rattle.rt_prefixes.specs.Sides.{name_told, AreEven}
+use Rattle.rt_prefixes.proofs.ToldNames.{told_at_place}
+use Rattle.rt_prefixes.proofs.prefixes.prefix_fault.Goals as goal
+
+pub loop-place-init : goal.loop-place-init
+loop-place-init c = record {
+  within = omega arith;
+  even =
+      ap (list_told (name_told c.args.front.now)) (at_start c.args.journal.now.notes) ∙
+      sym (ap (list_told (name_told c.args.whole.now)) (at_start c.args.other.now.notes));
+}
+
+pub loop-place-preserved : goal.loop-place-preserved
+loop-place-preserved c = record {
+  within = c.in-Some.ensures.within;
+  even =
+      ap (list_told (name_told c.args.front.now)) c.note_at-note.ensures ∙
+      (ap (λ told. with_last told (name_told c.args.front.now c.note_at-note.result)) c.loop-place.invariant.even ∙ c.in-Some.ensures.even);
+}
+
+pub returns : goal.returns
+returns c =
+    λ none.
+    whole_walk (λ journal. IsPrefix (list_told (name_told c.args.front.now) journal) (list_told (name_told c.args.whole.now) c.args.other.now.notes))
+    c.args.journal.now.notes c.loop-place.place (omega arith)
+    (
+    rw c.loop-place.invariant.even (told_at_place (name_told c.args.whole.now) c.loop-place.behind c.args.other.now.notes)
+    )

@@ -1,0 +1,11 @@
+//! Reads the text of journals, and judges it line by line.
+#![tactic(auto)]
+
+pub mod draft;
+pub mod fault;
+pub mod laws;
+pub mod reader;
+pub mod source;
+
+pub use fault::{JournalCause, ReadError};
+pub use source::read_journal;

@@ -1,0 +1,3 @@
+pub mod FirstUnder
+pub mod LinkTables
+pub mod NumberSteps

@@ -1,0 +1,31 @@
+use Rattle.std.proofs.Common.{ℕ, sym, subst, arith}
+use Rattle.rt_ids.specs.Clauses.{OutcomesRight}
+use Rattle.rt_ids.specs.Journal.{Journal, EachNote}
+use Rattle.rt_tables.proofs.Walks.{at_start, whole_walk}
+use Rattle.rt_rules.specs.Outcomes.{OutcomesSoFar}
+use Rattle.rt_rules.proofs.outcomes.outcomes_fault.Goals as goal
+
+pub loop-place-init : goal.loop-place-init
+loop-place-init c =
+    subst (λ (before : Journal ℕ). OutcomesSoFar c.args.orders.now c.args.outcomes.now c.new-ends.result before) (sym (at_start c.args.journal.now.notes))
+    (record { known = c.new-ends.ensures; right = λ assembly orders outcomes. tt })
+
+pub loop-place-preserved : goal.loop-place-preserved
+loop-place-preserved c =
+    subst (λ (before : Journal ℕ). OutcomesSoFar c.args.orders.now c.args.outcomes.now c.add.new.self before) (sym c.note_at-note.ensures)
+    (
+    record {
+      known = c.in_ok-add.ensures _ c.loop-place.invariant.known;
+      right =
+          λ assembly orders outcomes. (
+            c.outcomes_right.ensures assembly _ orders outcomes c.loop-place.invariant.known c.if-not-outcomes_right.false,
+            c.loop-place.invariant.right assembly orders outcomes,
+          );
+    }
+    )
+
+pub returns : goal.returns
+returns c =
+    λ none assembly orders outcomes.
+    whole_walk (λ journal. EachNote (OutcomesRight assembly) journal) c.args.journal.now.notes c.loop-place.place (omega arith)
+    (c.loop-place.invariant.right assembly orders outcomes)

@@ -1,0 +1,10 @@
+use Rattle.std.proofs.Common.{◌≤◌}
+use Rattle.rt_ids.specs.Journal.{at_place}
+use Rattle.rt_stats.specs.Walks.{KnowsSums}
+use Rattle.rt_stats.proofs.sums.Sums.read.Given as goal
+
+abbrev pub invariant-loop-place : goal.invariant-loop-place
+invariant-loop-place l = record {
+  within : l.place ≤ l.to;
+  known : KnowsSums l.fn.self (at_place l.from l.journal.notes) → KnowsSums l.self (at_place l.place l.journal.notes);
+}

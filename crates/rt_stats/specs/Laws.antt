@@ -1,0 +1,12 @@
+-- Laws of the statistics of lawful journals.
+use Rattle.std.specs.Prelude.{◌≡◌, ℕ, length}
+use Rattle.rt_ids.specs.Journal.{Journal, EachNote}
+use Rattle.rt_ids.specs.Lawful.{MayStand}
+use Rattle.rt_ids.specs.Lines.{line}
+use Rattle.rt_ids.specs.Terms.{Terms}
+use Rattle.rt_stats.specs.Sums.{waiting_count}
+
+-- in a lawful journal the jobs that wait are those of the queue's line
+abbrev pub WaitingIsLine : Type 0
+WaitingIsLine =
+    (terms : Terms) (queue : ℕ) (journal : Journal ℕ) → EachNote (MayStand terms) journal → waiting_count queue journal ≡ length (line queue journal)

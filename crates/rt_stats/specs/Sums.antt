@@ -1,0 +1,62 @@
+-- Sums over the notes of a journal.
+use Rattle.std.specs.Prelude.{ℕ, ◌+◌, ◌-◌, if◌then◌else◌, Option, Some, None, [], ◌∷◌}
+use Rattle.rt_shares.specs.Charge.{clamped}
+use Rattle.rt_ids.specs.declared.names.JobId.{JobId}
+use Rattle.rt_ids.specs.declared.note.Note.{Note}
+use Rattle.rt_ids.specs.declared.note.Note.TheVariants.{Yield, Done, Returned}
+use Rattle.rt_ids.specs.Filters.{name_finished}
+use Rattle.rt_ids.specs.HandBacks.{jobs_inside}
+use Rattle.rt_ids.specs.Journal.{Journal}
+use Rattle.rt_ids.specs.Lines.{name_polled, name_settled}
+use Rattle.rt_ids.specs.Names.{is_number}
+use Rattle.rt_ids.specs.Runtimes.{charge_noted}
+use Rattle.rt_ids.specs.Work.{queue_of, number_if}
+
+-- the queue of a job, if there is a job
+abbrev pub queue_of_told : {T : Type 0} → Option JobId → Journal T → Option ℕ
+queue_of_told None before = None
+queue_of_told (Some name) before = queue_of name before
+
+-- how many notes tell a job of this queue
+abbrev pub count_of : {T : Type 0} → (Note T → Option JobId) → ℕ → Journal T → ℕ
+count_of says queue [] = 0
+count_of says queue (note ∷ before) = count_of says queue before + number_if (is_number queue (queue_of_told (says note) before))
+
+-- the job that a pick hands back
+abbrev pub name_returned : {T : Type 0} → Note T → Option JobId
+name_returned (Returned name reason) = Some name
+name_returned _ = None
+
+-- how many polls of jobs of the queue were begun, and how many of them are settled
+abbrev pub begun_count : {T : Type 0} → ℕ → Journal T → ℕ
+begun_count = count_of name_polled
+
+abbrev pub settled_count : {T : Type 0} → ℕ → Journal T → ℕ
+settled_count = count_of name_settled
+
+-- how many jobs of the queue are done, and how many a pick handed back
+abbrev pub finished_count : {T : Type 0} → ℕ → Journal T → ℕ
+finished_count = count_of name_finished
+
+abbrev pub returned_count : {T : Type 0} → ℕ → Journal T → ℕ
+returned_count = count_of name_returned
+
+-- the time of a settled poll of a job of the queue, as it counts for its charge
+abbrev pub time_noted : {T : Type 0} → ℕ → Note T → Journal T → ℕ
+time_noted queue (Yield name time) before = if is_number queue (queue_of name before) then clamped time else 0
+time_noted queue (Done name time value) before = if is_number queue (queue_of name before) then clamped time else 0
+time_noted queue _ before = 0
+
+-- the time of all polls of the queue
+abbrev pub run_time : {T : Type 0} → ℕ → Journal T → ℕ
+run_time queue [] = 0
+run_time queue (note ∷ before) = run_time queue before + time_noted queue note before
+
+-- all that the queue was charged
+abbrev pub charges : {T : Type 0} → ℕ → Journal T → ℕ
+charges queue [] = 0
+charges queue (note ∷ before) = charges queue before + charge_noted queue note before
+
+-- the jobs inside a queue that aren't being polled
+abbrev pub waiting_count : {T : Type 0} → ℕ → Journal T → ℕ
+waiting_count queue journal = jobs_inside queue journal - (begun_count queue journal - settled_count queue journal)

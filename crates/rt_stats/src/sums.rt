@@ -1,0 +1,175 @@
+//! The sums of one journal, made in one walk over its notes.
+
+ghost use Rattle.std.specs.Prelude.{◌≡◌, ◌↔◌, ◌<◌, ◌≤◌, ◌+◌, ◌∷◌, ℕ, [], length, get_or, min, OnOk, IfOk, IsTrue, nat_le};
+ghost use Rattle.rt_ids.specs.Closing.{IsDrained};
+ghost use Rattle.rt_ids.specs.Journal.{Journal as Notes, at_place};
+ghost use Rattle.rt_ids.specs.Lag.{greatest_charge};
+ghost use Rattle.rt_accounts.specs.Accounts.{greatest_count, fresh_account, has_jobs};
+ghost use Rattle.rt_stats.specs.Stats as spec;
+ghost use Rattle.rt_stats.specs.Sums.{charges};
+ghost use Rattle.rt_stats.specs.Walks.{KnowsSums, inside_below};
+
+use crate::gates::{Gates, all_done};
+use crate::tally::{Tallies, account_of, queue_noted, queue_touched};
+use rt_accounts::{Account, Accounts};
+use rt_ids::{CoreStats, Note, QueueNo, QueueStats};
+use rt_notes::Journal;
+use rt_tables::told::queue_told;
+use rt_tables::{NameTable, note_at};
+use std::alloc::{AllocError, Global};
+use std::marker::Model;
+
+/// Of the notes that were read: all sums, of each queue and of the core.
+///
+/// A contract sees the four tables of it. `KnowsSums` says that they are what some notes tell.
+#[derive(Drop)]
+pub struct Sums {
+    queues: NameTable<QueueNo>,
+    accounts: Accounts,
+    tallies: Tallies,
+    gates: Gates,
+}
+
+impl Model for Sums {
+    ghost use Rattle.rt_stats.specs.Walks.{SumsView};
+
+    ghost Value = { SumsView };
+
+    ghost view = { λ sums. record { queues = sums.queues; accounts = sums.accounts; tallies = sums.tallies; gates = sums.gates } };
+}
+
+/// Whether no queue has work.
+fn is_idle(accounts: &[Account; 256]) -> bool
+    ensures { IsTrue result ↔ ((queue : ℕ) → IsTrue (has_jobs (get_or accounts.now queue fresh_account)) → ⊥) }
+{
+    for queue in 0..accounts.len() {
+        if accounts[queue].has_jobs() {
+            return false;
+        }
+    }
+    true
+}
+
+/// The jobs inside all queues, of which so many were created behind queue 0.
+fn held(accounts: &[Account; 256], created: u64) -> u64
+    ensures { result ≡ min (inside_below (created + 1) accounts.now) greatest_count }
+{
+    let mut sum: u64 = 0;
+    for queue in 0..created.min(255) as usize + 1 {
+        let account = &accounts[queue];
+        sum = sum.saturating_add(account.entered.saturating_sub(account.left));
+    }
+    sum
+}
+
+impl Sums {
+    /// No note was read.
+    pub fn new(alloc: Global) -> Self
+        ensures { KnowsSums {T = ℕ} result [] }
+    {
+        Sums {
+            queues: NameTable::new(alloc),
+            accounts: Accounts::new(),
+            tallies: Tallies::new(),
+            gates: Gates::new(),
+        }
+    }
+
+    /// Reads the next note.
+    fn add(&mut self, note: &Note<u64>) -> Result<(), AllocError>
+        ensures { OnOk result ((before : Notes ℕ) → length before < greatest_count → KnowsSums self.old before → KnowsSums self.new (note.now ∷ before)) }
+    {
+        let queue = queue_noted(note, &self.queues);
+        let touched = queue_touched(note, &queue);
+        self.tallies.add(note, &queue, &self.accounts);
+        self.accounts.add(note, touched);
+        self.gates.add(note);
+        self.queues.set_told(queue_told(note))?;
+        Ok(())
+    }
+
+    /// Reads the notes from one place to another, after those before the first place.
+    ///
+    /// # Errors
+    ///
+    /// `AllocError` for want of memory; then nothing is known any more.
+    pub fn read(&mut self, journal: &Journal<u64>, from: usize, to: usize) -> Result<(), AllocError>
+        requires { from ≤ to }
+        ensures { OnOk result (KnowsSums self.old (at_place from journal.now.notes) → KnowsSums self.new (at_place to journal.now.notes)) }
+    {
+        let end = to.min(journal.len());
+        for place in from..end {
+            let note = note_at(journal, place);
+            self.add(&note)?;
+        }
+        Ok(())
+    }
+
+    /// The sums of all notes.
+    ///
+    /// # Errors
+    ///
+    /// `AllocError` for want of memory.
+    pub fn of(alloc: Global, journal: &Journal<u64>) -> Result<Self, AllocError>
+        ensures { IfOk result (λ sums. KnowsSums sums journal.now.notes) }
+    {
+        let mut sums = Sums::new(alloc);
+        sums.read(journal, 0, journal.len())?;
+        Ok(sums)
+    }
+
+    /// The statistics of a queue, if there is such a queue.
+    pub fn queue_stats(&self, queue: QueueNo) -> Option<QueueStats>
+        ensures { (journal : Notes ℕ) → KnowsSums self.now journal → result ≡ spec.queue_stats queue journal }
+    {
+        if queue.0 as u64 <= self.gates.created {
+            Some(self.stats_of(queue))
+        } else {
+            None
+        }
+    }
+
+    fn stats_of(&self, queue: QueueNo) -> QueueStats
+        ensures { (journal : Notes ℕ) → KnowsSums self.now journal → result ≡ spec.stats_of queue journal }
+    {
+        let account = account_of(&self.accounts, queue);
+        let tally = self.tallies.of(queue);
+        let inside = account.entered.saturating_sub(account.left);
+        QueueStats {
+            shares: account.shares,
+            selected: tally.selected,
+            runtime: tally.time,
+            virtual_runtime: account.virtual_runtime,
+            waiting: inside.saturating_sub(tally.begun.saturating_sub(tally.settled)),
+            finished: tally.finished,
+            returned: tally.returned,
+        }
+    }
+
+    /// The statistics of the core, in a house of so many cores.
+    pub fn core_stats(&self, cores: u8) -> CoreStats
+        ensures core { (journal : Notes ℕ) → KnowsSums self.now journal → result ≡ spec.core_stats result.drained journal }
+        ensures drained { (journal : Notes ℕ) → KnowsSums self.now journal → IsTrue result.drained ↔ IsDrained cores journal }
+    {
+        CoreStats {
+            turns: self.gates.turns,
+            floor: self.accounts.floor,
+            held: held(&self.accounts.queues, self.gates.created),
+            drained: all_done(&self.gates.senders, cores) && is_idle(&self.accounts.queues),
+        }
+    }
+
+    /// The sum of the charges of a queue.
+    pub fn charged(&self, queue: QueueNo) -> u128
+        ensures { (journal : Notes ℕ) → KnowsSums self.now journal → result ≡ charges queue journal }
+    {
+        self.tallies.of(queue).charged
+    }
+
+    /// The greatest charge of one turn of a queue, 0 if it was charged nothing.
+    pub fn greatest_turn(&self, queue: QueueNo) -> u64
+        ensures { (journal : Notes ℕ) → KnowsSums self.now journal → result ≡ greatest_charge queue journal }
+    {
+        self.tallies.of(queue).greatest
+    }
+}

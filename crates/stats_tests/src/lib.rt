@@ -1,0 +1,9 @@
+//! Tests of the statistics of a journal over their public calls.
+#![tactic(auto)]
+
+#[cfg(test)]
+mod foreign;
+#[cfg(test)]
+mod journals;
+#[cfg(test)]
+mod rows;

@@ -1,0 +1,15 @@
+//! Tests of the text of journals over the public calls.
+#![tactic(auto)]
+
+#[cfg(test)]
+mod devices;
+#[cfg(test)]
+mod journals;
+#[cfg(test)]
+mod reading;
+#[cfg(test)]
+mod spelled;
+#[cfg(test)]
+mod texts;
+#[cfg(test)]
+mod written;

@@ -1,0 +1,125 @@
+//! Events as plain data, and what becomes of them.
+
+ghost use Rattle.rt_jobs.specs.Ready.{HasReadyJob};
+ghost use Rattle.rt_world.specs.Opening.{HasReadyEvent};
+
+use rt_ids::{ActorNo, CoreNo, Mode, Order, QueueNo, SendError};
+use rt_jobs::{ScriptJob, Task};
+use rt_shares::Shares;
+use rt_world::{Event, Reply, World};
+use std::process::Abort;
+
+/// An event. The first number is the actor that makes the step, and the second one is at the other end of the link.
+#[derive(Clone, Copy)]
+pub enum Act {
+    /// A job for this queue: one poll of so many nanoseconds, done with the answer.
+    Job(u8, u8, u8, u64, u64),
+    /// A job for this queue that yields after so many nanoseconds, and is done with the answer at its next poll of 1 ns.
+    Work(u8, u8, u8, u64, u64),
+    /// The order to make a queue of these shares.
+    Create(u8, u8, Shares),
+    /// The order to close this queue.
+    Close(u8, u8, u8, Mode),
+    /// The order to close the core.
+    CloseCore(u8, u8, Mode),
+    Deliver(u8, u8),
+    Turn(u8),
+    Shut(u8, u8),
+}
+
+/// What became of an event.
+#[derive(Clone, Copy, PartialEq, Eq)]
+pub enum Became {
+    Sent,
+    /// The gate is shut, at this count.
+    Closed(u64),
+    Noted,
+    Empty,
+    Idle,
+    NotClosed,
+    AlreadyShut,
+    Other,
+}
+
+/// A send of an order that hands in no job.
+fn send(from: u8, to: u8, order: Order<ScriptJob>) -> Event<ScriptJob>
+    requires { HasReadyJob ⟦<ScriptJob as Task>⟧.done ⟦<ScriptJob as Task>⟧.CanPoll order }
+    ensures { HasReadyEvent (HasReadyJob ⟦<ScriptJob as Task>⟧.done ⟦<ScriptJob as Task>⟧.CanPoll) result }
+{
+    Event::Send(ActorNo(from), CoreNo(to), order)
+}
+
+/// A send of this job to a queue.
+fn send_job(rt: &impl Abort, from: u8, to: u8, queue: u8, job: ScriptJob) -> Event<ScriptJob>
+    ensures { HasReadyEvent (HasReadyJob ⟦<ScriptJob as Task>⟧.done ⟦<ScriptJob as Task>⟧.CanPoll) result }
+{
+    assert!(rt; !job.is_done());
+    Event::Send(ActorNo(from), CoreNo(to), Order::Job(QueueNo(queue), job))
+}
+
+/// A job that yields once and is done at its next poll.
+fn two_polls(time: u64, answer: u64) -> ScriptJob {
+    let mut job = ScriptJob::done(1, answer);
+    job.add_yield(time);
+    job
+}
+
+/// The event of the model.
+fn event_of(rt: &impl Abort, act: &Act) -> Event<ScriptJob>
+    ensures { HasReadyEvent (HasReadyJob ⟦<ScriptJob as Task>⟧.done ⟦<ScriptJob as Task>⟧.CanPoll) result }
+{
+    match act {
+        Act::Job(from, to, queue, time, answer) => {
+            send_job(rt, *from, *to, *queue, ScriptJob::done(*time, *answer))
+        }
+        Act::Work(from, to, queue, time, answer) => {
+            send_job(rt, *from, *to, *queue, two_polls(*time, *answer))
+        }
+        Act::Create(from, to, shares) => send(*from, *to, Order::Create(*shares)),
+        Act::Close(from, to, queue, mode) => {
+            send(*from, *to, Order::Close(QueueNo(*queue), *mode))
+        }
+        Act::CloseCore(from, to, mode) => send(*from, *to, Order::CloseCore(*mode)),
+        Act::Deliver(core, from) => Event::Deliver(CoreNo(*core), ActorNo(*from)),
+        Act::Turn(core) => Event::Turn(CoreNo(*core), 0),
+        Act::Shut(core, from) => Event::Shut(CoreNo(*core), ActorNo(*from)),
+    }
+}
+
+fn told_by(reply: Reply<ScriptJob>) -> Became {
+    match reply {
+        Reply::Sent(_) => Became::Sent,
+        Reply::NotSent(SendError::Closed(_, count)) => Became::Closed(count),
+        Reply::Noted => Became::Noted,
+        Reply::Empty => Became::Empty,
+        Reply::Idle => Became::Idle,
+        Reply::NotClosed => Became::NotClosed,
+        Reply::AlreadyShut => Became::AlreadyShut,
+        _ => Became::Other,
+    }
+}
+
+/// Makes all these events, whether each of them became what stands beside it.
+pub fn run(rt: &impl Abort, world: &mut World<ScriptJob>, row: &[(Act, Became)]) -> bool {
+    let mut all = true;
+    for (act, want) in row {
+        let reply = world.step(event_of(rt, act));
+        if told_by(reply) != *want {
+            all = false;
+        }
+    }
+    all
+}
+
+/// Whether the core, if there is one, is drained.
+pub fn is_drained(world: &World<ScriptJob>, core: u8) -> bool {
+    core < world.cores() && world.is_drained(CoreNo(core))
+}
+
+/// Whether the core, if there is one, is closed, and has shut the gate of this actor.
+pub fn has_shut(world: &World<ScriptJob>, core: u8, from: u8) -> bool {
+    core < world.cores()
+        && from <= world.cores()
+        && world.is_closed(CoreNo(core))
+        && world.is_shut(CoreNo(core), ActorNo(from))
+}
