@@ -1,3 +1,4 @@
+pub mod CollectedCounts
 pub mod EventLimits
 pub mod EventTexts
 pub mod OpeningLemmas

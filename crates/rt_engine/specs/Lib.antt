@@ -3,3 +3,4 @@ pub mod Transcripts
 pub mod Rooms
 pub mod Outputs
 pub mod OneOutput
+pub mod Counts
