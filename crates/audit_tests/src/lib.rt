@@ -16,6 +16,8 @@ mod bad_starts;
 #[cfg(test)]
 mod journals;
 #[cfg(test)]
+mod least;
+#[cfg(test)]
 mod picks;
 #[cfg(test)]
 mod sound;
