@@ -1,0 +1,10 @@
+//! One worker: a core beside its journal, over its actor's ends of the links.
+#![tactic(auto)]
+
+pub mod laws;
+pub mod linked;
+mod next;
+pub mod turn;
+
+pub use linked::Linked;
+pub use turn::Made;
