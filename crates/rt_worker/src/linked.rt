@@ -90,7 +90,6 @@ impl<J: Task<Out = u64>> Linked<J> {
         requires room { length self.old.recorded.journal.notes + 2 ≤ self.old.recorded.journal.room }
         ensures { DeliversFrom sender self.old result self.new }
     {
-        self.recorded
-            .deliver(&mut self.ends.ins[sender.0 as usize])
+        self.recorded.deliver(&mut self.ends.ins[sender.0 as usize])
     }
 }
