@@ -1,21 +1,19 @@
 -- All workers that have ended and the outside actor, together in one house.
-use Rattle.std.specs.Prelude.{◌≡◌, ℕ, ◌<◌, None, List, [], ◌∷◌, ◌++◌, length, map, slice_index_or, if◌then◌else◌, nat_lt}
+use Rattle.std.specs.Prelude.{◌≡◌, ℕ, ◌<◌, List, [], ◌∷◌, ◌++◌, length, map, slice_index_or}
 use Rattle.rt_ids.specs.declared.order.Order.{Order}
 use Rattle.rt_ids.specs.declared.order.Outcome.{Outcome}
 use Rattle.rt_ids.specs.Assembly.{Assembly, journal_of}
 use Rattle.rt_ids.specs.Closing.{IsDrained}
 use Rattle.rt_ids.specs.Joining.{AreJoined}
 use Rattle.rt_jobs.specs.Steps.{Owed}
-use Rattle.rt_core.specs.State.{opened}
-use Rattle.rt_journal.specs.Submissions.{DeskView, IsWritten, opened_desk, terms_of_desk}
-use Rattle.rt_journal.specs.Recorded.{RecordedView, desk_of, terms_at}
+use Rattle.rt_journal.specs.Submissions.{DeskView, IsWritten, terms_of_desk}
+use Rattle.rt_journal.specs.Recorded.{desk_of, terms_at}
 use Rattle.rt_journal.specs.Ends.{IsOutOf}
 use Rattle.rt_journal.specs.Steps.{opened_beside}
 use Rattle.rt_journal.specs.Together.{IsAssemblyOf}
 use Rattle.rt_grid.specs.Ends.{EndsView, out_at}
 use Rattle.rt_grid.specs.Grid.{AreReunited, no_ends}
 use Rattle.rt_worker.specs.Linked.{LinkedView}
-use Rattle.rt_worker.specs.Rooms.{ClosesOnlyShort}
 use Rattle.rt_worker.specs.Ended.{HasEnded}
 
 -- the outside actor: its journal and its ends
@@ -33,7 +31,7 @@ module _ {J T : Type 0} where
 
   -- what an actor says of its submissions: the last one is the outside actor
   abbrev pub desk_among : List (LinkedView J T) → OutsideView J T → ℕ → DeskView J T
-  desk_among workers outside actor = if nat_lt actor (length workers) then desk_of (worker_at actor workers).recorded else outside.desk
+  desk_among workers outside actor = slice_index_or (map (λ worker. desk_of worker.recorded) workers ++ outside.desk ∷ []) actor outside.desk
 
   -- the ends of all actors
   abbrev pub all_ends : List (LinkedView J T) → OutsideView J T → List (EndsView J T)
@@ -55,7 +53,7 @@ module _ {J T : Type 0} (same : J → J → Type 0) (made : J → ℕ) (polls : 
     pub outside_is : IsOutside outside
     pub reunited : AreReunited fits cores (all_ends workers outside)
 
-  -- their journals are joined, so they are sound; each core is drained, and closed by itself only where its journal was short
+  -- their journals are joined, so they are sound; each core is drained
   abbrev pub EndedAreJoined : Type 0
   EndedAreJoined =
       (cores cap : ℕ) (workers : List (LinkedView J T)) (outside : OutsideView J T) (assembly : Assembly T) →
