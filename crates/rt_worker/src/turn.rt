@@ -28,6 +28,11 @@ pub enum Made {
     Spent,
 }
 
+// Asks the gate, just before a poll.
+fn ask<G: Gate>(gate: &mut G, name: &JobId) {
+    gate.before_poll(name.to, *name);
+}
+
 // Polls the job that is out, between two readings of the clock, and settles its poll on the end of its sender.
 fn poll_out<J: Job + Task<Out = u64>, C: Clock, G: Gate>(
     recorded: &mut Recorded<J>,
@@ -51,7 +56,7 @@ fn poll_out<J: Job + Task<Out = u64>, C: Clock, G: Gate>(
     ensures sound { IsRecorded J.SameTask J.made J.Polls recorded.new }
     ensures link { end.new.link ≡ end.old.link }
 {
-    gate.before_poll(name.to, name);
+    ask(gate, &name);
     let before = clock.now();
     let ran = Ran::poll(job, &mut NoPost);
     let after = clock.now();
