@@ -1,5 +1,6 @@
 pub mod Replies
 pub mod Transcripts
+pub mod Printed
 pub mod Rooms
 pub mod Outputs
 pub mod OneOutput

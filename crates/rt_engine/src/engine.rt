@@ -1,6 +1,6 @@
 //! Runs a script on the model.
 
-ghost use Rattle.std.specs.Prelude.{◌≡◌, ◌<◌, ◌+◌, [], ℕ, List, length, IfOk, IfErr, OnOk, IfSome, Err, Some, true};
+ghost use Rattle.std.specs.Prelude.{◌≡◌, ◌<◌, ◌+◌, [], ℕ, List, length, IfOk, IfErr, OnOk, IfSome, Err, Some, true, false};
 ghost use Rattle.std.specs.Io.KnownBytes.{Keeps, Appends};
 ghost use Rattle.rt_ids.specs.Commands.{created_count};
 ghost use Rattle.rt_world.specs.Opening.{IsFresh, IsUnbegun};
@@ -11,8 +11,10 @@ ghost use Rattle.rt_script.specs.Scripts.{script_of};
 ghost use Rattle.rt_script.specs.Whole.{drafted};
 ghost use Rattle.rt_engine.specs.Outputs.{IsDone, IfUnread, TellsScript, IfUnwritten};
 ghost use Rattle.rt_engine.specs.Rooms.{MayMake};
-ghost use Rattle.rt_engine.specs.Transcripts.{IsOutput, script_room, with_queue, with_queues};
+ghost use Rattle.rt_engine.specs.Printed.{IsPrinted};
+ghost use Rattle.rt_engine.specs.Transcripts.{script_room, with_queue, with_queues};
 
+use crate::journal::{events_of, print_journal, print_journal_stats, print_stats};
 use crate::print::{FULL_PAGE, LONGEST_PRINT, Model, print_events, print_page};
 use rt_ids::CoreNo;
 use rt_script::{Script, read_script};
@@ -24,7 +26,9 @@ use rt_world::{World, WorldError};
 use std::alloc::Global;
 use std::io::{Read, Write};
 
-/// Runs the script that the source tells, and prints each event's notes, or one line where it made none.
+/// Runs the script that the source tells, and prints each event's notes, or one line if it made none.
+///
+/// With `journal` it prints the text of the journals instead. With `stats` the statistics of all cores follow.
 ///
 /// # Errors
 ///
@@ -32,24 +36,36 @@ use std::io::{Read, Write};
 /// before the whole script is judged.
 pub fn run_script<R: Read, W: Write>(
     alloc: Global,
+    journal: bool,
+    stats: bool,
     source: &mut R,
     sink: &mut W,
 ) -> Result<bool, EngineFault>
     ensures done { IfOk result (λ done. (done ≡ true)
-        × IsDone (R.remaining source.old) (W.contents sink.old) (W.contents sink.new)) }
+        × IsDone journal stats (R.remaining source.old) (W.contents sink.old) (W.contents sink.new)) }
     ensures faulty { IfErr result (IfText (λ fault.
         IfSome (R.remaining source.old) (λ text. script_of text ≡ Err fault))) }
     ensures silent { IfErr result (IfUnread (Keeps (W.contents sink.old) (W.contents sink.new))) }
     ensures judged { IfErr result (IfUnwritten (TellsScript (R.remaining source.old))) }
 {
     let script = read_script(alloc, source)?;
-    play(alloc, script, sink)?;
+    if journal {
+        play_journal(alloc, script, stats, sink)?;
+    } else {
+        play(alloc, script, stats, sink)?;
+    }
+    flush_sink(sink)?;
     Ok(true)
 }
 
-/// Runs a whole script.
-fn play<W: Write>(alloc: Global, script: Script, sink: &mut W) -> Result<(), EngineFault>
-    ensures ok { OnOk result ((output : List ℕ) × IsOutput (drafted script) output
+/// Runs a whole script, and prints its events, and the statistics if they are wanted.
+fn play<W: Write>(
+    alloc: Global,
+    script: Script,
+    stats: bool,
+    sink: &mut W,
+) -> Result<(), EngineFault>
+    ensures ok { OnOk result ((output : List ℕ) × IsPrinted false stats (drafted script) output
         × Appends (W.contents sink.old) (W.contents sink.new) output) }
     ensures device { IfErr result (IfUnread ⊥) }
 {
@@ -66,7 +82,47 @@ fn play<W: Write>(alloc: Global, script: Script, sink: &mut W) -> Result<(), Eng
     model.complete();
     model.joined();
     model.sound();
-    print_page(&mut page, sink)?;
+    if stats {
+        print_stats(alloc, &model, &mut page, sink)?;
+    }
+    print_page(&mut page, sink)
+}
+
+/// Runs a whole script, and prints its journals, and the statistics if they are wanted.
+fn play_journal<W: Write>(
+    alloc: Global,
+    script: Script,
+    stats: bool,
+    sink: &mut W,
+) -> Result<(), EngineFault>
+    ensures ok { OnOk result ((output : List ℕ) × IsPrinted true stats (drafted script) output
+        × Appends (W.contents sink.old) (W.contents sink.new) output) }
+    ensures device { IfErr result (IfUnread ⊥) }
+{
+    let Script {
+        cores,
+        cap,
+        queues,
+        events,
+    } = script;
+    let mut model = open_model(alloc, cores, cap)?;
+    create_queues(&mut model, queues.as_slice())?;
+    let events = events_of(alloc, events)?;
+    let assembly = model.run(events);
+    print_journal(&assembly, sink)?;
+    if !stats {
+        return Ok(());
+    }
+    let mut page = String::with_capacity(alloc, FULL_PAGE + LONGEST_PRINT)?;
+    print_journal_stats(alloc, &assembly, &mut page, sink)?;
+    print_page(&mut page, sink)
+}
+
+/// Tells the sink that no more comes.
+fn flush_sink<W: Write>(sink: &mut W) -> Result<(), EngineFault>
+    ensures kept { Keeps (W.contents sink.old) (W.contents sink.new) }
+    ensures device { IfErr result (IfUnread ⊥) }
+{
     match flush(sink) {
         Ok(()) => Ok(()),
         Err(_) => Err(EngineFault::Write),
