@@ -34,7 +34,7 @@ const REFUSED: [(&str, Cause); 5] = [
 /// Whether the script prints this.
 fn prints(alloc: Global, row: (&str, &str)) -> bool {
     let mut printed = Vec::new(alloc);
-    let answer = run_script(alloc, &mut row.0.as_bytes(), &mut printed);
+    let answer = run_script(alloc, false, false, &mut row.0.as_bytes(), &mut printed);
     answer == Ok(true) && printed.as_slice() == row.1.as_bytes()
 }
 
@@ -47,7 +47,7 @@ fn is_refused(alloc: Global, line: &[u8], cause: Cause) -> bool {
         return false;
     }
     let mut printed = Vec::new(alloc);
-    let answer = run_script(alloc, &mut script.as_slice(), &mut printed);
+    let answer = run_script(alloc, false, false, &mut script.as_slice(), &mut printed);
     answer == Err(EngineFault::Text { line: 2, cause })
 }
 

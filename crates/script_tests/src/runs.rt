@@ -29,13 +29,13 @@ fn comes_to(
     want: Result<bool, EngineFault>,
     written: &str,
 ) -> bool {
-    let answer = run_script(alloc, &mut source, &mut sink);
+    let answer = run_script(alloc, false, false, &mut source, &mut sink);
     answer == want && sink.written.as_slice() == written.as_bytes()
 }
 
 /// Whether a run whose write fails leaves the first bytes of what it prints.
 fn leaves_a_beginning(alloc: Global, mut sink: FaultyWriter) -> bool {
-    let answer = run_script(alloc, &mut SCRIPT.as_bytes(), &mut sink);
+    let answer = run_script(alloc, false, false, &mut SCRIPT.as_bytes(), &mut sink);
     answer == Err(EngineFault::Write) && PRINTED.as_bytes().starts_with(sink.written.as_slice())
 }
 
