@@ -26,17 +26,20 @@ use std::{fs, io, str};
 
 fn main(rt: HostRuntime) -> io::Result<ExitCode> {
     let mut all_same = true;
-    for name in fs::read_to_string(&rt, "rows")?.lines() {
+    let rows = fs::read_to_string(&rt, "rows")?;
+    for name in rows.lines() {
         let same = is_as_written(&rt, name)?;
         all_same = all_same && same;
         tell(&rt, same, "run", name)?;
     }
-    for name in fs::read_to_string(&rt, "journals")?.lines() {
+    let journals = fs::read_to_string(&rt, "journals")?;
+    for name in journals.lines() {
         let same = is_counted_as_written(&rt, name)?;
         all_same = all_same && same;
         tell(&rt, same, "journal", name)?;
     }
-    for name in fs::read_to_string(&rt, "audits")?.lines() {
+    let audits = fs::read_to_string(&rt, "audits")?;
+    for name in audits.lines() {
         let same = is_judged_as_written(&rt, name)?;
         all_same = all_same && same;
         tell(&rt, same, "audit", name)?;
@@ -85,7 +88,7 @@ fn is_counted_as_written<R: Files + AllocGlobal>(rt: &R, name: &str) -> io::Resu
     Ok(prints(alloc, script, true, false, journal.as_slice(), &[])?
         && prints(alloc, script, false, true, output.as_slice(), stats)?
         && prints(alloc, script, true, true, journal.as_slice(), stats)?
-        && judges(alloc, journal.as_slice(), Ok(true), b"sound\n")?)
+        && judges(alloc, journal.as_slice(), Ok(true), "sound\n".as_bytes())?)
 }
 
 /// Whether a run of the script with these flags prints the one text and then the other.
