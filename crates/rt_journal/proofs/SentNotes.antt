@@ -1,7 +1,6 @@
 -- A core beside its journal stays recorded as an order is submitted, and the ends that it receives from stay beside it.
 use Rattle.std.proofs.Common.{◌≡◌, ℕ, List, [], ◌∷◌, refl, sym, ◌∙◌, ap, subst, add-zero}
-use Rattle.std.specs.Prelude.{Result, Ok, Err}
-use Rattle.std.proofs.lemmas.List.{append-nil}
+use Rattle.std.specs.Prelude.{Result, Ok, Err, None}
 use Rattle.rt_ids.specs.declared.names.JobId.{JobId}
 use Rattle.rt_ids.specs.declared.note.Note.TheVariants as writes
 use Rattle.rt_ids.specs.declared.order.Order.{Order}
@@ -9,7 +8,6 @@ use Rattle.rt_ids.specs.declared.order.Envelope.{Envelope}
 use Rattle.rt_ids.specs.declared.order.SendError.{SendError}
 use Rattle.rt_ids.specs.declared.order.SendError.TheVariants.{Closed, Full, Spent, NoCore}
 use Rattle.rt_ids.specs.Journal.{Journal}
-use Rattle.rt_ids.specs.Filters.{given_outcomes}
 use Rattle.rt_ids.specs.Orders.{without_job}
 use Rattle.rt_jobs.specs.Steps.{Owed}
 use Rattle.rt_core.specs.State.{CoreView}
@@ -79,7 +77,7 @@ module _ {J T : Type 0} {same : J → J → Type 0} {made : J → ℕ} {polls : 
 
   ins_sent : (sender : ℕ) → KeepsIn sender old new
   ins_sent sender =
-      keeps_in old new (record { number = refl; cores = refl; cap = refl; room = refl }) sender ([], append-nil (given_outcomes sender journal)) refl refl (λ which order from at. at)
+      keeps_in old new (record { number = refl; cores = refl; cap = refl; room = refl }) sender None refl refl (λ inward is. tt) refl (λ which order from at. at)
 
 -- whatever the link answered
 module _ {J T : Type 0} {same : J → J → Type 0} {made : J → ℕ} {polls : Owed J T}

@@ -30,6 +30,11 @@ abbrev pub IsOut : {J : Type 0} → Option (JobOut J) → J → Type 0
 IsOut None job = ⊥
 IsOut (Some out) job = out.job ≡ job
 
+-- and this is its name
+abbrev pub IsOutUnder : {J : Type 0} → Option (JobOut J) → JobId → Type 0
+IsOutUnder None name = ⊥
+IsOutUnder (Some out) name = out.name ≡ name
+
 -- what may answer a poll, and what it leaves of its job
 pub record IsPolled {J T : Type 0} (same : J → J → Type 0) (made : J → ℕ) (polls : Owed J T) (answers : J → T → Type 0) (ran : AfterPoll J T) : Type 0 where
   pub answered : IfDone ran.step (answers ran.before)
