@@ -50,33 +50,46 @@ impl<J: Task<Out = u64>, A: Allocator + Clone> World<J, A> {
 }
 
 impl<J: Job + Task<Out = u64>, A: Allocator + Clone> World<J, A> {
-    /// Picks a queue of the core and polls its first job once, or hands it back.
+    /// Picks a queue of the core and polls its first job once, or hands it back. The outcome goes to the sender's link.
     pub(super) fn turn(&mut self, core: CoreNo, spent: u64) -> Reply<J>
         requires core { core < self.old.cores }
         requires room { length (journal_at core self.old) + 4 ≤ self.old.room }
         ensures { Turns J.made J.Polls J.Answers core spent self.old self.new result }
     {
-        turn_of(&mut self.inside[core.0 as usize], spent)
+        turn_of(&mut self.inside[core.0 as usize], &mut self.links, core, spent)
     }
 }
 
-// One core picks a queue and polls its first job once, or hands it back.
+// One core picks a queue and polls its first job once, or hands it back. The outcome, if there is one, is given on the link of the
+// job's sender.
 fn turn_of<J: Job + Task<Out = u64>, A: Allocator + Clone>(
     core: &mut Recorded<J, A>,
+    links: &mut Vec<Vec<PlainLink<J>>>,
+    number: CoreNo,
     spent: u64,
 ) -> Reply<J>
     requires free { core.old.core.out ≡ None }
     requires room { length core.old.journal.notes + 3 ≤ core.old.journal.room }
+    requires beside { one.IsBesideAll number core.old (map vec_items links.old.items) }
     ensures turns { one.Turns J.SameTask J.made J.Polls J.Answers spent core.old core.new result }
-    ensures beside { one.StaysBeside J.SameTask J.made J.Polls core.old core.new }
+    ensures beside { one.GivesOnOne J.SameTask J.made J.Polls number core.old core.new (map vec_items links.old.items) (map vec_items links.new.items) }
 {
-    let job = match job_or_reply(core.pick()) {
-        Ok(job) => job,
-        Err(reply) => return reply,
-    };
-    // No outcome is collected by now, so a job that is polled gets a post without links.
-    drop(core.settle(Ran::poll(job, &mut NoPost), spent));
-    Reply::Noted
+    match picked_of(core.pick()) {
+        Picked::Job(name, job) => {
+            let ran = Ran::poll(job, &mut NoPost);
+            let row = &mut links[name.from.0 as usize];
+            let link = &mut row[number.0 as usize];
+            drop(core.settle(link, name, ran, spent));
+            Reply::Noted
+        }
+        Picked::Returned(name, reason, order) => {
+            let row = &mut links[name.from.0 as usize];
+            let link = &mut row[number.0 as usize];
+            core.give_back(link, name, reason, order);
+            Reply::Noted
+        }
+        Picked::Nothing(reply) => reply,
+    }
 }
 
 // What the core is told.
@@ -96,18 +109,27 @@ fn reply_to<J: Drop>(sent: Result<Ticket, SendError<J>>) -> Reply<J>
     }
 }
 
-// The job that a pick took out, or what the actor is told where it took none.
-fn job_or_reply<J: Drop>(picked: Result<Turn<J>, PickError>) -> Result<J, Reply<J>>
+// What a pick came to.
+#[derive(Drop)]
+enum Picked<J> {
+    // The job is out, and is to be polled.
+    Job(JobId, J),
+    // The job goes back to its sender.
+    Returned(JobId, Reason, Order<J>),
+    // Nothing was picked, and this is what the actor is told.
+    Nothing(Reply<J>),
+}
+
+fn picked_of<J: Drop>(picked: Result<Turn<J>, PickError>) -> Picked<J>
     requires free { picked ≢ Err Busy }
-    ensures job { IfOk result (TookOut picked) }
-    ensures reply { IfErr result (TookNone picked) }
+    ensures { IsPicked picked result }
 {
     match picked {
-        Ok(Turn::Start(_, _, job)) => Ok(job),
-        Ok(Turn::Resume(_, _, job)) => Ok(job),
-        Ok(Turn::Back(_, _, _)) => Err(Reply::Noted),
-        Ok(Turn::Idle) => Err(Reply::Idle),
-        Err(PickError::Spent) => Err(Reply::Spent),
+        Ok(Turn::Start(name, _, job)) => Picked::Job(name, job),
+        Ok(Turn::Resume(name, _, job)) => Picked::Job(name, job),
+        Ok(Turn::Back(name, reason, order)) => Picked::Returned(name, reason, order),
+        Ok(Turn::Idle) => Picked::Nothing(Reply::Idle),
+        Err(PickError::Spent) => Picked::Nothing(Reply::Spent),
         Err(PickError::Busy) => unreachable!(),
     }
 }
