@@ -19,10 +19,6 @@ use Rattle.rt_journal.specs.Steps.{with_notes}
 use Rattle.rt_journal.proofs.EndsKept.{keeps_outs}
 use Rattle.rt_journal.proofs.Quiet.{IsQuiet, nobody, quiet-nothing, held-quiet, taken-quiet, ins-quiet}
 
--- what a core agrees with is written as it should be
-pub written_of : {J T : Type 0} (view : RecordedView J T) → IsKept (terms_at view) view.core view.journal.notes → IsWritten (terms_at view) view.journal.notes
-written_of view kept = record { notes = kept.notes; no_pick = kept.no_pick; no_answer = kept.no_answer; collects_nothing = kept.collects_nothing }
-
 -- each sender there is
 abbrev pub everyone : ℕ → Type 0
 everyone sender = Unit {0}
