@@ -17,7 +17,8 @@ fn refuse<J: Task>(order: Order<J>) -> Outcome<J, J::Out>
     match order {
         Order::Job(queue, job) => Outcome::Returned(Reason::CoreClosing, Order::Job(queue, job)),
         Order::Create(_) => Outcome::Answered(Answer::CoreClosing),
-        Order::SetShares(_, _) => Outcome::Answered(Answer::NoQueue),
+        Order::SetShares(_, _) | Order::Close(_, _) => Outcome::Answered(Answer::NoQueue),
+        Order::CloseCore(_) => Outcome::Answered(Answer::AlreadyClosed),
     }
 }
 

@@ -69,7 +69,9 @@ fn an_order_is_told_without_its_job(rt: HostRuntime) {
         Order::CloseCore(Mode::Finish),
     );
     assert!(rt;
-        job && create && close && core
+        job && create
+            && close
+            && core
             && is_told(
                 Order::SetShares(QueueNo(4), shares),
                 Order::SetShares(QueueNo(4), shares)

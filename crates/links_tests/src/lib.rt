@@ -2,8 +2,6 @@
 #![tactic(auto)]
 
 #[cfg(test)]
-mod boxed;
-#[cfg(test)]
 mod life;
 #[cfg(test)]
 mod numbers;

@@ -8,6 +8,8 @@ mod commands;
 #[cfg(test)]
 mod delivered_closings;
 #[cfg(test)]
+mod fronts;
+#[cfg(test)]
 mod keys;
 #[cfg(test)]
 mod lines;

@@ -1,1 +1,2 @@
 pub mod AllEnded
+pub mod KeptRules

@@ -1,10 +1,11 @@
 //! The audit of the journals of all actors.
 
-ghost use Rattle.std.specs.Prelude.{◌≡◌, ◌≤◌, IfOk, None};
+ghost use Rattle.std.specs.Prelude.{◌≡◌, ◌≤◌, IfOk, Ok, None, is_some, true};
 ghost use Rattle.rt_ids.specs.Limits.{most_cores};
 ghost use Rattle.rt_ids.specs.Sound.{IsSound, OutcomesAreSound};
 ghost use Rattle.rt_ids.specs.Spelled.{IsSpelled};
-ghost use Rattle.rt_audit.specs.declared.judge.Verdict.TheVariants.{Sound};
+ghost use Rattle.rt_audit.specs.declared.judge.Verdict.TheVariants.{Sound, Fault};
+ghost use Rattle.rt_audit.specs.Verdicts.{KeepsRulesBefore, rule_named};
 ghost use Rattle.rt_rules.specs.Links.{KnowsOrders};
 
 use crate::places::{Place, closes_place, order_place, outcomes_place, picks_place, starts_place};
@@ -41,7 +42,9 @@ pub enum AuditError {
 ///
 /// Journals that aren't spelled are a fault of rule 1 at line 0 of actor 0.
 pub fn audit(alloc: Global, assembly: &Assembly) -> Result<Verdict, AuditError>
-    ensures { IfOk result (λ verdict. verdict ≡ Sound → IsSpelled assembly.now × IsSound assembly.now) }
+    ensures sound { IfOk result (λ verdict. verdict ≡ Sound → IsSpelled assembly.now × IsSound assembly.now) }
+    ensures first { IfOk result (λ verdict. KeepsRulesBefore assembly.now (rule_named verdict)) }
+    ensures unspelled { (IsSpelled assembly.now → ⊥) → result ≡ Ok (Fault 0 0 1) }
 {
     if !is_spelled(assembly) {
         return Ok(Verdict::Fault {
@@ -58,7 +61,8 @@ pub fn audit(alloc: Global, assembly: &Assembly) -> Result<Verdict, AuditError>
 
 /// The fault of this rule at this place, if there is one.
 fn told(place: Option<Place>, rule: u8) -> Verdict
-    ensures { result ≡ Sound → place ≡ None }
+    ensures sound { result ≡ Sound → place ≡ None }
+    ensures fault { is_some place ≡ true → rule_named result ≡ rule }
 {
     match place {
         Some(place) => Verdict::Fault {
@@ -73,28 +77,34 @@ fn told(place: Option<Place>, rule: u8) -> Verdict
 /// Whether the journals are sound, and if not, their first fault.
 fn verdict_of(alloc: Global, assembly: &Assembly) -> Result<Verdict, AllocError>
     requires { assembly.now.cores ≤ most_cores }
-    ensures { IfOk result (λ verdict. verdict ≡ Sound → IsSound assembly.now) }
+    ensures sound { IfOk result (λ verdict. verdict ≡ Sound → IsSound assembly.now) }
+    ensures first { IfOk result (λ verdict. KeepsRulesBefore assembly.now (rule_named verdict)) }
 {
     let orders = orders_sent(alloc, assembly)?;
     let sent = orders.as_slice();
     let starts = starts_place(alloc, sent, assembly)?;
     if starts.is_some() {
-        return Ok(told(starts, 1));
+        let first = told(starts, 1);
+        return Ok(first);
     }
     let order = order_place(alloc, sent, assembly)?;
     if order.is_some() {
-        return Ok(told(order, 2));
+        let second = told(order, 2);
+        return Ok(second);
     }
     let closes = closes_place(assembly);
     if closes.is_some() {
-        return Ok(told(closes, 3));
+        let third = told(closes, 3);
+        return Ok(third);
     }
     let outcomes = ends_place(alloc, sent, assembly)?;
     if outcomes.is_some() {
-        return Ok(told(outcomes, 4));
+        let fourth = told(outcomes, 4);
+        return Ok(fourth);
     }
     let picks = picks_place(alloc, assembly)?;
-    Ok(told(picks, 5))
+    let fifth = told(picks, 5);
+    Ok(fifth)
 }
 
 /// Where the fourth rule is broken first.

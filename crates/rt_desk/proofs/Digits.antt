@@ -9,17 +9,17 @@ pub eqb-no : (a b : ℕ) → a ≢ b → eqb a b ≡ false
 eqb-no a b apart = elim (eqb_tells a b) [ inl same ↦ absurd (apart same.1) | inr other ↦ other.0 ]
 
 module _ {V : Type 0} where
-  at-first : (first : ℕ × V) (rest : List (ℕ × V)) (n : ℕ) → n ≡ first.0 → at (first ∷ rest) n ≡ Some first.1
+  pub at-first : (first : ℕ × V) (rest : List (ℕ × V)) (n : ℕ) → n ≡ first.0 → at (first ∷ rest) n ≡ Some first.1
   at-first first rest n same = rw (eq-eqb n first.0 same) refl
 
-  at-later : (first : ℕ × V) (rest : List (ℕ × V)) (n : ℕ) → n ≢ first.0 → at (first ∷ rest) n ≡ at rest n
+  pub at-later : (first : ℕ × V) (rest : List (ℕ × V)) (n : ℕ) → n ≢ first.0 → at (first ∷ rest) n ≡ at rest n
   at-later first rest n apart = rw (eqb-no n first.0 apart) refl
 
-  at-append_left : (xs ys : List (ℕ × V)) (n : ℕ) → at ys n ≡ None → at (xs ++ ys) n ≡ at xs n
+  pub at-append_left : (xs ys : List (ℕ × V)) (n : ℕ) → at ys n ≡ None → at (xs ++ ys) n ≡ at xs n
   at-append_left [] ys n none = none
   at-append_left (x ∷ xs) ys n none = ap (pick (eqb n x.0) (Some x.1)) (at-append_left xs ys n none)
 
-  at-append_right : (xs ys : List (ℕ × V)) (n : ℕ) → at xs n ≡ None → at (xs ++ ys) n ≡ at ys n
+  pub at-append_right : (xs ys : List (ℕ × V)) (n : ℕ) → at xs n ≡ None → at (xs ++ ys) n ≡ at ys n
   at-append_right [] ys n none = refl
   at-append_right (x ∷ xs) ys n none =
       elim (eqb_tells n x.0) [
@@ -70,7 +70,7 @@ module _ {V : Type 0} where
       at-later (rest, value) (map then_zero even ++ map then_one odd) n apart
       ∙ (at-append_right (map then_zero even) (map then_one odd) n (no_zeros even n (n / 2) whole) ∙ at-ones odd n (n / 2) whole)
 
-  tally-append : (xs ys : List (ℕ × V)) (test : V → Bool) → tally (xs ++ ys) test ≡ tally xs test + tally ys test
+  pub tally-append : (xs ys : List (ℕ × V)) (test : V → Bool) → tally (xs ++ ys) test ≡ tally xs test + tally ys test
   tally-append [] ys test = omega arith
   tally-append (x ∷ xs) ys test = let e : tally (xs ++ ys) test ≡ tally xs test + tally ys test = tally-append xs ys test in omega arith
 

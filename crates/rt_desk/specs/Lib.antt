@@ -1,5 +1,6 @@
 pub mod Held
 pub mod Nodes
+pub mod Rows
 pub mod Shelves
 pub mod Lanes
 pub mod Told

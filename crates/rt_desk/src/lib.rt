@@ -4,5 +4,6 @@
 pub mod desk;
 pub mod entry;
 pub mod lane;
+mod rows;
 mod shelf;
 mod trie;

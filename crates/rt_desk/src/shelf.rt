@@ -1,4 +1,4 @@
-//! What is known of outstanding submissions, by number, in a tree whose nodes are all made at the opening.
+//! What is known of outstanding submissions, by number, in trees whose nodes are all made at the opening.
 
 ghost use Rattle.std.specs.Prelude.{◌≡◌, ◌<◌, [], None, IfOk, IfSome, IfNone, option_copied};
 ghost use Rattle.rt_desk.specs.Held.{at, count_of, Adds, Removes};
@@ -6,7 +6,8 @@ ghost use Rattle.rt_desk.specs.Nodes.{IsLoose};
 ghost use Rattle.rt_desk.specs.declared.entry.Entry.TheVariants.{Pending};
 
 use crate::entry::Entry;
-use crate::trie::{Node, Trie};
+use crate::rows::Rows;
+use crate::trie::Node;
 use std::alloc::{AllocError, Global};
 use std::marker::Model;
 use std::mem;
@@ -59,7 +60,7 @@ impl<J: Drop, T: Drop> Slip<J, T> {
 /// Entries by number. It has room for so many, and takes no memory after its opening.
 #[derive(Drop)]
 pub(crate) struct Shelf<J: Drop, T: Drop> {
-    held: Trie<Entry<J, T>>,
+    held: Rows<Entry<J, T>>,
     free: Vec<Slip<J, T>, Global>,
 }
 
@@ -88,7 +89,7 @@ impl<J: Drop, T: Drop> Shelf<J, T> {
             free.push_reserved(Slip::try_new(alloc)?);
         }
         Ok(Shelf {
-            held: Trie::new(),
+            held: Rows::open(alloc, room)?,
             free,
         })
     }

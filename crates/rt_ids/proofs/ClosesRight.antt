@@ -73,7 +73,6 @@ creates_open (SetShares other weight) queue before fits = by_test (nat_le other 
     by_test : (test : Bool) → answers.Created queue ≡ cond test answers.SharesSet answers.NoQueue → core_mode before ≡ None
     by_test true fits = cc
     by_test false fits = cc
-
 creates_open (Close other mode) queue before fits = not_created (nat_le other (created_count before)) (closes (queue_mode other before) mode) fits
 creates_open (CloseCore mode) queue before fits = not_created true (closes (core_mode before) mode) fits
 

@@ -1,36 +1,35 @@
 -- The text of journals tells these journals.
-use Rattle.std.proofs.Common.{◌≡◌, ℕ, suc, ◌+◌, ◌^◌, ◌<◌, ◌≤◌, ◌==◌, Bool, true, false, cond, ltb, inr, List, [], ◌∷◌, ◌++◌, length, Option, Some, Ok, Err, unwrap_or, refl, sym, ap, ◌∙◌, subst, arith, append_assoc, append-nil, codes, decimal, length-append}
+use Rattle.std.proofs.Common.{◌≡◌, ℕ, suc, ◌+◌, ◌^◌, ◌<◌, ◌≤◌, ◌==◌, Bool, true, false, cond, ltb, inr, List, [], ◌∷◌, ◌++◌, length, Some, Ok, Err, unwrap_or, refl, sym, ap, ◌∙◌, subst, arith, append_assoc, append-nil, codes, decimal, length-append}
 use Rattle.std.specs.Prelude.{slice_get}
 use Rattle.std.specs.List.{slice_split}
 use Rattle.std.specs.Str.{bytes_eq}
 use Rattle.std.proofs.lemmas.Bool.Decides.{nat_tests}
-use Rattle.std.proofs.lemmas.Fmt.{length-decimal-le_wide}
 use Rattle.std.proofs.lemmas.List.Elements.{All-head}
 use Rattle.std.proofs.lemmas.List.Splits.{slice_split_at}
 use Rattle.rt_ids.specs.declared.note.Note.{Note}
 use Rattle.rt_ids.specs.Assembly.{Assembly}
 use Rattle.rt_ids.specs.Journal.{Journal, EachNote}
 use Rattle.rt_ids.specs.Limits.{most_cores, most_notes}
-use Rattle.rt_ids.specs.Spelled.{IsSpelledNote, AreSpelledNotes, IsWithinLimits}
+use Rattle.rt_ids.specs.Spelled.{IsSpelledNote, AreSpelledNotes}
 use Rattle.rt_ids.specs.Terms.{Terms}
 use Rattle.rt_text.specs.Notes.{note_line}
 use Rattle.rt_words.specs.Words.{words, first, others}
-use Rattle.rt_note_words.specs.Fields.{◌>>=◌, number_in}
+use Rattle.rt_note_words.specs.Fields.{number_in}
 use Rattle.rt_note_words.specs.Laws.{HoldsTimes, IsActor}
 use Rattle.rt_note_words.specs.NoteWords.{note_of}
 use Rattle.rt_note_words.proofs.Decimals.{number_in_text, no_sign}
-use Rattle.rt_note_words.proofs.JoinedTexts.{joined}
-use Rattle.rt_note_words.proofs.LineShapes.{joined_none, joined_width, line_short, line_feedless}
-use Rattle.rt_note_words.proofs.LineTexts.{words_joined, line_tells}
+use Rattle.rt_note_words.proofs.LineShapes.{line_short, line_feedless}
+use Rattle.rt_note_words.proofs.LineTexts.{line_tells}
 use Rattle.rt_note_words.proofs.Options.{same_bytes}
-use Rattle.rt_note_words.proofs.WholeWords.{HasNo, HaveNo, number_word, whole_word}
-use Rattle.rt_spelling.specs.Texts.{size_line, end_line, actor_lines, journal_lines, assembly_lines, text_of, journal_text}
+use Rattle.rt_note_words.proofs.WholeWords.{HasNo, whole_word}
+use Rattle.rt_spelling.specs.Texts.{end_line, actor_lines, journal_lines, assembly_lines, text_of, journal_text}
 use Rattle.rt_reading.specs.declared.draft.Part.TheVariants as part
 use Rattle.rt_reading.specs.declared.fault.JournalCause.TheVariants as cause
-use Rattle.rt_reading.specs.Drafts.{Drafted, empty_draft, raised_to, with_size, size_of, with_text, judged, too_long, all_journals}
+use Rattle.rt_reading.specs.Drafts.{Drafted, empty_draft, with_text, judged, assembly_of}
 use Rattle.rt_reading.specs.JournalTexts.{whole, go_on, judged_from}
 use Rattle.rt_reading.specs.Laws.{TextIsReadBack}
 use Rattle.rt_reading.proofs.DraftLemmas.{line_read}
+use Rattle.rt_reading.proofs.HeadLines.{judged_short, size_taken, head_feedless}
 use Rattle.rt_reading.proofs.Raising.{drafted, StandsFor, stands_part, stands_cores, stands_cap, stands_itself, stands_next, closed, stands_whole}
 use Rattle.rt_reading.proofs.ReadTexts.{sized}
 use Rattle.rt_reading.proofs.SoFar.{actor_lines-more}
@@ -95,11 +94,6 @@ AreReadable actor cores places [] = Unit {0}
 AreReadable actor cores places (journal ∷ journals) = IsReadable (record { actor = actor; cores = cores; cap = places }) journal × AreReadable (actor + 1) cores places journals
 
 -- one note
-judged_short : (draft : Drafted) (line : List ℕ) → length line ≤ 128 → judged draft line ≡ with_text draft.part draft line
-judged_short draft line short =
-    let test : ltb 128 (length line) ≡ false = grind (arith, nat_tests) in
-    ap (λ b. cond b (Err (too_long draft.part)) (with_text draft.part draft line)) test
-
 note_taken : (cores places : ℕ) (earlier : List (Journal ℕ)) (before : Journal ℕ) (draft : Drafted) (note : Note ℕ) → 1 ≤ cores → cores ≤ most_cores → length earlier ≤ cores → length before < most_notes →
     IsSpelledNote (record { actor = length earlier; cores = cores; cap = places }) note → HoldsTimes note → StandsFor cores places earlier before draft →
     judged draft (note_line (length earlier) note) ≡ Ok (drafted cores places earlier (note ∷ before))
@@ -170,44 +164,6 @@ feedless_journals actor cores places (journal ∷ journals) some few within read
     (feedless_notes (record { actor = actor; cores = cores; cap = places }) journal (some, few, omega (arith, within)) readable.0)
     (feedless_journals (actor + 1) cores places journals some few (omega (arith, within)) readable.1)
 
--- the second line
-abbrev size_words : ℕ → ℕ → List (List ℕ)
-size_words cores places = codes "cores" ∷ decimal cores ∷ codes "cap" ∷ decimal places ∷ []
-
-size_joined : (cores places : ℕ) → size_line cores places ≡ joined (size_words cores places)
-size_joined cores places = ap (λ text. codes "cores " ++ text) (append_assoc (decimal cores) (codes " cap ") (decimal places))
-
-size_have : (sign cores places : ℕ) → sign ≤ 32 → IsWithinLimits cores places → HaveNo sign (size_words cores places)
-size_have sign cores places low limits =
-    let few = limits.few_cores in
-    let most = limits.few_places in
-    (whole_word sign low (codes "cores") refl, (number_word sign low cores (omega arith), (whole_word sign low (codes "cap") refl, (number_word sign low places (omega arith), tt))))
-
-size_of_words : (cores places : ℕ) → IsWithinLimits cores places → size_of (size_words cores places) ≡ Some (cores, places)
-unfolding size_of
-size_of_words cores places limits =
-    ap (λ (o : Option ℕ). o >>= λ c. number_in 1 1024 (decimal places) >>= λ k. Some (c, k)) (number_in_text 1 16 cores limits.some_core limits.few_cores (omega arith))
-    ∙ ap (λ (o : Option ℕ). o >>= λ k. Some (cores, k)) (number_in_text 1 1024 places limits.some_place limits.few_places (omega arith))
-
-size_short : (cores places : ℕ) → IsWithinLimits cores places → length (size_line cores places) ≤ 128
-size_short cores places limits =
-    let few = limits.few_cores in
-    let most = limits.few_places in
-    omega (
-      arith,
-      ap length (size_joined cores places),
-      joined_width (codes "cores") (decimal cores ∷ codes "cap" ∷ decimal places ∷ []),
-      length-decimal-le_wide 2 cores (omega arith) (omega arith) (omega arith),
-      length-decimal-le_wide 4 places (omega arith) (omega arith) (omega arith),
-    )
-
-size_taken : (cores places : ℕ) → IsWithinLimits cores places → judged sized (size_line cores places) ≡ Ok (drafted cores places [] [])
-size_taken cores places limits =
-    judged_short sized (size_line cores places) (size_short cores places limits)
-    ∙ ap (λ line. with_size sized (size_of (words line))) (size_joined cores places)
-    ∙ ap (λ ws. with_size sized (size_of ws)) (words_joined (codes "cores") (decimal cores ∷ codes "cap" ∷ decimal places ∷ []) (size_have 32 cores places (omega arith) limits))
-    ∙ ap (with_size sized) (size_of_words cores places limits)
-
 -- each journal by its place
 readable_from : (actor cores places : ℕ) (journals : List (Journal ℕ)) →
     ((place : ℕ) → place < length journals → IsReadable (record { actor = actor + place; cores = cores; cap = places }) (unwrap_or (slice_get journals place) [])) → AreReadable actor cores places journals
@@ -222,6 +178,9 @@ readable_from actor cores places (journal ∷ journals) each =
 
 end_taken : (draft : Drafted) → draft.part ≡ part.Notes → judged draft end_line ≡ Ok (closed draft)
 end_taken draft at = ap (λ p. with_text p draft end_line) at
+
+same_parts : (one two : Assembly ℕ) → one.cores ≡ two.cores → one.cap ≡ two.cap → one.journals ≡ two.journals → one ≡ two
+same_parts one two cores_are caps_are journals_are = λ i. record { cores = cores_are i; cap = caps_are i; journals = journals_are i }
 
 pub read_back : TextIsReadBack
 unfolding journal_text
@@ -250,16 +209,10 @@ read_back assembly spelled tellable =
         takes_then (drafted cores places [] []) body.0 final (journal_lines 0 journals) (end_line ∷ []) body.1 (final, end_taken body.0 at, refl),
       ),
     ) in
-    let feedless : AreFeedless (assembly_lines assembly) = (
-      joined_none 10 (codes "journal") (codes "1" ∷ []) refl (whole_word 10 (omega arith) (codes "journal") refl, (whole_word 10 (omega arith) (codes "1") refl, tt)),
-      (
-        subst (HasNo 10) (sym (size_joined cores places)) (joined_none 10 (codes "cores") (decimal cores ∷ codes "cap" ∷ decimal places ∷ []) refl (size_have 10 cores places (omega arith) limits)),
-        feedless_then (journal_lines 0 journals) (end_line ∷ []) (feedless_journals 0 cores places journals some few (omega (arith, count)) each) (whole_word 10 (omega arith) end_line refl, tt),
-      ),
-    ) in (
+    let heads = head_feedless cores places limits in
+    let feedless : AreFeedless (assembly_lines assembly) =
+    (heads.0, (heads.1, feedless_then (journal_lines 0 journals) (end_line ∷ []) (feedless_journals 0 cores places journals some few (omega (arith, count)) each) (whole_word 10 (omega arith) end_line refl, tt))) in (
       final,
       ap (judged_from 1 empty_draft) (split_lines (assembly_lines assembly) feedless) ∙ takes_judged 1 empty_draft final (assembly_lines assembly) refl takes,
-      ap {B = Assembly ℕ} (λ n. record { cores = n; cap = body.0.cap; journals = all_journals (raised_to body.0.cores final) }) (stands_cores body.2)
-          ∙ ap {B = Assembly ℕ} (λ n. record { cores = cores; cap = n; journals = all_journals (raised_to body.0.cores final) }) (stands_cap body.2)
-          ∙ ap {B = Assembly ℕ} (λ js. record { cores = cores; cap = places; journals = js }) (stands_whole cores places journals body.0 count body.2),
+      same_parts (assembly_of final) assembly (stands_cores body.2) (stands_cap body.2) (stands_whole cores places journals body.0 count body.2),
     )

@@ -1,9 +1,7 @@
--- The journals of a text as far as its lines are judged.
-use Rattle.std.specs.Prelude.{◌≡◌, ℕ, ◌+◌, ◌-◌, ◌*◌, ◌≤◌, ◌++◌, ◌∷◌, [], zero, suc, List, codes, length, Option, Some, None, Result, Ok, Err, nat_lt, if◌then◌else◌}
+-- What a line of a text leaves of a draft, and the limits of a draft.
+use Rattle.std.specs.Prelude.{◌≡◌, ℕ, ◌+◌, ◌-◌, ◌*◌, ◌≤◌, ◌∷◌, List, codes, length, Option, Some, None, Result, Ok, Err, nat_lt, if◌then◌else◌}
 use Rattle.std.specs.Str.{bytes_eq}
 use Rattle.rt_ids.specs.declared.note.Note.{Note}
-use Rattle.rt_ids.specs.Assembly.{Assembly}
-use Rattle.rt_ids.specs.Journal.{Journal}
 use Rattle.rt_ids.specs.Limits.{most_notes}
 use Rattle.rt_words.specs.Words.{words, first, others, second, third, fourth}
 use Rattle.rt_note_words.specs.Fields.{◌>>=◌, fixed, number_in}
@@ -13,32 +11,7 @@ use Rattle.rt_reading.specs.declared.draft.Part.{Part}
 use Rattle.rt_reading.specs.declared.draft.Part.TheVariants as part
 use Rattle.rt_reading.specs.declared.fault.JournalCause.{JournalCause}
 use Rattle.rt_reading.specs.declared.fault.JournalCause.TheVariants as cause
-
--- what comes next; how many cores there are and how much each link may hold, once a line told them;
--- the journals of the actors before; the notes so far, the newest first, of the actor whose lines come now
-pub record Drafted : Type 0 where
-  pub part : Part
-  pub cores : ℕ
-  pub cap : ℕ
-  pub earlier : List (Journal ℕ)
-  pub notes : Journal ℕ
-
--- before the first line
-abbrev pub empty_draft : Drafted
-empty_draft = record { part = part.Form; cores = 1; cap = 1; earlier = []; notes = [] }
-
--- the journal of this actor is whole, and the next actor's begins
-abbrev pub next_actor : Drafted → Drafted
-next_actor draft = record { part = draft.part; cores = draft.cores; cap = draft.cap; earlier = draft.earlier ++ draft.notes ∷ []; notes = [] }
-
--- the same for so many actors
-abbrev pub raised : ℕ → Drafted → Drafted
-raised zero draft = draft
-raised (suc more) draft = raised more (next_actor draft)
-
--- up to this actor
-abbrev pub raised_to : ℕ → Drafted → Drafted
-raised_to actor draft = raised (actor - length draft.earlier) draft
+pub use Rattle.rt_reading.specs.Raised.{Drafted, empty_draft, next_actor, raised, raised_to, all_journals, assembly_of}
 
 -- what is wrong with a line that is too long
 abbrev pub too_long : Part → JournalCause
@@ -92,14 +65,6 @@ with_text part.After draft line = Err cause.AfterEnd
 -- a line that ends with a line feed
 abbrev pub judged : Drafted → List ℕ → Result Drafted JournalCause
 judged draft line = if nat_lt 128 (length line) then Err (too_long draft.part) else with_text draft.part draft line
-
--- the journals of the actors so far
-abbrev pub all_journals : Drafted → List (Journal ℕ)
-all_journals draft = draft.earlier ++ draft.notes ∷ []
-
--- the journals of all actors, where the lines end here
-abbrev pub assembly_of : Drafted → Assembly ℕ
-assembly_of draft = record { cores = draft.cores; cap = draft.cap; journals = all_journals (raised_to draft.cores draft) }
 
 -- how many lines may still come at most
 abbrev pub lines_left_of : Part → Drafted → ℕ

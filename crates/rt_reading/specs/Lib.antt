@@ -1,4 +1,5 @@
 pub mod Faults
+pub mod Raised
 pub mod Drafts
 pub mod Feeds
 pub mod JournalTexts

@@ -7,3 +7,4 @@ pub mod Views
 pub mod Changes
 pub mod Joins
 pub mod Leaves
+pub mod Fronts

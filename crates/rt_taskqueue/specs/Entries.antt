@@ -1,5 +1,5 @@
--- What a call does to the entries of the slab: one gets another next key, or a job comes behind the tail.
-use Rattle.std.specs.Prelude.{◌≡◌, ◌⊎◌, ℕ, ◌+◌, ◌<◌, Some, None}
+-- What a call does to the entries of the slab: one gets another next key, another job or the mark that it was started; a job comes behind the tail, or goes there from the head.
+use Rattle.std.specs.Prelude.{◌≡◌, ◌⊎◌, ℕ, ◌+◌, ◌<◌, true, Some, None}
 use Rattle.slab.specs.Slab.{Slab, get, slab_len, Updates}
 use Rattle.rt_taskqueue.specs.declared.waiting.Waiting.{Waiting}
 use Rattle.rt_taskqueue.specs.declared.line.Line.{Line}
@@ -30,3 +30,32 @@ module _ {J : Type 0} where
     pub count : longer.count ≡ line.count + 1
     pub shares : longer.shares ≡ line.shares
     pub mode : longer.mode ≡ line.mode
+
+  -- the entry at this key is marked as started, and nothing else changes
+  pub record Starts (old : Slab (Waiting J)) (key : ℕ) (front : Waiting J) (new : Slab (Waiting J)) : Type 0 where
+    pub at : get old key ≡ Some front
+    pub updates : Updates old new key (Some (record front { started = true }))
+    pub len : slab_len new ≡ slab_len old
+    pub capacity : new.capacity ≡ old.capacity
+
+  -- the same, and the key of the next entry
+  abbrev pub StartsAt : Slab (Waiting J) → ℕ → Slab (Waiting J) → ℕ → Type 0
+  StartsAt old key new next = (front : Waiting J) × Starts old key front new × (next ≡ front.next)
+
+  -- the head of a line is marked as started and goes behind the tail, where it may stand already
+  pub record Requeues (old : Slab (Waiting J)) (line : Line) (new : Slab (Waiting J)) (turned : Line) : Type 0 where
+    pub front : Waiting J
+    pub between : Slab (Waiting J)
+    pub starts : Starts old line.head front between
+    pub links : ((line.count ≡ 1) × (turned.head ≡ line.head) × (new ≡ between)) ⊎ ((line.count ≡ 1 → ⊥) × (turned.head ≡ front.next) × Relinks between line.tail line.head new)
+    pub tail : turned.tail ≡ line.head
+    pub count : turned.count ≡ line.count
+    pub shares : turned.shares ≡ line.shares
+    pub mode : turned.mode ≡ line.mode
+
+  -- the entry at this key has another job, and nothing else changes
+  pub record Renews (old : Slab (Waiting J)) (key : ℕ) (front : Waiting J) (job : J) (new : Slab (Waiting J)) : Type 0 where
+    pub at : get old key ≡ Some front
+    pub updates : Updates old new key (Some (record front { job = job }))
+    pub len : slab_len new ≡ slab_len old
+    pub capacity : new.capacity ≡ old.capacity

@@ -2,3 +2,4 @@ pub mod Queues
 pub mod Slips
 pub mod Linked
 pub mod Entries
+pub mod Fronts

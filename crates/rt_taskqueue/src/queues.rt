@@ -13,6 +13,8 @@ use slab::Slab;
 use std::alloc::{AllocError, Allocator};
 use std::marker::Model;
 
+mod fronts;
+
 /// The number of a queue fits a byte.
 const MOST_QUEUES: usize = 256;
 

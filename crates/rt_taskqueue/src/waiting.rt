@@ -1,10 +1,13 @@
 //! An entry of the slab: a job that waits, and the key of the one behind it.
-ghost use Rattle.std.specs.Prelude.{◌+◌, ◌<◌, ◌^◌};
-ghost use Rattle.slab.specs.Slab.{ContainsKey, HasRoomFor};
-ghost use Rattle.rt_taskqueue.specs.Entries.{Relinks, Appends};
+ghost use Rattle.std.specs.Prelude.{◌≡◌, ◌+◌, ◌<◌, ◌^◌, IfSome};
+ghost use Rattle.slab.specs.Slab.{ContainsKey, HasRoomFor, get};
+ghost use Rattle.rt_jobs.specs.Ready.{IsReady};
+ghost use Rattle.rt_taskqueue.specs.Entries.{Relinks, Appends, StartsAt, Requeues};
+ghost use Rattle.rt_taskqueue.specs.Fronts.{PollsAt};
 
 use crate::line::Line;
 use rt_ids::JobId;
+use rt_jobs::{Job, Post, Step};
 use slab::Slab;
 use std::alloc::Allocator;
 
@@ -46,4 +49,47 @@ pub fn append<J, A: Allocator>(jobs: &mut Slab<Waiting<J>, A>, line: Line, last:
     }
     link(jobs, line.tail, key);
     longer
+}
+
+/// Marks the entry at the head of a line as started. The answer: the key of the next one.
+pub fn start<J, A: Allocator>(jobs: &mut Slab<Waiting<J>, A>, head: usize) -> usize
+    requires { ContainsKey jobs.old head }
+    ensures { StartsAt jobs.old head jobs.new result }
+{
+    let front = &mut jobs[head];
+    front.started = true;
+    front.next
+}
+
+/// The head of a line goes behind its tail, as started. The answer: the line with it there. Only keys are written.
+pub fn requeue<J, A: Allocator>(jobs: &mut Slab<Waiting<J>, A>, line: Line) -> Line
+    requires head { ContainsKey jobs.old line.head }
+    requires tail { ContainsKey jobs.old line.tail }
+    ensures { Requeues jobs.old line jobs.new result }
+{
+    let next = start(jobs, line.head);
+    let mut turned = line;
+    turned.tail = line.head;
+    if line.count == 1 {
+        return turned;
+    }
+    turned.head = next;
+    link(jobs, line.tail, line.head);
+    turned
+}
+
+/// Polls the job of an entry where it stands. The answer: what the poll came to, and the time that the job told.
+pub fn poll_at<J: Job, A: Allocator, P: Post<J, J::Out>>(
+    jobs: &mut Slab<Waiting<J>, A>,
+    key: usize,
+    post: &mut P,
+) -> (Step<J::Out>, Option<u64>)
+    requires there { ContainsKey jobs.old key }
+    requires ready { IfSome (get jobs.old key) (λ waiting. IsReady J.done J.CanPoll waiting.job) }
+    ensures { PollsAt J.SameTask J.done J.CanPoll J.made J.Polls J.Answers jobs.old key (P.notes post.old) (P.notes post.new) result.0 result.1 jobs.new }
+{
+    let front = &mut jobs[key];
+    let step = front.job.poll(post);
+    let told = front.job.told();
+    (step, told)
 }

@@ -1,6 +1,7 @@
 -- What the walk of the fifth rule knows of the notes that it has read.
-use Rattle.std.specs.Prelude.{◌≡◌, ℕ, ◌<◌, true, IsTrue, List, [], ◌∷◌, Option, Some, None, is_some}
+use Rattle.std.specs.Prelude.{◌≡◌, ◌≢◌, ℕ, ◌<◌, min, if◌then◌else◌, get_or, true, IsTrue, List, [], ◌∷◌, Option, Some, None, is_some}
 use Rattle.rt_ids.specs.declared.names.JobId.{JobId}
+use Rattle.rt_ids.specs.declared.names.Key.{Key}
 use Rattle.rt_ids.specs.declared.note.Note.{Note}
 use Rattle.rt_ids.specs.declared.note.Note.TheVariants.{Start, Resume, Yield, Done}
 use Rattle.rt_ids.specs.Clauses.{PicksRight}
@@ -8,9 +9,14 @@ use Rattle.rt_ids.specs.Journal.{Journal, EachNote}
 use Rattle.rt_ids.specs.Keys.{KeyAtMost}
 use Rattle.rt_ids.specs.Lines.{jobs_out}
 use Rattle.rt_ids.specs.Picks.{queue_just_picked, queue_served, takes_turn}
+use Rattle.rt_ids.specs.Runtimes.{virtual_runtime}
+use Rattle.rt_ids.specs.Work.{has_work}
 use Rattle.rt_accounts.specs.declared.accounts.Account.{Account}
-use Rattle.rt_accounts.specs.Accounts.{has_jobs, greatest_runtime}
+use Rattle.rt_accounts.specs.declared.accounts.Accounts.{Accounts}
+use Rattle.rt_accounts.specs.Accounts.{has_jobs, fresh_account, greatest_runtime}
 use Rattle.rt_accounts.specs.AllAccounts.{KnowsAccounts}
+use Rattle.rt_least.specs.declared.least.Least.{Least}
+use Rattle.rt_least.specs.Winners.{IsTree, key_of}
 use Rattle.rt_tables.specs.Jobs.{KnowsJobs}
 use Rattle.rt_turns.specs.declared.picks.Turns.{Turns}
 
@@ -40,9 +46,28 @@ pub record Follows {T : Type 0} (note : Note T) (before : Journal T) : Type 0 wh
   pub turn : is_some (queue_just_picked before) ≡ takes_turn note
   pub followed : queue_just_picked before ≡ queue_served note before
 
--- a queue with work has no lesser pair
-abbrev pub IsAtMost : ℕ → ℕ → Account → ℕ → Type 0
-IsAtMost runtime queue account other = IsTrue (has_jobs account) → KeyAtMost runtime queue account.virtual_runtime other
+-- no queue has a lesser pair
+abbrev pub IsBelowAll : ℕ → ℕ → Least → Type 0
+IsBelowAll runtime queue least = (other : ℕ) → other < 256 → KeyAtMost runtime queue (key_of least other).vr (key_of least other).queue
+
+-- the virtual runtime at which a queue waits: the last one if it has no work
+abbrev pub runtime_waiting : Account → ℕ
+runtime_waiting account = if has_jobs account then account.virtual_runtime else greatest_runtime
+
+-- the key at which a queue waits, if there is a queue
+abbrev pub key_waiting : Accounts → Option ℕ → Option Key
+key_waiting accounts None = None
+key_waiting accounts (Some queue) = Some (record { vr = runtime_waiting (get_or accounts.queues queue fresh_account); queue = queue })
+
+-- the queue of a key, if there is one, has this key, and the others have their old ones
+abbrev pub IsPlaced : Least → Least → Option Key → Type 0
+IsPlaced old new None = new ≡ old
+IsPlaced old new (Some key) = (key_of new key.queue ≡ key) × ((other : ℕ) → other ≢ key.queue → key_of new other ≡ key_of old other)
+
+-- each queue with work stands at its virtual runtime
+abbrev pub KnowsLeast : Least → Journal ℕ → Type 0
+KnowsLeast least before =
+    (queue : ℕ) → IsTrue (has_work queue before) → key_of least queue ≡ record { vr = min (virtual_runtime queue before) greatest_runtime; queue = queue }
 
 -- a queue that has work stands at this virtual runtime, which its type doesn't cut off
 pub record IsAt (account : Account) (runtime : ℕ) : Type 0 where
@@ -54,6 +79,8 @@ pub record IsAt (account : Account) (runtime : ℕ) : Type 0 where
 pub record KnowsTurns (turns : Turns) (before : Journal ℕ) : Type 0 where
   pub jobs : KnowsJobs turns.jobs before
   pub accounts : KnowsAccounts turns.accounts before
+  pub tree : IsTree turns.least
+  pub least : KnowsLeast turns.least before
   pub out : jobs_out before ≡ out_list turns.out
   pub picked : queue_just_picked before ≡ turns.picked
 

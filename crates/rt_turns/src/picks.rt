@@ -1,16 +1,18 @@
 //! Rule 5: each pick takes the least pair of virtual runtime and number among the queues that have work.
 
-ghost use Rattle.std.specs.Prelude.{◌≡◌, ◌<◌, ◌∷◌, ℕ, IfOk, OnOk, IsTrue, None, Some, [], is_some, true, length, get_or};
+ghost use Rattle.std.specs.Prelude.{◌≡◌, ◌<◌, ◌≤◌, ◌∷◌, ℕ, IfOk, OnOk, IsTrue, None, Some, [], is_some, true, length, get_or};
 ghost use Rattle.rt_ids.specs.Clauses.{PicksRight, IsRightIfPick};
 ghost use Rattle.rt_ids.specs.Journal.{Journal as Notes, EachNote};
 ghost use Rattle.rt_ids.specs.Keys.{KeyAtMost};
 ghost use Rattle.rt_ids.specs.Picks as spec;
 ghost use Rattle.rt_accounts.specs.Accounts.{fresh_account, has_jobs, greatest_count};
 ghost use Rattle.rt_tables.specs.Names.{known};
-ghost use Rattle.rt_turns.specs.Picks.{KnowsTurns, FitsOut, Follows, out_after, IsAt, IsAtMost};
+ghost use Rattle.rt_least.specs.Winners.{IsTree};
+ghost use Rattle.rt_turns.specs.Picks.{KnowsTurns, FitsOut, Follows, out_after, IsAt, IsBelowAll, IsPlaced, runtime_waiting, key_waiting};
 
 use rt_accounts::{Account, Accounts, queue_touched};
-use rt_ids::{JobId, Note, QueueNo};
+use rt_ids::{JobId, Key, Note, QueueNo};
+use rt_least::Least;
 use rt_notes::Journal;
 use rt_tables::{Jobs, note_at};
 use std::alloc::{AllocError, Global};
@@ -20,6 +22,7 @@ use std::alloc::{AllocError, Global};
 struct Turns {
     jobs: Jobs,
     accounts: Accounts,
+    least: Least,
     out: Option<JobId>,
     picked: Option<QueueNo>,
 }
@@ -31,22 +34,54 @@ fn is_same(one: &JobId, other: &JobId) -> bool
 }
 
 /// Whether the first pair of virtual runtime and number stands before the second one, or is it.
-fn is_at_most(runtime: u128, queue: QueueNo, other_runtime: u128, other: usize) -> bool
+fn is_at_most(runtime: u128, queue: QueueNo, other_runtime: u128, other: QueueNo) -> bool
     ensures { IsTrue result → KeyAtMost runtime queue other_runtime other }
 {
-    runtime < other_runtime || runtime == other_runtime && queue.0 as usize <= other
+    runtime < other_runtime || runtime == other_runtime && queue.0 <= other.0
 }
 
-/// Whether no queue with work has a lesser pair.
-fn is_least(accounts: &[Account], runtime: u128, queue: QueueNo) -> bool
-    ensures { IsTrue result → (other : ℕ) → IsAtMost runtime queue (get_or accounts.now other fresh_account) other }
+/// Whether no queue has a lesser pair.
+fn is_least(least: &Least, runtime: u128, queue: QueueNo) -> bool
+    ensures { IsTree least.now → IsTrue result → IsBelowAll runtime queue least.now }
 {
-    for (other, account) in accounts.iter().enumerate() {
-        if account.has_jobs() && !is_at_most(runtime, queue, account.virtual_runtime, other) {
-            return false;
-        }
+    let top = least.least();
+    is_at_most(runtime, queue, top.vr, top.queue)
+}
+
+/// The virtual runtime at which a queue waits for its turn: the last one if it has no work.
+fn runtime_waiting(account: &Account) -> u128
+    ensures { result ≡ runtime_waiting account.now }
+{
+    if account.has_jobs() {
+        account.virtual_runtime
+    } else {
+        u128::MAX
     }
-    true
+}
+
+/// The key at which a queue waits, if there is a queue.
+fn key_waiting(accounts: &Accounts, queue: Option<QueueNo>) -> Option<Key>
+    ensures { result ≡ key_waiting accounts.now queue }
+{
+    match queue {
+        Some(queue) => {
+            let account = account_of(accounts, queue);
+            let vr = runtime_waiting(&account);
+            Some(Key { vr, queue })
+        }
+        None => None,
+    }
+}
+
+/// Gives the queue of a key, if there is one, this key.
+fn place(least: &mut Least, key: Option<Key>)
+    requires { IsTree least.old }
+    ensures tree { IsTree least.new }
+    ensures placed { IsPlaced least.old least.new key }
+{
+    if let Some(key) = key {
+        least.set(key.queue, key.vr);
+    }
 }
 
 /// Whether a note may change which job is out.
@@ -88,9 +123,13 @@ impl Turns {
     fn new(alloc: Global) -> Self
         ensures { KnowsTurns result [] }
     {
+        let jobs = Jobs::new(alloc);
+        let accounts = Accounts::new();
+        let least = Least::new();
         Turns {
-            jobs: Jobs::new(alloc),
-            accounts: Accounts::new(),
+            jobs,
+            accounts,
+            least,
             out: None,
             picked: None,
         }
@@ -98,10 +137,14 @@ impl Turns {
 
     /// Reads the next note.
     fn add(&mut self, note: &Note<u64>) -> Result<(), AllocError>
+        requires { IsTree self.old.least }
         ensures { OnOk result ((before : Notes ℕ) → length before < greatest_count → FitsOut self.old.out note.now → KnowsTurns self.old before → KnowsTurns self.new (note.now ∷ before)) }
     {
         let queue = queue_touched(note, &self.jobs);
         self.accounts.add(note, queue);
+        let changed = queue_touched(note, &self.jobs);
+        let key = key_waiting(&self.accounts, changed);
+        place(&mut self.least, key);
         self.jobs.add(note)?;
         self.out = out_after(self.out, note);
         self.picked = queue_picked(note);
@@ -166,11 +209,21 @@ fn may_pick(turns: &Turns, queue: QueueNo, runtime: u128) -> bool
     turns.out.is_none() && is_at(&account, runtime)
 }
 
+/// Whether there are no more accounts than queues. There never are more.
+fn has_few(accounts: &[Account]) -> bool
+    ensures { IsTrue result → length accounts.now ≤ 256 }
+{
+    accounts.len() <= 256
+}
+
 /// Whether a pick takes the least pair, at the virtual runtime of its queue.
 fn is_right_pick(turns: &Turns, queue: QueueNo, runtime: u128) -> bool
     ensures { (before : Notes ℕ) → KnowsTurns turns.now before → IsTrue result → spec.IsRightPick queue runtime before }
 {
-    may_pick(turns, queue, runtime) && is_least(&turns.accounts.queues, runtime, queue)
+    if !has_few(&turns.accounts.queues) {
+        return false;
+    }
+    may_pick(turns, queue, runtime) && is_least(&turns.least, runtime, queue)
 }
 
 fn right_if_pick(turns: &Turns, note: &Note<u64>) -> bool
@@ -196,7 +249,18 @@ fn picks_right(turns: &Turns, note: &Note<u64>) -> bool
     is_in_turn(turns, note) && fits_out(turns.out, note)
 }
 
-/// The line of the first note that picks, follows a pick or settles as it may not.
+/// The line of a wrong note, or of the pick before it, if that isn't followed as it should be.
+fn line_at(turns: &Turns, note: &Note<u64>, place: usize) -> usize
+    requires { place < greatest_count }
+{
+    if turns.picked.is_some() && !is_followed(turns, note) {
+        place
+    } else {
+        place + 1
+    }
+}
+
+/// The line of the first note that picks, follows a pick or settles as it may not. A pick that isn't followed as it should be is named itself.
 pub fn picks_fault(alloc: Global, journal: &Journal<u64>) -> Result<Option<usize>, AllocError>
     ensures { IfOk result (λ line. line ≡ None → EachNote PicksRight journal.now.notes × (spec.queue_just_picked journal.now.notes ≡ None)) }
 {
@@ -204,7 +268,7 @@ pub fn picks_fault(alloc: Global, journal: &Journal<u64>) -> Result<Option<usize
     for place in 0..journal.len() {
         let note = note_at(journal, place);
         if !picks_right(&turns, &note) {
-            return Ok(Some(place + 1));
+            return Ok(Some(line_at(&turns, &note, place)));
         }
         turns.add(&note)?;
     }

@@ -1,7 +1,17 @@
+use Rattle.std.proofs.Common.{refl}
+use Rattle.rt_audit.specs.Verdicts.{rule_named}
+use Rattle.rt_audit.proofs.KeptRules.{none_before}
 use Rattle.rt_audit.proofs.judge.audit.Goals as goal
 
 pub verdict_of-requires : goal.verdict_of-requires
 verdict_of-requires c = (c.is_spelled.ensures.0 c.if-not-is_spelled.false).limits.few_cores
 
+pub returns-then-not-is_spelled-clause-first : goal.returns-then-not-is_spelled-clause-first
+returns-then-not-is_spelled-clause-first c = none_before c.args.assembly.now 1 refl
+
 pub returns-in-Ok : goal.returns-in-Ok
-returns-in-Ok c = λ sound. (c.is_spelled.ensures.0 c.if-not-is_spelled.false, c.in-Ok.ensures sound)
+returns-in-Ok c = record {
+  sound = λ sound. (c.is_spelled.ensures.0 c.if-not-is_spelled.false, c.in-Ok.ensures.sound sound);
+  first = c.in-Ok.ensures.first;
+  unspelled = λ no. absurd (no (c.is_spelled.ensures.0 c.if-not-is_spelled.false));
+}

@@ -1,19 +1,52 @@
 use Rattle.std.proofs.Common.{sym, ◌∙◌}
+use Rattle.std.specs.Prelude.{is_some}
 use Rattle.rt_ids.specs.Sound.{StartsAreSound}
 use Rattle.rt_rules.specs.Links.{KnowsOrders}
 use Rattle.rt_turns.proofs.PickSteps.{none_left}
+use Rattle.rt_audit.proofs.KeptRules.{none_before, one_before, two_before, three_before, with_picks}
+use Rattle.rt_audit.specs.Verdicts.{rule_named}
 use Rattle.rt_audit.proofs.judge.verdict_of.Goals as goal
 
-pub returns : goal.returns
-returns c =
-    λ sound.
+pub returns-then-is_some-clause-first : goal.returns-then-is_some-clause-first
+returns-then-is_some-clause-first c =
+    none_before c.args.assembly.now (rule_named c.told-first.result) (c.told-first.ensures.fault (sym c.is_some.ensures ∙ c.if-is_some.true))
+
+pub returns-then-is_some-2-clause-first : goal.returns-then-is_some-2-clause-first
+returns-then-is_some-2-clause-first c =
+    let knows : KnowsOrders c.as_slice-sent.result.now c.args.assembly.now = rw c.as_slice-sent.ensures.value c.in_ok-orders.ensures in
+    one_before c.args.assembly.now (rule_named c.told-second.result) (c.told-second.ensures.fault (sym c.is_some-2.ensures ∙ c.if-is_some-2.true))
+    (c.in_ok-starts.ensures (none_left c.in_ok-starts.starts (sym c.is_some.ensures ∙ c.if-is_some.false)) knows)
+
+pub returns-then-is_some-3-clause-first : goal.returns-then-is_some-3-clause-first
+returns-then-is_some-3-clause-first c =
     let knows : KnowsOrders c.as_slice-sent.result.now c.args.assembly.now = rw c.as_slice-sent.ensures.value c.in_ok-orders.ensures in
     let starts : StartsAreSound c.args.assembly.now =
     c.in_ok-starts.ensures (none_left c.in_ok-starts.starts (sym c.is_some.ensures ∙ c.if-is_some.false)) knows in
+    two_before c.args.assembly.now (rule_named c.told-third.result) (c.told-third.ensures.fault (sym c.is_some-3.ensures ∙ c.if-is_some-3.true)) starts
+    (c.in_ok-order.ensures (none_left c.in_ok-order.order (sym c.is_some-2.ensures ∙ c.if-is_some-2.false)) knows starts)
+
+pub returns-then-is_some-4-clause-first : goal.returns-then-is_some-4-clause-first
+returns-then-is_some-4-clause-first c =
+    let knows : KnowsOrders c.as_slice-sent.result.now c.args.assembly.now = rw c.as_slice-sent.ensures.value c.in_ok-orders.ensures in
+    let starts : StartsAreSound c.args.assembly.now =
+    c.in_ok-starts.ensures (none_left c.in_ok-starts.starts (sym c.is_some.ensures ∙ c.if-is_some.false)) knows in
+    three_before c.args.assembly.now (rule_named c.told-fourth.result) (c.told-fourth.ensures.fault (sym c.is_some-4.ensures ∙ c.if-is_some-4.true)) starts
+    (c.in_ok-order.ensures (none_left c.in_ok-order.order (sym c.is_some-2.ensures ∙ c.if-is_some-2.false)) knows starts)
+    (c.closes_place-closes.ensures (none_left c.closes_place-closes.result (sym c.is_some-3.ensures ∙ c.if-is_some-3.false)))
+
+pub returns : goal.returns
+returns c =
+    let knows : KnowsOrders c.as_slice-sent.result.now c.args.assembly.now = rw c.as_slice-sent.ensures.value c.in_ok-orders.ensures in
+    let starts : StartsAreSound c.args.assembly.now =
+    c.in_ok-starts.ensures (none_left c.in_ok-starts.starts (sym c.is_some.ensures ∙ c.if-is_some.false)) knows in
+    let order = c.in_ok-order.ensures (none_left c.in_ok-order.order (sym c.is_some-2.ensures ∙ c.if-is_some-2.false)) knows starts in
+    let closes = c.closes_place-closes.ensures (none_left c.closes_place-closes.result (sym c.is_some-3.ensures ∙ c.if-is_some-3.false)) in
+    let outcomes = c.in_ok-outcomes.ensures (none_left c.in_ok-outcomes.outcomes (sym c.is_some-4.ensures ∙ c.if-is_some-4.false)) knows in
     record {
-      starts = starts;
-      order = c.in_ok-order.ensures (none_left c.in_ok-order.order (sym c.is_some-2.ensures ∙ c.if-is_some-2.false)) knows starts;
-      closes = c.closes_place-closes.ensures (none_left c.closes_place-closes.result (sym c.is_some-3.ensures ∙ c.if-is_some-3.false));
-      outcomes = c.in_ok-outcomes.ensures (none_left c.in_ok-outcomes.outcomes (sym c.is_some-4.ensures ∙ c.if-is_some-4.false)) knows;
-      picks = c.in_ok-picks.ensures (c.told-2.ensures sound);
+      sound =
+          λ sound.
+          record { starts = starts; order = order; closes = closes; outcomes = outcomes; picks = c.in_ok-picks.ensures (c.told-fifth.ensures.sound sound) };
+      first =
+          with_picks c.args.assembly.now (rule_named c.told-fifth.result) (is_some c.in_ok-picks.picks) starts order closes outcomes
+          c.told-fifth.ensures.fault (λ none. c.in_ok-picks.ensures (none_left c.in_ok-picks.picks none));
     }

@@ -7,5 +7,5 @@ pub returns-then-may_pick : goal.returns-then-may_pick
 returns-then-may_pick c =
     λ before knows yes.
     let may = c.may_pick.ensures c.if-may_pick.true in
-    right_pick before c.args.turns.now.accounts c.args.queue c.args.runtime knows.accounts (knows.out ∙ ap out_list may.0) may.1.jobs may.1.at may.1.below
-    (c.is_least.ensures yes)
+    right_pick before c.args.turns.now.accounts c.args.turns.now.least c.args.queue c.args.runtime knows.accounts (c.has_few.ensures c.if-not-has_few.false) knows.least
+    (knows.out ∙ ap out_list may.0) may.1.jobs may.1.at may.1.below (c.is_least.ensures knows.tree yes)

@@ -2,14 +2,19 @@
 
 ghost use Rattle.std.specs.Prelude.{◌≡◌, false};
 
-use crate::numbers::{FROM, TO};
-use rt_ids::{Envelope, Order, Outcome, QueueNo, Reason};
+use rt_ids::{ActorNo, CoreNo, Envelope, Order, Outcome, QueueNo, Reason};
 use rt_jobs::example::drive;
 use rt_jobs::{AnyJob, Job, OnceBox, Polled, Range, Step, once_job, polled_job};
 use rt_link::{InEnd, OutEnd, PlainLink};
 use rt_ring::{RingIn, RingLink, RingOut, reunite};
 use std::alloc::Global;
 use std::test::Fail;
+
+/// The sender of all links here.
+const FROM: ActorNo = ActorNo(2);
+
+/// The receiver of all links here.
+const TO: CoreNo = CoreNo(1);
 
 /// Yields so often and then answers 9.
 #[derive(Drop)]

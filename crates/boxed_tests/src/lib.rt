@@ -1,0 +1,5 @@
+//! Tests of boxed jobs that go through links.
+#![tactic(auto)]
+
+#[cfg(test)]
+mod boxed;

@@ -1,0 +1,19 @@
+-- What a verdict says of the rules.
+use Rattle.std.specs.Prelude.{ℕ, ◌<◌}
+use Rattle.rt_ids.specs.Assembly.{Assembly}
+use Rattle.rt_ids.specs.Sound.{StartsAreSound, OrderIsSound, ClosesAreSound, OutcomesAreSound, PicksAreSound}
+use Rattle.rt_audit.specs.declared.judge.Verdict.{Verdict}
+use Rattle.rt_audit.specs.declared.judge.Verdict.TheVariants.{Sound, Fault}
+
+-- the rule that is broken, or the number behind the last rule if none is
+abbrev pub rule_named : Verdict → ℕ
+rule_named Sound = 6
+rule_named (Fault actor line rule) = rule
+
+-- the rules before this one are kept
+pub record KeepsRulesBefore (assembly : Assembly ℕ) (rule : ℕ) : Type 0 where
+  pub starts : 1 < rule → StartsAreSound assembly
+  pub order : 2 < rule → OrderIsSound assembly
+  pub closes : 3 < rule → ClosesAreSound assembly
+  pub outcomes : 4 < rule → OutcomesAreSound assembly
+  pub picks : 5 < rule → PicksAreSound assembly

@@ -1,0 +1,12 @@
+use Rattle.std.proofs.Common.{◌≡◌, ◌^◌, [], length}
+use Rattle.std.specs.Vec.{vec_capacity}
+use Rattle.rt_desk.specs.Rows.{spread}
+use Rattle.rt_desk.proofs.rows.Rows.open.Given as goal
+
+-- a tree for each step of the loop, each empty, and room for all
+abbrev pub invariant-loop : goal.invariant-loop
+invariant-loop g l = record {
+  count : length l.trees.items ≡ l.counter;
+  empty : spread (2 ^ l.digits) 0 l.trees.items ≡ [];
+  capacity : vec_capacity l.trees ≡ l.count;
+}

@@ -1,0 +1,8 @@
+use Rattle.std.proofs.Common.{replicate}
+use Rattle.std.proofs.lemmas.List.{get_or-replicate}
+use Rattle.rt_least.specs.Winners.{last_key, no_key}
+use Rattle.rt_least.proofs.Winners.{all_even}
+use Rattle.rt_least.proofs.least.Least.new.Goals as goal
+
+pub returns : goal.returns
+returns c = all_even last_key (record { nodes = replicate 512 last_key }) (λ node within. get_or-replicate 512 node last_key no_key within)

@@ -1,0 +1,75 @@
+use Rattle.std.proofs.Common.{sym, ap, refl, subst, arith}
+use Rattle.std.specs.Prelude.{IfSome}
+use Rattle.slab.specs.Slab.{get}
+use Rattle.rt_jobs.specs.Ready.{IsReady}
+use Rattle.rt_taskqueue.specs.declared.line.Line.{Line}
+use Rattle.rt_taskqueue.specs.Entries.{Renews}
+use Rattle.rt_taskqueue.specs.Fronts.{IsFrontReady}
+use Rattle.rt_taskqueue.specs.Queues.{QueuesView, waiting_of}
+use Rattle.rt_taskqueue.specs.Slips.{queues_alone}
+use Rattle.rt_taskqueue.proofs.Fronts.{some_ready, some_waiting, head_ready, IsKept-renewed, front_renewed}
+use Rattle.rt_taskqueue.proofs.Views.{alone, line_read, exists-view, head_filled, IsWithinLimits-view}
+use Rattle.rt_taskqueue.proofs.queues.Queues.poll_front.Goals as goal
+
+pub index-requires : goal.index-requires
+index-requires g c =
+    let exists = exists-view c.self.inside.room c.self.inside.jobs c.self.inside.lines.items (ap queues_alone c.self.view_is) c.requires.exists in
+    omega (arith, exists, c.queue.view_is, c.self.inside.lines.ok.0)
+
+pub poll_at-requires-clause-there : goal.poll_at-requires-clause-there
+poll_at-requires-clause-there g c =
+    let inside = c.self.inside in
+    let lines = inside.lines.items in
+    let line = c.index.result.now in
+    let exists = exists-view inside.room inside.jobs lines (ap queues_alone c.self.view_is) c.requires.exists in
+    let here = line_read lines c.queue.inside.0 c.args.queue line (omega (arith, exists, c.queue.view_is)) c.index.ensures c.queue.view_is in
+    let ready = subst (λ (view : QueuesView g.row.J.Denot). IsFrontReady g.J.Task.done g.J.Task.CanPoll (waiting_of c.args.queue view)) (sym (ap queues_alone c.self.view_is)) c.requires.ready in
+    let some = some_waiting c.self.invariant.0 c.args.queue (some_ready g.J.Task.done g.J.Task.CanPoll (waiting_of c.args.queue (alone inside.room inside.jobs lines)) ready) in
+    head_filled c.self.invariant.0 c.args.queue line here (omega (arith, some, ap (λ (l : Line). l.count) here))
+
+pub poll_at-requires-clause-ready : goal.poll_at-requires-clause-ready
+poll_at-requires-clause-ready g c =
+    let inside = c.self.inside in
+    let lines = inside.lines.items in
+    let line = c.index.result.now in
+    let exists = exists-view inside.room inside.jobs lines (ap queues_alone c.self.view_is) c.requires.exists in
+    let here = line_read lines c.queue.inside.0 c.args.queue line (omega (arith, exists, c.queue.view_is)) c.index.ensures c.queue.view_is in
+    let ready = subst (λ (view : QueuesView g.row.J.Denot). IsFrontReady g.J.Task.done g.J.Task.CanPoll (waiting_of c.args.queue view)) (sym (ap queues_alone c.self.view_is)) c.requires.ready in
+    subst (λ (l : Line). IfSome (get inside.jobs l.head) (λ waiting. IsReady g.J.Task.done g.J.Task.CanPoll waiting.job)) here
+    (head_ready g.J.Task.done g.J.Task.CanPoll c.self.invariant.0 c.args.queue exists ready)
+
+pub invariant_of-self : goal.invariant_of-self
+invariant_of-self g c =
+    let polls = c.poll_at.ensures in
+    (IsKept-renewed c.index.result.now.head polls.front polls.job c.self.invariant.0 polls.renews, c.self.invariant.1)
+
+pub returns-clause-polls : goal.returns-clause-polls
+returns-clause-polls g c =
+    let inside = c.self.inside in
+    let lines = inside.lines.items in
+    let line = c.index.result.now in
+    let polls = c.poll_at.ensures in
+    let exists = exists-view inside.room inside.jobs lines (ap queues_alone c.self.view_is) c.requires.exists in
+    let here = line_read lines c.queue.inside.0 c.args.queue line (omega (arith, exists, c.queue.view_is)) c.index.ensures c.queue.view_is in
+    let ready = subst (λ (view : QueuesView g.row.J.Denot). IsFrontReady g.J.Task.done g.J.Task.CanPoll (waiting_of c.args.queue view)) (sym (ap queues_alone c.self.view_is)) c.requires.ready in
+    let some = some_waiting c.self.invariant.0 c.args.queue (some_ready g.J.Task.done g.J.Task.CanPoll (waiting_of c.args.queue (alone inside.room inside.jobs lines)) ready) in
+    let renews = subst (λ (l : Line). Renews inside.jobs l.head polls.front polls.job c.poll_at.new.jobs) (sym here) polls.renews in
+    let renewed = front_renewed c.args.queue polls.front polls.job c.self.invariant.0 renews exists some in
+    rw (← c.self.view_is) (record {
+      name = polls.front.name;
+      started = polls.front.started;
+      was = polls.front.job;
+      job = polls.job;
+      others = renewed.0;
+      first = renewed.1;
+      line = renewed.2;
+      polled = polls.polled;
+    })
+
+pub returns-clause-slips : goal.returns-clause-slips
+returns-clause-slips g c = rw (← c.self.view_is) refl
+
+pub returns-clause-limits : goal.returns-clause-limits
+returns-clause-limits g c =
+    let polls = c.poll_at.ensures in
+    IsWithinLimits-view (IsKept-renewed c.index.result.now.head polls.front polls.job c.self.invariant.0 polls.renews)

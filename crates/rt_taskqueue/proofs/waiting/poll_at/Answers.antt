@@ -1,0 +1,34 @@
+use Rattle.std.proofs.Common.{ℕ, Option, None, Some, cond, refl, sym, ap, subst, arith}
+use Rattle.std.specs.Prelude.{is_some}
+use Rattle.std.proofs.lemmas.List.Sums.{sum_by-set}
+use Rattle.slab.proofs.SlabLemmas.{Updates-with_value, ContainsKey-within}
+use Rattle.rt_taskqueue.specs.declared.waiting.Waiting.{Waiting}
+use Rattle.rt_taskqueue.proofs.waiting.poll_at.Goals as goal
+
+pub returns : goal.returns
+returns g c =
+    let jobs = c.args.jobs.now in
+    let was = c.index_mut-front.result.now in
+    let polled = c.poll-step.ensures in
+    let renewed : Waiting g.row.J.Denot = record was { job = c.poll-step.new.self } in
+    let within = ContainsKey-within jobs c.args.key c.requires.there in
+    let one : Option (Waiting g.row.J.Denot) → ℕ = λ entry. cond (is_some entry) 1 0 in
+    let full = ap one c.index_mut-front.ensures.value in
+    record {
+      front = was;
+      job = c.poll-step.new.self;
+      renews = record {
+        at = c.index_mut-front.ensures.value;
+        updates = Updates-with_value jobs c.args.key renewed c.requires.there;
+        len = omega (arith, full, sum_by-set one jobs.slots c.args.key (Some renewed) None within);
+        capacity = refl;
+      };
+      polled = record {
+        owed = subst (λ told. g.J.Task.Polls was.job (g.J.Task.made was.job) (g.P.Post.notes c.args.post.now) (g.P.Post.notes c.poll-step.new.post) c.poll-step.result told) (sym c.told-told.ensures) polled.owed;
+        answered = polled.answers;
+        task = polled.same;
+        later = polled.later;
+        ready = polled.ready;
+        ended = polled.done;
+      };
+    }

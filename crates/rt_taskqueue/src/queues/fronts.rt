@@ -1,0 +1,84 @@
+//! The job at the head of a line: it is polled where it stands, and goes to the tail by links alone.
+ghost use Rattle.std.specs.Prelude.{◌≡◌, ◌<◌, [], IfSome, IfNone};
+ghost use Rattle.rt_taskqueue.specs.Slips.{queue_count, waiting_of, IsWithinLimits, queues_alone};
+ghost use Rattle.rt_taskqueue.specs.Fronts.{HasFront, IsFrontReady, PollsFront, TurnsLine, TurnsFront};
+
+use super::Queues;
+use crate::waiting::{poll_at, requeue};
+use rt_ids::{JobId, QueueNo};
+use rt_jobs::{Job, Post, Step};
+use std::alloc::Allocator;
+
+impl<J: Drop, A: Allocator + Clone> Queues<J, A> {
+    /// The name of the job at the head, and whether it was started.
+    pub fn front(&self, queue: QueueNo) -> Option<(JobId, bool)>
+        requires exists { queue < queue_count self.now }
+        ensures empty { IfNone result (waiting_of queue self.now ≡ []) }
+        ensures head { IfSome result (λ front. HasFront (queues_alone self.now) queue front.0 front.1) }
+    {
+        let place = queue.0 as usize;
+        let line = self.lines[place];
+        if line.count == 0 {
+            return None;
+        }
+        let front = &self.jobs[line.head];
+        Some((front.name, front.started))
+    }
+
+    /// The job at the head goes to the tail of its line, as started. The job isn't moved.
+    pub fn requeue(&mut self, queue: QueueNo)
+        requires exists { queue < queue_count self.old }
+        requires some { waiting_of queue self.old ≡ [] → ⊥ }
+        ensures turns { TurnsLine (queues_alone self.old) (queues_alone self.new) queue }
+        ensures slips { self.new.slips ≡ self.old.slips }
+        ensures limits { IsWithinLimits self.new }
+    {
+        let place = queue.0 as usize;
+        let line = self.lines[place];
+        self.lines[place] = requeue(&mut self.jobs, line);
+    }
+}
+
+impl<J: Job, A: Allocator + Clone> Queues<J, A> {
+    /// Polls the job at the head where it stands. The answer: what the poll came to, and the time that the job told.
+    pub fn poll_front<P: Post<J, J::Out>>(
+        &mut self,
+        queue: QueueNo,
+        post: &mut P,
+    ) -> (Step<J::Out>, Option<u64>)
+        requires exists { queue < queue_count self.old }
+        requires ready { IsFrontReady J.done J.CanPoll (waiting_of queue self.old) }
+        ensures polls { PollsFront J.SameTask J.done J.CanPoll J.made J.Polls J.Answers (queues_alone self.old) queue (P.notes post.old) (P.notes post.new) result.0 result.1 (queues_alone self.new) }
+        ensures slips { self.new.slips ≡ self.old.slips }
+        ensures limits { IsWithinLimits self.new }
+    {
+        let place = queue.0 as usize;
+        let head = self.lines[place].head;
+        poll_at(&mut self.jobs, head, post)
+    }
+
+    /// A whole turn of the line: its head is polled where it stands. If it wants another poll it goes to the tail by links alone,
+    /// and if it is done it is taken out and dropped. The answer: what the poll came to, and the time that the job told.
+    pub fn turn_front<P: Post<J, J::Out>>(
+        &mut self,
+        queue: QueueNo,
+        post: &mut P,
+    ) -> (Step<J::Out>, Option<u64>)
+        requires exists { queue < queue_count self.old }
+        requires ready { IsFrontReady J.done J.CanPoll (waiting_of queue self.old) }
+        ensures turns { TurnsFront J.SameTask J.done J.CanPoll J.made J.Polls J.Answers (queues_alone self.old) queue (P.notes post.old) (P.notes post.new) result.0 result.1 (queues_alone self.new) }
+        ensures slips { self.new.slips ≡ self.old.slips }
+        ensures limits { IsWithinLimits self.new }
+    {
+        let (step, told) = self.poll_front(queue, post);
+        match &step {
+            Step::Yield => self.requeue(queue),
+            Step::Done(_) => {
+                let Some(_gone) = self.pop_front(queue) else {
+                    unreachable!()
+                };
+            }
+        }
+        (step, told)
+    }
+}
