@@ -1,21 +1,28 @@
 //! The steps: an order is sent, the next one is delivered, a core makes a turn.
 
-ghost use Rattle.std.specs.Prelude.{◌≡◌, ◌≢◌, ◌≤◌, ◌<◌, ◌+◌, length, None, Err, IfOk, IfErr};
+ghost use Rattle.std.specs.Prelude.{◌≡◌, ◌≢◌, ◌≤◌, ◌<◌, ◌+◌, length, map, vec_items, Some, None, Err};
+ghost use Rattle.rt_ids.specs.declared.note.OutcomeNote.TheVariants.{Returned};
 ghost use Rattle.rt_core.specs.declared.turn.PickError.TheVariants.{Busy};
 ghost use Rattle.rt_jobs.specs.Ready.{HasReadyJob};
+ghost use Rattle.rt_journal.specs.Recorded.{IsRecorded, desk_of};
+ghost use Rattle.rt_journal.specs.Ends.{KeepsOuts, IsSameSeat, told_under};
+ghost use Rattle.rt_journal.specs.Owed.{IsSentUnder};
+ghost use Rattle.rt_journal.specs.Turns.{IsOut, IsOutUnder, IsPolled, Settles};
 ghost use Rattle.rt_world.specs.State.{journal_at};
 ghost use Rattle.rt_world.specs.Sends.{Sends, sent_reply};
 ghost use Rattle.rt_world.specs.Deliveries.{Delivers, taken_reply};
+ghost use Rattle.rt_world.specs.Links.{GivesOnOne};
 ghost use Rattle.rt_world.specs.Turns.{Turns};
 ghost use Rattle.rt_world.specs.OneTurn as one;
-ghost use Rattle.rt_world.specs.PickedJobs.{TookOut, TookNone};
+ghost use Rattle.rt_world.specs.PickedJobs.{IsPicked};
 
 use super::World;
 use crate::event::Reply;
-use rt_core::{PickError, Turn};
-use rt_ids::{ActorNo, CoreNo, Order, SendError, Ticket};
+use rt_core::{PickError, Settled, Turn};
+use rt_ids::{ActorNo, CoreNo, JobId, Order, Reason, SendError, Ticket};
 use rt_jobs::{Job, NoPost, Ran, Task};
 use rt_journal::Recorded;
+use rt_link::PlainLink;
 use std::alloc::Allocator;
 
 impl<J: Task<Out = u64>, A: Allocator + Clone> World<J, A> {
@@ -70,26 +77,71 @@ fn turn_of<J: Job + Task<Out = u64>, A: Allocator + Clone>(
 ) -> Reply<J>
     requires free { core.old.core.out ≡ None }
     requires room { length core.old.journal.notes + 3 ≤ core.old.journal.room }
-    requires beside { one.IsBesideAll number core.old (map vec_items links.old.items) }
+    requires sound { IsRecorded J.SameTask J.made J.Polls core.old }
+    requires beside { one.IsBesideAll number one.none_owed core.old (map vec_items links.old.items) }
     ensures turns { one.Turns J.SameTask J.made J.Polls J.Answers spent core.old core.new result }
-    ensures beside { one.GivesOnOne J.SameTask J.made J.Polls number core.old core.new (map vec_items links.old.items) (map vec_items links.new.items) }
+    ensures beside { one.StaysBeside J.SameTask J.made J.Polls number core.old core.new (map vec_items links.old.items) (map vec_items links.new.items) }
 {
     match picked_of(core.pick()) {
         Picked::Job(name, job) => {
+            // No outcome is collected by now, so a job that is polled gets a post without links.
             let ran = Ran::poll(job, &mut NoPost);
-            let row = &mut links[name.from.0 as usize];
-            let link = &mut row[number.0 as usize];
-            drop(core.settle(link, name, ran, spent));
+            drop(settle_on(core, links, number, name, ran, spent));
             Reply::Noted
         }
         Picked::Returned(name, reason, order) => {
-            let row = &mut links[name.from.0 as usize];
-            let link = &mut row[number.0 as usize];
-            core.give_back(link, name, reason, order);
+            give_back_on(core, links, number, name, reason, order);
             Reply::Noted
         }
         Picked::Nothing(reply) => reply,
     }
+}
+
+// Settles the poll of the job that is out. Its outcome, if it is done, is given on the link of its sender.
+fn settle_on<J: Task<Out = u64>, A: Allocator + Clone>(
+    core: &mut Recorded<J, A>,
+    links: &mut Vec<Vec<PlainLink<J>>>,
+    number: CoreNo,
+    name: JobId,
+    ran: Ran<J>,
+    spent: u64,
+) -> Settled<u64>
+    requires out { IsOut core.old.core.out ran.before }
+    requires named { IsOutUnder core.old.core.out name }
+    requires sender { name.from ≤ core.old.core.cores }
+    requires polled { IsPolled J.SameTask J.made J.Polls J.Answers ran }
+    requires room { length core.old.journal.notes < core.old.journal.room }
+    requires beside { one.IsBesideAll number one.none_owed core.old (map vec_items links.old.items) }
+    ensures settles { Settles J.made J.Polls J.Answers core.old ran spent result core.new }
+    ensures links { GivesOnOne number (map vec_items links.old.items) (map vec_items links.new.items) }
+    ensures beside { one.IsBesideAll number one.none_owed core.new (map vec_items links.new.items) }
+    ensures outs { KeepsOuts (desk_of core.old) (desk_of core.new) }
+    ensures seat { IsSameSeat core.old core.new }
+    ensures sound { IsRecorded J.SameTask J.made J.Polls core.new }
+{
+    let row = &mut links[name.from.0 as usize];
+    let link = &mut row[number.0 as usize];
+    core.settle(link, name, ran, spent)
+}
+
+// Gives the outcome of a job that the core handed back, on the link of its sender.
+fn give_back_on<J: Task<Out = u64>, A: Allocator + Clone>(
+    core: &Recorded<J, A>,
+    links: &mut Vec<Vec<PlainLink<J>>>,
+    number: CoreNo,
+    name: JobId,
+    reason: Reason,
+    order: Order<J>,
+)
+    requires sender { name.from ≤ core.now.core.cores }
+    requires sent { IsSentUnder J.SameTask core.now.took name order }
+    requires owed { one.IsBesideAll number (told_under name (Some (Returned reason))) core.now (map vec_items links.old.items) }
+    ensures links { GivesOnOne number (map vec_items links.old.items) (map vec_items links.new.items) }
+    ensures beside { one.IsBesideAll number one.none_owed core.now (map vec_items links.new.items) }
+{
+    let row = &mut links[name.from.0 as usize];
+    let link = &mut row[number.0 as usize];
+    core.give_back(link, name, reason, order);
 }
 
 // What the core is told.
