@@ -20,6 +20,7 @@ use Rattle.rt_core.specs.declared.turn.PickError.{PickError}
 use Rattle.rt_core.specs.declared.turn.PickError.TheVariants.{Busy}
 use Rattle.rt_core.specs.declared.turn.Settled.{Settled}
 use Rattle.rt_journal.specs.Polls.{polls_made, poll_note, settle_note}
+use Rattle.rt_journal.specs.Submissions.{DeskView}
 use Rattle.rt_journal.specs.Recorded.{RecordedView, IsRecorded, desk_of, order_taken}
 use Rattle.rt_journal.specs.Steps.{with_notes}
 use Rattle.rt_journal.specs.Turns.{IsPick, IsHandBack, Picks, IsOut, IsOutUnder, Settles}
@@ -57,16 +58,16 @@ owed_as owed other same number view links is = record {
 }
 
 -- two steps leave the seat and the sender's ends as they were
-pub same_seat-then : {J T : Type 0} {old middle new : RecordedView J T} → IsSameSeat old middle → IsSameSeat middle new → IsSameSeat old new
-same_seat-then first then = record {
+pub same_seat-then : {J T : Type 0} (old middle new : RecordedView J T) → IsSameSeat old middle → IsSameSeat middle new → IsSameSeat old new
+same_seat-then old middle new first then = record {
   number = then.number ∙ first.number;
   cores = then.cores ∙ first.cores;
   cap = then.cap ∙ first.cap;
   room = then.room ∙ first.room;
 }
 
-pub keeps_outs-then : {J T : Type 0} {old middle new : RecordedView J T} → KeepsOuts (desk_of old) (desk_of middle) → KeepsOuts (desk_of middle) (desk_of new) → KeepsOuts (desk_of old) (desk_of new)
-keeps_outs-then first then = λ core. record { each = λ out credited is. (then core).each out credited ((first core).each out credited is) }
+pub keeps_outs-then : {J T : Type 0} (old middle new : DeskView J T) → KeepsOuts old middle → KeepsOuts middle new → KeepsOuts old new
+keeps_outs-then old middle new first then = λ core. record { each = λ out credited is. (then core).each out credited ((first core).each out credited is) }
 
 -- the notes of a pick settle no poll
 polls_made-picked : {T : Type 0} (name which : JobId) (queue runtime : ℕ) (was_started : Bool) (notes : Journal T) →
@@ -208,8 +209,8 @@ module _ {J T : Type 0} {same : J → J → Type 0} {made : J → ℕ} {polls : 
       turned_stays links_now gives then outs seat sound = record {
         recorded = sound;
         at_rest = settles.out_now;
-        seat = same_seat-then kept.seat seat;
-        outs = keeps_outs-then kept.outs outs;
+        seat = same_seat-then old middle new kept.seat seat;
+        outs = keeps_outs-then (desk_of old) (desk_of middle) (desk_of new) kept.outs outs;
         links = gives;
         ins = then;
       }

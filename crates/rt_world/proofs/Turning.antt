@@ -1,5 +1,5 @@
 -- A world at rest stays one as a core makes a turn, or creates a queue before the first event.
-use Rattle.std.proofs.Common.{◌≡◌, ℕ, ◌+◌, ◌-◌, ◌^◌, ◌<◌, ◌≤◌, [], ◌∷◌, ◌++◌, inl, inr, ⊎_elim, sym, ◌∙◌, ap, subst, arith, set}
+use Rattle.std.proofs.Common.{◌≡◌, ℕ, ◌+◌, ◌-◌, ◌^◌, ◌<◌, ◌≤◌, [], ◌∷◌, ◌++◌, inl, inr, ⊎_elim, refl, sym, ◌∙◌, ap, subst, arith, set}
 use Rattle.std.specs.Prelude.{List, map, Some, Result, Ok, Err, unwrap_or, slice_get}
 use Rattle.std.proofs.lemmas.List.{set-get_or}
 use Rattle.rt_ids.specs.declared.names.JobId.{JobId}
