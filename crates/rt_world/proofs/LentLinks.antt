@@ -6,12 +6,13 @@ use Rattle.std.proofs.lemmas.List.{append-nil, length-map, set-get_or}
 use Rattle.rt_ids.specs.declared.names.JobId.{JobId}
 use Rattle.rt_ids.specs.declared.note.OutcomeNote.{OutcomeNote}
 use Rattle.rt_ids.specs.declared.order.Outcome.{Outcome}
+use Rattle.rt_link.specs.declared.ends.Inward.{Inward}
 use Rattle.rt_link.specs.declared.plain.Whole.{Whole}
 use Rattle.rt_link.specs.Whole.{inward_of, kept_by_receiver}
 use Rattle.rt_journal.specs.Recorded.{RecordedView}
-use Rattle.rt_journal.specs.Ends.{IsInOf, IsInOwing, Gives, IsSameSeat, KeepsIn, told_under}
+use Rattle.rt_journal.specs.Ends.{IsInOf, IsInOwing, Gives, IsSameSeat, told_under}
 use Rattle.rt_journal.proofs.DeliveredEnds.{told_elsewhere}
-use Rattle.rt_world.specs.Links.{row_of, link_at, with_link, ChangesLink, GivesOnOne}
+use Rattle.rt_world.specs.Links.{no_link, row_of, link_at, with_link, ChangesLink, GivesOnOne}
 use Rattle.rt_world.specs.OneTurn.{none_owed, IsBesideAll}
 use Rattle.rt_world.proofs.LinkRows as by_rows
 use Rattle.rt_world.proofs.LinkSteps.{no_change}
@@ -48,7 +49,7 @@ no_gift core links = record {
   link = link_at 0 core links;
   given = [];
   gives = λ i. record (link_at 0 core links) { given = sym (append-nil (link_at 0 core links).given) i };
-  links = sym (ap (set links 0) (set-get_or (row_of 0 links) core _) ∙ set-get_or links 0 []);
+  links = sym (ap (set links 0) (set-get_or (row_of 0 links) core (no_link 0 core)) ∙ set-get_or links 0 []);
   changes = no_change links 0 core;
 }
 
@@ -99,7 +100,7 @@ module _ {J T V : Type 0} (items : V → List (Whole J T)) (rows : List V) (numb
             }
 
         pub none_left : (now : RecordedView J T) → IsSameSeat view now → IsInOf sender now (inward_of after) →
-            ((other : ℕ) → other ≢ sender → (inward : _) → IsInOwing other (owed other) view inward → IsInOf other now inward) →
+            ((other : ℕ) → other ≢ sender → (inward : Inward J T) → IsInOwing other (owed other) view inward → IsInOf other now inward) →
             IsBesideAll number none_owed now new_links
         none_left now seat here others = record {
           rows = λ s there. subst (λ count. s < count) (sym changes.same_rows) (beside.rows s (its s there));
@@ -114,11 +115,11 @@ module _ {J T V : Type 0} (items : V → List (Whole J T)) (rows : List V) (numb
             its : (s : ℕ) → s ≤ now.core.cores → s ≤ view.core.cores
             its s there = subst (λ count. s ≤ count) seat.cores there
 
-module _ {J T : Type 0} (name : JobId) (what : OutcomeNote T) where
+module _ {T : Type 0} (name : JobId) (what : OutcomeNote T) where
   -- what is owed under a name is owed to its sender
   pub owed_here : told_under name (Some what) name.from ≡ Some (name, what)
   owed_here = ap (λ test. cond test (Some (name, what)) None) (eq-eqb name.from name.from refl)
 
   -- and to nobody else
-  pub owed_elsewhere : (view : RecordedView J T) (other : ℕ) → other ≢ name.from → (inward : _) → IsInOwing other (told_under name (Some what) other) view inward → IsInOf other view inward
-  owed_elsewhere view other away inward = subst (λ owed. IsInOwing {J = J} other owed view inward) (told_elsewhere name (Some what) other away)
+  pub owed_elsewhere : {J : Type 0} (view : RecordedView J T) (other : ℕ) → other ≢ name.from → (inward : Inward J T) → IsInOwing other (told_under name (Some what) other) view inward → IsInOf other view inward
+  owed_elsewhere view other away inward = subst (λ owed. IsInOwing other owed view inward) (told_elsewhere name (Some what) other away)

@@ -40,13 +40,17 @@ pub record IsKeptBeside {J T : Type 0} (same : J → J → Type 0) (made : J →
   pub ins : (sender : ℕ) → LeavesOwed sender (owed sender) old new
   pub outs : KeepsOuts (desk_of old) (desk_of new)
 
-  -- so each end is beside the core, except for what is owed
-  pub beside_then : (number : ℕ) (links : List (List (Whole J T))) → IsBesideAll number none_owed old links → IsBesideAll number owed new links
-  beside_then number links before = record {
-    rows = λ sender there. before.rows sender (subst (λ cores. sender ≤ cores) seat.cores there);
-    cores = λ sender there. before.cores sender (subst (λ cores. sender ≤ cores) seat.cores there);
-    ins = λ sender there. (ins sender).each _ (before.ins sender (subst (λ cores. sender ≤ cores) seat.cores there));
-  }
+-- so each end is beside the core, except for what is owed
+pub beside_then : {J T : Type 0} {same : J → J → Type 0} {made : J → ℕ} {polls : Owed J T} {owed : ℕ → Option (JobId × OutcomeNote T)} {old new : RecordedView J T} →
+    IsKeptBeside same made polls owed old new → (number : ℕ) (links : List (List (Whole J T))) → IsBesideAll number none_owed old links → IsBesideAll number owed new links
+beside_then {old = old} {new = new} kept number links before = record {
+  rows = λ sender there. before.rows sender (its sender there);
+  cores = λ sender there. before.cores sender (its sender there);
+  ins = λ sender there. (kept.ins sender).each _ (before.ins sender (its sender there));
+}
+  where
+    its : (sender : ℕ) → sender ≤ new.core.cores → sender ≤ old.core.cores
+    its sender there = subst (λ cores. sender ≤ cores) kept.seat.cores there
 
 -- what is owed, said otherwise
 pub owed_as : {J T : Type 0} (owed other : ℕ → Option (JobId × OutcomeNote T)) → ((sender : ℕ) → owed sender ≡ other sender) →
@@ -95,7 +99,7 @@ module _ {J T : Type 0} {same : J → J → Type 0} {made : J → ℕ} {polls : 
     seat = kept.seat;
     outs = kept.outs;
     links = no_gift number links;
-    ins = owed_as (owed_back picked) none_owed (nobody told none) number middle links (kept.beside_then number links before);
+    ins = owed_as (owed_back picked) none_owed (nobody told none) number middle links (beside_then kept number links before);
   }
     where
       by_reply : (told : Reply J) → TookNone picked told → middle.core.out ≡ None
@@ -123,7 +127,7 @@ module _ {J T : Type 0} {same : J → J → Type 0} {made : J → ℕ} {polls : 
     back_sent = record { queue = back.queue; sent = back.sent; task = task_now; job = back.job; back = back.back; same_task = back.same_task }
 
     pub back_owed : IsBesideAll number (told_under name (Some (outcomes.Returned reason))) middle links
-    back_owed = owed_as (owed_back picked) (told_under name (Some (outcomes.Returned reason))) (λ sender. ap (λ answer. owed_back {T = T} answer sender) is_back) number middle links (kept.beside_then number links before)
+    back_owed = owed_as (owed_back picked) (told_under name (Some (outcomes.Returned reason))) (λ sender. ap (λ answer. owed_back {T = T} answer sender) is_back) number middle links (beside_then kept number links before)
 
     pub back_turns : (answers : J → T → Type 0) (spent : ℕ) → Turns same made polls answers spent old middle reply.Noted
     back_turns answers spent = inr (record { name = name; reason = reason; order = order; did = back })
@@ -154,7 +158,7 @@ module _ {J T : Type 0} {same : J → J → Type 0} {made : J → ℕ} {polls : 
 
     -- nothing is owed while a job is out
     pub job_beside : IsBesideAll number none_owed middle links
-    job_beside = owed_as (owed_back picked) none_owed (λ sender. ap (λ answer. owed_back {T = T} answer sender) is_job.turn ∙ by_start is_job.was_started sender) number middle links (kept.beside_then number links before)
+    job_beside = owed_as (owed_back picked) none_owed (λ sender. ap (λ answer. owed_back {T = T} answer sender) is_job.turn ∙ by_start is_job.was_started sender) number middle links (beside_then kept number links before)
       where
         by_start : (before : Bool) (sender : ℕ) → owed_back {T = T} (Ok (turn_of before name is_job.queue job)) sender ≡ None
         by_start false sender = refl

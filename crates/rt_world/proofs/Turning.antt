@@ -33,19 +33,20 @@ use Rattle.rt_world.proofs.Desks.{sent_at-world}
 use Rattle.rt_world.proofs.LinkRows.{same_sent}
 use Rattle.rt_world.proofs.LinkSteps.{OnlyReceived, OnlySent, received-same, received-given, sent-same, each_link, other_link, out_stays}
 use Rattle.rt_world.proofs.LentLinks.{no_gift}
-use Rattle.rt_world.proofs.OneTurn.{IsKeptBeside}
+use Rattle.rt_world.proofs.OneTurn.{IsKeptBeside, beside_then}
 use Rattle.rt_world.proofs.CoreSteps.{cores_are, number_is, desk_is, parts_now, rests, journal_is, journals_now}
 
 -- a core that makes a step has each end beside it, and nothing is owed
 pub all_beside : {J T : Type 0} {same : J → J → Type 0} {made : J → ℕ} {polls : Owed J T} {old : Parts J T}
     (world : IsWorld same made polls old) (core : ℕ) (there : core < old.cores) → one.IsBesideAll core one.none_owed (core_at core old) old.links
-all_beside {old = old} world core there =
-    let known = λ (sender : ℕ) (within : sender ≤ (core_at core old).core.cores). subst (λ cores. sender ≤ cores) (cores_are world core there) within in
-    record {
-      rows = λ sender within. omega (arith, world.all_there.rows_are, known sender within);
-      cores = λ sender within. omega (arith, world.all_there.links_are sender (known sender within), there);
-      ins = λ sender within. world.beside.ins sender core (known sender within) there;
-    }
+all_beside {old = old} world core there = record {
+  rows = λ sender within. omega (arith, world.all_there.rows_are, its sender within);
+  cores = λ sender within. omega (arith, world.all_there.links_are sender (its sender within), there);
+  ins = λ sender within. world.beside.ins sender core (its sender within) there;
+}
+  where
+    its : (sender : ℕ) → sender ≤ (core_at core old).core.cores → sender ≤ old.cores
+    its sender within = subst (λ cores. sender ≤ cores) (cores_are world core there) within
 
 module _ {J T : Type 0} {same : J → J → Type 0} {made : J → ℕ} {polls : Owed J T} {old : Parts J T}
     (world : IsWorld same made polls old) (core : ℕ) (there : core < old.cores) (now : RecordedView J T) (links : List (List (Whole J T)))
@@ -171,7 +172,7 @@ created_stays {old = old} world core there now weight told did kept = record {
   seat = kept.seat;
   outs = kept.outs;
   links = no_gift core old.links;
-  ins = kept.beside_then core old.links (all_beside world core there);
+  ins = beside_then kept core old.links (all_beside world core there);
 }
   where
     by_told : (told : Result ℕ CreateError) → CreatesQueue weight (core_at core old) told now → now.core.out ≡ (core_at core old).core.out
