@@ -25,11 +25,11 @@ use Rattle.rt_world.specs.Links.{row_of, link_at, GivesOnOne}
 use Rattle.rt_world.specs.declared.event.Reply.{Reply}
 use Rattle.rt_world.specs.declared.event.Reply.TheVariants as reply
 
-module _ {J T : Type 0} where
-  -- no outcome is owed to any sender
-  abbrev pub none_owed : ℕ → Option (JobId × OutcomeNote T)
-  none_owed sender = None
+-- no outcome is owed to any sender
+abbrev pub none_owed : {T : Type 0} → ℕ → Option (JobId × OutcomeNote T)
+none_owed sender = None
 
+module _ {J T : Type 0} where
   -- there is a link from each sender to this core, and each end is beside the core, where these outcomes are owed
   pub record IsBesideAll (number : ℕ) (owed : ℕ → Option (JobId × OutcomeNote T)) (view : RecordedView J T) (links : List (List (Whole J T))) : Type 0 where
     pub rows : (sender : ℕ) → sender ≤ view.core.cores → sender < length links
