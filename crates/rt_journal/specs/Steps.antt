@@ -52,9 +52,9 @@ module _ {J T : Type 0} where
     pub delivered : (sender : ℕ) →
         delivered_count new.journal.notes sender ≡ delivered_count old.journal.notes sender + number_if (envelope.name.from == sender)
 
-  -- what a delivery from this end does: the next order is received, or nothing is there
+  -- what a delivery from this end does: the next order is received, and its outcome given, if it has one yet; or nothing is there
   abbrev pub Delivers : RecordedView J T → Inward J T → RecordedView J T → Inward J T → Bool → Type 0
-  Delivers old before new after true = (envelope : Envelope J) × Takes before after (Some envelope) × Receives old envelope new
+  Delivers old before new after true = (envelope : Envelope J) × ((taken : Inward J T) × Takes before taken (Some envelope) × (after ≡ record taken { given = after.given })) × Receives old envelope new
   Delivers old before new after false = Takes before after None × (new ≡ old)
 
   -- a queue is made under the next number; a core that has 256 queues says so, else there was no memory
