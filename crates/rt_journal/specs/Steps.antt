@@ -1,9 +1,10 @@
 -- What the calls of a core beside its journal do.
-use Rattle.std.specs.Prelude.{◌≡◌, ◌==◌, ℕ, ◌+◌, ◌*◌, ◌^◌, ◌<◌, ◌≤◌, Some, None, Bool, true, false, List, [], ◌∷◌, ◌++◌, Result, Ok, Err}
+use Rattle.std.specs.Prelude.{◌≡◌, ◌==◌, ℕ, ◌+◌, ◌*◌, ◌^◌, ◌<◌, ◌≤◌, Option, Some, None, Bool, true, false, List, [], ◌∷◌, ◌++◌, Result, Ok, Err}
 use Rattle.rt_ids.specs.declared.names.JobId.{JobId}
 use Rattle.rt_ids.specs.declared.note.Note.{Note}
 use Rattle.rt_ids.specs.declared.note.Note.TheVariants as writes
 use Rattle.rt_ids.specs.declared.order.Envelope.{Envelope}
+use Rattle.rt_ids.specs.declared.order.Outcome.{Outcome}
 use Rattle.rt_ids.specs.Work.{number_if}
 use Rattle.rt_ids.specs.Closing.{IsCounted, final_count}
 use Rattle.rt_ids.specs.Commands.{created_count}
@@ -15,7 +16,7 @@ use Rattle.rt_link.specs.Calls.{Takes}
 use Rattle.rt_notes.specs.Journals.{JournalView}
 use Rattle.rt_journal.specs.Deliveries.{IsDelivery}
 use Rattle.rt_journal.specs.Recorded.{RecordedView, delivered_count, given_count}
-use Rattle.rt_journal.specs.Ends.{KeepsLists}
+use Rattle.rt_journal.specs.Ends.{KeepsLists, Gives}
 
 module _ {T : Type 0} where
   -- the journal is longer by these notes, the newest first
@@ -54,7 +55,9 @@ module _ {J T : Type 0} where
 
   -- what a delivery from this end does: the next order is received, and its outcome given, if it has one yet; or nothing is there
   abbrev pub Delivers : RecordedView J T → Inward J T → RecordedView J T → Inward J T → Bool → Type 0
-  Delivers old before new after true = (envelope : Envelope J) × ((taken : Inward J T) × Takes before taken (Some envelope) × (after ≡ record taken { given = after.given })) × Receives old envelope new
+  Delivers old before new after true =
+      (envelope : Envelope J) × ((taken : Inward J T) × (outcome : Option (Outcome J T)) × Takes before taken (Some envelope) × Gives taken envelope.name.number outcome after)
+      × Receives old envelope new
   Delivers old before new after false = Takes before after None × (new ≡ old)
 
   -- a queue is made under the next number; a core that has 256 queues says so, else there was no memory

@@ -3,7 +3,7 @@ use Rattle.rt_link.specs.Fits.{Fits}
 use Rattle.rt_journal.specs.Recorded.{IsRecorded}
 use Rattle.rt_journal.specs.Ends.{IsInOf}
 use Rattle.rt_journal.proofs.DeliveredEnds.{next_in, outs_keep, beside_owes, rest_keep, nothing_keeps}
-use Rattle.rt_journal.proofs.GivenEnds.{may_give, gave, gave_rest}
+use Rattle.rt_journal.proofs.GivenEnds.{may_give, gave}
 use Rattle.rt_journal.proofs.recorded.Recorded.deliver.Goals as goal
 
 pub receive-outcome-requires-clause-next : goal.receive-outcome-requires-clause-next
@@ -19,7 +19,7 @@ give_if-requires g c =
 
 pub returns-in-Some-clause-delivers : goal.returns-in-Some-clause-delivers
 returns-in-Some-clause-delivers g c =
-    (c.in-Some.envelope, (g.I.InEnd.inward c.take.new.self, c.in-Some.ensures.takes, gave_rest _ _ c.receive-outcome.result _ c.give_if.ensures.gives), c.receive-outcome.ensures.receives)
+    (c.in-Some.envelope, (g.I.InEnd.inward c.take.new.self, c.receive-outcome.result, c.in-Some.ensures.takes, c.give_if.ensures.gives), c.receive-outcome.ensures.receives)
 
 pub returns-in-Some-clause-beside : goal.returns-in-Some-clause-beside
 returns-in-Some-clause-beside g c =
