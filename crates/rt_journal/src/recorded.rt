@@ -21,7 +21,9 @@ ghost use Rattle.rt_journal.specs.Owed.{IsSentUnder, OwesSettled, outcome_settle
 use crate::desk::RecordedDesk;
 use crate::given::{give_if, outcome_done, outcome_of};
 use rt_core::{Core, PickError, Settled, Turn};
-use rt_ids::{ActorNo, CoreNo, Envelope, JobId, Order, Outcome, QueueNo, Reason, SendError, Ticket};
+use rt_ids::{
+    ActorNo, CoreNo, Envelope, JobId, Order, Outcome, QueueNo, Reason, SendError, Ticket,
+};
 use rt_jobs::{Ran, Task};
 use rt_link::{History, InEnd, OutEnd};
 use rt_notes::Journal;
