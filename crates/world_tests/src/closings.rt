@@ -59,7 +59,7 @@ fn an_open_core_shuts_no_gate(rt: HostRuntime) -> Result<(), Fail> {
         (Act::Shut(0, 0), Became::NotClosed),
         (Act::Deliver(0, 0), Became::Empty),
         (Act::Shut(0, 1), Became::NotClosed),
-        (Act::Shut(0, 2), Became::Other),
+        (Act::Shut(0, 2), Became::NoActor),
     ];
     assert!(rt; run(&rt, &mut world, &row) && tells(&world, SELF, &[]));
     assert!(rt; !has_shut(&world, 0, 0) && !is_drained(&world, 0));
