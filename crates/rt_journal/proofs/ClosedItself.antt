@@ -1,10 +1,10 @@
 -- A core beside its journal closes by itself.
-use Rattle.std.proofs.Common.{◌≡◌, ℕ, Bool, true, false, List, [], ◌∷◌, ◌++◌, length, reverse, refl, sym, ◌∙◌, ap, subst, arith, add-zero}
+use Rattle.std.proofs.Common.{◌≡◌, ℕ, Bool, true, false, List, [], ◌∷◌, length, reverse, refl, sym, ◌∙◌, ap, subst, arith, add-zero, cond}
 use Rattle.std.specs.Prelude.{Option, Some, None, All, ◌≤◌}
-use Rattle.std.proofs.lemmas.Bool.{true≢false}
 use Rattle.rt_ids.specs.declared.names.JobId.{JobId}
 use Rattle.rt_ids.specs.declared.note.Note.{Note}
 use Rattle.rt_ids.specs.declared.note.Note.TheVariants as writes
+use Rattle.rt_ids.specs.declared.order.Answer.{Answer}
 use Rattle.rt_ids.specs.declared.order.Mode.{Mode}
 use Rattle.rt_ids.specs.declared.order.Order.{Order}
 use Rattle.rt_ids.specs.Closing.{closes, core_mode}
@@ -24,10 +24,14 @@ use Rattle.rt_journal.proofs.Received.{task_stays}
 use Rattle.rt_journal.proofs.Quiet.{nobody}
 use Rattle.rt_journal.proofs.QuietSteps.{stepped, everyone, IsQuietStep, nothing_done, nothing_stepped}
 
+no_effect : (answer : Answer) (test : Bool) → cond test (Some answer) None ≡ None → test ≡ true → ⊥
+no_effect answer true none is = cc
+no_effect answer false none is = cc
+
 -- where no effect is awaited, a note is the effect of none
 carries_none : {T : Type 0} (under : JobId → Option (Order (Unit {0}))) (note : Note T) (before : Journal T) → effect_awaited before ≡ None → CarriesOut under note before
 carries_none under note [] none = tt
-carries_none under note (writes.Answered name answer ∷ before) none = λ has. absurd (let is : Some answer ≡ None = rw (← has) none in cc)
+carries_none under note (writes.Answered name answer ∷ before) none = λ has. absurd (no_effect answer (has_effect answer) none has)
 carries_none under note (_ ∷ before) none = tt
 
 module _ {J T : Type 0} {same : J → J → Type 0} {made : J → ℕ} {polls : Owed J T} (old : RecordedView J T) (recorded : IsRecorded same made polls old) (mode : Mode) where
