@@ -205,11 +205,7 @@ impl<J: Task> Lane<J> {
     }
 
     /// Nobody will ask for the outcome of a number.
-    pub fn detach<O: OutEnd<J>>(
-        &mut self,
-        end: &mut O,
-        number: u64,
-    ) -> Result<(), TicketError>
+    pub fn detach<O: OutEnd<J>>(&mut self, end: &mut O, number: u64) -> Result<(), TicketError>
         requires { IsLaneOf (Fits J.SameTask J.Answers) self.old (O.out end.old) (O.credited end.old) }
         ensures lane { IsLaneOf (Fits J.SameTask J.Answers) self.new (O.out end.new) (O.credited end.new) }
         ensures untouched { O.untouched end.new ≡ O.untouched end.old }
