@@ -26,6 +26,7 @@ pub mod DeterminedSends
 pub mod DeterminedDeliveries
 pub mod DeterminedTurns
 pub mod DeterminedShuts
+pub mod DeterminedTickets
 pub mod DeterminedRuns
 pub mod DeterminedOpenings
 pub mod DeterminedScripts

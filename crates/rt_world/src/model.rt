@@ -18,6 +18,7 @@ mod events;
 mod opening;
 mod sound;
 mod steps;
+mod tickets;
 
 /// The cores of one executor, the links between all actors, and a journal for each actor.
 ///
