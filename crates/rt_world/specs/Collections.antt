@@ -1,5 +1,5 @@
 -- Outcomes that come back, as the journals of a world tell them: what a sender collects, redeems and detaches.
-use Rattle.std.specs.Prelude.{◌≡◌, ℕ, true, false, drop, length, List, [], ◌∷◌, ◌++◌, Some, None}
+use Rattle.std.specs.Prelude.{◌≡◌, ℕ, true, false, drop, length, List, [], ◌∷◌, ◌++◌, Some, None, Result, Ok, Err}
 use Rattle.std.specs.Option.{IsSome}
 use Rattle.rt_ids.specs.declared.names.JobId.{JobId}
 use Rattle.rt_ids.specs.declared.names.TicketError.{TicketError}
@@ -15,6 +15,7 @@ use Rattle.rt_ids.specs.Journal.{Journal, is_told}
 use Rattle.rt_ids.specs.Outcomes.{outcome_note}
 use Rattle.rt_ids.specs.Outstanding.{is_gone, name_collected}
 use Rattle.rt_link.specs.Fits.{Fits}
+pub use Rattle.rt_journal.specs.Tickets.{RefusesTicket}
 use Rattle.rt_world.specs.declared.event.Reply.{Reply}
 use Rattle.rt_world.specs.declared.event.Reply.TheVariants as reply
 use Rattle.rt_world.specs.State.{WorldView, journal_at, order_under, noted}
@@ -29,11 +30,14 @@ module _ {T : Type 0} where
   abbrev pub WasAccepted : JobId → Journal T → Type 0
   WasAccepted name journal = IsSome (first_under name (accepted_orders name.to journal))
 
-  -- why a ticket is refused: nothing was accepted under its name; else it was redeemed or detached before; else its outcome isn't collected
-  abbrev pub RefusesTicket : JobId → TicketError → Journal T → Type 0
-  RefusesTicket name Unknown journal = first_under name (accepted_orders name.to journal) ≡ None
-  RefusesTicket name Gone journal = WasAccepted name journal × (is_gone name journal ≡ true)
-  RefusesTicket name Pending journal = WasAccepted name journal × (is_gone name journal ≡ false) × (is_told name_collected name journal ≡ false)
+-- what the actor is told of a redeem, and of a detach
+abbrev pub redeemed_reply : {J : Type 0} → Result (Outcome J ℕ) TicketError → Reply J
+redeemed_reply (Ok outcome) = reply.Redeemed outcome
+redeemed_reply (Err error) = reply.NoTicket error
+
+abbrev pub detached_reply : {J : Type 0} → Result (Unit {0}) TicketError → Reply J
+detached_reply (Ok done) = reply.Detached
+detached_reply (Err error) = reply.NoTicket error
 
 module _ {J T : Type 0} where
   -- the outcomes that a core gave a sender, and that the sender hasn't collected, the oldest first
