@@ -36,6 +36,9 @@ module _ {J T : Type 0} {same : J → J → Type 0} {made : J → ℕ} {polls : 
   pub room_is : (core_at core old).journal.room ≡ old.room
   room_is = sym (ap (λ desk. desk.journal.room) desk_is) ∙ ap (λ desk. desk.journal.room) (world.all_there.seats_are core (omega (arith, there)))
 
+  pub core_cap : (core_at core old).cap ≡ old.cap
+  core_cap = ap (λ desk. desk.cap) (sym desk_is ∙ world.all_there.seats_are core (omega (arith, there)))
+
   pub cores_are : (core_at core old).core.cores ≡ old.cores
   cores_are = ap (λ desk. desk.cores) (sym desk_is ∙ world.all_there.seats_are core (omega (arith, there)))
 

@@ -12,6 +12,8 @@ pub mod CoreSteps
 pub mod SentLinks
 pub mod Sending
 pub mod CoreSending
+pub mod Collecting
+pub mod Ticketing
 pub mod Receiving
 pub mod Delivering
 pub mod Shutting

@@ -88,6 +88,9 @@ module _ {J T : Type 0} {same : J → J → Type 0} {made : J → ℕ} {polls : 
   pub outside_room : old.outside.journal.room ≡ old.room
   outside_room = sym (ap (λ desk. desk.journal.room) outside_desk) ∙ ap (λ desk. desk.journal.room) (world.all_there.seats_are sender (omega (arith, is_last)))
 
+  pub outside_cap : old.outside.cap ≡ old.cap
+  outside_cap = sym (ap (λ desk. desk.cap) outside_desk) ∙ ap (λ desk. desk.cap) (world.all_there.seats_are sender (omega (arith, is_last)))
+
   pub outside_free : (more : ℕ) → length (journal_at sender (world_of old)) + more ≤ old.room → length old.outside.journal.notes + more ≤ old.outside.journal.room
   outside_free more room =
       omega (arith, room, ap length (journal_at-world old sender), ap (λ desk. length desk.journal.notes) outside_desk, outside_room)
