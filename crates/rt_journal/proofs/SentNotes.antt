@@ -43,7 +43,6 @@ module _ {J T : Type 0} {same : J → J → Type 0} {made : J → ℕ} {polls : 
         notes = written.notes;
         no_pick = written.no_pick;
         no_answer = written.no_answer;
-        collects_nothing = written.collects_nothing;
       }
 
   task_sent : {queue : ℕ} {which : JobId} {job : J} → HasTask same made polls old.took journal queue which job → HasTask same made polls old.took longer queue which job

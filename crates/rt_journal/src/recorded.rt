@@ -13,9 +13,10 @@ ghost use Rattle.rt_link.specs.Calls.{Sends, Shuts};
 ghost use Rattle.rt_link.specs.Fits.{Fits};
 ghost use Rattle.rt_journal.specs.Submissions.{Submits, numbered};
 ghost use Rattle.rt_journal.specs.Recorded.{IsRecorded, desk_of, order_taken};
-ghost use Rattle.rt_journal.specs.Ends.{IsOutOf, IsInOf, IsInOwing, Gives, GivesMore, told_under, LeavesOwed, KeepsIn, KeepsOut, KeepsOuts, IsSameSeat};
+ghost use Rattle.rt_journal.specs.Ends.{IsOutOf, IsInOf, IsInOwing, Gives, GivesMore, told_under, LeavesOwed, KeepsIn, KeepsOuts, IsSameSeat};
 ghost use Rattle.rt_journal.specs.Steps.{opened_beside, IsNextIn, Receives, Delivers, CreatesQueue, TellsShut, ClosesItself};
 ghost use Rattle.rt_journal.specs.Turns.{Picks, IsOut, IsOutUnder, IsPolled, Settles};
+ghost use Rattle.rt_journal.specs.Tickets.{HasLane, StaysBeside};
 ghost use Rattle.rt_journal.specs.Owed.{IsSentUnder, OwesSettled, outcome_settled, owed_back};
 
 use crate::desk::RecordedDesk;
@@ -52,11 +53,11 @@ impl<J: Task<Out = u64>, A: Allocator + Clone> Model for Recorded<J, A> {
     ghost use Rattle.std.specs.Prelude.{◌≡◌};
     ghost use Rattle.rt_journal.specs.Recorded.{IsRecorded, desk_of};
 
-    ghost view = { λ r. record { cap = r.said.cap; core = r.core; journal = r.said.journal; took = r.took.items } };
+    ghost view = { λ r. record { cap = r.said.cap; core = r.core; journal = r.said.journal; took = r.took.items; lanes = r.said.lanes } };
 
     ghost invariant = { λ r.
-        IsRecorded J.SameTask J.made J.Polls (record { cap = r.said.cap; core = r.core; journal = r.said.journal; took = r.took.items })
-        × (r.said ≡ desk_of (record { cap = r.said.cap; core = r.core; journal = r.said.journal; took = r.took.items })) };
+        IsRecorded J.SameTask J.made J.Polls (record { cap = r.said.cap; core = r.core; journal = r.said.journal; took = r.took.items; lanes = r.said.lanes })
+        × (r.said ≡ desk_of (record { cap = r.said.cap; core = r.core; journal = r.said.journal; took = r.took.items; lanes = r.said.lanes })) };
 }
 
 impl<J: Task<Out = u64>, A: Allocator + Clone> Recorded<J, A> {
@@ -117,6 +118,7 @@ impl<J: Task<Out = u64>, A: Allocator + Clone> Recorded<J, A> {
         ensures ins { (sender : ℕ) → KeepsIn sender self.old self.new }
         ensures outs { KeepsOuts (desk_of self.old) (desk_of self.new) }
         ensures seat { IsSameSeat self.old self.new }
+        ensures lanes { self.new.lanes ≡ self.old.lanes }
         ensures sound { IsRecorded J.SameTask J.made J.Polls self.new }
     {
         // The shares are within their range, which the law of its journal asks.
@@ -135,6 +137,7 @@ impl<J: Task<Out = u64>, A: Allocator + Clone> Recorded<J, A> {
         ensures others { (sender : ℕ) → sender ≢ (I.inward end.old).from → KeepsIn sender self.old self.new }
         ensures outs { KeepsOuts (desk_of self.old) (desk_of self.new) }
         ensures seat { IsSameSeat self.old self.new }
+        ensures lanes { self.new.lanes ≡ self.old.lanes }
         ensures sound { IsRecorded J.SameTask J.made J.Polls self.new }
         ensures untouched { I.untouched end.new ≡ I.untouched end.old }
     {
@@ -161,6 +164,7 @@ impl<J: Task<Out = u64>, A: Allocator + Clone> Recorded<J, A> {
         ensures stands { order_taken self.new.took envelope.name ≡ Some envelope.order }
         ensures sound { IsRecorded J.SameTask J.made J.Polls self.new }
         ensures seat { IsSameSeat self.old self.new }
+        ensures lanes { self.new.lanes ≡ self.old.lanes }
     {
         // The queue and the shares of a command are within their ranges, which the law of its journal asks.
         let _within_ranges = envelope.order.without_job();
@@ -182,6 +186,7 @@ impl<J: Task<Out = u64>, A: Allocator + Clone> Recorded<J, A> {
         ensures others { (sender : ℕ) → sender ≢ from → KeepsIn sender self.old self.new }
         ensures outs { KeepsOuts (desk_of self.old) (desk_of self.new) }
         ensures seat { IsSameSeat self.old self.new }
+        ensures lanes { self.new.lanes ≡ self.old.lanes }
         ensures sound { IsRecorded J.SameTask J.made J.Polls self.new }
         ensures untouched { I.untouched end.new ≡ I.untouched end.old }
     {
@@ -198,6 +203,7 @@ impl<J: Task<Out = u64>, A: Allocator + Clone> Recorded<J, A> {
         ensures ins { (sender : ℕ) → KeepsIn sender self.old self.new }
         ensures outs { KeepsOuts (desk_of self.old) (desk_of self.new) }
         ensures seat { IsSameSeat self.old self.new }
+        ensures lanes { self.new.lanes ≡ self.old.lanes }
         ensures sound { IsRecorded J.SameTask J.made J.Polls self.new }
     {
         let (closed, notes) = self.core.close(mode);
@@ -248,6 +254,7 @@ impl<J: Task<Out = u64>, A: Allocator + Clone> Recorded<J, A> {
         ensures ins { (sender : ℕ) → LeavesOwed sender (owed_back result sender) self.old self.new }
         ensures outs { KeepsOuts (desk_of self.old) (desk_of self.new) }
         ensures seat { IsSameSeat self.old self.new }
+        ensures lanes { self.new.lanes ≡ self.old.lanes }
         ensures sound { IsRecorded J.SameTask J.made J.Polls self.new }
     {
         // There are fewer notes than turns that a core can make.
@@ -289,6 +296,7 @@ impl<J: Task<Out = u64>, A: Allocator + Clone> Recorded<J, A> {
         ensures others { (sender : ℕ) → sender ≢ name.from → KeepsIn sender self.old self.new }
         ensures outs { KeepsOuts (desk_of self.old) (desk_of self.new) }
         ensures seat { IsSameSeat self.old self.new }
+        ensures lanes { self.new.lanes ≡ self.old.lanes }
         ensures sound { IsRecorded J.SameTask J.made J.Polls self.new }
         ensures untouched { I.untouched end.new ≡ I.untouched end.old }
     {
@@ -306,6 +314,7 @@ impl<J: Task<Out = u64>, A: Allocator + Clone> Recorded<J, A> {
         ensures owes { OwesSettled self.old result self.new }
         ensures outs { KeepsOuts (desk_of self.old) (desk_of self.new) }
         ensures seat { IsSameSeat self.old self.new }
+        ensures lanes { self.new.lanes ≡ self.old.lanes }
         ensures sound { IsRecorded J.SameTask J.made J.Polls self.new }
     {
         let (settled, notes) = self.core.settle(ran, spent);
@@ -325,14 +334,14 @@ impl<J: Task<Out = u64>, A: Allocator + Clone> Recorded<J, A> {
         order: Order<J>,
     ) -> Result<Ticket, SendError<J>>
         requires beside { IsOutOf to (desk_of self.old) (O.out end.old) (O.credited end.old) }
+        requires lane { HasLane (Fits J.SameTask J.Answers) to (desk_of self.old) (O.out end.old) (O.credited end.old) }
         requires room { length self.old.journal.notes < self.old.journal.room }
         requires ready { HasReadyJob J.done J.CanPoll order }
         ensures submits { Submits to order (desk_of self.old) result (desk_of self.new) }
         ensures sends { Sends (O.out end.old) (O.credited end.old) order (O.out end.new) (numbered result) }
         ensures credited { O.credited end.new ≡ O.credited end.old }
-        ensures beside { IsOutOf to (desk_of self.new) (O.out end.new) (O.credited end.new) }
-        ensures others { (core : ℕ) → core ≢ to → KeepsOut core (desk_of self.old) (desk_of self.new) }
-        ensures rest { self.new ≡ record self.old { journal = self.new.journal } }
+        ensures stays { StaysBeside (Fits J.SameTask J.Answers) to (desk_of self.old) (desk_of self.new) (O.out end.new) (O.credited end.new) }
+        ensures rest { self.new ≡ record self.old { journal = self.new.journal; lanes = self.new.lanes } }
         ensures ins { (sender : ℕ) → KeepsIn sender self.old self.new }
         ensures seat { IsSameSeat self.old self.new }
         ensures sound { IsRecorded J.SameTask J.made J.Polls self.new }
