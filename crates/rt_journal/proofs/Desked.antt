@@ -1,6 +1,7 @@
 -- What a call of a recorded desk knows of the lane that it took, and a call that changed nothing.
-use Rattle.std.proofs.Common.{◌≡◌, ℕ, ◌<◌, List, ◌∷◌, [], length, Some, refl, sym, ◌∙◌, ap, subst, arith, set, get_or, set-get_or}
+use Rattle.std.proofs.Common.{◌≡◌, ℕ, ◌<◌, List, ◌∷◌, [], length, Some, refl, sym, ◌∙◌, ap, subst, arith, set, get_or}
 use Rattle.std.specs.Prelude.{slice_get}
+use Rattle.std.proofs.lemmas.List.{set-get_or}
 use Rattle.std.proofs.lemmas.Option.{get_or_from_slice_get}
 use Rattle.rt_ids.specs.declared.names.JobId.{JobId}
 use Rattle.rt_ids.specs.declared.order.Order.{Order}
@@ -20,7 +21,7 @@ name_at actor number core = record { from = actor; to = core; number = number }
 pub set_same : {A : Type 0} (items : List A) (place : ℕ) (item : A) → slice_get items place ≡ Some item → set items place item ≡ items
 set_same items place item there = ap (set items place) (sym (get_or_from_slice_get items place item item there)) ∙ set-get_or items place item
 
-module _ {J T : Type 0} {fits : Order J → Outcome J T → Type 0} (desk : DeskView J T) (known : KnowsLanes desk) (core : ℕ) where
+module _ {J T : Type 0} (desk : DeskView J T) (known : KnowsLanes desk) (core : ℕ) where
   -- there is a lane for each core that there is
   pub lane_within : {out : Outward J T} {credited : ℕ} → IsOutOf core desk out credited → core < length desk.lanes
   lane_within is = omega (arith, is.known, known.cores_are)
@@ -28,15 +29,16 @@ module _ {J T : Type 0} {fits : Order J → Outcome J T → Type 0} (desk : Desk
   pub lane_there : {out : Outward J T} {credited : ℕ} → IsOutOf core desk out credited → (lane : Lane J T) → lane ≡ get_or desk.lanes core lane → slice_get desk.lanes core ≡ Some lane
   lane_there is lane lane_is = found desk.lanes core lane (lane_within is) lane_is
 
+  -- where the lane is as it was, so is the desk
+  pub desk_same : (lane later : Lane J T) → slice_get desk.lanes core ≡ Some lane → later ≡ lane → record desk { lanes = set desk.lanes core later } ≡ desk
+  desk_same lane later lane_is same = ap (λ lanes. record desk { lanes = lanes }) (ap (set desk.lanes core) same ∙ set_same desk.lanes core lane lane_is)
+
+module _ {J T : Type 0} {fits : Order J → Outcome J T → Type 0} (desk : DeskView J T) (known : KnowsLanes desk) (core : ℕ) where
   -- the lane that is there is the one beside the end
   pub lane_beside : {out : Outward J T} {credited : ℕ} → HasLane fits core desk out credited → (lane : Lane J T) → slice_get desk.lanes core ≡ Some lane → IsLaneOf fits lane out credited
   lane_beside {out} {credited} has lane lane_is =
       let same : has.lane ≡ lane = let e : slice_get desk.lanes core ≡ Some has.lane = has.is in cc in
       subst (λ lane. IsLaneOf fits lane out credited) same has.lane_of
-
-  -- where the lane is as it was, so is the desk
-  pub desk_same : (lane later : Lane J T) → slice_get desk.lanes core ≡ Some lane → later ≡ lane → record desk { lanes = set desk.lanes core later } ≡ desk
-  desk_same lane later lane_is same = ap (λ lanes. record desk { lanes = lanes }) (ap (set desk.lanes core) same ∙ set_same desk.lanes core lane lane_is)
 
   -- a step by which nothing was noted
   pub stays_nothing : (now : Outward J T) (after : ℕ) → IsWritten (terms_of_desk desk) desk.journal.notes → IsOutOf core desk now after → HasLane fits core desk now after → StaysBeside fits core desk desk now after
@@ -53,5 +55,5 @@ module _ {J T : Type 0} {fits : Order J → Outcome J T → Type 0} (desk : Desk
   pub stays_refused : (lane later : Lane J T) (lane_is : slice_get desk.lanes core ≡ Some lane) → later ≡ lane → (now : Outward J T) (after : ℕ) → IsWritten (terms_of_desk desk) desk.journal.notes → IsOutOf core desk now after →
       IsLaneOf fits later now after → StaysBeside fits core desk (record desk { lanes = set desk.lanes core later }) now after
   stays_refused lane later lane_is same now after written beside lane_of =
-      subst (λ new. StaysBeside fits core desk new now after) (sym (desk_same lane later lane_is same))
+      subst (λ new. StaysBeside fits core desk new now after) (sym (desk_same desk known core lane later lane_is same))
       (stays_nothing now after written beside (record { lane = lane; is = lane_is; lane_of = subst (λ lane. IsLaneOf fits lane now after) same lane_of }))

@@ -36,6 +36,9 @@ pub mod Named
 pub mod TicketNotes
 pub mod LaneNotes
 pub mod Desked
+pub mod Refused
+pub mod Redeemed
+pub mod CollectedNext
 pub mod Submitted
 pub mod SentNotes
 pub mod DeliveredNames
