@@ -1,6 +1,6 @@
 -- The next outcome of a core is collected, and noted.
 use Rattle.std.proofs.Common.{◌≡◌, ◌≢◌, ◌⊎◌, inl, inr, ℕ, ◌+◌, ◌-◌, ◌<◌, ◌≤◌, Bool, true, false, List, [], ◌∷◌, ◌++◌, length, Some, None, refl, sym, ◌∙◌, ap, subst, arith, cond, set, get_or}
-use Rattle.std.specs.Prelude.{◌==◌, ◌&&◌, ◌||◌, not, is_some, slice_get, take, map, IfSome}
+use Rattle.std.specs.Prelude.{Option, unwrap_or, ◌==◌, ◌&&◌, ◌||◌, not, is_some, slice_get, take, map, IfSome}
 use Rattle.std.proofs.lemmas.Bool.{eq-eqb}
 use Rattle.std.proofs.lemmas.List.{take_more, take-append-le, map-append, length-append}
 use Rattle.std.proofs.lemmas.Option.{slice_get_within, get_or_from_slice_get}
@@ -24,14 +24,18 @@ use Rattle.rt_ids.proofs.NameLemmas.{same_as_itself}
 use Rattle.rt_link.specs.declared.ends.Outward.{Outward}
 use Rattle.rt_link.specs.Ends.{StartsWith}
 use Rattle.rt_link.specs.Fits.{Fits, AnswersCreation, AnswersShares}
+use Rattle.rt_notes.specs.Journals.{JournalView}
 use Rattle.rt_desk.specs.Held.{at}
 use Rattle.rt_desk.specs.Lanes.{Lane, IsLaneOf, IsAwaited, IsSent}
 use Rattle.rt_desk.specs.Steps.{CollectsNext}
+use Rattle.rt_desk.specs.Told.{told_of}
 use Rattle.rt_desk.specs.declared.entry.Entry.TheVariants as entry
 use Rattle.rt_desk.proofs.Taken.{taken-get}
 use Rattle.rt_journal.specs.Submissions.{DeskView, IsWritten, terms_of_desk}
-use Rattle.rt_journal.specs.Ends.{IsOutOf, name_of, named_outcomes}
+use Rattle.rt_journal.specs.Ends.{IsOutOf, ShowsMore, name_of, named_outcomes}
 use Rattle.rt_journal.specs.Tickets.{KnowsLane, KnowsLanes, StaysBeside, is_let_go}
+use Rattle.rt_journal.proofs.Desked.{stays_refused}
+use Rattle.rt_journal.proofs.EndsKept.{sees_more_out}
 use Rattle.rt_journal.proofs.LaneNotes.{stays_noted, as_many, one_less}
 use Rattle.rt_journal.proofs.Refused.{accepted_at, awaited}
 use Rattle.rt_journal.proofs.TicketNotes.{collected_note, neither, detached_only}
@@ -117,7 +121,7 @@ module _ {J T : Type 0} (same : J → J → Type 0) (answers : J → T → Type 
   next_collected =
       let accepted = accepted_at desk core number lane was_known out credited beside lane_of low high in
       let got : out.got < now.got = omega (arith, ap (λ end. end.got) end) in
-      let named = (later_of.named.0 out.got (number, outcome) (taken-get now.got now.seen out.got (number, outcome) got collects.0.1.1)).1 in
+      let named = (later_of.named.0 out.got (number, outcome) (taken-get now.got now.seen out.got (number, outcome) got collects.0.2)).1 in
       let order_is : slice_get now.sent (number - now.base - 1) ≡ Some accepted.0 =
       ap (slice_get now.sent) (omega (arith, ap (λ end. end.base) end, beside.base)) ∙ (ap (λ end. slice_get end.sent (number - 1)) end ∙ accepted.1) in
       record {
@@ -133,10 +137,10 @@ module _ {J T : Type 0} (same : J → J → Type 0) (answers : J → T → Type 
       ap (λ test. with_last (collected_outcomes core notes) (cond test (Some (name, told)) None)) (eq-eqb core core refl)
       ∙ (ap (λ before. before ++ (name, told) ∷ []) beside.collected
       ∙ (sym (map-append (λ outcome. (name_of desk.actor core outcome.0, outcome_note outcome.1)) (take out.got out.seen) ((number, outcome) ∷ []))
-      ∙ ap (named_outcomes desk.actor core) (sym (ap (λ got. take got now.seen) (ap (λ end. end.got) end) ∙ take-one_more now.seen out.seen out.got (number, outcome) collects.0.1.0 beside.behind collects.0.1.1))))
+      ∙ ap (named_outcomes desk.actor core) (sym (ap (λ got. take got now.seen) (ap (λ end. end.got) end) ∙ take-one_more now.seen out.seen out.got (number, outcome) collects.0.1 beside.behind collects.0.2))))
 
   behind : now.got ≤ length now.seen
-  behind = omega (arith, ap (λ end. end.got) end, slice_get_within now.seen out.got (number, outcome) collects.0.1.1)
+  behind = omega (arith, ap (λ end. end.got) end, slice_get_within now.seen out.got (number, outcome) collects.0.2)
 
   end_is : now ≡ record out { seen = now.seen; got = now.got }
   end_is = end ∙ ap (λ got. record out { seen = now.seen; got = got }) (sym (ap (λ end. end.got) end))
@@ -169,3 +173,30 @@ module _ {J T : Type 0} (same : J → J → Type 0) (answers : J → T → Type 
         (subst (λ after. outstanding_count core (writes.Collected name told ∷ notes) + after ≡ length out.sent) (sym dropped.1)
         (one_less desk known core number lane later there (writes.Collected name told) (collected_note name told) collects.1 dropped.0.others low high gone_now waits_now out credited beside (ap is_some dropped.0.was) (ap is_some dropped.0.gone)))
   ]
+
+-- what a call that collected knows, by what it was told
+module _ {J T : Type 0} (same : J → J → Type 0) (answers : J → T → Type 0) (desk : DeskView J T) (written : IsWritten (terms_of_desk desk) desk.journal.notes) (known : KnowsLanes desk) (core : ℕ)
+    (out : Outward J T) (credited : ℕ) (beside : IsOutOf core desk out credited) (lane later : Lane J T) (there : slice_get desk.lanes core ≡ Some lane) (lane_of : IsLaneOf (Fits same answers) lane out credited)
+    (now : Outward J T) (after : ℕ) (later_of : IsLaneOf (Fits same answers) later now after) where
+  pub gets_some : (found : Option (ℕ × Outcome J T)) → CollectsNext lane later out now credited after found → (name : JobId) (told : OutcomeNote T) → Some (name, told) ≡ told_of desk.actor core found → IsSpelledOutcome told →
+      (page : JournalView T) → page ≡ record desk.journal { notes = writes.Collected name told ∷ desk.journal.notes } →
+      StaysBeside (Fits same answers) core desk (record desk { journal = page; lanes = set desk.lanes core later }) now after
+  gets_some None next name told is spelled page page_is = absurd cc
+  gets_some (Some found) next noted what is spelled page page_is =
+      let name_is : noted ≡ name_of desk.actor core found.0 = ap (λ (option : Option (JobId × OutcomeNote T)). (unwrap_or option (noted, what)).0) is in
+      let told_is : what ≡ outcome_note found.1 = ap (λ (option : Option (JobId × OutcomeNote T)). (unwrap_or option (noted, what)).1) is in
+      subst (λ page. StaysBeside (Fits same answers) core desk (record desk { journal = page; lanes = set desk.lanes core later }) now after)
+      (sym (page_is ∙ (λ i. record desk.journal { notes = writes.Collected (name_is i) (told_is i) ∷ desk.journal.notes })))
+      (collected_stays same answers desk written known core out credited beside lane later there lane_of now after later_of found.0 found.1 (subst IsSpelledOutcome told_is spelled) next)
+
+  pub gets_none : (found : Option (ℕ × Outcome J T)) → CollectsNext lane later out now credited after found → None ≡ told_of desk.actor core found →
+      (later ≡ lane) × StaysBeside (Fits same answers) core desk (record desk { lanes = set desk.lanes core later }) now after
+  gets_none None next is =
+      let more : ShowsMore out now = record {
+        rest = next.0.0 ∙ ap (λ closed. record out { seen = now.seen; closed = closed }) (sym (ap (λ end. end.closed) next.0.0));
+        seen = next.0.1;
+      } in (
+        next.1,
+        stays_refused desk known core lane later there next.1 now after written (sees_more_out core desk out now after more (subst (IsOutOf core desk out) (sym next.2) beside)) later_of,
+      )
+  gets_none (Some found) next is = absurd cc

@@ -39,6 +39,7 @@ pub mod Desked
 pub mod Refused
 pub mod Redeemed
 pub mod CollectedNext
+pub mod CollectedAll
 pub mod Submitted
 pub mod SentNotes
 pub mod DeliveredNames

@@ -83,6 +83,31 @@ not_before name entries entry none = elim (option_cases (first_under name entrie
 ]
 
 module _ {T : Type 0} where
+  told_there : (name : JobId) (journal : Journal T) → is_told name_collected name journal ≡ true → first_under name (collected_outcomes name.to journal) ≡ None → ⊥
+  told_there name [] is none = cc
+  told_there name (note ∷ before) is none = by_note note is none (told_there name before)
+    where
+      by_note : (note : Note T) → (is_name name (name_collected note) || is_told name_collected name before) ≡ true →
+          first_under name (with_last (collected_outcomes name.to before) (outcome_collected name.to note)) ≡ None →
+          (is_told name_collected name before ≡ true → first_under name (collected_outcomes name.to before) ≡ None → ⊥) → ⊥
+      by_note (Collected other outcome) is none was = by_name (same_name name other) refl is
+        where
+          came : name ≡ other → ⊥
+          came one =
+              let at : first_under name (collected_outcomes name.to before ++ (name, outcome) ∷ []) ≡ None =
+              subst (λ test. first_under name (with_last (collected_outcomes name.to before) (cond test (Some (name, outcome)) None)) ≡ None) (eq-eqb name.to name.to refl)
+              (subst (λ other. first_under name (with_last (collected_outcomes name.to before) (outcome_collected name.to (Collected other outcome))) ≡ None) (sym one) none) in
+              last_there name (collected_outcomes name.to before) outcome at
+
+          earlier : (test : Bool) → first_under name (with_last (collected_outcomes name.to before) (cond test (Some (other, outcome)) None)) ≡ None → first_under name (collected_outcomes name.to before) ≡ None
+          earlier false none = none
+          earlier true none = not_before name (collected_outcomes name.to before) (other, outcome) none
+
+          by_name : (test : Bool) → same_name name other ≡ test → (test || is_told name_collected name before) ≡ true → ⊥
+          by_name true same is = came (one_name name other same)
+          by_name false same is = was is (earlier (other.to == name.to) none)
+      by_note _ is none was = was is none
+
   -- where nothing stands under a name among the collected, no note says that it was collected
   pub uncollected : (name : JobId) (journal : Journal T) → first_under name (collected_outcomes name.to journal) ≡ None → is_told name_collected name journal ≡ false
   uncollected name journal none = by_test (is_told name_collected name journal) refl
@@ -90,31 +115,6 @@ module _ {T : Type 0} where
       by_test : (test : Bool) → is_told name_collected name journal ≡ test → is_told name_collected name journal ≡ false
       by_test false is = is
       by_test true is = absurd (told_there name journal is none)
-
-      told_there : (name : JobId) (journal : Journal T) → is_told name_collected name journal ≡ true → first_under name (collected_outcomes name.to journal) ≡ None → ⊥
-      told_there name [] is none = cc
-      told_there name (note ∷ before) is none = by_note note is none (told_there name before)
-        where
-          by_note : (note : Note T) → (is_name name (name_collected note) || is_told name_collected name before) ≡ true →
-              first_under name (with_last (collected_outcomes name.to before) (outcome_collected name.to note)) ≡ None →
-              (is_told name_collected name before ≡ true → first_under name (collected_outcomes name.to before) ≡ None → ⊥) → ⊥
-          by_note (Collected other outcome) is none was = by_name (same_name name other) refl is
-            where
-              by_name : (test : Bool) → same_name name other ≡ test → (test || is_told name_collected name before) ≡ true → ⊥
-              by_name true same is = came (one_name name other same) none
-                where
-                  came : name ≡ other → first_under name (with_last (collected_outcomes name.to before) (outcome_collected name.to (Collected other outcome))) ≡ None → ⊥
-                  came one none =
-                      let at : first_under name (collected_outcomes name.to before ++ (name, outcome) ∷ []) ≡ None =
-                      subst (λ test. first_under name (with_last (collected_outcomes name.to before) (cond test (Some (name, outcome)) None)) ≡ None) (eq-eqb name.to name.to refl)
-                      (subst (λ other. first_under name (with_last (collected_outcomes name.to before) (outcome_collected name.to (Collected other outcome))) ≡ None) (sym one) none) in
-                      last_there name (collected_outcomes name.to before) outcome at
-              by_name false same is = was is (earlier (other.to == name.to) none)
-                where
-                  earlier : (test : Bool) → first_under name (with_last (collected_outcomes name.to before) (cond test (Some (other, outcome)) None)) ≡ None → first_under name (collected_outcomes name.to before) ≡ None
-                  earlier false none = none
-                  earlier true none = not_before name (collected_outcomes name.to before) (other, outcome) none
-          by_note _ is none was = was is none
 
   -- what is found among the collected was told
   pub collected_told : (name : JobId) (journal : Journal T) {what : _} → first_under name (collected_outcomes name.to journal) ≡ Some what → is_told name_collected name journal ≡ true

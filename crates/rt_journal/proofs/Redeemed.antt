@@ -135,3 +135,12 @@ module _ {J T : Type 0} {fits : Order J → Outcome J T → Type 0} (desk : Desk
           (subst (λ after. outstanding_count core (writes.Detached name ∷ notes) + after ≡ length out.sent) (sym had.2)
           (one_less desk known core number lane later there (writes.Detached name) (detached_note name) detaches.0 had.1.others low.0 low.1 gone_now waits_now out credited beside (ap is_some had.1.was) (ap is_some had.1.gone)))
     ]
+
+  -- a ticket that can't be detached
+  pub detaches_refused : (error : TicketError) → Detaches lane later number credited after (Err error) →
+      DetachesTicket name desk (Err error) (record desk { lanes = set desk.lanes core later }) × (later ≡ lane) × (after ≡ credited)
+  detaches_refused Pending refused = absurd refused
+  detaches_refused Unknown refused =
+      ((refuses desk core number lane was_known out credited beside lane_of Unknown refused.0, desk_same desk known core lane later there refused.1), refused.1, refused.2)
+  detaches_refused Gone refused =
+      ((refuses desk core number lane was_known out credited beside lane_of Gone refused.0, desk_same desk known core lane later there refused.1), refused.1, refused.2)

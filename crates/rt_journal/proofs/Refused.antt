@@ -42,10 +42,8 @@ module _ {J T : Type 0} {fits : Order J → Outcome J T → Type 0} (desk : Desk
   accepted_at low high =
       let found = order_at out.sent number low (omega (arith, high, all_sent)) in
       let place : 0 + (number - 1) + 1 ≡ number = omega (arith, low) in
-      (found.0, found.1, ap (first_under name) is.accepted ∙ subst (λ at. first_under (name_of desk.actor core at) (accepted_here out.sent) ≡ Some (without_job found.0)) place (first_under-numbered desk.actor core 0 out.sent (number - 1) found.0 found.1))
-    where
-      abbrev accepted_here : List (Order J) → _
-      accepted_here orders = numbered_orders desk.actor core 0 orders
+      (found.0, found.1, ap (first_under name) is.accepted
+      ∙ subst (λ at. first_under (name_of desk.actor core at) (numbered_orders desk.actor core 0 out.sent) ≡ Some (without_job found.0)) place (first_under-numbered desk.actor core 0 out.sent (number - 1) found.0 found.1))
 
   pub is_accepted : 0 < number → number ≤ lane.count → IsSome (first_under name (accepted_orders core notes))
   is_accepted low high = ap is_some (accepted_at low high).2
