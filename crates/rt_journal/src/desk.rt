@@ -133,6 +133,7 @@ impl<J: Task<Out = u64>> RecordedDesk<J> {
         ensures stays { StaysBeside (Fits J.SameTask J.Answers) core self.old self.new (O.out end.new) (O.credited end.new) }
         ensures untouched { O.untouched end.new ≡ O.untouched end.old }
     {
+        let _lanes = &self.lanes;
         let mut count = 0;
         while self.collect_one(end, core) {
             count += 1;
