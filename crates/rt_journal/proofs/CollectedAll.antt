@@ -1,6 +1,5 @@
 -- All outcomes that an end shows are collected, one after another.
-use Rattle.std.proofs.Common.{◌≡◌, ◌≢◌, ℕ, ◌+◌, ◌<◌, ◌≤◌, true, false, List, [], ◌∷◌, ◌++◌, length, append_assoc, refl, sym, ◌∙◌, ap, subst, arith}
-use Rattle.std.specs.Prelude.{slice_get}
+use Rattle.std.proofs.Common.{◌≡◌, ℕ, ◌+◌, true, false, List, ◌∷◌, ◌++◌, append_assoc, sym, ◌∙◌, ap, subst, arith}
 use Rattle.rt_ids.specs.declared.note.Note.TheVariants as writes
 use Rattle.rt_ids.specs.declared.order.Order.{Order}
 use Rattle.rt_ids.specs.declared.order.Outcome.{Outcome}
@@ -31,8 +30,7 @@ module _ {J T : Type 0} (core : ℕ) (old mid new : DeskView J T) (first out lat
     (end : out ≡ record first { seen = out.seen; got = out.got }) (longer : StartsWith out.seen first.seen) where
   pub gathers_more : GetsNext core mid new out later true → CollectsFrom core old (count + 1) new
   gathers_more gets =
-      let name = gets.0.0 in let outcome = gets.0.1 in
-      (
+      let name = gets.0.0 in let outcome = gets.0.1 in (
         writes.Collected name outcome ∷ from.0,
         (gets.0.2, from.1),
         omega (arith, from.2),

@@ -1,8 +1,8 @@
 -- The next outcome of a core is collected, and noted.
-use Rattle.std.proofs.Common.{◌≡◌, ◌≢◌, ◌⊎◌, inl, inr, ℕ, ◌+◌, ◌-◌, ◌<◌, ◌≤◌, Bool, true, false, List, [], ◌∷◌, ◌++◌, length, Some, None, refl, sym, ◌∙◌, ap, subst, arith, cond, set, get_or}
-use Rattle.std.specs.Prelude.{Option, unwrap_or, ◌==◌, ◌&&◌, ◌||◌, not, is_some, slice_get, take, map, IfSome}
+use Rattle.std.proofs.Common.{◌≡◌, ◌≢◌, inl, inr, ℕ, ◌+◌, ◌-◌, ◌<◌, ◌≤◌, Bool, true, false, List, [], ◌∷◌, ◌++◌, length, Some, None, refl, sym, ◌∙◌, ap, subst, arith, cond, set}
+use Rattle.std.specs.Prelude.{Option, unwrap_or, ◌&&◌, ◌||◌, not, is_some, slice_get, take, IfSome}
 use Rattle.std.proofs.lemmas.Bool.{eq-eqb}
-use Rattle.std.proofs.lemmas.List.{take_more, take-append-le, map-append, length-append}
+use Rattle.std.proofs.lemmas.List.{take_more, take-append-le, map-append}
 use Rattle.std.proofs.lemmas.Option.{slice_get_within, get_or_from_slice_get}
 use Rattle.rt_ids.specs.declared.names.JobId.{JobId}
 use Rattle.rt_ids.specs.declared.note.Note.TheVariants as writes

@@ -10,7 +10,7 @@ use Rattle.rt_ids.specs.declared.names.JobId.{JobId}
 use Rattle.rt_ids.specs.declared.note.Note.TheVariants as writes
 use Rattle.rt_ids.specs.Limits.{most_turns}
 use Rattle.rt_ids.specs.Keys.{KeyAtMost}
-use Rattle.rt_ids.specs.Journal.{Journal, EachNote, is_told}
+use Rattle.rt_ids.specs.Journal.{Journal, is_told}
 use Rattle.rt_ids.specs.Filters.{name_started, delivered_names}
 use Rattle.rt_ids.specs.Work.{queue_of}
 use Rattle.rt_ids.specs.Runtimes.{virtual_runtime, floor, shares}
@@ -229,7 +229,6 @@ module _ {J T : Type 0} (terms : Terms) (old new : CoreView J) (name : JobId) (q
   no_answer_now : (before : Bool) → effect_awaited (poll_note name before ∷ picked) ≡ None
   no_answer_now false = refl
   no_answer_now true = refl
-
 
   pub kept-picked : core.return_reason queue old ≡ None → turns journal < most_turns → IsKept terms new polled
   kept-picked keeps left = record {

@@ -1,6 +1,6 @@
 -- A step on one submission: its lane changes at its number, its note is written, and all else of the desk stays.
 use Rattle.std.proofs.Common.{◌≡◌, ◌≢◌, inl, inr, ℕ, zero, suc, ◌+◌, ◌<◌, ◌≤◌, true, false, List, [], ◌∷◌, ◌++◌, length, reverse, Some, refl, sym, ◌∙◌, ap, subst, arith, set, get_or-set_same}
-use Rattle.std.specs.Prelude.{◌==◌, is_some, slice_get, take, count_by}
+use Rattle.std.specs.Prelude.{is_some, slice_get, take, count_by}
 use Rattle.std.proofs.lemmas.Bool.{ne_eqb}
 use Rattle.std.proofs.lemmas.Bool.Decides.{eqb_tells}
 use Rattle.std.proofs.lemmas.List.{length-set}
@@ -22,7 +22,7 @@ use Rattle.rt_notes.specs.Journals.{JournalView}
 use Rattle.rt_journal.specs.Submissions.{DeskView, IsWritten, terms_of_desk}
 use Rattle.rt_journal.specs.Ends.{IsOutOf, KeepsOut, KeepsSent, name_of, named_outcomes}
 use Rattle.rt_journal.specs.Orders.{numbered_orders}
-use Rattle.rt_journal.specs.Tickets.{KnowsLane, KnowsLanes, HasLane, StaysBeside, is_let_go}
+use Rattle.rt_journal.specs.Tickets.{KnowsLane, KnowsLanes, StaysBeside, is_let_go}
 use Rattle.rt_journal.proofs.Kept.{plainly_stands}
 use Rattle.rt_journal.proofs.NumberedOrders.{length-numbered}
 use Rattle.rt_journal.proofs.Apart.{other_name, counted, counted-same, counted-less}

@@ -40,6 +40,7 @@ pub mod Refused
 pub mod Redeemed
 pub mod CollectedNext
 pub mod CollectedAll
+pub mod LaneEnds
 pub mod Submitted
 pub mod SentNotes
 pub mod DeliveredNames

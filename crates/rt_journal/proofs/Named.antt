@@ -1,6 +1,6 @@
 -- What stands under the names of one link, among the orders that were accepted and the outcomes that were collected.
-use Rattle.std.proofs.Common.{◌≡◌, ◌≢◌, ◌⊎◌, inl, inr, ℕ, zero, suc, ◌+◌, ◌-◌, ◌<◌, ◌≤◌, Bool, true, false, List, [], ◌∷◌, ◌++◌, length, Some, None, refl, sym, ◌∙◌, ap, subst, arith, cond}
-use Rattle.std.specs.Prelude.{◌==◌, ◌||◌, is_some, IsSome, slice_get, take}
+use Rattle.std.proofs.Common.{◌≡◌, inl, inr, ℕ, zero, suc, ◌+◌, ◌-◌, ◌<◌, ◌≤◌, Bool, true, false, List, [], ◌∷◌, ◌++◌, length, Some, None, refl, sym, ◌∙◌, ap, subst, arith, cond}
+use Rattle.std.specs.Prelude.{◌==◌, ◌||◌, slice_get}
 use Rattle.std.proofs.lemmas.Bool.{eq-eqb}
 use Rattle.rt_ids.specs.declared.names.JobId.{JobId}
 use Rattle.rt_ids.specs.declared.note.Note.{Note}
@@ -25,7 +25,6 @@ use Rattle.rt_desk.proofs.Lanes.{option_cases}
 use Rattle.rt_journal.specs.Orders.{numbered_orders}
 use Rattle.rt_journal.specs.Ends.{name_of, named_outcomes}
 use Rattle.rt_journal.proofs.Apart.{other_name}
-use Rattle.rt_journal.proofs.NumberedOrders.{first_under-numbered}
 
 -- each number that was given has an order
 pub order_at : {A : Type 0} (orders : List A) (number : ℕ) → 0 < number → number ≤ length orders → (order : A) × (slice_get orders (number - 1) ≡ Some order)

@@ -1,33 +1,31 @@
 -- A ticket is redeemed or detached, or refused.
-use Rattle.std.proofs.Common.{◌≡◌, ◌≢◌, ◌⊎◌, inl, inr, ℕ, ◌+◌, ◌<◌, ◌≤◌, Bool, true, false, List, [], ◌∷◌, length, Some, None, refl, sym, ◌∙◌, ap, subst, arith, set, get_or}
-use Rattle.std.specs.Prelude.{◌&&◌, ◌||◌, not, is_some, IsSome, slice_get, take, Result, Ok, Err}
+use Rattle.std.proofs.Common.{◌≡◌, ◌≢◌, inl, inr, ℕ, ◌+◌, ◌<◌, ◌≤◌, Bool, true, false, ◌∷◌, length, Some, refl, sym, ◌∙◌, ap, subst, arith, set}
+use Rattle.std.specs.Prelude.{◌&&◌, ◌||◌, not, is_some, IsSome, slice_get, take, Ok, Err}
 use Rattle.rt_ids.specs.declared.names.JobId.{JobId}
 use Rattle.rt_ids.specs.declared.names.TicketError.{TicketError}
 use Rattle.rt_ids.specs.declared.names.TicketError.TheVariants.{Unknown, Gone, Pending}
 use Rattle.rt_ids.specs.declared.note.Note.TheVariants as writes
-use Rattle.rt_ids.specs.declared.note.OutcomeNote.{OutcomeNote}
 use Rattle.rt_ids.specs.declared.order.Order.{Order}
 use Rattle.rt_ids.specs.declared.order.Outcome.{Outcome}
 use Rattle.rt_ids.specs.Assembly.{first_under}
 use Rattle.rt_ids.specs.Collecting.{IsRedeemable, IsDetachable}
-use Rattle.rt_ids.specs.Filters.{accepted_orders, collected_outcomes}
+use Rattle.rt_ids.specs.Filters.{accepted_orders}
 use Rattle.rt_ids.specs.Journal.{Journal, is_told}
 use Rattle.rt_ids.specs.Orders.{without_job}
 use Rattle.rt_ids.specs.Outcomes.{outcome_note}
 use Rattle.rt_ids.specs.Outstanding.{outstanding_count, is_gone, is_outstanding, name_redeemed, name_detached, name_collected}
 use Rattle.rt_ids.proofs.NameLemmas.{same_as_itself}
 use Rattle.rt_link.specs.declared.ends.Outward.{Outward}
-use Rattle.rt_notes.specs.Journals.{JournalView}
-use Rattle.rt_desk.specs.Held.{at, Removes}
+use Rattle.rt_desk.specs.Held.{at}
 use Rattle.rt_desk.specs.Lanes.{Lane, IsLaneOf, IsGot}
-use Rattle.rt_desk.specs.Steps.{Becomes, Redeems, Detaches}
+use Rattle.rt_desk.specs.Steps.{Redeems, Detaches}
 use Rattle.rt_desk.specs.declared.entry.Entry.TheVariants as entry
 use Rattle.rt_desk.proofs.Lanes.{Stands-sent}
 use Rattle.rt_desk.proofs.Taken.{taken-get}
 use Rattle.rt_journal.specs.Submissions.{DeskView, IsWritten, terms_of_desk}
-use Rattle.rt_journal.specs.Ends.{IsOutOf, name_of, named_outcomes}
-use Rattle.rt_journal.specs.Tickets.{KnowsLane, KnowsLanes, HasLane, StaysBeside, RefusesTicket, RedeemsTicket, DetachesTicket, is_let_go}
-use Rattle.rt_journal.proofs.Desked.{lane_there, lane_beside, desk_same, stays_refused}
+use Rattle.rt_journal.specs.Ends.{IsOutOf, name_of}
+use Rattle.rt_journal.specs.Tickets.{KnowsLane, KnowsLanes, StaysBeside, RefusesTicket, DetachesTicket, is_let_go}
+use Rattle.rt_journal.proofs.Desked.{desk_same}
 use Rattle.rt_journal.proofs.LaneNotes.{stays_noted, as_many, one_less}
 use Rattle.rt_journal.proofs.Named.{named-found, unknown_name, collected_told}
 use Rattle.rt_journal.proofs.Refused.{accepted_at, is_accepted, awaited, refuses}
@@ -109,7 +107,7 @@ module _ {J T : Type 0} {fits : Order J → Outcome J T → Type 0} (desk : Desk
 
   module _ (done : Unit {0}) (detaches : Detaches lane later number credited after (Ok done)) where
     pub detaches_ticket : IsDetachable name notes
-    detaches_ticket = elim detaches.1 [ | inl waited ↦ detachable waited.0.removes.was refl | inr had ↦ detachable had.1.was refl ]
+    detaches_ticket = elim detaches.1 [ inl waited ↦ detachable waited.0.removes.was refl | inr had ↦ detachable had.1.was refl ]
 
     pub detached_stays : IsLaneOf fits later out after → StaysBeside fits core desk detached out after
     detached_stays later_of = elim detaches.1 [

@@ -1,5 +1,5 @@
 -- Why a ticket is refused, as the lane says it and as the notes do.
-use Rattle.std.proofs.Common.{◌≡◌, ◌⊎◌, inl, inr, ℕ, ◌+◌, ◌-◌, ◌<◌, ◌≤◌, true, false, List, [], ◌∷◌, length, Some, None, refl, sym, ◌∙◌, ap, subst, arith}
+use Rattle.std.proofs.Common.{◌≡◌, inl, inr, ℕ, ◌+◌, ◌-◌, ◌<◌, ◌≤◌, false, length, Some, ◌∙◌, ap, subst, arith}
 use Rattle.std.specs.Prelude.{is_some, IsSome, slice_get, take}
 use Rattle.std.proofs.lemmas.List.{length-take}
 use Rattle.std.proofs.lemmas.Option.{slice_get_within}
@@ -9,22 +9,21 @@ use Rattle.rt_ids.specs.declared.names.TicketError.TheVariants.{Unknown, Gone, P
 use Rattle.rt_ids.specs.declared.order.Order.{Order}
 use Rattle.rt_ids.specs.declared.order.Outcome.{Outcome}
 use Rattle.rt_ids.specs.Assembly.{first_under}
-use Rattle.rt_ids.specs.Filters.{accepted_orders, collected_outcomes}
+use Rattle.rt_ids.specs.Filters.{accepted_orders}
 use Rattle.rt_ids.specs.Journal.{Journal, is_told}
 use Rattle.rt_ids.specs.Orders.{without_job}
-use Rattle.rt_ids.specs.Outstanding.{is_gone, name_collected}
+use Rattle.rt_ids.specs.Outstanding.{name_collected}
 use Rattle.rt_link.specs.declared.ends.Outward.{Outward}
-use Rattle.rt_desk.specs.Held.{at}
-use Rattle.rt_desk.specs.Lanes.{Lane, IsLaneOf, IsAwaited, IsSent, Stands}
+use Rattle.rt_desk.specs.Lanes.{Lane, IsLaneOf, IsAwaited}
 use Rattle.rt_desk.specs.Steps.{Refuses}
 use Rattle.rt_desk.specs.declared.entry.Entry.TheVariants as entry
 use Rattle.rt_desk.proofs.Taken.{get-taken}
 use Rattle.rt_journal.specs.Orders.{numbered_orders}
 use Rattle.rt_journal.specs.Submissions.{DeskView}
-use Rattle.rt_journal.specs.Ends.{IsOutOf, name_of, named_outcomes}
+use Rattle.rt_journal.specs.Ends.{IsOutOf, name_of}
 use Rattle.rt_journal.specs.Tickets.{KnowsLane, RefusesTicket, is_let_go}
 use Rattle.rt_journal.proofs.Named.{order_at, numbered-missing, named-missing, uncollected}
-use Rattle.rt_journal.proofs.NumberedOrders.{length-numbered, first_under-numbered}
+use Rattle.rt_journal.proofs.NumberedOrders.{first_under-numbered}
 
 module _ {J T : Type 0} {fits : Order J → Outcome J T → Type 0} (desk : DeskView J T) (core number : ℕ) (lane : Lane J T) (known : KnowsLane desk.actor core desk.journal.notes lane)
     (out : Outward J T) (credited : ℕ) (is : IsOutOf core desk out credited) (lane_of : IsLaneOf fits lane out credited) where
@@ -41,9 +40,12 @@ module _ {J T : Type 0} {fits : Order J → Outcome J T → Type 0} (desk : Desk
   pub accepted_at : 0 < number → number ≤ lane.count → (order : Order J) × (slice_get out.sent (number - 1) ≡ Some order) × (first_under name (accepted_orders core notes) ≡ Some (without_job order))
   accepted_at low high =
       let found = order_at out.sent number low (omega (arith, high, all_sent)) in
-      let place : 0 + (number - 1) + 1 ≡ number = omega (arith, low) in
-      (found.0, found.1, ap (first_under name) is.accepted
-      ∙ subst (λ at. first_under (name_of desk.actor core at) (numbered_orders desk.actor core 0 out.sent) ≡ Some (without_job found.0)) place (first_under-numbered desk.actor core 0 out.sent (number - 1) found.0 found.1))
+      let place : 0 + (number - 1) + 1 ≡ number = omega (arith, low) in (
+        found.0,
+        found.1,
+        ap (first_under name) is.accepted
+            ∙ subst (λ at. first_under (name_of desk.actor core at) (numbered_orders desk.actor core 0 out.sent) ≡ Some (without_job found.0)) place (first_under-numbered desk.actor core 0 out.sent (number - 1) found.0 found.1),
+      )
 
   pub is_accepted : 0 < number → number ≤ lane.count → IsSome (first_under name (accepted_orders core notes))
   is_accepted low high = ap is_some (accepted_at low high).2

@@ -1,5 +1,5 @@
 -- A core beside its journal stays recorded as its actor submits, collects, redeems or detaches, and the ends that it receives from stay beside it.
-use Rattle.std.proofs.Common.{◌≡◌, ℕ, ◌+◌, ◌≤◌, List, [], ◌∷◌, ◌++◌, length, refl, sym, ◌∙◌, ap, subst, arith, add-zero}
+use Rattle.std.proofs.Common.{◌≡◌, ℕ, List, [], ◌∷◌, ◌++◌, length, refl, sym, ◌∙◌, ap, subst, arith, add-zero}
 use Rattle.std.specs.Prelude.{Result, Ok, Err, None}
 use Rattle.rt_ids.specs.declared.names.JobId.{JobId}
 use Rattle.rt_ids.specs.declared.names.TicketError.{TicketError}
@@ -24,7 +24,7 @@ use Rattle.rt_desk.specs.Lanes.{Lane}
 use Rattle.rt_journal.specs.Agreement.{Agrees}
 use Rattle.rt_journal.specs.Polls.{polls_made}
 use Rattle.rt_journal.specs.Submissions.{DeskView, IsWritten, Submits, terms_of_desk}
-use Rattle.rt_journal.specs.Recorded.{RecordedView, IsRecorded, HasTask, desk_of, terms_at, delivered_count, given_count, sum_upto}
+use Rattle.rt_journal.specs.Recorded.{RecordedView, IsRecorded, desk_of, terms_at, delivered_count, given_count}
 use Rattle.rt_journal.specs.Ends.{KeepsIn}
 use Rattle.rt_journal.specs.Tickets.{AreCollected, CollectsFrom, RedeemsTicket, DetachesTicket}
 use Rattle.rt_journal.proofs.KeptModes.{same_modes, closing-stays}
@@ -119,8 +119,12 @@ module _ {J T : Type 0} (old : RecordedView J T) (longer : Journal T) (lanes : L
       room = recorded.room;
       held = record {
         each = λ sender known. omega (arith, recorded.held.each sender known, ap length (silent.delivered sender), ap length (silent.given sender));
-        inside = omega (arith, recorded.held.inside, sum_upto-same (delivered_count longer) (delivered_count old.journal.notes) old.core.cores (λ sender. ap length (silent.delivered sender)),
-        sum_upto-same (given_count longer) (given_count old.journal.notes) old.core.cores (λ sender. ap length (silent.given sender)));
+        inside = omega (
+          arith,
+          recorded.held.inside,
+          sum_upto-same (delivered_count longer) (delivered_count old.journal.notes) old.core.cores (λ sender. ap length (silent.delivered sender)),
+          sum_upto-same (given_count longer) (given_count old.journal.notes) old.core.cores (λ sender. ap length (silent.given sender)),
+        );
       };
       taken = λ which order at.
           let was = recorded.taken which order at in record { sender = was.sender; old = omega (arith, was.old, ap length (silent.delivered which.from)) };

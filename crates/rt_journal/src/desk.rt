@@ -210,11 +210,7 @@ impl<J: Task<Out = u64>> RecordedDesk<J> {
     /// # Errors
     ///
     /// `Unknown` and `Gone`, as `redeem`. Nothing changes.
-    pub fn detach<O: OutEnd<J>>(
-        &mut self,
-        end: &mut O,
-        ticket: Ticket,
-    ) -> Result<(), TicketError>
+    pub fn detach<O: OutEnd<J>>(&mut self, end: &mut O, ticket: Ticket) -> Result<(), TicketError>
         requires beside { IsOutOf ticket.to self.old (O.out end.old) (O.credited end.old) }
         requires lane { HasLane (Fits J.SameTask J.Answers) ticket.to self.old (O.out end.old) (O.credited end.old) }
         requires room { length self.old.journal.notes < self.old.journal.room }

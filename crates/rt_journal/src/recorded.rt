@@ -26,7 +26,8 @@ use crate::desk::RecordedDesk;
 use crate::given::{give_if, outcome_done, outcome_of};
 use rt_core::{Core, PickError, Settled, Turn};
 use rt_ids::{
-    ActorNo, CoreNo, Envelope, JobId, Mode, Order, Outcome, QueueNo, Reason, SendError, Ticket, TicketError,
+    ActorNo, CoreNo, Envelope, JobId, Mode, Order, Outcome, QueueNo, Reason, SendError, Ticket,
+    TicketError,
 };
 use rt_jobs::{Ran, Task};
 use rt_link::{History, InEnd, OutEnd};
@@ -411,11 +412,7 @@ impl<J: Task<Out = u64>, A: Allocator + Clone> Recorded<J, A> {
     /// # Errors
     ///
     /// `Unknown` and `Gone`, as `redeem`. Nothing changes.
-    pub fn detach<O: OutEnd<J>>(
-        &mut self,
-        end: &mut O,
-        ticket: Ticket,
-    ) -> Result<(), TicketError>
+    pub fn detach<O: OutEnd<J>>(&mut self, end: &mut O, ticket: Ticket) -> Result<(), TicketError>
         requires beside { IsOutOf ticket.to (desk_of self.old) (O.out end.old) (O.credited end.old) }
         requires lane { HasLane (Fits J.SameTask J.Answers) ticket.to (desk_of self.old) (O.out end.old) (O.credited end.old) }
         requires room { length self.old.journal.notes < self.old.journal.room }

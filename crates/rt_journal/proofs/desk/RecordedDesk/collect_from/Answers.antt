@@ -1,5 +1,4 @@
-use Rattle.std.proofs.Common.{◌≡◌, ◌<◌, ◌≤◌, [], length, refl, sym, ◌∙◌, ap, subst, arith}
-use Rattle.rt_link.specs.Fits.{Fits}
+use Rattle.std.proofs.Common.{[], length, refl, ◌∙◌, ap, subst, arith}
 use Rattle.rt_link.proofs.Lists.{StartsWith-self}
 use Rattle.rt_journal.specs.Submissions.{IsWritten, terms_of_desk}
 use Rattle.rt_journal.specs.Tickets.{KnowsLanes}

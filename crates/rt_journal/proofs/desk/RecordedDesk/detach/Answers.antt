@@ -5,15 +5,14 @@ use Rattle.rt_link.specs.Fits.{Fits}
 use Rattle.rt_desk.specs.Lanes.{IsLaneOf}
 use Rattle.rt_journal.specs.Ends.{IsOutOf}
 use Rattle.rt_journal.specs.Tickets.{HasLane, DetachesTicket, RefusesTicket}
-use Rattle.rt_journal.proofs.Desked.{lane_there, lane_beside, desk_same, stays_refused, names_are, are_same, are_apart, carried, carried_same}
-use Rattle.rt_journal.proofs.Refused.{refuses}
+use Rattle.rt_journal.proofs.Desked.{lane_there, lane_beside, stays_refused, names_are, are_same, are_apart, carried, carried_same}
 use Rattle.rt_journal.proofs.Redeemed.{foreign, detaches_ticket, detached_stays, detaches_refused}
 use Rattle.rt_journal.proofs.desk.RecordedDesk.detach.Goals as goal
 
 pub returns-then-ne-clause-detaches : goal.returns-then-ne-clause-detaches
 returns-then-ne-clause-detaches g c = (
   subst (λ desk. RefusesTicket c.args.ticket Unknown desk.journal.notes) c.self.view_is
-  (foreign (record { actor = c.self.inside.actor; cores = c.self.inside.cores; cap = c.self.inside.cap; journal = c.self.inside.journal; lanes = c.self.inside.lanes.items }) c.self.invariant.0 _ c.args.ticket (c.name.view_is ∙ c.name-name.ensures) (λ own there. are_apart _ _ c.ne.result c.ne.ensures c.if-ne.true own)),
+      (foreign (record { actor = c.self.inside.actor; cores = c.self.inside.cores; cap = c.self.inside.cap; journal = c.self.inside.journal; lanes = c.self.inside.lanes.items }) c.self.invariant.0 _ c.args.ticket (c.name.view_is ∙ c.name-name.ensures) (λ own there. are_apart _ _ c.ne.result c.ne.ensures c.if-ne.true own)),
   refl,
 )
 

@@ -1,4 +1,4 @@
-use Rattle.std.proofs.Common.{◌<◌, sym, subst, ◌∙◌}
+use Rattle.std.proofs.Common.{sym, subst, ◌∙◌}
 use Rattle.std.proofs.lemmas.Bool.{true≢false, eq-eqb, lt-ltb}
 use Rattle.rt_ids.specs.declared.names.TicketError.TheVariants.{Unknown}
 use Rattle.rt_journal.specs.Tickets.{RefusesTicket}

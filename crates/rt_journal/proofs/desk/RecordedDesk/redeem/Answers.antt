@@ -13,7 +13,7 @@ use Rattle.rt_journal.proofs.desk.RecordedDesk.redeem.Goals as goal
 pub returns-then-ne-clause-redeems : goal.returns-then-ne-clause-redeems
 returns-then-ne-clause-redeems g c = (
   subst (λ desk. RefusesTicket c.args.ticket Unknown desk.journal.notes) c.self.view_is
-  (foreign (record { actor = c.self.inside.actor; cores = c.self.inside.cores; cap = c.self.inside.cap; journal = c.self.inside.journal; lanes = c.self.inside.lanes.items }) c.self.invariant.0 _ c.args.ticket (c.name.view_is ∙ c.name-name.ensures) (λ own there. are_apart _ _ c.ne.result c.ne.ensures c.if-ne.true own)),
+      (foreign (record { actor = c.self.inside.actor; cores = c.self.inside.cores; cap = c.self.inside.cap; journal = c.self.inside.journal; lanes = c.self.inside.lanes.items }) c.self.invariant.0 _ c.args.ticket (c.name.view_is ∙ c.name-name.ensures) (λ own there. are_apart _ _ c.ne.result c.ne.ensures c.if-ne.true own)),
   refl,
 )
 

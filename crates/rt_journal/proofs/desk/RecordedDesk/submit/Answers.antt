@@ -2,7 +2,7 @@ use Rattle.std.proofs.Common.{sym, subst, ◌∙◌, ap, set, Ok, Err}
 use Rattle.rt_ids.specs.Orders.{IsSpelledOrder}
 use Rattle.rt_link.specs.Fits.{Fits}
 use Rattle.rt_desk.specs.Lanes.{IsLaneOf}
-use Rattle.rt_journal.specs.Ends.{IsOutOf, name_of}
+use Rattle.rt_journal.specs.Ends.{IsOutOf}
 use Rattle.rt_journal.specs.Submissions.{Submits}
 use Rattle.rt_journal.specs.Tickets.{HasLane, StaysBeside}
 use Rattle.rt_journal.proofs.Desked.{name_at, lane_there, lane_beside, desk_same, stays_refused}

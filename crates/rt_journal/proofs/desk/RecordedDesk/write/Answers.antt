@@ -1,6 +1,3 @@
-use Rattle.std.proofs.Common.{◌++◌, reverse, sym, ap, subst}
-use Rattle.rt_journal.specs.Submissions.{IsWritten, terms_of_desk}
-use Rattle.rt_journal.specs.Ends.{KeepsSent}
 use Rattle.rt_journal.proofs.LaneNotes.{knows_written}
 use Rattle.rt_journal.proofs.desk.RecordedDesk.write.Goals as goal
 
