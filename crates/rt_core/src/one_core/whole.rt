@@ -38,10 +38,17 @@ impl<J: Task, A: Allocator + Clone> Core<J, A> {
         if self.ready.is_empty() {
             return Ok(Ahead::Idle);
         }
-        if self.turns == u64::MAX {
+        if self.turns_made() == u64::MAX {
             return Err(PickError::Spent);
         }
         Ok(self.first_ahead())
+    }
+
+    /// How many turns were made.
+    fn turns_made(&self) -> u64
+        ensures { result ≡ self.now.turns }
+    {
+        self.turns
     }
 
     /// The same where a job waits, none is out, and a turn is left.

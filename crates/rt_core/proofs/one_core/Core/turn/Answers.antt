@@ -4,7 +4,7 @@ use Rattle.rt_core.proofs.one_core.Core.turn.Goals as goal
 
 pub turn_first-requires : goal.turn_first-requires
 turn_first-requires g c =
-    let is_ahead = c.requires in
+    let is_ahead = c.requires.ahead in
     let front = is_ahead.front in
     let next = c.args.next.now in
     record {
@@ -18,7 +18,7 @@ returns-clause-whole g c =
     let next = c.args.next.now in
     let turned = c.turn_first in
     TurnsWhole-first g.J.Task.SameTask g.J.Task.done g.J.Task.CanPoll g.J.Task.made g.J.Task.Polls g.J.Task.Answers c.args.self.now turned.new.self c.args.spent
-    (g.P.Post.notes c.args.post.now) (g.P.Post.notes turned.new.post) turned.result.0 turned.result.1 next.queue next.vr next.name next.started c.requires turned.ensures.turns
+    (g.P.Post.notes c.args.post.now) (g.P.Post.notes turned.new.post) turned.result.0 turned.result.1 next.queue next.vr next.name next.started c.requires.ahead turned.ensures.turns
 
 pub returns-clause-bounded : goal.returns-clause-bounded
 returns-clause-bounded g c = c.turn_first.ensures.bounded
