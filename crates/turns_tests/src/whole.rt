@@ -147,7 +147,10 @@ fn one_waits(alloc: Global, turns: u64) -> Result<Core<ScriptJob, Global>, Alloc
 fn what_is_no_turn_is_told(rt: HostRuntime) -> Result<(), Fail> {
     let back = is_handed_back(&mut one_waits(rt.alloc(), 0)?);
     let busy = is_busy(&mut one_waits(rt.alloc(), 0)?);
-    let spent = matches!(one_waits(rt.alloc(), u64::MAX)?.ahead(), Err(PickError::Spent));
+    let spent = matches!(
+        one_waits(rt.alloc(), u64::MAX)?.ahead(),
+        Err(PickError::Spent)
+    );
     assert!(rt; back && busy && spent);
     Ok(())
 }

@@ -27,8 +27,7 @@ returns-then-is_some g c =
     let view = core_view inside.core inside.cores (queues_alone inside.queues) inside.tallies.items inside.floor inside.turns (job_out inside.out) inside.senders inside.mode in
     let free : job_out inside.out ≡ None = subst (λ (view : CoreView g.row.J.Denot). view.out ≡ None) (sym c.self.view_is) c.requires.free in
     let key = c.in-Some.key in
-    let later = first_of inside.ready.keys key c.in-Some.ensures in
-    (
+    let later = first_of inside.ready.keys key c.in-Some.ensures in (
       key.queue,
       rw (← c.self.view_is) (first_is_next view inside.ready.keys key later.0 later.1 c.self.invariant.listed free c.len-count.ensures.rising),
       λ none. true≢false (sym c.if-is_some.true ∙ c.is_some.ensures ∙ ap is_some (c.return_reason.ensures ∙ none)),
