@@ -1,5 +1,5 @@
 -- A whole turn is that of the job that was told ahead.
-use Rattle.std.proofs.Common.{◌≡◌, ◌⊎◌, ℕ, ◌<◌, ◌≤◌, Bool, true, false, List, [], ◌∷◌, inl, inr, Option, Some, None, Ok, refl, sym, ap, ◌∙◌, subst, arith}
+use Rattle.std.proofs.Common.{◌≡◌, ℕ, Bool, true, false, List, [], ◌∷◌, inl, inr, Some, None, Ok, refl, sym, ap, ◌∙◌, subst, arith}
 use Rattle.rt_ids.specs.declared.names.JobId.{JobId}
 use Rattle.rt_ids.specs.declared.names.Key.{Key}
 use Rattle.rt_ids.specs.declared.note.Note.TheVariants as notes
@@ -10,7 +10,6 @@ use Rattle.rt_jobs.specs.declared.job.Step.TheVariants as steps
 use Rattle.rt_jobs.specs.Steps.{Owed}
 use Rattle.rt_timeline.specs.Rising.{first_key}
 use Rattle.rt_taskqueue.specs.Queues.{waiting_of}
-use Rattle.rt_taskqueue.specs.Fronts.{HasFront}
 use Rattle.rt_core.specs.State.{CoreView, runtime_of}
 use Rattle.rt_core.specs.Closing.{return_reason}
 use Rattle.rt_core.specs.Turns.{IsNext, TakesOut, Picks, SettlesOut}

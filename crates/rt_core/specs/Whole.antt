@@ -1,5 +1,5 @@
 -- A whole turn with the job in its place: it does what a pick of the job, one poll of it and the settling of that poll do.
-use Rattle.std.specs.Prelude.{◌≡◌, ℕ, ◌-◌, ◌^◌, ◌<◌, Bool, true, false, unwrap_or, Option, None, Result, Ok, Err, List, [], ◌∷◌}
+use Rattle.std.specs.Prelude.{◌≡◌, ℕ, ◌-◌, ◌^◌, ◌<◌, Bool, true, false, unwrap_or, None, Result, Ok, Err, List, [], ◌∷◌}
 use Rattle.rt_ids.specs.declared.names.JobId.{JobId}
 use Rattle.rt_ids.specs.declared.note.Note.{Note}
 use Rattle.rt_ids.specs.declared.note.Note.TheVariants as notes

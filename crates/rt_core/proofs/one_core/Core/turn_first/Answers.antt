@@ -1,4 +1,4 @@
-use Rattle.std.proofs.Common.{◌≡◌, ℕ, ◌+◌, ◌-◌, ◌^◌, ◌<◌, ◌≤◌, Bool, true, false, List, length, max, Option, Some, None, refl, sym, ◌∙◌, ap, subst, arith}
+use Rattle.std.proofs.Common.{◌≡◌, ◌+◌, ◌-◌, ◌^◌, ◌<◌, ◌≤◌, Bool, true, false, List, length, max, Option, Some, None, refl, sym, ◌∙◌, ap, subst, arith}
 use Rattle.std.specs.Prelude.{is_some, slice_index_or, slice_set}
 use Rattle.std.proofs.lemmas.Bool.{true≢false}
 use Rattle.rt_ids.specs.Work.{number_if}
@@ -6,7 +6,7 @@ use Rattle.rt_jobs.specs.Steps.{is_done_step}
 use Rattle.rt_taskqueue.specs.Queues.{waiting_of, shares_of}
 use Rattle.rt_taskqueue.specs.Slips.{SlippedView, queues_alone, without_slip}
 use Rattle.rt_core.specs.declared.tally.Tally.{Tally}
-use Rattle.rt_core.specs.State.{CoreView, JobOut, no_tally, tally_of, runtime_of, is_any}
+use Rattle.rt_core.specs.State.{CoreView, JobOut, tally_of, runtime_of, is_any}
 use Rattle.rt_core.specs.Inside.{core_view, job_out, KeepsSlips, unsettled_count, FitsTurns}
 use Rattle.rt_core.specs.Turns.{TakesOut}
 use Rattle.rt_core.proofs.Charging.{after_poll, tally_read, charge_fits}
