@@ -227,7 +227,7 @@ fn a_box_of_another_key_is_not_polled(rt: HostRuntime) -> Result<(), Fail> {
 fn three_kinds_of_work_in_one_type(rt: HostRuntime) {
     let (left, right) = (48, 36);
     assert!(rt; answers_after(0, Work::Sum { left: 3, right: 4 }, 7));
-    assert!(rt; answers_after(3, Work::Divisor { left, right }, 12));
+    assert!(rt; answers_after(2, Work::Divisor { left, right }, 12));
     let (yields, number) = (2, 9);
     assert!(rt; answers_after(2, Work::Later { yields, number }, 9));
     assert!(rt; Work::Ended.is_done());
