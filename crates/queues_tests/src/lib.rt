@@ -21,3 +21,5 @@ mod rounds;
 mod scenes;
 #[cfg(test)]
 mod turns;
+#[cfg(test)]
+mod whole;

@@ -56,6 +56,14 @@ fn is_refused(core: &mut OneCore<'_>, want: PickError) -> bool {
     }
 }
 
+/// Nothing is told ahead but this refusal.
+fn is_told_refused(core: &OneCore<'_>, want: PickError) -> bool {
+    match core.ahead() {
+        Err(error) => error == want,
+        Ok(_) => false,
+    }
+}
+
 /// The job goes out, nothing else is picked while it is out, and it comes back.
 fn makes_a_turn(core: &mut OneCore<'_>) -> bool {
     let (Ok(Turn::Start(_, _, job)), _) = core.pick() else {
@@ -64,8 +72,10 @@ fn makes_a_turn(core: &mut OneCore<'_>) -> bool {
     let (Err(PickError::Busy), none) = core.pick() else {
         return false;
     };
+    let told = is_told_refused(core, PickError::Busy);
     let (settled, notes) = core.settle(Ran::poll(job, &mut NoPost), 0);
     none.is_empty()
+        && told
         && matches!(settled, Settled::Yielded)
         && is_one(&notes, Note::Yield(name(1), 1))
 }
@@ -77,6 +87,7 @@ fn ends(heap: &LocalHeap) -> Option<bool> {
         takes(&mut core, 1, FIRST, &[Poll::Yield(1), Poll::Done(1, 0)])
             && makes_a_turn(&mut core)
             && is_refused(&mut core, PickError::Spent)
+            && is_told_refused(&core, PickError::Spent)
             && core.stats().0.turns == u64::MAX,
     )
 }
