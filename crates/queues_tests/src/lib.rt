@@ -20,4 +20,6 @@ mod rounds;
 #[cfg(test)]
 mod scenes;
 #[cfg(test)]
+mod steps;
+#[cfg(test)]
 mod turns;

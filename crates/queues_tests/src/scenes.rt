@@ -3,7 +3,7 @@
 use crate::closings::{a_core_finishes, a_core_hands_back, a_queue_finishes, a_queue_hands_back};
 use crate::deliveries::{all_queues, commands, eight_jobs};
 use crate::one_core::OneCore;
-use crate::turns::a_job_waits_behind;
+use crate::turns::{a_core_is_busy, a_job_waits_behind};
 use linked_list_allocator::LocalHeap;
 use rt_ids::CoreNo;
 use std::test::Fail;
@@ -18,7 +18,8 @@ fn plays(core: &mut OneCore<'_>, scene: u8) -> bool {
         4 => a_queue_finishes(core),
         5 => a_queue_hands_back(core),
         6 => a_core_finishes(core),
-        _ => a_core_hands_back(core),
+        7 => a_core_hands_back(core),
+        _ => a_core_is_busy(core),
     }
 }
 
@@ -31,7 +32,7 @@ fn plays_in(heap: &LocalHeap, scene: u8) -> Option<bool> {
 #[test]
 fn each_scene_comes_out(rt: HostRuntime) -> Result<(), Fail> {
     let heap = LocalHeap::new(rt.alloc(), 1 << 18)?;
-    for scene in 0..8 {
+    for scene in 0..9 {
         let went = plays_in(&heap, scene);
         assert!(rt; went == Some(true) && heap.used() == 0, "scene {scene}");
     }
