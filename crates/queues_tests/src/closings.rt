@@ -6,7 +6,6 @@ use crate::one_core::{
 };
 use rt_core::Turn;
 use rt_ids::{ActorNo, Answer, CoreNo, JobId, Mode, Note, Order, QueueNo, Reason};
-use rt_jobs::Poll;
 
 /// Closing a queue is answered so, with its note if it did anything.
 fn closes_queue(core: &mut OneCore<'_>, queue: QueueNo, mode: Mode, want: Answer) -> bool {
@@ -68,7 +67,7 @@ fn hands_back(core: &mut OneCore<'_>, at: (QueueNo, u128), number: u64, why: Rea
 pub(crate) fn a_queue_finishes(core: &mut OneCore<'_>) -> bool {
     let closed = Some(Note::QueueClosed(FIRST, Mode::Finish));
     let finish = Order::Close(FIRST, Mode::Finish);
-    takes(core, 1, FIRST, &[Poll::Done(5, 1)])
+    takes(core, 1, FIRST, 0, 5)
         && answers(core, 2, finish, Answer::Closed, closed)
         && closes_queue(core, FIRST, Mode::Finish, Answer::AlreadyClosed)
         && is_refused(core, 3, FIRST, Reason::QueueClosed)
@@ -81,8 +80,8 @@ pub(crate) fn a_queue_finishes(core: &mut OneCore<'_>) -> bool {
 /// A queue that is closed so hands its jobs back.
 pub(crate) fn a_queue_hands_back(core: &mut OneCore<'_>) -> bool {
     creates(core, 1000, Ok(SECOND))
-        && takes(core, 1, SECOND, &[Poll::Yield(20), Poll::Done(1, 0)])
-        && takes(core, 2, SECOND, &[Poll::Done(2, 0)])
+        && takes(core, 1, SECOND, 1, 20)
+        && takes(core, 2, SECOND, 0, 2)
         && picks(core, &[(SECOND, 0)])
         && closes_queue(core, SECOND, Mode::Return, Answer::Closed)
         && hands_back(core, (SECOND, 20), 2, Reason::QueueReturned)
@@ -97,13 +96,12 @@ pub(crate) fn a_core_finishes(core: &mut OneCore<'_>) -> bool {
         && closes(core, Mode::Finish, false)
         && core.is_closed()
         && answers(core, 1, half, Answer::CoreClosing, None)
-        && takes(core, 2, FIRST, &[Poll::Done(3, 8)])
+        && takes(core, 2, FIRST, 0, 3)
         && shuts(core, &name(3), 2)
         && other_shuts(core)
         && !core.is_drained()
         && picks(core, &[(FIRST, 0)])
         && core.is_drained()
-        && core.stats().0.drained
 }
 
 /// A core that an order closed refuses jobs, hands back what is inside, and is drained when the last submission has come.
@@ -111,7 +109,7 @@ pub(crate) fn a_core_hands_back(core: &mut OneCore<'_>) -> bool {
     let closed = Some(Note::CoreClosed(Mode::Return));
     let close = Order::CloseCore(Mode::Return);
     let again = Order::CloseCore(Mode::Finish);
-    takes(core, 1, FIRST, &[Poll::Yield(10), Poll::Done(1, 1)])
+    takes(core, 1, FIRST, 1, 10)
         && picks(core, &[(FIRST, 0)])
         && answers(core, 2, close, Answer::Closed, closed)
         && answers(core, 3, again, Answer::AlreadyClosed, None)

@@ -1,12 +1,11 @@
 //! What a core does at once when a command or a job is delivered, and what it refuses.
 
 use crate::one_core::{
-    FIRST, OneCore, SECOND, THIRD, answers, creates, is_one, name, picks, script, shares, submit,
-    takes,
+    FIRST, OneCore, SECOND, THIRD, answers, creates, is_one, name, picks, shares, submit, takes,
 };
+use crate::steps::Steps;
 use rt_core::Delivered;
 use rt_ids::{Answer, Note, Order, QueueNo, Reason};
-use rt_jobs::Poll;
 use rt_taskqueue::CreateError;
 
 /// A job for this queue comes back at its delivery, as it was.
@@ -16,9 +15,10 @@ pub(crate) fn is_refused(
     queue: QueueNo,
     want: Reason,
 ) -> bool {
-    let polls = [Poll::Done(5, 2)];
-    let (Some(job), Some(same)) = (script(&polls), script(&polls)) else {
-        return false;
+    let job = Steps {
+        left: 0,
+        time: number,
+        done: false,
     };
     let Some((delivered, notes)) = submit(core, number, Order::Job(queue, job)) else {
         return false;
@@ -26,8 +26,11 @@ pub(crate) fn is_refused(
     let Delivered::Back(reason, order) = delivered else {
         return false;
     };
+    let Order::Job(to, back) = order else {
+        return false;
+    };
     reason == want
-        && order == Order::Job(queue, same)
+        && (to, back.left, back.time) == (queue, 0, number)
         && is_one(&notes, Note::Back(name(number), want))
 }
 
@@ -36,12 +39,8 @@ pub(crate) fn commands(core: &mut OneCore<'_>) -> bool {
     let quarter = shares(250);
     let set = Some(Note::SharesSet(FIRST, quarter));
     let made = Some(Note::Created(SECOND, quarter));
-    takes(
-        core,
-        1,
-        FIRST,
-        &[Poll::Yield(30), Poll::Yield(30), Poll::Done(30, 1)],
-    ) && picks(core, &[(FIRST, 0)])
+    takes(core, 1, FIRST, 2, 30)
+        && picks(core, &[(FIRST, 0)])
         && answers(
             core,
             2,
@@ -57,7 +56,7 @@ pub(crate) fn commands(core: &mut OneCore<'_>) -> bool {
             Answer::Created(SECOND),
             made,
         )
-        && takes(core, 4, SECOND, &[Poll::Done(10, 0)])
+        && takes(core, 4, SECOND, 0, 10)
         && picks(core, &[(SECOND, 30), (FIRST, 150)])
         && answers(
             core,
@@ -73,7 +72,7 @@ pub(crate) fn commands(core: &mut OneCore<'_>) -> bool {
 pub(crate) fn eight_jobs(core: &mut OneCore<'_>) -> bool {
     let mut all = true;
     for number in 1..=8 {
-        all = takes(core, number, FIRST, &[Poll::Done(1, 0)]) && all;
+        all = takes(core, number, FIRST, 0, 1) && all;
     }
     all && !core.has_room() && !core.is_next(&name(8))
 }
@@ -87,6 +86,6 @@ pub(crate) fn all_queues(core: &mut OneCore<'_>) -> bool {
     let last = QueueNo(255);
     all && creates(core, 7, Err(CreateError::TooMany))
         && answers(core, 1, Order::Create(shares(7)), Answer::TooMany, None)
-        && takes(core, 2, last, &[Poll::Done(1, 0)])
+        && takes(core, 2, last, 0, 1)
         && picks(core, &[(last, 0)])
 }

@@ -20,6 +20,8 @@ mod rounds;
 #[cfg(test)]
 mod scenes;
 #[cfg(test)]
+mod steps;
+#[cfg(test)]
 mod turns;
 #[cfg(test)]
 mod whole;

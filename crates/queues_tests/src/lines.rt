@@ -1,15 +1,25 @@
 //! The task queues of a core, step by step: each step tells whether it came out as wanted.
 
 use crate::one_core::{FIRST, SECOND, THIRD, name, shares};
+use crate::steps::Steps;
 use linked_list_allocator::LocalHeap;
 use rt_ids::{JobId, Mode, QueueNo};
 use rt_taskqueue::{CreateError, Queues};
 use std::test::Fail;
 
-/// Task queues whose jobs are their own numbers.
-pub(crate) type Lines<'a> = Queues<u64, &'a LocalHeap>;
+/// Task queues in a heap.
+pub(crate) type Lines<'a> = Queues<Steps, &'a LocalHeap>;
 
-/// A job that is its own number joins, if its queue is there and open and there is room.
+/// A job that tells this number.
+fn job(number: u64) -> Steps {
+    Steps {
+        left: 0,
+        time: number,
+        done: false,
+    }
+}
+
+/// A job that tells its number joins, if its queue is there and open and there is room.
 pub(crate) fn joins(queues: &mut Lines<'_>, queue: QueueNo, number: u64) -> bool {
     if u16::from(queue.0) >= queues.queue_count() || !queues.has_room() {
         return false;
@@ -17,28 +27,33 @@ pub(crate) fn joins(queues: &mut Lines<'_>, queue: QueueNo, number: u64) -> bool
     match queues.mode(queue) {
         Some(_) => false,
         None => {
-            queues.admit(queue, name(number), number);
+            queues.admit(queue, name(number), job(number));
             true
         }
     }
 }
 
 /// A job that was started joins again, if its queue is there and there is room.
-pub(crate) fn joins_again(queues: &mut Lines<'_>, queue: QueueNo, name: JobId, job: u64) -> bool {
+pub(crate) fn joins_again(
+    queues: &mut Lines<'_>,
+    queue: QueueNo,
+    name: JobId,
+    number: u64,
+) -> bool {
     let fits = u16::from(queue.0) < queues.queue_count() && queues.has_room();
     if fits {
-        queues.push_back(queue, name, job);
+        queues.push_back(queue, name, job(number));
     }
     fits
 }
 
-/// The job at the head of a queue, if there is one.
+/// The job at the head of a queue leaves, if there is one: its name, whether it was started, and its number.
 pub(crate) fn leaves(queues: &mut Lines<'_>, queue: QueueNo) -> Option<(JobId, bool, u64)> {
-    if u16::from(queue.0) < queues.queue_count() {
-        queues.pop_front(queue)
-    } else {
-        None
+    if u16::from(queue.0) >= queues.queue_count() {
+        return None;
     }
+    let (name, started, job) = queues.pop_front(queue)?;
+    Some((name, started, job.time))
 }
 
 /// How many jobs wait in a queue, if both calls on it agree.

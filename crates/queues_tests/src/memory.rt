@@ -1,11 +1,8 @@
 //! A core in heaps that are just too small, and in the least one that serves.
 
-use crate::one_core::{
-    FIRST, OneCore, SECOND, THIRD, answers, creates, picks, queue_count, shares, takes,
-};
+use crate::one_core::{FIRST, OneCore, SECOND, THIRD, answers, creates, picks, shares, takes};
 use linked_list_allocator::LocalHeap;
 use rt_ids::{Answer, CoreNo, Order};
-use rt_jobs::Poll;
 use rt_taskqueue::CreateError;
 use std::test::Fail;
 
@@ -13,15 +10,13 @@ use std::test::Fail;
 fn no_queue_fits(core: &mut OneCore<'_>) -> bool {
     creates(core, 1000, Err(CreateError::Memory))
         && answers(core, 1, Order::Create(shares(1000)), Answer::NoMemory, None)
-        && queue_count(core) == 3
 }
 
 /// The three queues go on.
 fn each_serves(core: &mut OneCore<'_>) -> bool {
-    let polls = [Poll::Yield(5), Poll::Done(5, 0)];
-    takes(core, 2, THIRD, &polls)
-        && takes(core, 3, SECOND, &polls)
-        && takes(core, 4, FIRST, &polls)
+    takes(core, 2, THIRD, 1, 5)
+        && takes(core, 3, SECOND, 1, 5)
+        && takes(core, 4, FIRST, 1, 5)
         && picks(core, &[(FIRST, 0), (SECOND, 0), (THIRD, 0)])
         && picks(core, &[(FIRST, 5), (SECOND, 5), (THIRD, 5)])
 }

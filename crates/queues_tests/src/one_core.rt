@@ -1,11 +1,11 @@
-//! A core of scripted jobs, step by step: each step tells whether it came out as wanted.
-ghost use Rattle.std.specs.Prelude.{◌≡◌, false, IfSome};
+//! A core, step by step: each step tells whether it came out as wanted.
 ghost use Rattle.rt_jobs.specs.Ready.{HasReadyJob};
 
+use crate::steps::Steps;
 use linked_list_allocator::LocalHeap;
 use rt_core::{Core, Delivered, Notes, Turn};
 use rt_ids::{ActorNo, Answer, CoreNo, Envelope, JobId, Note, Order, QueueNo};
-use rt_jobs::{NoPost, Poll, Ran, ScriptJob, Task};
+use rt_jobs::{NoPost, Ran, Task};
 use rt_shares::Shares;
 use rt_taskqueue::CreateError;
 
@@ -15,8 +15,8 @@ pub(crate) const SECOND: QueueNo = QueueNo(1);
 
 pub(crate) const THIRD: QueueNo = QueueNo(2);
 
-/// A core of scripted jobs in a heap of its own.
-pub(crate) type OneCore<'a> = Core<ScriptJob, &'a LocalHeap>;
+/// A core in a heap.
+pub(crate) type OneCore<'a> = Core<Steps, &'a LocalHeap>;
 
 /// The name of a submission of actor 0.
 pub(crate) fn name(number: u64) -> JobId {
@@ -32,21 +32,13 @@ pub(crate) fn shares(weight: u32) -> Shares {
     Shares::try_new(weight).unwrap_or_default()
 }
 
-/// A job of these polls, if they make one that is not done.
-pub(crate) fn script(polls: &[Poll]) -> Option<ScriptJob>
-    ensures { IfSome result (λ job. ⟦<ScriptJob as Task>⟧.done job ≡ false) }
-{
-    let job = ScriptJob::try_new(polls)?;
-    if job.is_done() { None } else { Some(job) }
-}
-
 /// Delivers the next submission of actor 0, if the core has room and it is the next.
 pub(crate) fn submit(
     core: &mut OneCore<'_>,
     number: u64,
-    order: Order<ScriptJob>,
-) -> Option<(Delivered<ScriptJob>, Notes<u64>)>
-    requires { HasReadyJob ⟦<ScriptJob as Task>⟧.done ⟦<ScriptJob as Task>⟧.CanPoll order }
+    order: Order<Steps>,
+) -> Option<(Delivered<Steps>, Notes<u64>)>
+    requires { HasReadyJob ⟦<Steps as Task>⟧.done ⟦<Steps as Task>⟧.CanPoll order }
 {
     let name = name(number);
     if !core.has_room() || !core.is_next(&name) {
@@ -55,10 +47,18 @@ pub(crate) fn submit(
     Some(core.deliver(Envelope { name, order }))
 }
 
-/// The core takes a job of these polls.
-pub(crate) fn takes(core: &mut OneCore<'_>, number: u64, queue: QueueNo, polls: &[Poll]) -> bool {
-    let Some(job) = script(polls) else {
-        return false;
+/// The core takes a job that yields so many times, with this time for each poll.
+pub(crate) fn takes(
+    core: &mut OneCore<'_>,
+    number: u64,
+    queue: QueueNo,
+    left: u8,
+    time: u64,
+) -> bool {
+    let job = Steps {
+        left,
+        time,
+        done: false,
     };
     let Some((delivered, notes)) = submit(core, number, Order::Job(queue, job)) else {
         return false;
@@ -70,7 +70,7 @@ pub(crate) fn takes(core: &mut OneCore<'_>, number: u64, queue: QueueNo, polls: 
 pub(crate) fn answers(
     core: &mut OneCore<'_>,
     number: u64,
-    command: Order<ScriptJob>,
+    command: Order<Steps>,
     want: Answer,
     then: Option<Note<u64>>,
 ) -> bool {
@@ -131,8 +131,4 @@ pub(crate) fn picks(core: &mut OneCore<'_>, rows: &[(QueueNo, u128)]) -> bool {
         same = notes.as_slice().first() == Some(&Note::Pick(*queue, *at)) && same;
     }
     same
-}
-
-pub(crate) fn queue_count(core: &OneCore<'_>) -> usize {
-    core.stats().1.len()
 }

@@ -1,10 +1,10 @@
 //! Turns of a core: what each poll notes, and the last turn.
 
-use crate::one_core::{FIRST, OneCore, is_one, name, one_turn, takes};
+use crate::one_core::{FIRST, OneCore, is_one, name, one_turn, picks, takes};
+use crate::whole::tells_none;
 use linked_list_allocator::LocalHeap;
-use rt_core::{PickError, Settled, Turn};
+use rt_core::{PickError, Turn};
 use rt_ids::{CoreNo, Note, QueueStats};
-use rt_jobs::{NoPost, Poll, Ran};
 use std::test::Fail;
 
 /// One turn with these notes.
@@ -13,9 +13,16 @@ fn is_turn(core: &mut OneCore<'_>, picked: [Note<u64>; 2], settled: Note<u64>) -
     first.as_slice() == picked.as_slice() && is_one(&second, settled)
 }
 
-fn is_idle(core: &mut OneCore<'_>) -> bool {
+/// A pick takes no job out, as was told ahead: it comes to this error, or else there is no work.
+fn picks_none(core: &mut OneCore<'_>, error: Option<PickError>) -> bool {
+    let told = tells_none(core, &error);
     let (picked, notes) = core.pick();
-    matches!(picked, Ok(Turn::Idle)) && notes.is_empty()
+    let same = match picked {
+        Ok(Turn::Idle) => error.is_none(),
+        Ok(_) => false,
+        Err(other) => error == Some(other),
+    };
+    told && same && notes.is_empty()
 }
 
 /// Three polls, which make 30 nanoseconds, and two jobs done.
@@ -39,56 +46,29 @@ pub(crate) fn a_job_waits_behind(core: &mut OneCore<'_>) -> bool {
     let starts_1 = [Note::Pick(FIRST, 0), Note::Start(name(1))];
     let starts_2 = [Note::Pick(FIRST, 10), Note::Start(name(2))];
     let resumes_1 = [Note::Pick(FIRST, 20), Note::Resume(name(1))];
-    is_idle(core)
-        && takes(core, 1, FIRST, &[Poll::Yield(10), Poll::Done(10, 1)])
-        && takes(core, 2, FIRST, &[Poll::Done(10, 2)])
+    picks_none(core, None)
+        && takes(core, 1, FIRST, 1, 10)
+        && takes(core, 2, FIRST, 0, 10)
         && is_turn(core, starts_1, Note::Yield(name(1), 10))
-        && is_turn(core, starts_2, Note::Done(name(2), 10, 2))
-        && is_turn(core, resumes_1, Note::Done(name(1), 10, 1))
+        && is_turn(core, starts_2, Note::Done(name(2), 10, 10))
+        && is_turn(core, resumes_1, Note::Done(name(1), 10, 10))
         && is_told(core)
 }
 
-fn is_refused(core: &mut OneCore<'_>, want: PickError) -> bool {
-    let (picked, notes) = core.pick();
-    match picked {
-        Err(error) => error == want && notes.is_empty(),
-        Ok(_) => false,
-    }
-}
-
-/// Nothing is told ahead but this refusal.
-fn is_told_refused(core: &OneCore<'_>, want: PickError) -> bool {
-    match core.ahead() {
-        Err(error) => error == want,
-        Ok(_) => false,
-    }
-}
-
-/// The job goes out, nothing else is picked while it is out, and it comes back.
-fn makes_a_turn(core: &mut OneCore<'_>) -> bool {
-    let (Ok(Turn::Start(_, _, job)), _) = core.pick() else {
-        return false;
-    };
-    let (Err(PickError::Busy), none) = core.pick() else {
-        return false;
-    };
-    let told = is_told_refused(core, PickError::Busy);
-    let (settled, notes) = core.settle(Ran::poll(job, &mut NoPost), 0);
-    none.is_empty()
-        && told
-        && matches!(settled, Settled::Yielded)
-        && is_one(&notes, Note::Yield(name(1), 1))
+/// While a job is out nothing else is picked.
+pub(crate) fn a_core_is_busy(core: &mut OneCore<'_>) -> bool {
+    let took = takes(core, 1, FIRST, 0, 1);
+    let (picked, _) = core.pick();
+    took && picked.is_ok() && picks_none(core, Some(PickError::Busy))
 }
 
 /// The core has one turn left, if it opens in this heap.
 fn ends(heap: &LocalHeap) -> Option<bool> {
     let mut core = OneCore::open_at_turn(heap, CoreNo(0), 1, 1, u64::MAX - 1).ok()?;
     Some(
-        takes(&mut core, 1, FIRST, &[Poll::Yield(1), Poll::Done(1, 0)])
-            && makes_a_turn(&mut core)
-            && is_refused(&mut core, PickError::Spent)
-            && is_told_refused(&core, PickError::Spent)
-            && core.stats().0.turns == u64::MAX,
+        takes(&mut core, 1, FIRST, 1, 1)
+            && picks(&mut core, &[(FIRST, 0)])
+            && picks_none(&mut core, Some(PickError::Spent)),
     )
 }
 

@@ -3,9 +3,9 @@ ghost use Rattle.std.specs.Prelude.{IfSome};
 ghost use Rattle.rt_core.specs.Whole.{IsAhead};
 
 use crate::one_core::{FIRST, OneCore, SECOND, creates, name, takes};
-use rt_core::{Ahead, Next, Turn};
+use rt_core::{Ahead, Next, PickError, Turn};
 use rt_ids::{Mode, QueueNo};
-use rt_jobs::{NoPost, Poll, Step};
+use rt_jobs::{NoPost, Step};
 
 /// A turn: its queue and virtual runtime, the number of its job, whether that was started, and its answer if it is done.
 type Row = (QueueNo, u128, u64, bool, Option<u64>);
@@ -40,22 +40,26 @@ fn turns_so(core: &mut OneCore<'_>, row: &Row) -> bool {
     is_told(&next, row) && came_to(&step, row.4) && time == 30
 }
 
-fn is_idle(core: &OneCore<'_>) -> bool {
-    matches!(core.ahead(), Ok(Ahead::Idle))
+/// No job is told ahead: there is this error, or else no work.
+pub(crate) fn tells_none(core: &OneCore<'_>, error: &Option<PickError>) -> bool {
+    match core.ahead() {
+        Ok(Ahead::Idle) => error.is_none(),
+        Ok(_) => false,
+        Err(other) => *error == Some(other),
+    }
 }
 
 /// A queue of 1000 shares and one of 500 take their turns, each as it was told.
 pub(crate) fn turns_come_as_they_are_told(core: &mut OneCore<'_>) -> bool {
-    let polls = [Poll::Yield(30), Poll::Done(30, 7)];
-    is_idle(core)
+    tells_none(core, &None)
         && creates(core, 500, Ok(SECOND))
-        && takes(core, 1, FIRST, &polls)
-        && takes(core, 2, SECOND, &polls)
+        && takes(core, 1, FIRST, 1, 30)
+        && takes(core, 2, SECOND, 1, 30)
         && turns_so(core, &(FIRST, 0, 1, false, None))
         && turns_so(core, &(SECOND, 0, 2, false, None))
-        && turns_so(core, &(FIRST, 30, 1, true, Some(7)))
-        && turns_so(core, &(SECOND, 60, 2, true, Some(7)))
-        && is_idle(core)
+        && turns_so(core, &(FIRST, 30, 1, true, Some(30)))
+        && turns_so(core, &(SECOND, 60, 2, true, Some(30)))
+        && tells_none(core, &None)
 }
 
 fn is_closed(core: &mut OneCore<'_>) -> bool {
@@ -70,8 +74,8 @@ fn is_handed_back(core: &mut OneCore<'_>) -> bool {
 
 /// A hand-back is told ahead, and no turn is made of it.
 pub(crate) fn a_hand_back_is_told(core: &mut OneCore<'_>) -> bool {
-    takes(core, 1, FIRST, &[Poll::Done(1, 1)])
+    takes(core, 1, FIRST, 0, 1)
         && is_closed(core)
         && is_handed_back(core)
-        && is_idle(core)
+        && tells_none(core, &None)
 }

@@ -1,0 +1,58 @@
+//! The job of these tests.
+
+use rt_jobs::{Job, Post, Step, Task};
+
+/// A job that yields so many times and is then done. Each poll tells the same time, which is its answer too.
+///
+/// It is copied, so nothing has to be dropped, and a test has less to prove.
+#[derive(Clone, Copy, PartialEq)]
+pub(crate) struct Steps {
+    pub(crate) left: u8,
+    pub(crate) time: u64,
+    pub(crate) done: bool,
+}
+
+impl Task for Steps {
+    ghost use Rattle.std.specs.Prelude.{Some};
+
+    type Out = u64;
+
+    ghost SameTask = { λ _ _. Unit {0} };
+
+    ghost done = { λ steps. steps.done };
+
+    ghost made = { λ _. 0 };
+
+    ghost says = { λ steps. Some steps.time };
+
+    ghost Polls = { λ _ _ _ _ _ _. Unit {0} };
+
+    ghost Answers = { λ _ _. Unit {0} };
+
+    ghost same_task = { record { itself = λ _. tt; back = λ _ _ _. tt; along = λ _ _ _ _ _. tt } };
+
+    ghost answers_same = { λ _ _ _ _ _. tt };
+
+    ghost polls_same = { λ _ _ _ _ _ _ _ _ _. tt };
+
+    ghost can_poll_same = { λ _ _ _ can. can };
+
+    fn is_done(&self) -> bool {
+        self.done
+    }
+
+    fn told(&self) -> Option<u64> {
+        Some(self.time)
+    }
+}
+
+impl Job for Steps {
+    fn poll<P: Post<Self, u64>>(&mut self, _post: &mut P) -> Step<u64> {
+        if self.left > 0 {
+            self.left -= 1;
+            return Step::Yield;
+        }
+        self.done = true;
+        Step::Done(self.time)
+    }
+}
