@@ -1,3 +1,4 @@
+pub mod CloseSteps
 pub mod FirstUnder
 pub mod LinkTables
 pub mod NumberSteps
