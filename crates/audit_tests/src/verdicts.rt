@@ -2,6 +2,7 @@
 
 use crate::rows::{FAULTS, SOUND};
 use rt_audit::{Verdict, audit};
+use rt_ids::ActorNo;
 use rt_reading::read_journal;
 use std::alloc::Global;
 
@@ -15,11 +16,13 @@ fn verdict_on(alloc: Global, text: &str) -> Option<Verdict> {
 }
 
 /// Whether the first fault is of this rule, at this line of this actor.
-fn breaks(alloc: Global, text: &str, place: (u8, u8, usize)) -> bool {
-    match verdict_on(alloc, text) {
-        Some(Verdict::Fault { actor, line, rule }) => (rule, actor.0, line) == place,
-        _ => false,
-    }
+fn breaks(alloc: Global, text: &str, rule: u8, actor: u8, line: usize) -> bool {
+    let fault = Verdict::Fault {
+        actor: ActorNo(actor),
+        line,
+        rule,
+    };
+    verdict_on(alloc, text) == Some(fault)
 }
 
 #[test]
@@ -32,6 +35,6 @@ fn sound_journals_are_found_sound(rt: HostRuntime) {
 #[test]
 fn each_fault_is_named(rt: HostRuntime) {
     for (rule, actor, line, what, text) in FAULTS {
-        assert!(rt; breaks(rt.alloc(), text, (rule, actor, line)), "{what}");
+        assert!(rt; breaks(rt.alloc(), text, rule, actor, line), "{what}");
     }
 }

@@ -1,2 +1,3 @@
 pub mod AllEnded
 pub mod KeptRules
+pub mod NoFaults

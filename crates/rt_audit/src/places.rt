@@ -5,6 +5,7 @@ ghost use Rattle.rt_ids.specs.Assembly.{journal_of};
 ghost use Rattle.rt_ids.specs.Closing.{IsDrained};
 ghost use Rattle.rt_ids.specs.Limits.{most_cores};
 ghost use Rattle.rt_ids.specs.Sound.{AllEnded, StartsAreSound, OrderIsSound, ClosesAreSound, OutcomesAreSound, PicksAreSound};
+ghost use Rattle.rt_ids.specs.Spelled.{IsSpelled};
 ghost use Rattle.rt_audit.specs.Places.{DeliveriesOf, CollectionsOf, IsInOrder, OutcomesOf};
 ghost use Rattle.rt_rules.specs.Links.{KnowsOrders, KnowsOutcomes};
 
@@ -42,7 +43,8 @@ fn place_at(actor: u8, line: Option<usize>) -> Option<Place>
 
 /// The lesser of two lines.
 fn first_line(one: Option<usize>, other: Option<usize>) -> Option<usize>
-    ensures { result ≡ None → (one ≡ None) × (other ≡ None) }
+    ensures kept { result ≡ None → (one ≡ None) × (other ≡ None) }
+    ensures only { one ≡ None → other ≡ None → result ≡ None }
 {
     let Some(line) = one else {
         return other;
@@ -60,7 +62,8 @@ pub(crate) fn starts_place(
     assembly: &Assembly,
 ) -> Result<Option<Place>, AllocError>
     requires { assembly.now.cores ≤ most_cores }
-    ensures { IfOk result (λ place. place ≡ None → KnowsOrders orders.now assembly.now → StartsAreSound assembly.now) }
+    ensures kept { IfOk result (λ place. place ≡ None → KnowsOrders orders.now assembly.now → StartsAreSound assembly.now) }
+    ensures only { IfOk result (λ place. KnowsOrders orders.now assembly.now → StartsAreSound assembly.now → place ≡ None) }
 {
     for actor in 0..assembly.cores() + 1 {
         let line = starts_fault(alloc, orders, assembly.journal(ActorNo(actor)))?;
@@ -75,7 +78,8 @@ pub(crate) fn starts_place(
 fn deliveries_line(assembly: &Assembly, core: CoreNo) -> Option<usize>
     requires few { assembly.now.cores ≤ most_cores }
     requires here { core < assembly.now.cores }
-    ensures { result ≡ None → DeliveriesOf assembly.now core }
+    ensures kept { result ≡ None → DeliveriesOf assembly.now core }
+    ensures only { DeliveriesOf assembly.now core → result ≡ None }
 {
     let mut line = None;
     let delivered = assembly.journal(ActorNo(core.0));
@@ -90,7 +94,8 @@ fn deliveries_line(assembly: &Assembly, core: CoreNo) -> Option<usize>
 /// The line of the first note of an actor that collects what isn't the next outcome of a core.
 fn collections_line(assembly: &Assembly, sender: ActorNo) -> Option<usize>
     requires { sender ≤ assembly.now.cores }
-    ensures { result ≡ None → CollectionsOf assembly.now sender }
+    ensures kept { result ≡ None → CollectionsOf assembly.now sender }
+    ensures only { CollectionsOf assembly.now sender → result ≡ None }
 {
     let mut line = None;
     let collected = assembly.journal(sender);
@@ -106,7 +111,8 @@ fn collections_line(assembly: &Assembly, sender: ActorNo) -> Option<usize>
 fn links_line(assembly: &Assembly, actor: u8) -> Option<usize>
     requires few { assembly.now.cores ≤ most_cores }
     requires here { actor ≤ assembly.now.cores }
-    ensures { result ≡ None → (actor < assembly.now.cores → DeliveriesOf assembly.now actor) × CollectionsOf assembly.now actor }
+    ensures kept { result ≡ None → (actor < assembly.now.cores → DeliveriesOf assembly.now actor) × CollectionsOf assembly.now actor }
+    ensures only { (actor < assembly.now.cores → DeliveriesOf assembly.now actor) → CollectionsOf assembly.now actor → result ≡ None }
 {
     let collections = collections_line(assembly, ActorNo(actor));
     if actor < assembly.cores() {
@@ -125,7 +131,8 @@ fn order_line(
 ) -> Result<Option<usize>, AllocError>
     requires few { assembly.now.cores ≤ most_cores }
     requires here { actor ≤ assembly.now.cores }
-    ensures { IfOk result (λ line. line ≡ None → KnowsOrders orders.now assembly.now → StartsAreSound assembly.now → IsInOrder assembly.now actor) }
+    ensures kept { IfOk result (λ line. line ≡ None → KnowsOrders orders.now assembly.now → StartsAreSound assembly.now → IsInOrder assembly.now actor) }
+    ensures only { IfOk result (λ line. KnowsOrders orders.now assembly.now → IsSpelled assembly.now → StartsAreSound assembly.now → IsInOrder assembly.now actor → line ≡ None) }
 {
     let journal = assembly.journal(ActorNo(actor));
     let notes = order_fault(alloc, assembly.cores(), orders, journal)?;
@@ -139,7 +146,8 @@ pub(crate) fn order_place(
     assembly: &Assembly,
 ) -> Result<Option<Place>, AllocError>
     requires { assembly.now.cores ≤ most_cores }
-    ensures { IfOk result (λ place. place ≡ None → KnowsOrders orders.now assembly.now → StartsAreSound assembly.now → OrderIsSound assembly.now) }
+    ensures kept { IfOk result (λ place. place ≡ None → KnowsOrders orders.now assembly.now → StartsAreSound assembly.now → OrderIsSound assembly.now) }
+    ensures only { IfOk result (λ place. KnowsOrders orders.now assembly.now → IsSpelled assembly.now → StartsAreSound assembly.now → OrderIsSound assembly.now → place ≡ None) }
 {
     for actor in 0..assembly.cores() + 1 {
         let line = order_line(alloc, orders, assembly, actor)?;
@@ -152,7 +160,8 @@ pub(crate) fn order_place(
 
 /// Where the third rule is broken first.
 pub(crate) fn closes_place(assembly: &Assembly) -> Option<Place>
-    ensures { result ≡ None → ClosesAreSound assembly.now }
+    ensures kept { result ≡ None → ClosesAreSound assembly.now }
+    ensures only { ClosesAreSound assembly.now → result ≡ None }
 {
     for core in 0..assembly.cores() {
         let line = closes_fault(assembly, CoreNo(core));

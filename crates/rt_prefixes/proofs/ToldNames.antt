@@ -94,3 +94,23 @@ off_same told other same journal whole (Some line) off = record {
   kept = subst (λ names. IsPrefix names whole) (same (at_place off.place journal)) off.kept;
   broken = λ begins. off.broken (subst (λ names. IsPrefix names whole) (sym (same (at_place line journal))) begins);
 }
+
+-- where a list is the beginning of another, it goes off nowhere
+pub none_off : (told : Journal ℕ → List JobId) → ((place : ℕ) (journal : Journal ℕ) → IsPrefix (told (at_place place journal)) (told journal)) →
+    (journal : Journal ℕ) (whole : List JobId) (line : Option ℕ) → IfSome line (TurnsOff told journal whole) → IsPrefix (told journal) whole → line ≡ None
+none_off told part journal whole None off begins = refl
+none_off told part journal whole (Some line) off begins =
+    let front = part line journal in
+    absurd
+    (
+    off.broken
+    (
+      front.0 ++ begins.0,
+      sym (append_assoc (told (at_place line journal)) front.0 begins.0) ∙ (ap (λ items. items ++ begins.0) front.1 ∙ begins.1),
+    )
+    )
+
+-- what was collected at a place is the beginning of what is collected
+pub collected_at_place : (core place : ℕ) (journal : Journal ℕ) → IsPrefix (names_of (collected_outcomes core (at_place place journal))) (names_of (collected_outcomes core journal))
+collected_at_place core place journal =
+    rw (names_collected core (at_place place journal), names_collected core journal) (told_at_place (name_collected core) place journal)

@@ -27,20 +27,11 @@ asked_job _ queue asked = cc
 pub same_asked : (order : Option (Order (Unit {0}))) (queue other : ℕ) → queue_asked order ≡ Some queue → queue_asked order ≡ Some other → queue ≡ other
 same_asked order queue other one another = cc
 
-each_dropped : {T : Type 0} (P : Note T → Journal T → Type 0) (count : ℕ) (journal : Journal T) → EachNote P journal → EachNote P (drop count journal)
-each_dropped P zero journal each = each
-each_dropped P (suc count) [] each = each
-each_dropped P (suc count) (note ∷ before) each = each_dropped P count before each.1
-
 -- nothing is counted at first
 pub zero_there : (count place : ℕ) → ◌≡◌ {A = ℕ} (get_or (replicate count 0) place 0) 0
 zero_there zero place = refl
 zero_there (suc count) zero = refl
 zero_there (suc count) (suc place) = zero_there count place
-
--- what holds of each note holds of each note before a place
-pub each_before : {T : Type 0} (P : Note T → Journal T → Type 0) (place : ℕ) (journal : Journal T) → EachNote P journal → EachNote P (at_place place journal)
-each_before P place journal each = each_dropped P (length journal - place) journal each
 
 module _ (assembly : Assembly ℕ) where
   -- where each note stands in order, each job is in the queue that it was sent to

@@ -9,6 +9,6 @@ returns c =
     record {
       notes =
           subst (λ (journal : Journal ℕ). EachNote (OutcomesRight c.args.assembly.now) journal) c.journal-journal.ensures
-          (c.in_ok-line.ensures none c.args.assembly.now knows given);
+          (c.in_ok-line.ensures.kept none c.args.assembly.now knows given);
       all_ended = c.in_ok-is_lost.ensures c.if-branch.false;
     }
