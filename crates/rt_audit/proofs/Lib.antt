@@ -1,3 +1,4 @@
 pub mod AllEnded
 pub mod KeptRules
 pub mod NoFaults
+pub mod BrokenRules

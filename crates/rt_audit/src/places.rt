@@ -173,11 +173,17 @@ pub(crate) fn closes_place(assembly: &Assembly) -> Option<Place>
 }
 
 /// Whether the actor is a drained core that has lost something.
-fn is_lost(alloc: Global, assembly: &Assembly, actor: u8) -> Result<bool, AllocError>
-    ensures { IfOk result (λ lost. lost ≡ false → actor < assembly.now.cores → IsDrained assembly.now.cores (journal_of actor assembly.now) → AllEnded assembly.now actor) }
+fn is_lost(
+    alloc: Global,
+    orders: &[NameTable<Order<()>>],
+    assembly: &Assembly,
+    actor: u8,
+) -> Result<bool, AllocError>
+    ensures kept { IfOk result (λ lost. lost ≡ false → KnowsOrders orders.now assembly.now → actor < assembly.now.cores → IsDrained assembly.now.cores (journal_of actor assembly.now) → AllEnded assembly.now actor) }
+    ensures only { IfOk result (λ lost. KnowsOrders orders.now assembly.now → (actor < assembly.now.cores → IsDrained assembly.now.cores (journal_of actor assembly.now) → AllEnded assembly.now actor) → lost ≡ false) }
 {
     if actor < assembly.cores() {
-        let lost = has_lost(alloc, assembly, CoreNo(actor))?;
+        let lost = has_lost(alloc, orders, assembly, CoreNo(actor))?;
         return Ok(lost);
     }
     Ok(false)
@@ -192,9 +198,10 @@ fn outcomes_line(
     actor: u8,
 ) -> Result<Option<usize>, AllocError>
     requires { actor ≤ assembly.now.cores }
-    ensures { IfOk result (λ line. line ≡ None → KnowsOrders orders.now assembly.now → KnowsOutcomes outcomes.now assembly.now → OutcomesOf assembly.now actor) }
+    ensures kept { IfOk result (λ line. line ≡ None → KnowsOrders orders.now assembly.now → KnowsOutcomes outcomes.now assembly.now → OutcomesOf assembly.now actor) }
+    ensures only { IfOk result (λ line. KnowsOrders orders.now assembly.now → KnowsOutcomes outcomes.now assembly.now → OutcomesOf assembly.now actor → line ≡ None) }
 {
-    if is_lost(alloc, assembly, actor)? {
+    if is_lost(alloc, orders, assembly, actor)? {
         return Ok(Some(0));
     }
     let journal = assembly.journal(ActorNo(actor));
@@ -210,7 +217,8 @@ pub(crate) fn outcomes_place(
     assembly: &Assembly,
 ) -> Result<Option<Place>, AllocError>
     requires { assembly.now.cores ≤ most_cores }
-    ensures { IfOk result (λ place. place ≡ None → KnowsOrders orders.now assembly.now → KnowsOutcomes outcomes.now assembly.now → OutcomesAreSound assembly.now) }
+    ensures kept { IfOk result (λ place. place ≡ None → KnowsOrders orders.now assembly.now → KnowsOutcomes outcomes.now assembly.now → OutcomesAreSound assembly.now) }
+    ensures only { IfOk result (λ place. KnowsOrders orders.now assembly.now → KnowsOutcomes outcomes.now assembly.now → OutcomesAreSound assembly.now → place ≡ None) }
 {
     for actor in 0..assembly.cores() + 1 {
         let line = outcomes_line(alloc, orders, outcomes, assembly, actor)?;
@@ -223,7 +231,8 @@ pub(crate) fn outcomes_place(
 
 /// Where the fifth rule is broken first.
 pub(crate) fn picks_place(alloc: Global, assembly: &Assembly) -> Result<Option<Place>, AllocError>
-    ensures { IfOk result (λ place. place ≡ None → PicksAreSound assembly.now) }
+    ensures kept { IfOk result (λ place. place ≡ None → PicksAreSound assembly.now) }
+    ensures only { IfOk result (λ place. IsSpelled assembly.now → PicksAreSound assembly.now → place ≡ None) }
 {
     for core in 0..assembly.cores() {
         let line = picks_fault(alloc, assembly.journal(ActorNo(core)))?;
