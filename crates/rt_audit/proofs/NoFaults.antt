@@ -1,4 +1,4 @@
--- Where a rule is kept, no fault is named.
+-- No fault of a rule is named, if the rule is kept.
 use Rattle.std.proofs.Common.{◌≡◌, ℕ, true, refl, sym, ◌∙◌, ap}
 use Rattle.std.specs.Prelude.{Option, Some, None, IfSome, is_some}
 use Rattle.std.proofs.lemmas.Bool.{true≢false}

@@ -113,7 +113,7 @@ fn verdict_of(alloc: Global, assembly: &Assembly) -> Result<Verdict, AllocError>
     Ok(fifth)
 }
 
-/// The first place of the fourth rule that is broken.
+/// The first place at which the fourth rule is broken.
 fn ends_place(
     alloc: Global,
     sent: &[NameTable<Order<()>>],

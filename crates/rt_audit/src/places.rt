@@ -1,4 +1,4 @@
-//! Where a rule is broken first: the least actor, and of that the least line.
+//! The first place at which a rule is broken: the least actor, and of that the least line.
 
 ghost use Rattle.std.specs.Prelude.{◌≡◌, ◌<◌, ◌≤◌, IfOk, None, false};
 ghost use Rattle.rt_ids.specs.Assembly.{journal_of};
@@ -55,7 +55,7 @@ fn first_line(one: Option<usize>, other: Option<usize>) -> Option<usize>
     }
 }
 
-/// Where the first rule is broken first.
+/// The first place at which the first rule is broken.
 pub(crate) fn starts_place(
     alloc: Global,
     orders: &[NameTable<Order<()>>],
@@ -139,7 +139,7 @@ fn order_line(
     Ok(first_line(notes, links_line(assembly, actor)))
 }
 
-/// Where the second rule is broken first.
+/// The first place at which the second rule is broken.
 pub(crate) fn order_place(
     alloc: Global,
     orders: &[NameTable<Order<()>>],
@@ -158,7 +158,7 @@ pub(crate) fn order_place(
     Ok(None)
 }
 
-/// Where the third rule is broken first.
+/// The first place at which the third rule is broken.
 pub(crate) fn closes_place(assembly: &Assembly) -> Option<Place>
     ensures kept { result ≡ None → ClosesAreSound assembly.now }
     ensures only { ClosesAreSound assembly.now → result ≡ None }
@@ -209,7 +209,7 @@ fn outcomes_line(
     Ok(line)
 }
 
-/// Where the fourth rule is broken first.
+/// The first place at which the fourth rule is broken.
 pub(crate) fn outcomes_place(
     alloc: Global,
     orders: &[NameTable<Order<()>>],
@@ -229,7 +229,7 @@ pub(crate) fn outcomes_place(
     Ok(None)
 }
 
-/// Where the fifth rule is broken first.
+/// The first place at which the fifth rule is broken.
 pub(crate) fn picks_place(alloc: Global, assembly: &Assembly) -> Result<Option<Place>, AllocError>
     ensures kept { IfOk result (λ place. place ≡ None → PicksAreSound assembly.now) }
     ensures only { IfOk result (λ place. IsSpelled assembly.now → PicksAreSound assembly.now → place ≡ None) }

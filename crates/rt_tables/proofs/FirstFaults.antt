@@ -1,4 +1,4 @@
--- Where a note is at fault, not each note has the property.
+-- Not each note has the property, if one is at fault.
 use Rattle.std.proofs.Common.{ℕ, zero, suc, ◌-◌, [], ◌∷◌, length, drop, subst}
 use Rattle.rt_ids.specs.declared.note.Note.{Note}
 use Rattle.rt_ids.specs.Journal.{Journal, EachNote, at_place}
@@ -14,7 +14,7 @@ module _ {T : Type 0} (P : Note T → Journal T → Type 0) where
   pub each_before : (place : ℕ) (journal : Journal T) → EachNote P journal → EachNote P (at_place place journal)
   each_before place journal each = each_dropped (length journal - place) journal each
 
-  -- where there is a fault, not each note has the property
+  -- not each note has the property, if there is a fault
   pub fault_breaks : (journal : Journal T) (line : ℕ) → IsFirstFault P journal line → EachNote P journal → ⊥
   fault_breaks journal line fault each =
       let here = subst (λ (at : Journal T). EachNote P at) fault.there (each_before line journal each) in
