@@ -15,6 +15,9 @@ use std::marker::Model;
 /// The core that all orders here are for.
 pub const CORE: CoreNo = CoreNo(0);
 
+/// The outside actor of one core.
+pub const OUTSIDE: ActorNo = ActorNo(1);
+
 /// Whether these are the notes, the oldest first.
 pub fn tells(journal: &Journal<u64>, notes: &[Note<u64>]) -> bool {
     if journal.len() != notes.len() {
@@ -72,12 +75,20 @@ impl<I: InEnd<ScriptJob> + Drop> Receiver<I> {
             return false;
         }
         match self.core.pick() {
-            Ok(Turn::Start(_, _, job)) => {
-                drop(self.core.settle(Ran::poll(job, &mut NoPost), spent));
+            Ok(Turn::Start(name, _, job)) => {
+                if name.from != OUTSIDE {
+                    return false;
+                }
+                let ran = Ran::poll(job, &mut NoPost);
+                drop(self.core.settle(&mut self.end, name, ran, spent));
                 true
             }
-            Ok(Turn::Resume(_, _, job)) => {
-                drop(self.core.settle(Ran::poll(job, &mut NoPost), spent));
+            Ok(Turn::Resume(name, _, job)) => {
+                if name.from != OUTSIDE {
+                    return false;
+                }
+                let ran = Ran::poll(job, &mut NoPost);
+                drop(self.core.settle(&mut self.end, name, ran, spent));
                 true
             }
             _ => false,

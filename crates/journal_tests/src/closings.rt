@@ -4,8 +4,8 @@ ghost use Rattle.std.specs.Prelude.{◌≡◌, IfOk};
 ghost use Rattle.rt_jobs.specs.Ready.{HasReadyJob};
 ghost use Rattle.rt_link.specs.Whole.{fresh};
 
-use crate::actors::{CORE, Closing, Receiver, Sender};
-use crate::steps::{OUTSIDE, job, name};
+use crate::actors::{CORE, Closing, OUTSIDE, Receiver, Sender};
+use crate::steps::{job, name};
 use rt_ids::{ActorNo, Answer, Mode, Note, Order, QueueNo, Reason};
 use rt_jobs::{ScriptJob, Task};
 use rt_journal::{Recorded, RecordedDesk};

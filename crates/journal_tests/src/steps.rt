@@ -4,7 +4,7 @@ ghost use Rattle.std.specs.Prelude.{◌≡◌, IfOk};
 ghost use Rattle.rt_jobs.specs.Ready.{HasReadyJob};
 ghost use Rattle.rt_link.specs.Whole.{fresh};
 
-use crate::actors::{CORE, Caller, Receiver, Sender, tells};
+use crate::actors::{CORE, Caller, OUTSIDE, Receiver, Sender, tells};
 use rt_ids::{ActorNo, Answer, JobId, Note, Order, QueueNo};
 use rt_jobs::{ScriptJob, Task};
 use rt_journal::{Recorded, RecordedDesk};
@@ -14,8 +14,6 @@ use rt_shares::Shares;
 use std::alloc::{AllocError, Global};
 use std::process::Abort;
 use std::test::Fail;
-
-pub const OUTSIDE: ActorNo = ActorNo(1);
 
 /// The name of the submission of this number from the actor to core 0.
 pub fn name(from: u8, number: u64) -> JobId {

@@ -33,6 +33,16 @@ impl Tally {
         returned: 0,
     };
 
+    /// After one more pick.
+    pub(crate) fn picked(self) -> Tally
+        requires { self.selected + 1 < 2 ^ 64 }
+        ensures { result ≡ record self { selected = self.selected + 1 } }
+    {
+        let mut tally = self;
+        tally.selected += 1;
+        tally
+    }
+
     /// After a poll of this time under these shares, with so many more jobs done.
     pub(crate) fn charged(self, time: u64, shares: &Shares, done: u64) -> Tally
         requires runtime { self.runtime + 2 ^ 50 ≤ 2 ^ 128 }

@@ -34,3 +34,25 @@ pub enum Settled<T> {
     /// It is done, with the answer.
     Finished(T),
 }
+
+/// The job that the next pick takes out.
+#[derive(Clone, Copy)]
+pub struct Next {
+    pub queue: QueueNo,
+    /// The virtual runtime of its queue.
+    pub vr: u128,
+    pub name: JobId,
+    /// Whether it was polled before.
+    pub started: bool,
+}
+
+/// What the next pick would come to.
+#[derive(Clone, Copy)]
+pub enum Ahead {
+    /// This job goes out.
+    Job(Next),
+    /// A job is handed back. A pick does that.
+    Back,
+    /// No queue has work.
+    Idle,
+}

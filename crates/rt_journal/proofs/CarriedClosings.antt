@@ -9,8 +9,8 @@ use Rattle.rt_ids.specs.declared.note.Note.TheVariants as writes
 use Rattle.rt_ids.specs.declared.order.Order.TheVariants.{Close, CloseCore}
 use Rattle.rt_ids.specs.declared.order.Mode.{Mode}
 use Rattle.rt_ids.specs.declared.order.Answer.TheVariants as answers
+use Rattle.rt_ids.specs.declared.note.OutcomeNote.TheVariants as outcome
 use Rattle.rt_ids.specs.Journal.{Journal}
-use Rattle.rt_ids.specs.Filters.{given_outcomes}
 use Rattle.rt_ids.specs.Work.{number_if}
 use Rattle.rt_ids.specs.Closing.{closes, queue_mode, core_mode}
 use Rattle.rt_ids.specs.Commands.{created_count, IsAnswer}
@@ -22,7 +22,7 @@ use Rattle.rt_core.specs.Closing.{HasClosed}
 use Rattle.rt_journal.specs.Polls.{polls_made}
 use Rattle.rt_journal.specs.Agreement.{IsKept, Agrees}
 use Rattle.rt_journal.specs.Recorded.{RecordedView, terms_at}
-use Rattle.rt_journal.proofs.CarriedOut.{IsCarriedOut, IsOf, answered_more, counted_one, prefix-with_last}
+use Rattle.rt_journal.proofs.CarriedOut.{IsCarriedOut, IsOf, answered_more, counted_one}
 use Rattle.rt_journal.proofs.KeptAnswers.{agrees-answered, answered_stands}
 use Rattle.rt_journal.proofs.KeptClosings.{agrees-core_closed, agrees-queue_closed}
 
@@ -47,7 +47,7 @@ module _ {J T : Type 0} (old : RecordedView J T) (name : JobId)
 
   -- a queue is closed
   pub closes_queue : (queue : ℕ) (mode : Mode) → closes (mode_of queue old.core.queues) mode ≡ true → HasClosed middle queue mode core →
-      IsCarriedOut old name (Close queue mode) core (writes.QueueClosed queue mode ∷ writes.Answered name answers.Closed ∷ [])
+      IsCarriedOut old name (Close queue mode) (Some (outcome.Answered answers.Closed)) core (writes.QueueClosed queue mode ∷ writes.Answered name answers.Closed ∷ [])
   closes_queue queue mode changes has = record {
     kept = record {
       is_core = kept.is_core;
@@ -64,7 +64,8 @@ module _ {J T : Type 0} (old : RecordedView J T) (name : JobId)
     cores = ap (λ core. core.cores) has.rest;
     room = has.closed.same_room;
     out = ap (λ core. core.out) has.rest;
-    lists = record { sent = record { accepted = λ core. refl; outstanding = λ core. refl; collected = λ core. refl }; given = λ from. prefix-with_last (given_outcomes from journal) _; gates = λ from. refl };
+    lists = record { sent = record { accepted = λ core. refl; outstanding = λ core. refl; collected = λ core. refl }; gates = λ from. refl };
+    given = λ from. refl;
     delivered = counted_one old name kept next sender core;
     held = omega (arith, inside, answered_more old name kept next sender core answers.Closed);
     polls = unpolled;
@@ -92,7 +93,7 @@ module _ {J T : Type 0} (old : RecordedView J T) (name : JobId)
 
   -- the core is closed
   pub closes_core : (mode : Mode) → closes old.core.mode mode ≡ true → core ≡ record middle { mode = Some mode } →
-      IsCarriedOut old name (CloseCore mode) core (writes.CoreClosed mode ∷ writes.Answered name answers.Closed ∷ [])
+      IsCarriedOut old name (CloseCore mode) (Some (outcome.Answered answers.Closed)) core (writes.CoreClosed mode ∷ writes.Answered name answers.Closed ∷ [])
   closes_core mode changes is = record {
     kept = record {
       is_core = kept.is_core;
@@ -109,7 +110,8 @@ module _ {J T : Type 0} (old : RecordedView J T) (name : JobId)
     cores = ap (λ core. core.cores) is;
     room = ap (λ core. core.queues.room) is;
     out = ap (λ core. core.out) is;
-    lists = record { sent = record { accepted = λ core. refl; outstanding = λ core. refl; collected = λ core. refl }; given = λ from. prefix-with_last (given_outcomes from journal) _; gates = λ from. refl };
+    lists = record { sent = record { accepted = λ core. refl; outstanding = λ core. refl; collected = λ core. refl }; gates = λ from. refl };
+    given = λ from. refl;
     delivered = counted_one old name kept next sender core;
     held = omega (arith, ap inside_count is, answered_more old name kept next sender core answers.Closed);
     polls = unpolled;

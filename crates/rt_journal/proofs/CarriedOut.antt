@@ -14,7 +14,6 @@ use Rattle.rt_ids.specs.declared.order.Reason.{Reason}
 use Rattle.rt_ids.specs.declared.order.Answer.{Answer}
 use Rattle.rt_ids.specs.declared.order.Answer.TheVariants as answers
 use Rattle.rt_ids.specs.Journal.{Journal, EachNote, with_last}
-use Rattle.rt_ids.specs.Assembly.{IsPrefix}
 use Rattle.rt_ids.specs.Filters.{delivered_names, given_outcomes}
 use Rattle.rt_ids.specs.Work.{number_if}
 use Rattle.rt_ids.specs.Commands.{refusal, IsAnswer, has_effect}
@@ -29,6 +28,9 @@ use Rattle.rt_journal.specs.Deliveries.{IsDelivery, entry_note}
 use Rattle.rt_journal.specs.Agreement.{IsKept}
 use Rattle.rt_ids.specs.Joining.{DeliversAs}
 pub use Rattle.rt_journal.specs.Ends.{KeepsLists}
+use Rattle.rt_journal.specs.Ends.{GivesMore, told_under}
+use Rattle.rt_ids.specs.declared.note.OutcomeNote.{OutcomeNote}
+use Rattle.rt_ids.specs.declared.note.OutcomeNote.TheVariants as outcome
 use Rattle.rt_journal.specs.Recorded.{RecordedView, terms_at, sum_upto, delivered_count, given_count}
 use Rattle.rt_journal.proofs.KeptDeliveries.{kept-took}
 use Rattle.rt_journal.proofs.KeptAnswers.{kept-back, kept-answered}
@@ -40,13 +42,14 @@ abbrev pub IsOf : {J : Type 0} → JobId → Order J → ℕ → JobId × Bool �
 IsOf name order queue entry = (entry.0 ≡ name) × (order ≡ Job queue entry.2)
 
 -- what a core did with an order: these notes, and at the end of a line the job, if it is one that enters
-pub record IsCarriedOut {J T : Type 0} (old : RecordedView J T) (name : JobId) (order : Order J) (core : CoreView J) (written : List (Note T)) : Type 0 where
+pub record IsCarriedOut {J T : Type 0} (old : RecordedView J T) (name : JobId) (order : Order J) (told : Option (OutcomeNote T)) (core : CoreView J) (written : List (Note T)) : Type 0 where
   pub kept : IsKept (terms_at old) core (written ++ old.journal.notes)
   pub number : core.core ≡ old.core.core
   pub cores : core.cores ≡ old.core.cores
   pub room : core.queues.room ≡ old.core.queues.room
   pub out : core.out ≡ old.core.out
   pub lists : KeepsLists old.journal.notes (written ++ old.journal.notes)
+  pub given : GivesMore (told_under name told) old.journal.notes (written ++ old.journal.notes)
   pub delivered : (sender : ℕ) → delivered_count (written ++ old.journal.notes) sender ≡ delivered_count old.journal.notes sender + number_if (name.from == sender)
   pub held : inside_count core + sum_upto (given_count (written ++ old.journal.notes)) old.core.cores
       ≤ inside_count old.core + sum_upto (given_count old.journal.notes) old.core.cores + 1
@@ -58,10 +61,6 @@ pub record IsCarriedOut {J T : Type 0} (old : RecordedView J T) (name : JobId) (
   pub lines : (queue : ℕ) → waiting_of queue core.queues ≡ waiting_of queue old.core.queues ++ more queue
   pub came : (queue : ℕ) → All (IsOf name order queue) (more queue)
   pub few : length written ≤ 2
-
-pub prefix-with_last : {A : Type 0} (items : List A) (more : Option A) → IsPrefix items (with_last items more)
-prefix-with_last items None = ([], append-nil items)
-prefix-with_last items (Some item) = (item ∷ [], refl)
 
 no_polls : {T : Type 0} (which : JobId) (journal : Journal T) → polls_made which journal + 0 ≡ polls_made which journal
 no_polls which journal = add-zero (polls_made which journal)
@@ -81,12 +80,11 @@ module _ {J T : Type 0} (old : RecordedView J T) (name : JobId)
   took_lists : (queue : ℕ) → KeepsLists journal (writes.Took name queue ∷ journal)
   took_lists queue = record {
     sent = record { accepted = λ core. refl; outstanding = λ core. refl; collected = λ core. refl };
-    given = λ sender. ([], append-nil (given_outcomes sender journal));
     gates = λ sender. refl;
   }
 
   -- a job that isn't refused enters its queue
-  pub enters_queue : (queue : ℕ) (job : J) → refusal queue journal ≡ None → Enters old.core name queue job core → IsCarriedOut old name (Job queue job) core (writes.Took name queue ∷ [])
+  pub enters_queue : (queue : ℕ) (job : J) → refusal queue journal ≡ None → Enters old.core name queue job core → IsCarriedOut old name (Job queue job) None core (writes.Took name queue ∷ [])
   enters_queue queue job accepted enters = record {
     kept = kept-took (terms_at old) old.core core name queue job journal kept next sender enters accepted;
     number = ap (λ core. core.core) enters.rest;
@@ -94,6 +92,7 @@ module _ {J T : Type 0} (old : RecordedView J T) (name : JobId)
     room = enters.line.same_room;
     out = ap (λ core. core.out) enters.rest;
     lists = took_lists queue;
+    given = λ from. refl;
     delivered = counted_one;
     held = omega (arith, inside, enters.line.held, length-append (waiting_of queue old.core.queues) ((name, false, job) ∷ []));
     polls = λ which. no_polls which journal;
@@ -131,14 +130,15 @@ module _ {J T : Type 0} (old : RecordedView J T) (name : JobId)
     alone_line queue = ap (λ core. waiting_of queue core.queues) counts ∙ sym (append-nil (waiting_of queue old.core.queues))
 
     -- a job that is refused goes back
-    pub goes_back : (queue : ℕ) (job : J) (reason : Reason) → refusal queue journal ≡ Some reason → IsCarriedOut old name (Job queue job) core (writes.Back name reason ∷ [])
+    pub goes_back : (queue : ℕ) (job : J) (reason : Reason) → refusal queue journal ≡ Some reason → IsCarriedOut old name (Job queue job) (Some (outcome.Returned reason)) core (writes.Back name reason ∷ [])
     goes_back queue job reason refused = record {
       kept = kept-back (terms_at old) old.core core name journal kept next sender counts queue reason refused;
       number = ap (λ core. core.core) counts;
       cores = ap (λ core. core.cores) counts;
       room = ap (λ core. core.queues.room) counts;
       out = ap (λ core. core.out) counts;
-      lists = record { sent = record { accepted = λ core. refl; outstanding = λ core. refl; collected = λ core. refl }; given = λ from. prefix-with_last (given_outcomes from journal) _; gates = λ from. refl };
+      lists = record { sent = record { accepted = λ core. refl; outstanding = λ core. refl; collected = λ core. refl }; gates = λ from. refl };
+      given = λ from. refl;
       delivered = counted_one;
       held = omega (arith, ap inside_count counts, given_more);
       polls = λ which. no_polls which journal;
@@ -156,14 +156,15 @@ module _ {J T : Type 0} (old : RecordedView J T) (name : JobId)
 
     -- a command is answered, and nothing else is done
     pub answers_alone : (order : Order J) (answer : Answer) → IsAnswer (without_job order) answer journal → has_effect answer ≡ false →
-        IsDelivery name order journal (writes.Answered name answer ∷ []) → IsCarriedOut old name order core (writes.Answered name answer ∷ [])
+        IsDelivery name order journal (writes.Answered name answer ∷ []) → IsCarriedOut old name order (Some (outcome.Answered answer)) core (writes.Answered name answer ∷ [])
     answers_alone order answer right plain delivery = record {
       kept = kept-answered (terms_at old) old.core core name journal kept next sender counts (without_job order) answer right plain;
       number = ap (λ core. core.core) counts;
       cores = ap (λ core. core.cores) counts;
       room = ap (λ core. core.queues.room) counts;
       out = ap (λ core. core.out) counts;
-      lists = record { sent = record { accepted = λ core. refl; outstanding = λ core. refl; collected = λ core. refl }; given = λ from. prefix-with_last (given_outcomes from journal) _; gates = λ from. refl };
+      lists = record { sent = record { accepted = λ core. refl; outstanding = λ core. refl; collected = λ core. refl }; gates = λ from. refl };
+      given = λ from. refl;
       delivered = counted_one;
       held = omega (arith, ap inside_count counts, answered_more answer);
       polls = λ which. no_polls which journal;
@@ -177,14 +178,15 @@ module _ {J T : Type 0} (old : RecordedView J T) (name : JobId)
 
   -- a queue is created
   pub creates_queue : (queue weight : ℕ) → InRange weight → queue ≡ queue_count old.core.queues → Creates old.core weight core → core.delivered ≡ counted name old.core →
-      IsCarriedOut old name (Create weight) core (writes.Created queue weight ∷ writes.Answered name (answers.Created queue) ∷ [])
+      IsCarriedOut old name (Create weight) (Some (outcome.Answered (answers.Created queue))) core (writes.Created queue weight ∷ writes.Answered name (answers.Created queue) ∷ [])
   creates_queue queue weight in_range number_is creates now = record {
     kept = answered.1;
     number = ap (λ core. core.core) creates.rest;
     cores = ap (λ core. core.cores) creates.rest;
     room = creates.added.same_room;
     out = ap (λ core. core.out) creates.rest;
-    lists = record { sent = record { accepted = λ core. refl; outstanding = λ core. refl; collected = λ core. refl }; given = λ from. prefix-with_last (given_outcomes from journal) _; gates = λ from. refl };
+    lists = record { sent = record { accepted = λ core. refl; outstanding = λ core. refl; collected = λ core. refl }; gates = λ from. refl };
+    given = λ from. refl;
     delivered = counted_one;
     held = omega (arith, inside, answered_more (answers.Created queue));
     polls = λ which. no_polls_twice which journal;
@@ -206,14 +208,15 @@ module _ {J T : Type 0} (old : RecordedView J T) (name : JobId)
 
   -- a queue gets shares
   pub sets_shares : (queue weight : ℕ) → InRange weight → Weighs old.core queue weight core → core.delivered ≡ counted name old.core →
-      IsCarriedOut old name (SetShares queue weight) core (writes.SharesSet queue weight ∷ writes.Answered name answers.SharesSet ∷ [])
+      IsCarriedOut old name (SetShares queue weight) (Some (outcome.Answered answers.SharesSet)) core (writes.SharesSet queue weight ∷ writes.Answered name answers.SharesSet ∷ [])
   sets_shares queue weight in_range weighs now = record {
     kept = answered.1;
     number = ap (λ core. core.core) weighs.rest;
     cores = ap (λ core. core.cores) weighs.rest;
     room = weighs.shares.same_room;
     out = ap (λ core. core.out) weighs.rest;
-    lists = record { sent = record { accepted = λ core. refl; outstanding = λ core. refl; collected = λ core. refl }; given = λ from. prefix-with_last (given_outcomes from journal) _; gates = λ from. refl };
+    lists = record { sent = record { accepted = λ core. refl; outstanding = λ core. refl; collected = λ core. refl }; gates = λ from. refl };
+    given = λ from. refl;
     delivered = counted_one;
     held = omega (arith, inside, answered_more answers.SharesSet);
     polls = λ which. no_polls_twice which journal;

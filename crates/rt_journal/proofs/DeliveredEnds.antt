@@ -1,30 +1,37 @@
 -- The ends of links stay beside a core and its journal as an order is delivered.
-use Rattle.std.proofs.Common.{◌≡◌, ℕ, suc, ◌+◌, ◌<◌, ◌≤◌, Bool, true, false, List, [], ◌∷◌, length, refl, sym, ◌∙◌, ap, subst, ◌⊎◌, ⊎_elim, arith}
-use Rattle.std.specs.Prelude.{◌==◌, Some, None, slice_get}
+use Rattle.std.proofs.Common.{◌≡◌, ℕ, suc, ◌+◌, ◌<◌, Bool, true, false, cond, List, [], ◌∷◌, length, refl, sym, ◌∙◌, ap, subst, ◌⊎◌, ⊎_elim, arith}
+use Rattle.std.specs.Prelude.{◌==◌, Option, Some, None, slice_get}
+use Rattle.std.specs.Option.{option_map}
 use Rattle.std.proofs.lemmas.Bool.{eq-eqb, ne_eqb}
-use Rattle.std.proofs.lemmas.List.{length-append}
 use Rattle.rt_ids.specs.declared.names.JobId.{JobId}
 use Rattle.rt_ids.specs.declared.order.Envelope.{Envelope}
 use Rattle.rt_ids.specs.declared.order.Order.{Order}
 use Rattle.rt_ids.specs.declared.order.Outcome.{Outcome}
-use Rattle.rt_ids.specs.Assembly.{IsPrefix}
+use Rattle.rt_ids.specs.declared.note.OutcomeNote.{OutcomeNote}
+use Rattle.rt_ids.specs.Journal.{with_last}
+use Rattle.rt_ids.specs.Outcomes.{outcome_note}
 use Rattle.rt_ids.specs.Closing.{IsCounted, final_count}
 use Rattle.rt_ids.specs.Filters.{given_outcomes}
 use Rattle.rt_ids.specs.Work.{number_if}
 use Rattle.rt_link.specs.declared.ends.Inward.{Inward}
-use Rattle.rt_link.specs.Ends.{SoundIn}
+use Rattle.rt_link.specs.Ends.{SoundIn, AreNamed}
 use Rattle.rt_link.specs.Calls.{Takes, final_of}
 use Rattle.rt_journal.specs.Recorded.{RecordedView, desk_of, order_taken, delivered_count, given_count}
-use Rattle.rt_journal.specs.Ends.{IsInOf, KeepsIn, IsSameSeat, named_outcomes}
+use Rattle.rt_journal.specs.Ends.{IsInOf, IsInOwing, IsUngiven, GivesMore, told_under, KeepsIn, IsSameSeat, named_outcomes}
 use Rattle.rt_journal.specs.Steps.{IsNextIn, Receives}
 use Rattle.rt_journal.proofs.TakenOrders.{order_taken-parts}
-use Rattle.rt_journal.proofs.EndsKept.{keeps_in, prefix-along, slice_get-seen}
+use Rattle.rt_journal.proofs.EndsKept.{keeps_in, slice_get-seen}
 use Rattle.rt_journal.specs.Ends.{KeepsOuts}
 use Rattle.rt_journal.proofs.EndsKept.{keeps_outs, sees_more_in, final_of-more}
 
 length-named : {J T : Type 0} (sender core : ℕ) (outcomes : List (ℕ × Outcome J T)) → length (named_outcomes sender core outcomes) ≡ length outcomes
 length-named sender core [] = refl
 length-named sender core (outcome ∷ rest) = ap suc (length-named sender core rest)
+
+-- what is told under a name is told to its sender alone
+pub told_elsewhere : {T : Type 0} (name : JobId) (what : Option (OutcomeNote T)) (sender : ℕ) → (sender ≡ name.from → ⊥) → told_under name what sender ≡ None
+told_elsewhere name None sender away = refl
+told_elsewhere name (Some what) sender away = ap (λ test. cond test (Some (name, what)) None) (ne_eqb name.from sender (λ one. away (sym one)))
 
 -- an end that shows one more has its name next, and a place for it
 pub next_in : {J T : Type 0} (view : RecordedView J T) (before after : Inward J T) (envelope : Envelope J) → IsInOf before.from view before →
@@ -50,16 +57,15 @@ next_in view before after envelope is takes sound = record {
 
     left : delivered_count view.journal.notes before.from < given_count view.journal.notes before.from + view.cap
     left =
-        let told = is.given in
-        let told_more : length (named_outcomes before.from view.core.core before.given) ≤ given_count view.journal.notes before.from =
-        omega (arith, ap length told.1, length-append (named_outcomes before.from view.core.core before.given) told.0) in
+        let told_more : length (named_outcomes before.from view.core.core before.given) ≡ given_count view.journal.notes before.from = sym (ap length is.given) in
         let counted : length (named_outcomes before.from view.core.core before.given) ≡ length before.given = length-named before.from view.core.core before.given in
         let same_given : length after.given ≡ length before.given = ap (λ end. length end.given) takes.0 in
         let same_capacity : after.capacity ≡ before.capacity = ap (λ end. end.capacity) takes.0 in
         let one_more : after.taken ≡ before.taken + 1 = ap (λ end. end.taken) takes.0 in
         omega (arith, is.taken, is.capacity, sound.room, sound.behind, told_more, same_given, same_capacity, one_more, counted)
 
-module _ {J T : Type 0} (old new : RecordedView J T) (envelope : Envelope J) (next : IsNextIn old envelope.name) (did : Receives old envelope new) (seat : IsSameSeat old new) where
+module _ {J T : Type 0} (old new : RecordedView J T) (envelope : Envelope J) (next : IsNextIn old envelope.name) (did : Receives old envelope new) (seat : IsSameSeat old new)
+    (outcome : Option (Outcome J T)) (gives : GivesMore (told_under envelope.name (option_map outcome_note outcome)) old.journal.notes new.journal.notes) where
   abbrev name : JobId
   name = envelope.name
 
@@ -70,7 +76,7 @@ module _ {J T : Type 0} (old new : RecordedView J T) (envelope : Envelope J) (ne
   -- the ends of other senders stay
   pub others_keep : (sender : ℕ) → (sender ≡ name.from → ⊥) → KeepsIn sender old new
   others_keep sender other =
-      keeps_in old new seat sender (did.lists.given sender) (did.lists.gates sender)
+      keeps_in old new seat sender None (gives sender ∙ ap (with_last (given_outcomes sender old.journal.notes)) (told_elsewhere name (option_map outcome_note outcome) sender other)) (did.lists.gates sender) (λ inward is. tt)
       (let none : number_if (name.from == sender) ≡ 0 = ap number_if (ne_eqb name.from sender (λ one. other (sym one))) in omega (arith, did.delivered sender, none))
       (λ which order from at. ⊎_elim (λ was. was) (λ last. absurd (other (sym from ∙ ap (λ id. id.from) last.0))) (parts which order at))
 
@@ -81,9 +87,30 @@ module _ {J T : Type 0} (old new : RecordedView J T) (envelope : Envelope J) (ne
   counted_here : delivered_count new.journal.notes name.from ≡ delivered_count old.journal.notes name.from + 1
   counted_here = did.delivered name.from ∙ ap (λ test. delivered_count old.journal.notes name.from + number_if test) (eq-eqb name.from name.from refl)
 
-  -- the end of this sender has one more taken
-  here_keeps : (before after : Inward J T) → IsInOf name.from old before → Takes before after (Some envelope) → SoundIn after → IsInOf name.from new after
-  here_keeps before after is takes sound = record {
+  abbrev owed : Option (JobId × OutcomeNote T)
+  owed = told_under name (option_map outcome_note outcome) name.from
+
+  -- each outcome that was given has the number of an order before this one
+  not_yet : (before after : Inward J T) → Takes before after (Some envelope) → AreNamed before.base before.taken before.given → IsUngiven owed after.given
+  not_yet before after takes named = by_outcome outcome
+    where
+      below : (place : ℕ) (given : ℕ × Outcome J T) → slice_get after.given place ≡ Some given → given.0 ≡ name.number → ⊥
+      below place given at same =
+          let within = named.0 place given (ap (λ end. slice_get end.given place) (sym takes.0) ∙ at) in
+          omega (arith, within.1, same, ap (λ name. name.number) takes.2)
+
+      by_test : (test : Bool) (what : OutcomeNote T) → IsUngiven (cond test (Some (name, what)) None) after.given
+      by_test true what = below
+      by_test false what = tt
+
+      by_outcome : (outcome : Option (Outcome J T)) → IsUngiven (told_under name (option_map outcome_note outcome) name.from) after.given
+      by_outcome None = tt
+      by_outcome (Some outcome) = by_test (name.from == name.from) (outcome_note outcome)
+
+  -- the end of this sender has one more taken, and owes its outcome, if there is one yet
+  here_keeps : (before after : Inward J T) → IsInOf name.from old before → Takes before after (Some envelope) → SoundIn after → AreNamed before.base before.taken before.given →
+      IsInOwing name.from owed new after
+  here_keeps before after is takes sound named = record {
     known = rw seat.cores next.sender;
     from = ap (λ end. end.from) takes.0 ∙ is.from;
     to = ap (λ end. end.to) takes.0 ∙ (is.to ∙ sym seat.number);
@@ -92,8 +119,8 @@ module _ {J T : Type 0} (old new : RecordedView J T) (envelope : Envelope J) (ne
     gate = did.lists.gates name.from ∙ (is.gate ∙ final_of-more before after (ap (λ end. end.base) takes.0) (ap (λ end. end.shut) takes.0) takes.1.1);
     taken = counted_here ∙ (ap (λ count. count + 1) is.taken ∙ sym (ap (λ end. end.taken) takes.0));
     behind = sound.behind;
-    given = subst (λ number. IsPrefix (named_outcomes name.from number after.given) (given_outcomes name.from new.journal.notes)) (sym seat.number)
-        (subst (λ given. IsPrefix (named_outcomes name.from old.core.core given) (given_outcomes name.from new.journal.notes)) (sym (ap (λ end. end.given) takes.0)) (prefix-along _ _ _ is.given (did.lists.given name.from)));
+    given = gives name.from ∙ ap (λ told. with_last told owed) (is.given ∙ (λ i. named_outcomes name.from (sym seat.number i) (sym takes.0 i).given));
+    ungiven = not_yet before after takes named;
     orders = λ which order from at. ⊎_elim (was which order from) (last which order) (parts which order at);
   }
     where
@@ -112,11 +139,11 @@ module _ {J T : Type 0} (old new : RecordedView J T) (envelope : Envelope J) (ne
         takes.3 ∙ ap Some at.1,
       )
 
-  -- the same, in the words of the end
-  pub beside_keeps : (before after : Inward J T) → IsInOf before.from old before → Takes before after (Some envelope) → SoundIn after → IsInOf before.from new after
-  beside_keeps before after is takes sound =
-      let from_is : name.from ≡ before.from = ap (λ id. id.from) takes.2 in
-      subst (λ from. IsInOf from new after) from_is (here_keeps before after (subst (λ from. IsInOf from old before) (sym from_is) is) takes sound)
+  -- the same of an end that was beside its core
+  pub beside_owes : (before after : Inward J T) → IsInOf before.from old before → Takes before after (Some envelope) → SoundIn after → AreNamed before.base before.taken before.given →
+      IsInOwing name.from owed new after
+  beside_owes before after is takes sound named =
+      here_keeps before after (subst (λ from. IsInOf from old before) (sym (ap (λ id. id.from) takes.2)) is) takes sound named
 
   pub rest_keep : (before after : Inward J T) → Takes before after (Some envelope) → (sender : ℕ) → (sender ≡ before.from → ⊥) → KeepsIn sender old new
   rest_keep before after takes sender other = others_keep sender (λ one. other (one ∙ ap (λ id. id.from) takes.2))

@@ -1,8 +1,10 @@
 -- The ends of links beside a journal that grows.
-use Rattle.std.proofs.Common.{◌≡◌, ℕ, zero, suc, ◌+◌, ◌≤◌, List, [], ◌∷◌, ◌++◌, length, append_assoc, refl, sym, ◌∙◌, ap, subst, arith}
-use Rattle.std.specs.Prelude.{Some, slice_get, take, Bool, true, false}
+use Rattle.std.proofs.Common.{◌≡◌, ℕ, zero, suc, ◌+◌, ◌≤◌, List, [], ◌∷◌, ◌++◌, length, append_assoc, refl, sym, ◌∙◌, ap, arith}
+use Rattle.std.specs.Prelude.{Option, Some, slice_get, take, Bool, true, false}
 use Rattle.std.proofs.lemmas.List.{length-append, take-append-le}
 use Rattle.rt_ids.specs.declared.names.JobId.{JobId}
+use Rattle.rt_ids.specs.declared.note.OutcomeNote.{OutcomeNote}
+use Rattle.rt_ids.specs.Journal.{with_last}
 use Rattle.rt_ids.specs.declared.order.Order.{Order}
 use Rattle.rt_ids.specs.Assembly.{IsPrefix}
 use Rattle.rt_ids.specs.Filters.{given_outcomes}
@@ -14,7 +16,7 @@ use Rattle.rt_link.specs.Calls.{SeesMore, final_of}
 use Rattle.rt_journal.specs.Orders.{numbered_orders}
 use Rattle.rt_journal.specs.Submissions.{DeskView}
 use Rattle.rt_journal.specs.Recorded.{RecordedView, order_taken, delivered_count}
-use Rattle.rt_journal.specs.Ends.{IsOutOf, IsInOf, KeepsSent, KeepsOuts, KeepsIn, ShowsMore, IsSameSeat, named_outcomes}
+use Rattle.rt_journal.specs.Ends.{IsOutOf, IsInOf, KeepsSent, KeepsOuts, LeavesOwed, IsUngiven, ShowsMore, IsSameSeat, named_outcomes}
 
 pub prefix-along : {A : Type 0} (a b c : List A) → IsPrefix a b → IsPrefix b c → IsPrefix a c
 prefix-along a b c one two = (one.0 ++ two.0, sym (append_assoc a one.0 two.0) ∙ (ap (λ front. front ++ two.0) one.1 ∙ two.1))
@@ -45,12 +47,12 @@ keeps_outs old new rest sent core = record {
 }
 
 module _ {J T : Type 0} (old new : RecordedView J T) (seat : IsSameSeat old new) (sender : ℕ)
-    (given : IsPrefix (given_outcomes sender old.journal.notes) (given_outcomes sender new.journal.notes))
-    (gates : final_count sender new.journal.notes ≡ final_count sender old.journal.notes) where
-  -- a step by which nothing of a sender is delivered leaves the end of that sender as it is
+    (owed : Option (JobId × OutcomeNote T)) (given : given_outcomes sender new.journal.notes ≡ with_last (given_outcomes sender old.journal.notes) owed)
+    (gates : final_count sender new.journal.notes ≡ final_count sender old.journal.notes) (ungiven : (inward : Inward J T) → IsInOf sender old inward → IsUngiven owed inward.given) where
+  -- a step by which nothing of a sender is delivered leaves the end of that sender as it is, or owing
   pub keeps_in : delivered_count new.journal.notes sender ≡ delivered_count old.journal.notes sender →
       ((name : JobId) (order : Order J) → name.from ≡ sender → order_taken new.took name ≡ Some order → order_taken old.took name ≡ Some order) →
-      KeepsIn sender old new
+      LeavesOwed sender owed old new
   keeps_in same back = record {
     each = λ inward is. record {
       known = rw seat.cores is.known;
@@ -61,7 +63,8 @@ module _ {J T : Type 0} (old new : RecordedView J T) (seat : IsSameSeat old new)
       gate = gates ∙ is.gate;
       taken = same ∙ is.taken;
       behind = is.behind;
-      given = subst (λ number. IsPrefix (named_outcomes sender number inward.given) (given_outcomes sender new.journal.notes)) (sym seat.number) (prefix-along _ _ _ is.given given);
+      given = given ∙ (ap (λ told. with_last told owed) is.given ∙ ap (λ number. with_last (named_outcomes sender number inward.given) owed) (sym seat.number));
+      ungiven = ungiven inward is;
       orders = λ name order from at.
           let found = is.orders name order from (back name order from at) in
           (found.0, found.1 ∙ ap (λ number. record { from = sender; to = number; number = found.0 + 1 }) (sym seat.number), found.2);
@@ -89,7 +92,8 @@ sees_more_in sender view old new rest more is = record {
   gate = is.gate ∙ final_of-more old new (ap (λ end. end.base) rest) (ap (λ end. end.shut) rest) more.1;
   taken = is.taken ∙ sym (ap (λ end. end.taken) rest);
   behind = omega (arith, is.behind, ap (λ end. end.taken) rest, ap length more.0.1, length-append old.seen more.0.0);
-  given = subst (λ given. IsPrefix (named_outcomes sender view.core.core given) (given_outcomes sender view.journal.notes)) (sym (ap (λ end. end.given) rest)) is.given;
+  given = is.given ∙ ap (named_outcomes sender view.core.core) (sym (ap (λ end. end.given) rest));
+  ungiven = tt;
   orders = λ name order from at.
       let found = is.orders name order from at in (found.0, found.1, slice_get-seen new.seen old.seen more.0 found.0 order found.2);
 }

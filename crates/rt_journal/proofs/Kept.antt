@@ -1,22 +1,23 @@
 -- A core that agrees with a journal in which each note may stand, and what follows for a note that changes nothing of the core.
-use Rattle.std.proofs.Common.{◌≡◌, ℕ, ◌+◌, Bool, true, false, List, [], ◌∷◌, length, refl, sym, ◌∙◌, ap, subst, arith, add-zero}
-use Rattle.std.specs.Prelude.{Option, Some, None, nat_lt, ◌||◌}
+use Rattle.std.proofs.Common.{◌≡◌, ℕ, ◌+◌, ◌≤◌, Bool, true, false, List, [], ◌∷◌, length, refl, sym, ◌∙◌, ap, subst, arith, add-zero}
+use Rattle.std.specs.Prelude.{Option, Some, None, nat_lt, slice_index_or, ◌||◌}
 use Rattle.std.proofs.lemmas.Bool.{lt-ltb}
 use Rattle.rt_ids.specs.Terms.{Terms}
 use Rattle.rt_ids.specs.declared.names.JobId.{JobId}
 use Rattle.rt_ids.specs.declared.note.Note.{Note}
 use Rattle.rt_ids.specs.declared.note.Note.TheVariants as writes
 use Rattle.rt_ids.specs.declared.order.Order.{Order}
+use Rattle.rt_ids.specs.declared.order.Mode.{Mode}
 use Rattle.rt_ids.specs.declared.order.Reason.{Reason}
 use Rattle.rt_ids.specs.declared.order.Answer.{Answer}
 use Rattle.rt_ids.specs.Journal.{Journal, EachNote}
-use Rattle.rt_ids.specs.Filters.{name_started}
-use Rattle.rt_ids.specs.Runtimes.{virtual_runtime, floor, charge_noted, runtime_picked}
+use Rattle.rt_ids.specs.Filters.{name_started, delivered_names}
+use Rattle.rt_ids.specs.Runtimes.{virtual_runtime, shares, floor, charge_noted, runtime_picked}
 use Rattle.rt_ids.specs.Names.{is_number}
 use Rattle.rt_ids.specs.Work.{has_work, number_if, queue_entered, queue_joined}
 use Rattle.rt_ids.specs.Lines.{line, queue_out, name_joining, name_leaving, name_polled, name_settled}
 use Rattle.rt_ids.specs.Clauses.{queue_just_picked}
-use Rattle.rt_ids.specs.Commands.{effect_awaited}
+use Rattle.rt_ids.specs.Commands.{created_count, effect_awaited}
 use Rattle.rt_ids.specs.Picks.{pick_count, turns}
 use Rattle.rt_ids.specs.Lawful.{MayFollow, MayWrite, MayStand, takes_turn, IsEffectDue}
 use Rattle.rt_ids.proofs.WorkOfLines.{has_work-line}
@@ -27,7 +28,7 @@ use Rattle.rt_taskqueue.specs.Queues.{waiting_of}
 use Rattle.rt_core.specs.State.{CoreView, JobOut, is_working, is_any, runtime_of}
 use Rattle.rt_core.specs.State as state
 pub use Rattle.rt_journal.specs.Agreement.{IsKept}
-use Rattle.rt_journal.specs.Agreement.{Agrees, IsJobOut, AreMarked, names_of}
+use Rattle.rt_journal.specs.Agreement.{Agrees, AgreesOnClosing, IsJobOut, AreMarked, names_of}
 
 -- a note that takes no turn and is no effect may stand where nothing is awaited
 pub plainly_stands : {T : Type 0} (terms : Terms) (note : Note T) (before : Journal T) → MayWrite terms note → MayFollow terms note before →
@@ -112,73 +113,59 @@ module _ {J T : Type 0} (note : Note T) (before : Journal T) (calm : IsCalm note
     out = subst (λ out. IsJobOut out (note ∷ before)) (sym same.out) (out-calm old.out agrees.out);
   }
 
+-- a note that reads so is calm
+calm_of : {T : Type 0} (note : Note T) (before : Journal T) → ((queue : ℕ) → name_joining queue note before ≡ None) → name_leaving note ≡ None → name_polled note ≡ None → name_settled note ≡ None →
+    queue_joined note ≡ None → ((name : JobId) → queue_entered name note ≡ None) → ((queue : ℕ) → charge_noted queue note before ≡ 0) → runtime_picked note ≡ 0 → pick_count note ≡ 0 → name_started note ≡ None →
+    IsCalm note before
+calm_of note before joins leaves polls settles enters takes costs picks no_turn starts =
+    record { joins = joins; leaves = leaves; polls = polls; settles = settles; enters = enters; takes = takes; costs = costs; picks = picks; no_turn = no_turn; starts = starts }
+
 module _ {T : Type 0} (before : Journal T) where
   pub calm_sent : (name : JobId) (order : Order (Unit {0})) → IsCalm (writes.Sent name order) before
-  calm_sent name order = record {
-    joins = λ queue. refl;
-    leaves = refl;
-    polls = refl;
-    settles = refl;
-    enters = refl;
-    takes = λ name. refl;
-    costs = λ queue. refl;
-    picks = refl;
-    no_turn = refl;
-    starts = refl;
-  }
+  calm_sent name order = calm_of (writes.Sent name order) before (λ queue. refl) refl refl refl refl (λ which. refl) (λ queue. refl) refl refl refl
 
   pub calm_back : (name : JobId) (reason : Reason) → IsCalm (writes.Back name reason) before
-  calm_back name reason = record {
-    joins = λ queue. refl;
-    leaves = refl;
-    polls = refl;
-    settles = refl;
-    enters = refl;
-    takes = λ name. refl;
-    costs = λ queue. refl;
-    picks = refl;
-    no_turn = refl;
-    starts = refl;
-  }
+  calm_back name reason = calm_of (writes.Back name reason) before (λ queue. refl) refl refl refl refl (λ which. refl) (λ queue. refl) refl refl refl
 
   pub calm_answered : (name : JobId) (answer : Answer) → IsCalm (writes.Answered name answer) before
-  calm_answered name answer = record {
-    joins = λ queue. refl;
-    leaves = refl;
-    polls = refl;
-    settles = refl;
-    enters = refl;
-    takes = λ name. refl;
-    costs = λ queue. refl;
-    picks = refl;
-    no_turn = refl;
-    starts = refl;
-  }
+  calm_answered name answer = calm_of (writes.Answered name answer) before (λ queue. refl) refl refl refl refl (λ which. refl) (λ queue. refl) refl refl refl
 
   pub calm_created : (queue weight : ℕ) → IsCalm (writes.Created queue weight) before
-  calm_created queue weight = record {
-    joins = λ queue. refl;
-    leaves = refl;
-    polls = refl;
-    settles = refl;
-    enters = refl;
-    takes = λ name. refl;
-    costs = λ queue. refl;
-    picks = refl;
-    no_turn = refl;
-    starts = refl;
-  }
+  calm_created queue weight = calm_of (writes.Created queue weight) before (λ queue. refl) refl refl refl refl (λ which. refl) (λ queue. refl) refl refl refl
 
   pub calm_weighed : (queue weight : ℕ) → IsCalm (writes.SharesSet queue weight) before
-  calm_weighed queue weight = record {
-    joins = λ queue. refl;
-    leaves = refl;
-    polls = refl;
-    settles = refl;
-    enters = refl;
-    takes = λ name. refl;
-    costs = λ queue. refl;
-    picks = refl;
-    no_turn = refl;
-    starts = refl;
-  }
+  calm_weighed queue weight = calm_of (writes.SharesSet queue weight) before (λ queue. refl) refl refl refl refl (λ which. refl) (λ queue. refl) refl refl refl
+
+  pub calm_core_closed : (mode : Mode) → IsCalm (writes.CoreClosed mode) before
+  calm_core_closed mode = calm_of (writes.CoreClosed mode) before (λ queue. refl) refl refl refl refl (λ which. refl) (λ queue. refl) refl refl refl
+
+  pub calm_queue_closed : (queue : ℕ) (mode : Mode) → IsCalm (writes.QueueClosed queue mode) before
+  calm_queue_closed queue mode = calm_of (writes.QueueClosed queue mode) before (λ queue. refl) refl refl refl refl (λ which. refl) (λ queue. refl) refl refl refl
+
+  pub calm_shut : (from count : ℕ) → IsCalm (writes.Shut from count) before
+  calm_shut from count = calm_of (writes.Shut from count) before (λ queue. refl) refl refl refl refl (λ which. refl) (λ queue. refl) refl refl refl
+
+-- a core that has only counted a delivery, shut a gate or closed agrees with a calm note that creates nothing and sets no shares
+pub agrees_unmoved : {J T : Type 0} (old : CoreView J) (journal : Journal T) (note : Note T) → Agrees old journal → IsCalm note journal →
+    created_count (note ∷ journal) ≡ created_count journal → ((queue : ℕ) → shares queue (note ∷ journal) ≡ shares queue journal) →
+    (delivered : List ℕ) → length delivered ≡ old.cores + 1 → ((sender : ℕ) → sender ≤ old.cores → slice_index_or delivered sender 0 ≡ length (delivered_names sender (note ∷ journal))) →
+    (gates : List (Option ℕ)) (mode : Option Mode) → AgreesOnClosing (record old { delivered = delivered; gates = gates; mode = mode }) (note ∷ journal) →
+    Agrees (record old { delivered = delivered; gates = gates; mode = mode }) (note ∷ journal)
+agrees_unmoved old journal note agrees is_calm creates weighs delivered senders counted gates mode closing =
+    let calm = stays_calm note journal is_calm old (record old { delivered = delivered; gates = gates; mode = mode })
+    (record { lines = λ queue. refl; runtimes = λ queue. refl; the_floor = refl; turns_made = refl; out = refl }) agrees in
+    record {
+      tallied = agrees.tallied;
+      senders = senders;
+      last = agrees.last ∙ ap (λ count. count + 1) (sym creates);
+      lines = calm.lines;
+      marks = calm.marks;
+      runtimes = calm.runtimes;
+      weights = λ queue there. agrees.weights queue there ∙ sym (weighs queue);
+      the_floor = calm.the_floor;
+      turns = calm.turns_made;
+      out = calm.out;
+      out_exists = agrees.out_exists;
+      delivered = counted;
+      closing = closing;
+    }

@@ -17,6 +17,8 @@ pub mod CarriedOut
 pub mod CarriedClosings
 pub mod Carries
 pub mod EndsKept
+pub mod Ungiven
+pub mod GivenEnds
 pub mod Received
 pub mod DeliveredEnds
 pub mod Quiet
@@ -25,8 +27,10 @@ pub mod QuietSteps
 pub mod QueuesCreated
 pub mod Picked
 pub mod SettledPolls
+pub mod SettledEnds
 pub mod Wrote
 pub mod Shutting
+pub mod ClosedItself
 pub mod Drained
 pub mod Submitted
 pub mod SentNotes

@@ -1,5 +1,5 @@
 -- A core that was just opened, beside a journal without a note.
-use Rattle.std.proofs.Common.{false, ◌++◌, length, take, ◌≡◌, ℕ, zero, suc, ◌+◌, ◌*◌, ◌<◌, ◌≤◌, [], refl, sym, ap, subst, arith}
+use Rattle.std.proofs.Common.{false, length, take, ◌≡◌, ℕ, zero, suc, ◌+◌, ◌*◌, ◌<◌, ◌≤◌, [], refl, sym, ap, subst, arith}
 use Rattle.std.specs.Prelude.{Option, Some, None, All, replicate, slice_index_or}
 use Rattle.std.proofs.lemmas.List.{length-replicate, get_or-replicate}
 use Rattle.std.proofs.lemmas.List.Elements.{All-nil}
@@ -95,7 +95,8 @@ module _ {J T : Type 0} (core cores cap room : ℕ) where
     gate = ap (final_of inward) (sym shut);
     taken = sym taken;
     behind = omega (arith, taken);
-    given = ([], ap (λ outcomes. named_outcomes sender core outcomes ++ []) given);
+    given = ap (named_outcomes sender core) (sym given);
+    ungiven = tt;
     orders = λ name order same at. absurd (none≢some order at);
   }
 

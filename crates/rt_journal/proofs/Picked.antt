@@ -1,6 +1,6 @@
 -- A core beside its journal picks: the right pick takes a job out, or the core says why there is none.
 use Rattle.std.proofs.Common.{◌≡◌, ℕ, ◌+◌, ◌<◌, ◌≤◌, Bool, true, false, List, [], ◌∷◌, ◌++◌, length, reverse, refl, sym, ◌∙◌, ap, subst, arith, add-zero}
-use Rattle.std.specs.Prelude.{◌==◌, Some, None, All, is_some, Result, Ok, Err}
+use Rattle.std.specs.Prelude.{◌==◌, Some, None, All, is_some, Result, Ok, Err, Option}
 use Rattle.std.proofs.lemmas.Bool.{eqb-true, eqb-false}
 use Rattle.std.proofs.lemmas.Option.{same_Some}
 use Rattle.std.proofs.lemmas.List.Elements.{All-head, All-tail}
@@ -10,12 +10,12 @@ use Rattle.rt_ids.specs.declared.note.Note.{Note}
 use Rattle.rt_ids.specs.declared.note.Note.TheVariants.{Pick, Returned}
 use Rattle.rt_ids.specs.declared.order.Order.TheVariants.{Job}
 use Rattle.rt_ids.specs.declared.order.Reason.{Reason}
-use Rattle.rt_ids.specs.Journal.{Journal}
+use Rattle.rt_ids.specs.Journal.{Journal, is_told}
 use Rattle.rt_ids.specs.Lines.{line}
 use Rattle.rt_ids.specs.Picks.{turns, pick_count}
 use Rattle.rt_ids.specs.Work.{has_work, number_if}
 use Rattle.rt_ids.proofs.Told.{length-with_last_if}
-use Rattle.rt_ids.specs.Filters.{given_outcomes}
+use Rattle.rt_ids.specs.Filters.{if_from, name_ended, given_outcomes}
 use Rattle.rt_ids.proofs.WorkOfLines.{no_work, work_of_line}
 use Rattle.rt_jobs.specs.Steps.{Owed}
 use Rattle.rt_taskqueue.specs.Queues.{waiting_of, held_count, ChangesLine}
@@ -29,13 +29,21 @@ use Rattle.rt_core.specs.Turns.{TakesOut, HandsBack}
 use Rattle.rt_core.specs.Turns.{Picks as CorePicks}
 use Rattle.rt_journal.specs.Agreement.{IsJobOut, names_of}
 use Rattle.rt_journal.specs.Polls.{polls_made, poll_note}
-use Rattle.rt_journal.specs.Recorded.{RecordedView, terms_at, IsRecorded, HasTask, sum_upto, given_count}
+use Rattle.rt_journal.specs.Recorded.{RecordedView, terms_at, IsRecorded, HasTask, note_taken, sum_upto, given_count}
 use Rattle.rt_journal.specs.Turns.{Picks, IsPick, IsHandBack}
+use Rattle.rt_journal.specs.Owed.{owed_back}
 use Rattle.rt_journal.proofs.KeptReturns.{kept-returned, right_return, returns_told}
 use Rattle.rt_journal.proofs.KeptReturns as returned
 use Rattle.rt_journal.proofs.KeptPicks.{kept-picked, right_pick, first_in_line, not_returning, start_told}
 use Rattle.rt_journal.proofs.Received.{task_stays}
-use Rattle.rt_journal.proofs.Quiet.{quiet-picked, gates-picked, quiet-returned, as_sent-picked}
+use Rattle.rt_journal.proofs.Ungiven.{ungiven_if, not_given}
+use Rattle.rt_ids.proofs.Known.{known_of}
+use Rattle.rt_ids.proofs.NameLemmas.{among, same_as_itself}
+use Rattle.rt_ids.specs.Orders.{without_job}
+use Rattle.std.specs.Option.{option_map}
+use Rattle.rt_ids.specs.declared.note.OutcomeNote.{OutcomeNote}
+use Rattle.rt_ids.specs.declared.note.OutcomeNote.TheVariants as outcomes
+use Rattle.rt_journal.proofs.Quiet.{nobody, quiet-picked, gates-picked, quiet-returned, as_sent-picked}
 use Rattle.rt_journal.proofs.QuietSteps.{stepped, IsQuietStep, everyone, nothing_done, nothing_stepped}
 use Rattle.rt_journal.proofs.Sums.{sum_upto-at_most_one}
 
@@ -105,13 +113,14 @@ module _ {J T : Type 0} {same : J → J → Type 0} {made : J → ℕ} {polls : 
         let now : inside_count core ≡ held_count core.queues + 1 = ap (λ out. held_count core.queues + number_if (is_some out)) (ap (λ core. core.out) takes.rest) in
         omega (arith, now, inside_was takes.next.free, one_fewer written unpolled queue (name, was_started, job) takes.others takes.first takes.line)
 
-    picked : IsQuietStep old core written same made polls everyone
+    picked : IsQuietStep old core written same made polls everyone nobody
     picked = record {
       kept = kept-picked (terms_at old) old.core core name queue was_started job old.journal.notes recorded.kept takes keeps left;
       number = ap (λ core. core.core) takes.rest;
       cores = ap (λ core. core.cores) takes.rest;
       room = takes.line.same_room;
       quiet = quiet-picked old.journal.notes name queue runtime was_started;
+      ungiven = λ sender inward is. tt;
       gates = λ sender kept. gates-picked old.journal.notes name queue runtime was_started sender;
       fewer = fewer was_started;
       as_sent = as_sent-picked old.journal.notes _ name queue runtime was_started recorded.as_sent;
@@ -152,13 +161,25 @@ module _ {J T : Type 0} {same : J → J → Type 0} {made : J → ℕ} {polls : 
     nobody_now : core.out ≡ None
     nobody_now = ap (λ core. core.out) hands.rest ∙ hands.next.free
 
-    handed : IsQuietStep old core back same made polls everyone
+    recorded_task : HasTask same made polls old.took old.journal.notes queue name job
+    recorded_task = All-head (λ entry. HasTask same made polls old.took old.journal.notes queue entry.0 entry.2) (name, hands.was_started, job) hands.others
+        (subst (All (λ entry. HasTask same made polls old.took old.journal.notes queue entry.0 entry.2)) hands.first (recorded.waiting queue))
+
+    going_on : is_told name_ended name old.journal.notes ≡ false
+    going_on = ((known_of (terms_at old) old.journal.notes recorded.kept.notes).line_inside queue name
+        (ap (among name) (returned.first_in_line (terms_at old) old.core core name queue job reason old.journal.notes recorded.kept hands returns) ∙ rw (same_as_itself name) refl)).going_on
+
+    handed : IsQuietStep old core back same made polls everyone (λ sender. if_from sender name (name, outcomes.Returned reason))
     handed = record {
       kept = kept-returned (terms_at old) old.core core name queue job reason old.journal.notes recorded.kept hands returns left;
       number = ap (λ core. core.core) hands.rest;
       cores = ap (λ core. core.cores) hands.rest;
       room = hands.line.same_room;
       quiet = quiet-returned old.journal.notes name reason queue (runtime_of queue old.core);
+      ungiven = λ sender inward is.
+          let task = recorded_task in
+          ungiven_if old sender inward is name (Job queue task.sent) task.task
+          (not_given (note_taken old.took) name queue (ap (option_map without_job) task.task) sender old.journal.notes recorded.as_sent going_on) (outcomes.Returned reason);
       gates = λ sender kept. refl;
       fewer =
           let given_more : sum_upto (given_count (back ++ old.journal.notes)) old.core.cores ≤ sum_upto (given_count old.journal.notes) old.core.cores + 1 =
@@ -202,16 +223,16 @@ module _ {J T : Type 0} {same : J → J → Type 0} {made : J → ℕ} {polls : 
   few-picked (Err Busy) notes does = omega (arith, ap length does.2)
   few-picked (Err Spent) notes does = omega (arith, ap length does.4)
 
-  abbrev Stepped : List (Note T) → Type 0
-  Stepped notes = IsQuietStep old core (reverse notes) same made polls everyone
+  abbrev Stepped : (ℕ → Option (JobId × OutcomeNote T)) → List (Note T) → Type 0
+  Stepped gives notes = IsQuietStep old core (reverse notes) same made polls everyone gives
 
-  nothing : (notes : List (Note T)) → core ≡ old.core → notes ≡ [] → Stepped notes
-  nothing notes same_core none = subst Stepped (sym none) (subst (λ core. IsQuietStep old core [] same made polls everyone) (sym same_core) (nothing_done old recorded))
+  nothing : (notes : List (Note T)) → core ≡ old.core → notes ≡ [] → Stepped nobody notes
+  nothing notes same_core none = subst (Stepped nobody) (sym none) (subst (λ core. IsQuietStep old core [] same made polls everyone nobody) (sym same_core) (nothing_done old recorded))
 
-  pub step-picked : (answer : Result (Turn J) PickError) (notes : List (Note T)) → CorePicks old.core answer core notes → Stepped notes
-  step-picked (Ok (Start name queue job)) notes does = subst Stepped (sym does.2) (picked name queue false job does.0 does.1)
-  step-picked (Ok (Resume name queue job)) notes does = subst Stepped (sym does.2) (picked name queue true job does.0 does.1)
-  step-picked (Ok (Back name reason (Job queue job))) notes does = subst Stepped (sym does.2) (handed name queue job reason does.0 does.1)
+  pub step-picked : (answer : Result (Turn J) PickError) (notes : List (Note T)) → CorePicks old.core answer core notes → Stepped (owed_back answer) notes
+  step-picked (Ok (Start name queue job)) notes does = subst (Stepped nobody) (sym does.2) (picked name queue false job does.0 does.1)
+  step-picked (Ok (Resume name queue job)) notes does = subst (Stepped nobody) (sym does.2) (picked name queue true job does.0 does.1)
+  step-picked (Ok (Back name reason (Job queue job))) notes does = subst (Stepped (λ sender. if_from sender name (name, outcomes.Returned reason))) (sym does.2) (handed name queue job reason does.0 does.1)
   step-picked (Ok (Back name reason _)) notes does = absurd does
   step-picked (Ok Idle) notes does = nothing notes does.2 does.3
   step-picked (Err Busy) notes does = nothing notes does.1 does.2

@@ -22,7 +22,7 @@ use Rattle.rt_journal.proofs.Kept.{IsKept, plainly_stands}
 use Rattle.rt_journal.proofs.KeptCommands.{agrees-created}
 use Rattle.rt_journal.proofs.TakenOrders.{carries_out-opening}
 use Rattle.rt_journal.proofs.Received.{task_stays}
-use Rattle.rt_journal.proofs.Quiet.{quiet-created}
+use Rattle.rt_journal.proofs.Quiet.{quiet-created, nobody}
 use Rattle.rt_journal.proofs.QuietSteps.{stepped, IsQuietStep, nothing_done, nothing_stepped, everyone}
 
 module _ {J T : Type 0} {same : J → J → Type 0} {made : J → ℕ} {polls : Owed J T}
@@ -56,13 +56,14 @@ module _ {J T : Type 0} {same : J → J → Type 0} {made : J → ℕ} {polls : 
     task : (other : ℕ) (name : JobId) (job : J) → HasTask same made polls old.took old.journal.notes other name job → HasTask same made polls old.took longer other name job
     task other name job = task_stays (λ order at. at) (add-zero (polls_made name old.journal.notes))
 
-    created : IsQuietStep old core (writes.Created queue weight ∷ []) same made polls everyone
+    created : IsQuietStep old core (writes.Created queue weight ∷ []) same made polls everyone nobody
     created = record {
       kept = kept;
       number = ap (λ core. core.core) creates.rest;
       cores = ap (λ core. core.cores) creates.rest;
       room = creates.added.same_room;
       quiet = quiet-created old.journal.notes queue weight;
+      ungiven = λ sender inward is. tt;
       gates = λ sender kept. refl;
       fewer = omega (arith, same_inside);
       as_sent = (carries_out-opening _ (writes.Created queue weight) old.journal.notes opening, recorded.as_sent);
@@ -78,14 +79,14 @@ module _ {J T : Type 0} {same : J → J → Type 0} {made : J → ℕ} {polls : 
   few-created (Err Memory) written does = omega (arith, ap length does.2)
 
   abbrev Stepped : List (Note T) → Type 0
-  Stepped written = IsQuietStep old core (reverse written) same made polls everyone
+  Stepped written = IsQuietStep old core (reverse written) same made polls everyone nobody
 
   pub step-created : (answer : Result ℕ CreateError) (written : List (Note T)) → CoreCreates old.core weight answer core written → Stepped written
   step-created (Ok queue) written does = subst Stepped (sym does.3) (created queue does.0 does.1 does.2)
   step-created (Err TooMany) written does =
-      subst Stepped (sym does.2) (subst (λ core. IsQuietStep old core [] same made polls everyone) (sym does.1) (nothing_done old recorded))
+      subst Stepped (sym does.2) (subst (λ core. IsQuietStep old core [] same made polls everyone nobody) (sym does.1) (nothing_done old recorded))
   step-created (Err Memory) written does =
-      subst Stepped (sym does.2) (subst (λ core. IsQuietStep old core [] same made polls everyone) (sym does.1) (nothing_done old recorded))
+      subst Stepped (sym does.2) (subst (λ core. IsQuietStep old core [] same made polls everyone nobody) (sym does.1) (nothing_done old recorded))
 
   pub creates-now : (answer : Result ℕ CreateError) (written : List (Note T)) → CoreCreates old.core weight answer core written →
       CreatesQueue weight old answer (stepped old core (reverse written))

@@ -1,75 +1,82 @@
 -- Notes by which nothing is delivered: a core beside its journal stays recorded, and the ends of its links stay beside it.
-use Rattle.std.proofs.Common.{◌≡◌, ℕ, ◌+◌, ◌≤◌, Bool, true, false, [], ◌∷◌, length, refl, ap, arith}
-use Rattle.std.specs.Prelude.{Option}
-use Rattle.std.proofs.lemmas.List.{append-nil, length-append}
+use Rattle.std.proofs.Common.{◌≡◌, ℕ, ◌+◌, ◌≤◌, Bool, true, false, ◌∷◌, length, refl, ap, arith}
+use Rattle.std.specs.Prelude.{Option, None}
 use Rattle.rt_ids.specs.declared.names.JobId.{JobId}
 use Rattle.rt_ids.specs.declared.note.Note.TheVariants as writes
 use Rattle.rt_ids.specs.declared.order.Order.{Order}
 use Rattle.rt_ids.specs.declared.order.Reason.{Reason}
-use Rattle.rt_ids.specs.Assembly.{IsPrefix}
 use Rattle.rt_ids.specs.Closing.{final_count}
 use Rattle.rt_ids.specs.Journal.{Journal, EachNote}
-use Rattle.rt_ids.specs.Filters.{delivered_names, given_outcomes}
+use Rattle.rt_ids.specs.Filters.{if_from, delivered_names, given_outcomes}
 use Rattle.rt_jobs.specs.declared.job.Step.{Step}
 use Rattle.rt_jobs.specs.declared.job.Step.TheVariants as steps
 use Rattle.rt_ids.specs.Joining.{DeliversAs}
 use Rattle.rt_journal.specs.Polls.{poll_note, settle_note}
 use Rattle.rt_journal.specs.Recorded.{RecordedView, IsHeld, IsTaken, sum_upto, delivered_count, given_count}
-use Rattle.rt_journal.specs.Ends.{KeepsIn, KeepsSent, IsSameSeat}
-use Rattle.rt_journal.proofs.CarriedOut.{prefix-with_last}
+use Rattle.rt_journal.specs.Ends.{IsInOf, LeavesOwed, GivesMore, IsUngiven, KeepsSent, IsSameSeat}
+use Rattle.rt_ids.proofs.Told.{grows}
+use Rattle.rt_ids.specs.declared.note.OutcomeNote.{OutcomeNote}
+use Rattle.rt_ids.specs.declared.note.OutcomeNote.TheVariants as outcomes
+use Rattle.rt_link.specs.declared.ends.Inward.{Inward}
 use Rattle.rt_journal.proofs.EndsKept.{keeps_in}
 use Rattle.rt_journal.proofs.Sums.{sum_upto-same}
 
--- nothing is sent, collected or delivered by the notes; what is given may be more
-pub record IsQuiet {T : Type 0} (old new : Journal T) : Type 0 where
+-- nothing is sent, collected or delivered by the notes; one outcome is given more to each sender who is given one
+pub record IsQuiet {T : Type 0} (gives : ℕ → Option (JobId × OutcomeNote T)) (old new : Journal T) : Type 0 where
   pub sent : KeepsSent old new
-  pub given : (sender : ℕ) → IsPrefix (given_outcomes sender old) (given_outcomes sender new)
+  pub given : GivesMore gives old new
   pub delivered : (sender : ℕ) → delivered_names sender new ≡ delivered_names sender old
+
+-- to nobody
+abbrev pub nobody : {T : Type 0} → ℕ → Option (JobId × OutcomeNote T)
+nobody sender = None
+
+-- what is given by the note of a settled poll
+abbrev pub given_settled : {T : Type 0} → JobId → Step T → ℕ → Option (JobId × OutcomeNote T)
+given_settled name steps.Yield sender = None
+given_settled name (steps.Done value) sender = if_from sender name (name, outcomes.Finished value)
 
 -- no gate is shut by the notes
 abbrev pub KeepsGates : {T : Type 0} → Journal T → Journal T → Type 0
 KeepsGates old new = (sender : ℕ) → final_count sender new ≡ final_count sender old
 
 module _ {T : Type 0} (notes : Journal T) where
-  none_given : (sender : ℕ) → IsPrefix (given_outcomes sender notes) (given_outcomes sender notes)
-  none_given sender = ([], append-nil (given_outcomes sender notes))
-
-  pub quiet-nothing : IsQuiet notes notes
-  quiet-nothing = record { sent = record { accepted = λ core. refl; outstanding = λ core. refl; collected = λ core. refl }; given = none_given; delivered = λ sender. refl }
+  pub quiet-nothing : IsQuiet nobody notes notes
+  quiet-nothing = record { sent = record { accepted = λ core. refl; outstanding = λ core. refl; collected = λ core. refl }; given = λ sender. refl; delivered = λ sender. refl }
 
   -- a creation
-  pub quiet-created : (queue weight : ℕ) → IsQuiet notes (writes.Created queue weight ∷ notes)
-  quiet-created queue weight = record { sent = record { accepted = λ core. refl; outstanding = λ core. refl; collected = λ core. refl }; given = none_given; delivered = λ sender. refl }
+  pub quiet-created : (queue weight : ℕ) → IsQuiet nobody notes (writes.Created queue weight ∷ notes)
+  quiet-created queue weight = record { sent = record { accepted = λ core. refl; outstanding = λ core. refl; collected = λ core. refl }; given = λ sender. refl; delivered = λ sender. refl }
 
   -- a gate is shut
-  pub quiet-shut : (from count : ℕ) → IsQuiet notes (writes.Shut from count ∷ notes)
-  quiet-shut from count = record { sent = record { accepted = λ core. refl; outstanding = λ core. refl; collected = λ core. refl }; given = none_given; delivered = λ sender. refl }
+  pub quiet-shut : (from count : ℕ) → IsQuiet nobody notes (writes.Shut from count ∷ notes)
+  quiet-shut from count = record { sent = record { accepted = λ core. refl; outstanding = λ core. refl; collected = λ core. refl }; given = λ sender. refl; delivered = λ sender. refl }
 
   -- a pick, and the note of the poll that begins
-  pub quiet-picked : (name : JobId) (queue runtime : ℕ) (was_started : Bool) → IsQuiet notes (poll_note name was_started ∷ writes.Pick queue runtime ∷ notes)
-  quiet-picked name queue runtime false = record { sent = record { accepted = λ core. refl; outstanding = λ core. refl; collected = λ core. refl }; given = none_given; delivered = λ sender. refl }
-  quiet-picked name queue runtime true = record { sent = record { accepted = λ core. refl; outstanding = λ core. refl; collected = λ core. refl }; given = none_given; delivered = λ sender. refl }
+  pub quiet-picked : (name : JobId) (queue runtime : ℕ) (was_started : Bool) → IsQuiet nobody notes (poll_note name was_started ∷ writes.Pick queue runtime ∷ notes)
+  quiet-picked name queue runtime false = record { sent = record { accepted = λ core. refl; outstanding = λ core. refl; collected = λ core. refl }; given = λ sender. refl; delivered = λ sender. refl }
+  quiet-picked name queue runtime true = record { sent = record { accepted = λ core. refl; outstanding = λ core. refl; collected = λ core. refl }; given = λ sender. refl; delivered = λ sender. refl }
 
   pub gates-picked : (name : JobId) (queue runtime : ℕ) (was_started : Bool) → KeepsGates notes (poll_note name was_started ∷ writes.Pick queue runtime ∷ notes)
   gates-picked name queue runtime false sender = refl
   gates-picked name queue runtime true sender = refl
 
   -- a pick that hands a job back
-  pub quiet-returned : (name : JobId) (reason : Reason) (queue runtime : ℕ) → IsQuiet notes (writes.Returned name reason ∷ writes.Pick queue runtime ∷ notes)
+  pub quiet-returned : (name : JobId) (reason : Reason) (queue runtime : ℕ) → IsQuiet (λ sender. if_from sender name (name, outcomes.Returned reason)) notes (writes.Returned name reason ∷ writes.Pick queue runtime ∷ notes)
   quiet-returned name reason queue runtime = record {
     sent = record { accepted = λ core. refl; outstanding = λ core. refl; collected = λ core. refl };
-    given = λ sender. prefix-with_last (given_outcomes sender notes) _;
+    given = λ sender. refl;
     delivered = λ sender. refl;
   }
 
   -- a poll that is settled
-  pub quiet-settled : (name : JobId) (time : ℕ) (step : Step T) → IsQuiet notes (settle_note name time step ∷ notes)
+  pub quiet-settled : (name : JobId) (time : ℕ) (step : Step T) → IsQuiet (given_settled name step) notes (settle_note name time step ∷ notes)
   quiet-settled name time (steps.Done out) = record {
     sent = record { accepted = λ core. refl; outstanding = λ core. refl; collected = λ core. refl };
-    given = λ sender. prefix-with_last (given_outcomes sender notes) _;
+    given = λ sender. refl;
     delivered = λ sender. refl;
   }
-  quiet-settled name time steps.Yield = record { sent = record { accepted = λ core. refl; outstanding = λ core. refl; collected = λ core. refl }; given = none_given; delivered = λ sender. refl }
+  quiet-settled name time steps.Yield = record { sent = record { accepted = λ core. refl; outstanding = λ core. refl; collected = λ core. refl }; given = λ sender. refl; delivered = λ sender. refl }
 
   pub gates-settled : (name : JobId) (time : ℕ) (step : Step T) → KeepsGates notes (settle_note name time step ∷ notes)
   gates-settled name time (steps.Done out) sender = refl
@@ -86,7 +93,7 @@ module _ {T : Type 0} (notes : Journal T) where
   as_sent-settled under name time steps.Yield before = (tt, before)
 
 -- places and names stay where nothing is delivered
-module _ {T : Type 0} (old new : Journal T) (quiet : IsQuiet old new) (cores cap : ℕ) where
+module _ {T : Type 0} {gives : ℕ → Option (JobId × OutcomeNote T)} (old new : Journal T) (quiet : IsQuiet gives old new) (cores cap : ℕ) where
   delivered_same : (sender : ℕ) → delivered_count new sender ≡ delivered_count old sender
   delivered_same sender = ap length (quiet.delivered sender)
 
@@ -94,16 +101,16 @@ module _ {T : Type 0} (old new : Journal T) (quiet : IsQuiet old new) (cores cap
   held-quiet jobs now held fewer = record {
     each = λ sender there.
         let was : delivered_count old sender ≤ given_count old sender + cap = held.each sender there in
-        let grows = quiet.given sender in
-        omega (arith, was, delivered_same sender, ap length grows.1, length-append (given_outcomes sender old) grows.0);
+        omega (arith, was, delivered_same sender, ap length (quiet.given sender), grows (given_outcomes sender old) (gives sender));
     inside = omega (arith, held.inside, fewer, sum_upto-same (delivered_count new) (delivered_count old) cores delivered_same);
   }
 
   pub taken-quiet : (name : JobId) → IsTaken cores old name → IsTaken cores new name
   taken-quiet name taken = record { sender = taken.sender; old = omega (arith, taken.old, delivered_same name.from) }
 
--- the end of a sender stays where its gate isn't shut
-pub ins-quiet : {J T : Type 0} (old new : RecordedView J T) → IsSameSeat old new → IsQuiet old.journal.notes new.journal.notes → new.took ≡ old.took →
-    (sender : ℕ) → final_count sender new.journal.notes ≡ final_count sender old.journal.notes → KeepsIn sender old new
-ins-quiet old new seat quiet took sender gates =
-    keeps_in old new seat sender (quiet.given sender) gates (ap length (quiet.delivered sender)) (λ name order from at. rw (← took) at)
+-- the end of a sender owes what is given, and stays else, where its gate isn't shut
+pub ins-quiet : {J T : Type 0} {gives : ℕ → Option (JobId × OutcomeNote T)} (old new : RecordedView J T) → IsSameSeat old new → IsQuiet gives old.journal.notes new.journal.notes → new.took ≡ old.took →
+    (sender : ℕ) → final_count sender new.journal.notes ≡ final_count sender old.journal.notes → ((inward : Inward J T) → IsInOf sender old inward → IsUngiven (gives sender) inward.given) →
+    LeavesOwed sender (gives sender) old new
+ins-quiet old new seat quiet took sender gates ungiven =
+    keeps_in old new seat sender _ (quiet.given sender) gates ungiven (ap length (quiet.delivered sender)) (λ name order from at. rw (← took) at)

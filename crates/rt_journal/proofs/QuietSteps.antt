@@ -1,7 +1,10 @@
 -- A core beside its journal makes a step by which nothing is delivered and nothing sent: it stays recorded, and the ends of its links stay beside it.
 use Rattle.std.proofs.Common.{◌≡◌, ℕ, ◌+◌, ◌*◌, ◌≤◌, List, [], ◌++◌, refl, sym, ◌∙◌, ap, subst, arith}
-use Rattle.std.specs.Prelude.{Some, All}
+use Rattle.std.specs.Prelude.{Some, All, Option}
+use Rattle.rt_ids.specs.declared.names.JobId.{JobId}
 use Rattle.rt_ids.specs.declared.note.Note.{Note}
+use Rattle.rt_ids.specs.declared.note.OutcomeNote.{OutcomeNote}
+use Rattle.rt_link.specs.declared.ends.Inward.{Inward}
 use Rattle.rt_ids.specs.Journal.{Journal, EachNote}
 use Rattle.rt_ids.specs.Closing.{final_count}
 use Rattle.rt_ids.specs.Joining.{DeliversAs}
@@ -11,14 +14,10 @@ use Rattle.rt_core.specs.State.{CoreView, JobOut, inside_count}
 use Rattle.rt_journal.specs.Agreement.{IsKept}
 use Rattle.rt_journal.specs.Submissions.{IsWritten}
 use Rattle.rt_journal.specs.Recorded.{RecordedView, terms_at, desk_of, IsRecorded, IsHeld, HasTask, note_taken, sum_upto, given_count}
-use Rattle.rt_journal.specs.Ends.{KeepsIn, KeepsOuts, IsSameSeat}
+use Rattle.rt_journal.specs.Ends.{IsInOf, IsUngiven, LeavesOwed, KeepsOuts, IsSameSeat}
 use Rattle.rt_journal.specs.Steps.{with_notes}
 use Rattle.rt_journal.proofs.EndsKept.{keeps_outs}
-use Rattle.rt_journal.proofs.Quiet.{IsQuiet, quiet-nothing, held-quiet, taken-quiet, ins-quiet}
-
--- what a core agrees with is written as it should be
-pub written_of : {J T : Type 0} (view : RecordedView J T) → IsKept (terms_at view) view.core view.journal.notes → IsWritten (terms_at view) view.journal.notes
-written_of view kept = record { notes = kept.notes; no_pick = kept.no_pick; no_answer = kept.no_answer; collects_nothing = kept.collects_nothing }
+use Rattle.rt_journal.proofs.Quiet.{IsQuiet, nobody, quiet-nothing, held-quiet, taken-quiet, ins-quiet}
 
 -- each sender there is
 abbrev pub everyone : ℕ → Type 0
@@ -34,12 +33,13 @@ module _ {J T : Type 0} (old : RecordedView J T) (core : CoreView J) (written : 
 
   module _ (same : J → J → Type 0) (made : J → ℕ) (polls : Owed J T) where
     -- the gates of these senders aren't shut by it
-    pub record IsQuietStep (keeps : ℕ → Type 0) : Type 0 where
+    pub record IsQuietStep (keeps : ℕ → Type 0) (gives : ℕ → Option (JobId × OutcomeNote T)) : Type 0 where
       pub kept : IsKept (terms_at old) core longer
       pub number : core.core ≡ old.core.core
       pub cores : core.cores ≡ old.core.cores
       pub room : core.queues.room ≡ old.core.queues.room
-      pub quiet : IsQuiet old.journal.notes longer
+      pub quiet : IsQuiet gives old.journal.notes longer
+      pub ungiven : (sender : ℕ) (inward : Inward J T) → IsInOf sender old inward → IsUngiven (gives sender) inward.given
       pub gates : (sender : ℕ) → keeps sender → final_count sender longer ≡ final_count sender old.journal.notes
       pub fewer : inside_count core + sum_upto (given_count longer) old.core.cores ≤ inside_count old.core + sum_upto (given_count old.journal.notes) old.core.cores
       pub as_sent : EachNote (DeliversAs (note_taken old.took)) longer
@@ -47,7 +47,7 @@ module _ {J T : Type 0} (old : RecordedView J T) (core : CoreView J) (written : 
       pub out : (job : JobOut J) → core.out ≡ Some job → HasTask same made polls old.took longer job.queue job.name job.job
 
 module _ {J T : Type 0} {same : J → J → Type 0} {made : J → ℕ} {polls : Owed J T}
-    (old : RecordedView J T) (recorded : IsRecorded same made polls old) (core : CoreView J) (written : List (Note T)) {keeps : ℕ → Type 0} (step : IsQuietStep old core written same made polls keeps) where
+    (old : RecordedView J T) (recorded : IsRecorded same made polls old) (core : CoreView J) (written : List (Note T)) {keeps : ℕ → Type 0} {gives : ℕ → Option (JobId × OutcomeNote T)} (step : IsQuietStep old core written same made polls keeps gives) where
   abbrev new : RecordedView J T
   new = stepped old core written
 
@@ -71,8 +71,8 @@ module _ {J T : Type 0} {same : J → J → Type 0} {made : J → ℕ} {polls : 
   pub seat_step : IsSameSeat old new
   seat_step = record { number = step.number; cores = step.cores; cap = refl; room = refl }
 
-  pub ins_step : (sender : ℕ) → keeps sender → KeepsIn sender old new
-  ins_step sender kept = ins-quiet old new seat_step step.quiet refl sender (step.gates sender kept)
+  pub ins_step : (sender : ℕ) → keeps sender → LeavesOwed sender (gives sender) old new
+  ins_step sender kept = ins-quiet old new seat_step step.quiet refl sender (step.gates sender kept) (step.ungiven sender)
 
   pub outs_step : KeepsOuts (desk_of old) (desk_of new)
   outs_step = keeps_outs (desk_of old) (desk_of new) (λ i. record { actor = step.number i; cores = step.cores i; cap = old.cap; journal = new.journal }) step.quiet.sent
@@ -83,13 +83,14 @@ module _ {J T : Type 0} {same : J → J → Type 0} {made : J → ℕ} {polls : 
 -- where a call did nothing, all is as it was
 module _ {J T : Type 0} {same : J → J → Type 0} {made : J → ℕ} {polls : Owed J T}
     (old : RecordedView J T) (recorded : IsRecorded same made polls old) where
-  pub nothing_done : IsQuietStep old old.core [] same made polls everyone
+  pub nothing_done : IsQuietStep old old.core [] same made polls everyone nobody
   nothing_done = record {
     kept = recorded.kept;
     number = refl;
     cores = refl;
     room = refl;
     quiet = quiet-nothing old.journal.notes;
+    ungiven = λ sender inward is. tt;
     gates = λ sender kept. refl;
     fewer = omega arith;
     as_sent = recorded.as_sent;

@@ -3,7 +3,7 @@ use Rattle.std.proofs.Common.{◌≡◌, ℕ, ◌+◌, ◌*◌, ◌<◌, ◌≤�
 use Rattle.std.specs.Prelude.{◌==◌, Option, Some, None, All, reverse}
 use Rattle.std.specs.Option.{option_map}
 use Rattle.std.proofs.lemmas.Bool.{eq-eqb, ne_eqb, cases_eq}
-use Rattle.std.proofs.lemmas.List.{length-append, length-reverse}
+use Rattle.std.proofs.lemmas.List.{length-reverse}
 use Rattle.std.proofs.lemmas.List.Elements.{All-append}
 use Rattle.rt_ids.specs.declared.names.JobId.{JobId}
 use Rattle.rt_ids.specs.declared.note.Note.{Note}
@@ -24,7 +24,11 @@ use Rattle.rt_journal.specs.Polls.{polls_made}
 use Rattle.rt_journal.specs.Agreement.{IsKept}
 use Rattle.rt_journal.specs.Submissions.{IsWritten}
 use Rattle.rt_journal.specs.Recorded.{RecordedView, terms_at, IsRecorded, IsHeld, IsTaken, HasTask, OwesAfter, order_taken, note_taken, sum_upto, delivered_count, given_count}
-use Rattle.rt_journal.specs.Ends.{IsSameSeat}
+use Rattle.rt_journal.specs.Ends.{IsSameSeat, GivesMore, told_under}
+use Rattle.rt_journal.specs.Deliveries.{outcome_delivered}
+use Rattle.rt_ids.specs.declared.note.OutcomeNote.{OutcomeNote}
+use Rattle.rt_ids.specs.Outcomes.{outcome_note}
+use Rattle.rt_ids.proofs.Told.{grows}
 use Rattle.rt_journal.specs.Steps.{IsNextIn, Receives}
 use Rattle.rt_journal.proofs.PollsMade.{polls_made-fresh}
 use Rattle.rt_journal.proofs.Sums.{sum_upto-one_more, sum_upto-room}
@@ -45,8 +49,8 @@ module _ {J T : Type 0} {same : J → J → Type 0} {made : J → ℕ} {polls : 
   }
 
 module _ {J T : Type 0} {same : J → J → Type 0} {made : J → ℕ} {polls : Owed J T} (is_same : IsSameTask same)
-    (old : RecordedView J T) (recorded : IsRecorded same made polls old) (envelope : Envelope J) (core : CoreView J) (written : List (Note T))
-    (done : IsCarriedOut old envelope.name envelope.order core written) (next : IsNextIn old envelope.name) where
+    (old : RecordedView J T) (recorded : IsRecorded same made polls old) (envelope : Envelope J) (told : Option (OutcomeNote T)) (core : CoreView J) (written : List (Note T))
+    (done : IsCarriedOut old envelope.name envelope.order told core written) (next : IsNextIn old envelope.name) where
   abbrev name : JobId
   name = envelope.name
 
@@ -69,7 +73,7 @@ module _ {J T : Type 0} {same : J → J → Type 0} {made : J → ℕ} {polls : 
       by_order None at = refl
       by_order (Some order) at = let was = recorded.taken name order at in absurd (omega (arith, was.old, next.next))
 
-  here : order_taken received.took name ≡ Some envelope.order
+  pub here : order_taken received.took name ≡ Some envelope.order
   here = order_taken-last envelope old.took fresh
 
   stays : (which : JobId) (order : Order J) → order_taken old.took which ≡ Some order → order_taken received.took which ≡ Some order
@@ -79,9 +83,7 @@ module _ {J T : Type 0} {same : J → J → Type 0} {made : J → ℕ} {polls : 
   held_now = record { each = each; inside = subst (λ cores. inside_count core + sum_upto (given_count longer) cores ≤ sum_upto (delivered_count longer) cores) (sym done.cores) inside }
     where
       given_more : (from : ℕ) → given_count old.journal.notes from ≤ given_count longer from
-      given_more from =
-          let grows = done.lists.given from in
-          omega (arith, ap length grows.1, length-append (given_outcomes from old.journal.notes) grows.0)
+      given_more from = omega (arith, ap length (done.given from), grows (given_outcomes from old.journal.notes) (told_under name told from))
 
       each : (from : ℕ) → from ≤ core.cores → delivered_count longer from ≤ given_count longer from + old.cap
       each from there =
@@ -169,7 +171,10 @@ module _ {J T : Type 0} {same : J → J → Type 0} {made : J → ℕ} {polls : 
     (old : RecordedView J T) (recorded : IsRecorded same made polls old) (envelope : Envelope J) (next : IsNextIn old envelope.name)
     (spelled : IsSpelledOrder (without_job envelope.order)) (core : CoreView J) (delivered : Delivered J) (written : List (Note T))
     (does : CarriesOut old.core envelope.name envelope.order delivered core written) where
-  pub done : IsCarriedOut old envelope.name envelope.order core (reverse written)
+  abbrev told : Option (OutcomeNote T)
+  told = option_map outcome_note (outcome_delivered {T = T} delivered)
+
+  pub done : IsCarriedOut old envelope.name envelope.order told core (reverse written)
   done = carries_out old envelope.name recorded.kept (next_delivered old envelope.name recorded next) next.sender core envelope.order spelled delivered written does
 
   pub few : length written ≤ 2
@@ -180,10 +185,16 @@ module _ {J T : Type 0} {same : J → J → Type 0} {made : J → ℕ} {polls : 
 
   module _ (new : RecordedView J T) (is : new ≡ record { cap = old.cap; core = core; journal = record old.journal { notes = reverse written ++ old.journal.notes }; took = old.took ++ envelope ∷ [] }) where
     pub sound_now : IsRecorded same made polls new
-    sound_now = subst (IsRecorded same made polls) (sym is) (recorded_now is_same old recorded envelope core (reverse written) done next)
+    sound_now = subst (IsRecorded same made polls) (sym is) (recorded_now is_same old recorded envelope told core (reverse written) done next)
 
     pub seat_now : IsSameSeat old new
-    seat_now = subst (IsSameSeat old) (sym is) (same_seat is_same old recorded envelope core (reverse written) done next)
+    seat_now = subst (IsSameSeat old) (sym is) (same_seat is_same old recorded envelope told core (reverse written) done next)
 
     pub receives_now : Receives old envelope new
     receives_now = subst (Receives old envelope) (sym is) (record { notes = reverse written; delivery = done.delivery; journal = refl; took = refl; out = done.out; lists = done.lists; delivered = done.delivered })
+
+    pub gives_now : GivesMore (told_under envelope.name told) old.journal.notes new.journal.notes
+    gives_now = subst (λ view. GivesMore (told_under envelope.name told) old.journal.notes view.journal.notes) (sym is) done.given
+
+    pub stands_now : order_taken new.took envelope.name ≡ Some envelope.order
+    stands_now = subst (λ view. order_taken view.took envelope.name ≡ Some envelope.order) (sym is) (here is_same old recorded envelope told core (reverse written) done next)

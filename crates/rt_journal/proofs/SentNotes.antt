@@ -1,7 +1,6 @@
 -- A core beside its journal stays recorded as an order is submitted, and the ends that it receives from stay beside it.
 use Rattle.std.proofs.Common.{◌≡◌, ℕ, List, [], ◌∷◌, refl, sym, ◌∙◌, ap, subst, add-zero}
-use Rattle.std.specs.Prelude.{Result, Ok, Err}
-use Rattle.std.proofs.lemmas.List.{append-nil}
+use Rattle.std.specs.Prelude.{Result, Ok, Err, None}
 use Rattle.rt_ids.specs.declared.names.JobId.{JobId}
 use Rattle.rt_ids.specs.declared.note.Note.TheVariants as writes
 use Rattle.rt_ids.specs.declared.order.Order.{Order}
@@ -9,7 +8,6 @@ use Rattle.rt_ids.specs.declared.order.Envelope.{Envelope}
 use Rattle.rt_ids.specs.declared.order.SendError.{SendError}
 use Rattle.rt_ids.specs.declared.order.SendError.TheVariants.{Closed, Full, Spent, NoCore}
 use Rattle.rt_ids.specs.Journal.{Journal}
-use Rattle.rt_ids.specs.Filters.{given_outcomes}
 use Rattle.rt_ids.specs.Orders.{without_job}
 use Rattle.rt_jobs.specs.Steps.{Owed}
 use Rattle.rt_core.specs.State.{CoreView}
@@ -19,7 +17,7 @@ use Rattle.rt_journal.specs.Recorded.{RecordedView, IsRecorded, HasTask, desk_of
 use Rattle.rt_journal.specs.Ends.{KeepsIn}
 use Rattle.rt_journal.specs.Steps.{with_notes}
 use Rattle.rt_journal.proofs.KeptModes.{same_modes, closing-stays}
-use Rattle.rt_journal.proofs.Kept.{IsKept, stays_calm, calm_sent, SameJobs}
+use Rattle.rt_journal.proofs.Kept.{IsKept, agrees_unmoved, calm_sent}
 use Rattle.rt_journal.proofs.EndsKept.{keeps_in}
 use Rattle.rt_journal.proofs.Received.{task_stays}
 use Rattle.rt_journal.proofs.Wrote.{view_of}
@@ -38,25 +36,10 @@ module _ {J T : Type 0} {same : J → J → Type 0} {made : J → ℕ} {polls : 
   kept_sent : IsWritten (terms_at old) longer → IsKept (terms_at old) old.core longer
   kept_sent written =
       let was = recorded.kept.agrees in
-      let same_jobs : SameJobs old.core old.core = record { lines = λ queue. refl; runtimes = λ queue. refl; the_floor = refl; turns_made = refl; out = refl } in
-      let calm = stays_calm (writes.Sent name what) journal (calm_sent journal name what) old.core old.core same_jobs was in
       record {
         is_core = recorded.kept.is_core;
-        agrees = record {
-          tallied = was.tallied;
-          senders = was.senders;
-          last = was.last;
-          lines = calm.lines;
-          marks = calm.marks;
-          runtimes = calm.runtimes;
-          weights = was.weights;
-          the_floor = calm.the_floor;
-          turns = calm.turns_made;
-          out = calm.out;
-          out_exists = was.out_exists;
-          delivered = was.delivered;
-          closing = closing-stays old.core old.core (writes.Sent name what) journal (same_modes old.core) (record { queues = λ queue. refl; core = refl; gates = λ sender. refl }) was.closing;
-        };
+        agrees = agrees_unmoved old.core journal (writes.Sent name what) was (calm_sent journal name what) refl (λ queue. refl) old.core.delivered was.senders was.delivered old.core.gates old.core.mode
+            (closing-stays old.core old.core (writes.Sent name what) journal (same_modes old.core) (record { queues = λ queue. refl; core = refl; gates = λ sender. refl }) was.closing);
         notes = written.notes;
         no_pick = written.no_pick;
         no_answer = written.no_answer;
@@ -79,7 +62,7 @@ module _ {J T : Type 0} {same : J → J → Type 0} {made : J → ℕ} {polls : 
 
   ins_sent : (sender : ℕ) → KeepsIn sender old new
   ins_sent sender =
-      keeps_in old new (record { number = refl; cores = refl; cap = refl; room = refl }) sender ([], append-nil (given_outcomes sender journal)) refl refl (λ which order from at. at)
+      keeps_in old new (record { number = refl; cores = refl; cap = refl; room = refl }) sender None refl refl (λ inward is. tt) refl (λ which order from at. at)
 
 -- whatever the link answered
 module _ {J T : Type 0} {same : J → J → Type 0} {made : J → ℕ} {polls : Owed J T}

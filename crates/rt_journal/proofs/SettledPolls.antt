@@ -8,7 +8,7 @@ use Rattle.rt_ids.specs.declared.names.JobId.{JobId}
 use Rattle.rt_ids.specs.declared.note.Note.{Note}
 use Rattle.rt_ids.specs.declared.note.Note.TheVariants as writes
 use Rattle.rt_ids.specs.Names.{same_name, is_name}
-use Rattle.rt_ids.specs.Journal.{Journal}
+use Rattle.rt_ids.specs.Journal.{Journal, is_told}
 use Rattle.rt_ids.specs.Lines.{jobs_out, name_settled}
 use Rattle.rt_ids.specs.Work.{number_if}
 use Rattle.rt_ids.proofs.JobsOut.{alone_out}
@@ -26,13 +26,24 @@ use Rattle.rt_core.specs.Turns.{settled_view}
 use Rattle.rt_core.specs.Turns.{Settles as CoreSettles}
 use Rattle.rt_journal.specs.Agreement.{IsJobOut, names_of}
 use Rattle.rt_journal.specs.Polls.{polls_made, settle_note}
-use Rattle.rt_journal.specs.Recorded.{RecordedView, terms_at, IsRecorded, HasTask, OwesAfter, sum_upto, given_count}
+use Rattle.rt_journal.specs.Recorded.{RecordedView, terms_at, IsRecorded, HasTask, note_taken, OwesAfter, sum_upto, given_count}
 use Rattle.rt_journal.specs.Turns.{IsOut, IsPolled, Settles, TellsStep}
 use Rattle.rt_journal.proofs.Kept.{IsKept}
 use Rattle.rt_journal.proofs.KeptSettles.{none≢some, kept-yield, kept-done}
 use Rattle.rt_journal.proofs.PollNotes.{other_way}
+use Rattle.rt_ids.specs.declared.order.Order.TheVariants.{Job}
+use Rattle.rt_ids.specs.declared.note.OutcomeNote.TheVariants as outcomes
+use Rattle.rt_ids.specs.Filters.{name_ended}
+use Rattle.rt_ids.specs.Orders.{without_job}
+use Rattle.rt_ids.proofs.Known.{known_of}
+use Rattle.std.specs.Option.{option_map}
+use Rattle.rt_link.specs.declared.ends.Inward.{Inward}
+use Rattle.rt_journal.specs.Ends.{IsInOf, IsUngiven, told_under}
+use Rattle.rt_ids.specs.Outcomes.{outcome_note}
+use Rattle.rt_journal.specs.Owed.{outcome_settled}
+use Rattle.rt_journal.proofs.Ungiven.{ungiven_if, not_given}
 use Rattle.rt_journal.proofs.Received.{task_stays}
-use Rattle.rt_journal.proofs.Quiet.{quiet-settled, gates-settled, as_sent-settled}
+use Rattle.rt_journal.proofs.Quiet.{given_settled, quiet-settled, gates-settled, as_sent-settled}
 use Rattle.rt_journal.proofs.Sums.{sum_upto-at_most_one}
 use Rattle.rt_ids.proofs.Told.{length-with_last_if}
 use Rattle.rt_ids.specs.Filters.{given_outcomes}
@@ -49,6 +60,12 @@ among-place name (entry ∷ rest) apart (suc place) default within =
 settled_name : {T : Type 0} (name : JobId) (time : ℕ) (step : Step T) → name_settled (settle_note name time step) ≡ Some name
 settled_name name time (steps.Done out) = refl
 settled_name name time steps.Yield = refl
+
+-- what is given by the note is the outcome that the caller is told
+pub given_told : (J : Type 0) {T : Type 0} (name : JobId) (step : Step T) (settled : Settled T) → TellsStep step settled → (sender : ℕ) →
+    given_settled name step sender ≡ told_under name (option_map outcome_note (outcome_settled {J = J} settled)) sender
+given_told J name steps.Yield settled tells sender = ap (λ settled. told_under name (option_map outcome_note (outcome_settled {J = J} settled)) sender) (sym tells)
+given_told J name (steps.Done value) settled tells sender = ap (λ settled. told_under name (option_map outcome_note (outcome_settled {J = J} settled)) sender) (sym tells)
 
 -- the job that is out is the one that was polled
 pub its_job_out : {J : Type 0} (who : Option (JobOut J)) (out : JobOut J) → who ≡ Some out → (job : J) → IsOut who job → out.job ≡ job
@@ -117,6 +134,16 @@ module _ {J T : Type 0} {same : J → J → Type 0} {made : J → ℕ} {polls : 
           let first : polls out.job (made out.job + (1 + more)) before after step told = subst (λ place. polls out.job place before after step told) (assoc (made out.job) more) (on more before after step told owed_now) in
           subst (λ place. polls its_task.sent (made its_task.sent + place) before after step told) (sym (assoc (polls_made out.name old.journal.notes) more)) (its_task.owes (1 + more) before after step told first)
 
+  -- the job that is out was given nothing yet
+  ungiven_settled : (sender : ℕ) (inward : Inward J T) → IsInOf sender old inward → (step : Step T) → IsUngiven (given_settled out.name step sender) inward.given
+  ungiven_settled sender inward is steps.Yield = tt
+  ungiven_settled sender inward is (steps.Done value) =
+      ungiven_if old sender inward is out.name (Job out.queue its_task.sent) its_task.task
+      (not_given (note_taken old.took) out.name out.queue (ap (option_map without_job) its_task.task) sender old.journal.notes recorded.as_sent going_on) (outcomes.Finished value)
+    where
+      going_on : is_told name_ended out.name old.journal.notes ≡ false
+      going_on = ((known_of (terms_at old) old.journal.notes recorded.kept.notes).out_inside out.name (alone_out out.name old.journal.notes is_out)).going_on
+
   inside_old : inside_count old.core ≡ held_count old.core.queues + 1
   inside_old = ap (λ job. held_count old.core.queues + number_if (is_some job)) was_out
 
@@ -143,7 +170,7 @@ module _ {J T : Type 0} {same : J → J → Type 0} {made : J → ℕ} {polls : 
         let now : inside_count core ≡ held_count core.queues + 0 = ap (λ job. held_count core.queues + number_if (is_some job)) (ap (λ core. core.out) is) in
         omega (arith, now, inside_old, changes.held, length-append (waiting_of out.queue old.core.queues) ((out.name, true, ran.job) ∷ []))
 
-    pub yielded : IsQuietStep old core written same made polls everyone
+    pub yielded : IsQuietStep old core written same made polls everyone (given_settled out.name ran.step)
     yielded = record {
       kept = subst (λ step. IsKept (terms_at old) core (settle_note out.name time step ∷ old.journal.notes)) (sym yields)
           (subst (λ core_now. IsKept (terms_at old) core_now (writes.Yield out.name time ∷ old.journal.notes)) (sym is)
@@ -152,6 +179,7 @@ module _ {J T : Type 0} {same : J → J → Type 0} {made : J → ℕ} {polls : 
       cores = ap (λ core. core.cores) is;
       room = changes.same_room;
       quiet = quiet-settled old.journal.notes out.name time ran.step;
+      ungiven = λ sender inward is. ungiven_settled sender inward is ran.step;
       gates = λ sender kept. gates-settled old.journal.notes out.name time ran.step sender;
       fewer = subst (λ step. inside_count core + sum_upto (given_count (settle_note out.name time step ∷ old.journal.notes)) old.core.cores
           ≤ inside_count old.core + sum_upto (given_count old.journal.notes) old.core.cores) (sym yields) (omega (arith, same_inside));
@@ -169,7 +197,7 @@ module _ {J T : Type 0} {same : J → J → Type 0} {made : J → ℕ} {polls : 
     given_more = sum_upto-at_most_one (given_count old.journal.notes) (given_count (writes.Done out.name time answer ∷ old.journal.notes)) out.name.from
         (λ from. length-with_last_if (given_outcomes from old.journal.notes) _ (out.name.from == from)) old.core.cores
 
-    pub ended : IsQuietStep old core written same made polls everyone
+    pub ended : IsQuietStep old core written same made polls everyone (given_settled out.name ran.step)
     ended = record {
       kept = subst (λ step. IsKept (terms_at old) core (settle_note out.name time step ∷ old.journal.notes)) (sym ends)
           (subst (λ core_now. IsKept (terms_at old) core_now (writes.Done out.name time answer ∷ old.journal.notes)) (sym is)
@@ -178,6 +206,7 @@ module _ {J T : Type 0} {same : J → J → Type 0} {made : J → ℕ} {polls : 
       cores = ap (λ core. core.cores) is;
       room = ap (λ core. core.queues.room) is;
       quiet = quiet-settled old.journal.notes out.name time ran.step;
+      ungiven = λ sender inward is. ungiven_settled sender inward is ran.step;
       gates = λ sender kept. gates-settled old.journal.notes out.name time ran.step sender;
       fewer = subst (λ step. inside_count core + sum_upto (given_count (settle_note out.name time step ∷ old.journal.notes)) old.core.cores
           ≤ inside_count old.core + sum_upto (given_count old.journal.notes) old.core.cores) (sym ends) (omega (arith, one_fewer, given_more));
@@ -200,10 +229,10 @@ module _ {J T : Type 0} {same : J → J → Type 0} {made : J → ℕ} {polls : 
     pub few-settled : length notes ≤ 1
     few-settled = omega (arith, ap length notes_are)
 
-    pub step-settled : IsQuietStep old core (reverse notes) same made polls everyone
-    step-settled = subst (λ notes. IsQuietStep old core (reverse notes) same made polls everyone) (sym notes_are) (by_step ran.step refl settled settles)
+    pub step-settled : IsQuietStep old core (reverse notes) same made polls everyone (given_settled out.name ran.step)
+    step-settled = subst (λ notes. IsQuietStep old core (reverse notes) same made polls everyone (given_settled out.name ran.step)) (sym notes_are) (by_step ran.step refl settled settles)
       where
-        by_step : (step : Step T) → ran.step ≡ step → (settled : Settled T) → CoreSettles old.core out ran spent step settled core notes → IsQuietStep old core written same made polls everyone
+        by_step : (step : Step T) → ran.step ≡ step → (settled : Settled T) → CoreSettles old.core out ran spent step settled core notes → IsQuietStep old core written same made polls everyone (given_settled out.name ran.step)
         by_step (steps.Done value) ends (Finished answer) settles = ended value ends settles.1
         by_step (steps.Done value) ends Yielded settles = absurd settles
         by_step steps.Yield yields (Finished answer) settles = absurd settles

@@ -21,7 +21,7 @@ use Rattle.rt_journal.specs.Steps.{TellsShut, with_notes}
 use Rattle.rt_journal.proofs.KeptClosings.{agrees-shut, shut_stands}
 use Rattle.rt_journal.proofs.EndsKept.{sees_more_in}
 use Rattle.rt_journal.proofs.Received.{task_stays}
-use Rattle.rt_journal.proofs.Quiet.{quiet-shut}
+use Rattle.rt_journal.proofs.Quiet.{nobody, quiet-shut}
 use Rattle.rt_journal.proofs.QuietSteps.{stepped, IsQuietStep}
 
 -- a gate that isn't shut may be, at the count of its end
@@ -43,7 +43,7 @@ module _ {J T : Type 0} (old : RecordedView J T) (from count : ℕ) (core : Core
 
   -- the gate of no other sender is shut
   pub shut_step : {same : J → J → Type 0} {made : J → ℕ} {polls : Owed J T} → IsRecorded same made polls old → IsNextShut old.core.cores from count old.journal.notes →
-      IsQuietStep old core written same made polls (λ sender. sender ≡ from → ⊥)
+      IsQuietStep old core written same made polls (λ sender. sender ≡ from → ⊥) nobody
   shut_step {same} {made} {polls} recorded next = record {
     kept = record {
       is_core = recorded.kept.is_core;
@@ -57,6 +57,7 @@ module _ {J T : Type 0} (old : RecordedView J T) (from count : ℕ) (core : Core
     cores = ap (λ core. core.cores) is;
     room = ap (λ core. core.queues.room) is;
     quiet = quiet-shut old.journal.notes from count;
+    ungiven = λ sender inward is. tt;
     gates = λ sender away. ap (λ test. or_else (cond test (Some count) None) (final_count sender old.journal.notes)) (ne_eqb sender from away);
     fewer = omega (arith, ap inside_count is);
     as_sent = (tt, recorded.as_sent);
@@ -86,6 +87,7 @@ module _ {J T : Type 0} (old : RecordedView J T) (from count : ℕ) (core : Core
         taken = seen.taken;
         behind = seen.behind;
         given = seen.given;
+        ungiven = tt;
         orders = seen.orders;
       }
 
@@ -106,8 +108,8 @@ module _ {J T : Type 0} (old now : RecordedView J T) (view_is : old ≡ now) (fr
     pub few_shut : length notes ≡ 1
     few_shut = ap length gate.1
 
-    pub step_shut : {same : J → J → Type 0} {made : J → ℕ} {polls : Owed J T} → IsRecorded same made polls old → IsQuietStep old core (reverse notes) same made polls (λ sender. sender ≡ from → ⊥)
-    step_shut {same} {made} {polls} recorded = subst (λ notes. IsQuietStep old core (reverse notes) same made polls (λ sender. sender ≡ from → ⊥)) (sym gate.1) (shut_step old from count core gate.0 recorded next_now)
+    pub step_shut : {same : J → J → Type 0} {made : J → ℕ} {polls : Owed J T} → IsRecorded same made polls old → IsQuietStep old core (reverse notes) same made polls (λ sender. sender ≡ from → ⊥) nobody
+    step_shut {same} {made} {polls} recorded = subst (λ notes. IsQuietStep old core (reverse notes) same made polls (λ sender. sender ≡ from → ⊥) nobody) (sym gate.1) (shut_step old from count core gate.0 recorded next_now)
 
     pub tells_shut_now : TellsShut old from count (stepped old core (reverse notes))
     tells_shut_now = record { journal = ap (λ notes. with_notes (reverse notes) old.journal) gate.1; took = refl; out = ap (λ core. core.out) gate.0 }

@@ -143,9 +143,8 @@ module _ {J T : Type 0} {same : J → J → Type 0} {made : J → ℕ} {polls : 
     collection =
         subst (λ notes. IsPrefix (collected_outcomes d (notes_at sender)) (given_outcomes sender notes)) (sym (notes_are d d_there))
         (subst (λ front. IsPrefix front (given_outcomes sender (core d).journal.notes)) (sym (outs.collected ∙ ap (λ at. named_outcomes at d got) sender_is))
-        (prefix-along (named_outcomes sender d got) (named_outcomes sender d (inward sender d).given) (given_outcomes sender (core d).journal.notes)
-        (named-prefix sender d got (inward sender d).given (prefix-along got (out sender d).seen (inward sender d).given seen_got (link.outcomes.0, sym link.outcomes.1)))
-        (subst (λ at. IsPrefix (named_outcomes sender at (inward sender d).given) (given_outcomes sender (core d).journal.notes)) (numbers d d_there) ins.given)))
+        (subst (IsPrefix (named_outcomes sender d got)) (sym (ins.given ∙ ap (λ at. named_outcomes sender at (inward sender d).given) (numbers d d_there)))
+        (named-prefix sender d got (inward sender d).given (prefix-along got (out sender d).seen (inward sender d).given seen_got (link.outcomes.0, sym link.outcomes.1)))))
       where
         got : List (ℕ × Outcome J T)
         got = take (out sender d).got (out sender d).seen

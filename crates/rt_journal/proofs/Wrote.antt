@@ -1,12 +1,15 @@
 -- What a call of a recorded core knows after its core made a step and its desk wrote the notes.
+use Rattle.std.specs.Prelude.{Option}
 use Rattle.std.proofs.Common.{◌≡◌, ℕ, List, ◌++◌, reverse, sym, ◌∙◌, ap, subst}
+use Rattle.rt_ids.specs.declared.names.JobId.{JobId}
 use Rattle.rt_ids.specs.declared.note.Note.{Note}
+use Rattle.rt_ids.specs.declared.note.OutcomeNote.{OutcomeNote}
 use Rattle.rt_ids.specs.declared.order.Envelope.{Envelope}
 use Rattle.rt_jobs.specs.Steps.{Owed}
 use Rattle.rt_core.specs.State.{CoreView}
 use Rattle.rt_journal.specs.Submissions.{DeskView, IsWritten, terms_of_desk, desk_with}
 use Rattle.rt_journal.specs.Recorded.{RecordedView, IsRecorded, desk_of, terms_at}
-use Rattle.rt_journal.specs.Ends.{KeepsIn, KeepsOuts, IsSameSeat}
+use Rattle.rt_journal.specs.Ends.{LeavesOwed, KeepsOuts, IsSameSeat}
 use Rattle.rt_journal.proofs.QuietSteps.{stepped, IsQuietStep, recorded_step, seat_step, ins_step, outs_step, written_step}
 
 module _ {J T : Type 0} where
@@ -28,7 +31,7 @@ module _ {J T : Type 0} where
 module _ {J T : Type 0} {same : J → J → Type 0} {made : J → ℕ} {polls : Owed J T}
     (core : CoreView J) (took : List (Envelope J)) (said : DeskView J T)
     (invariant : IsRecorded same made polls (view_of core took said) × (said ≡ desk_of (view_of core took said)))
-    (after : CoreView J) (notes slice : List (Note T)) (slice_is : slice ≡ notes) {keeps : ℕ → Type 0} (step : IsQuietStep (view_of core took said) after (reverse notes) same made polls keeps) where
+    (after : CoreView J) (notes slice : List (Note T)) (slice_is : slice ≡ notes) {keeps : ℕ → Type 0} {gives : ℕ → Option (JobId × OutcomeNote T)} (step : IsQuietStep (view_of core took said) after (reverse notes) same made polls keeps gives) where
   abbrev old : RecordedView J T
   old = view_of core took said
 
@@ -55,8 +58,8 @@ module _ {J T : Type 0} {same : J → J → Type 0} {made : J → ℕ} {polls : 
     pub quiet_seat : IsSameSeat old (view_of after took said_now)
     quiet_seat = subst (IsSameSeat old) (sym now_is) (seat_step old invariant.0 after (reverse notes) step)
 
-    pub quiet_ins : (sender : ℕ) → keeps sender → KeepsIn sender old (view_of after took said_now)
-    quiet_ins sender kept = subst (KeepsIn sender old) (sym now_is) (ins_step old invariant.0 after (reverse notes) step sender kept)
+    pub quiet_ins : (sender : ℕ) → keeps sender → LeavesOwed sender (gives sender) old (view_of after took said_now)
+    quiet_ins sender kept = subst (LeavesOwed sender (gives sender) old) (sym now_is) (ins_step old invariant.0 after (reverse notes) step sender kept)
 
     pub quiet_outs : KeepsOuts (desk_of old) (desk_of (view_of after took said_now))
     quiet_outs = subst (λ view. KeepsOuts (desk_of old) (desk_of view)) (sym now_is) (outs_step old invariant.0 after (reverse notes) step)

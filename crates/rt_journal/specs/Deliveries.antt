@@ -5,9 +5,13 @@ use Rattle.rt_ids.specs.declared.note.Note.{Note}
 use Rattle.rt_ids.specs.declared.note.Note.TheVariants as writes
 use Rattle.rt_ids.specs.declared.order.Order.{Order}
 use Rattle.rt_ids.specs.declared.order.Order.TheVariants.{Job, Create, SetShares, Close, CloseCore}
+use Rattle.rt_ids.specs.declared.order.Outcome.{Outcome}
+use Rattle.rt_ids.specs.declared.order.Outcome.TheVariants as outcomes
 use Rattle.rt_ids.specs.declared.order.Reason.{Reason}
 use Rattle.rt_ids.specs.declared.order.Answer.{Answer}
 use Rattle.rt_ids.specs.Journal.{Journal}
+use Rattle.rt_core.specs.declared.delivery.Delivered.{Delivered}
+use Rattle.rt_core.specs.declared.delivery.Delivered.TheVariants.{Took, Back, Answered}
 use Rattle.rt_ids.specs.Commands.{refusal, IsAnswer, effect_note}
 
 module _ {T : Type 0} where
@@ -27,6 +31,12 @@ module _ {T : Type 0} where
       (answer : Answer) × IsAnswer order answer before × (notes ≡ with_effect (effect_note order answer) (writes.Answered name answer ∷ []))
 
 module _ {J T : Type 0} where
+  -- the outcome of a delivery, if it has one yet
+  abbrev pub outcome_delivered : Delivered J → Option (Outcome J T)
+  outcome_delivered Took = None
+  outcome_delivered (Back reason order) = Some (outcomes.Returned reason order)
+  outcome_delivered (Answered answer) = Some (outcomes.Answered answer)
+
   -- the notes of the delivery of this order
   abbrev pub IsDelivery : JobId → Order J → Journal T → List (Note T) → Type 0
   IsDelivery name (Job queue job) before notes = notes ≡ entry_note name queue (refusal queue before) ∷ []

@@ -1,10 +1,10 @@
 -- What an end of a link is to the journal of its actor.
-use Rattle.std.specs.Prelude.{◌≡◌, ℕ, ◌+◌, ◌<◌, ◌≤◌, Some, List, length, map, take, slice_get}
+use Rattle.std.specs.Prelude.{◌≡◌, ℕ, ◌+◌, ◌<◌, ◌≤◌, Option, Some, None, List, [], ◌∷◌, ◌++◌, length, map, take, slice_get}
 use Rattle.rt_ids.specs.declared.names.JobId.{JobId}
 use Rattle.rt_ids.specs.declared.order.Order.{Order}
 use Rattle.rt_ids.specs.declared.order.Outcome.{Outcome}
-use Rattle.rt_ids.specs.Journal.{Journal}
-use Rattle.rt_ids.specs.Assembly.{IsPrefix}
+use Rattle.rt_ids.specs.declared.note.OutcomeNote.{OutcomeNote}
+use Rattle.rt_ids.specs.Journal.{with_last}
 use Rattle.rt_ids.specs.Filters.{Outcomes, accepted_orders, delivered_names, given_outcomes, collected_outcomes}
 use Rattle.rt_ids.specs.Outcomes.{outcome_note}
 use Rattle.rt_ids.specs.Outstanding.{outstanding_count}
@@ -13,6 +13,7 @@ use Rattle.rt_link.specs.declared.ends.Outward.{Outward}
 use Rattle.rt_link.specs.declared.ends.Inward.{Inward}
 use Rattle.rt_link.specs.Ends.{StartsWith}
 use Rattle.rt_link.specs.Calls.{final_of}
+pub use Rattle.rt_journal.specs.Lists.{KeepsSent, KeepsLists, GivesMore, told_under}
 use Rattle.rt_journal.specs.Orders.{numbered_orders}
 use Rattle.rt_journal.specs.Submissions.{DeskView}
 use Rattle.rt_journal.specs.Recorded.{RecordedView, order_taken}
@@ -25,19 +26,17 @@ name_of sender core number = record { from = sender; to = core; number = number 
 abbrev pub named_outcomes : {J T : Type 0} → ℕ → ℕ → List (ℕ × Outcome J T) → Outcomes T
 named_outcomes sender core outcomes = map (λ outcome. (name_of sender core outcome.0, outcome_note outcome.1)) outcomes
 
--- what a journal tells of the links on which its actor sends stays as it was
-pub record KeepsSent {T : Type 0} (old new : Journal T) : Type 0 where
-  pub accepted : (core : ℕ) → accepted_orders core new ≡ accepted_orders core old
-  pub outstanding : (core : ℕ) → outstanding_count core new ≡ outstanding_count core old
-  pub collected : (core : ℕ) → collected_outcomes core new ≡ collected_outcomes core old
-
--- the lists that a journal tells of its links, except what was delivered, stay as they were or grow at their end; no gate is shut
-pub record KeepsLists {T : Type 0} (old new : Journal T) : Type 0 where
-  pub sent : KeepsSent old new
-  pub given : (sender : ℕ) → IsPrefix (given_outcomes sender old) (given_outcomes sender new)
-  pub gates : (sender : ℕ) → final_count sender new ≡ final_count sender old
-
 module _ {J T : Type 0} where
+  -- the outcome that is owed wasn't given
+  abbrev pub IsUngiven : Option (JobId × OutcomeNote T) → List (ℕ × Outcome J T) → Type 0
+  IsUngiven None given = Unit {0}
+  IsUngiven (Some owed) given = (place : ℕ) (outcome : ℕ × Outcome J T) → slice_get given place ≡ Some outcome → outcome.0 ≡ owed.0.number → ⊥
+
+  -- an outcome is given on this end, if there is one
+  abbrev pub Gives : Inward J T → ℕ → Option (Outcome J T) → Inward J T → Type 0
+  Gives old number None new = new ≡ old
+  Gives old number (Some outcome) new = new ≡ record old { given = old.given ++ (number, outcome) ∷ [] }
+
   -- the sender's end beside its journal: what was sent is what was accepted, what was got is what was collected, and as many are outstanding
   pub record IsOutOf (core : ℕ) (desk : DeskView J T) (out : Outward J T) (credited : ℕ) : Type 0 where
     pub known : core < desk.cores
@@ -50,9 +49,9 @@ module _ {J T : Type 0} where
     pub behind : out.got ≤ length out.seen
     pub collected : collected_outcomes core desk.journal.notes ≡ named_outcomes desk.actor core (take out.got out.seen)
 
-  -- the receiver's end beside its core and journal: what was taken was delivered, in the order sent; what was given is told, and more may be told;
+  -- the receiver's end beside its core and journal: what was taken was delivered, in the order sent; what is told as given was given, except this outcome, if there is one;
   -- the gate is shut where a note says so, at the number of the last order
-  pub record IsInOf (sender : ℕ) (view : RecordedView J T) (inward : Inward J T) : Type 0 where
+  pub record IsInOwing (sender : ℕ) (owed : Option (JobId × OutcomeNote T)) (view : RecordedView J T) (inward : Inward J T) : Type 0 where
     pub known : sender ≤ view.core.cores
     pub from : inward.from ≡ sender
     pub to : inward.to ≡ view.core.core
@@ -61,18 +60,27 @@ module _ {J T : Type 0} where
     pub gate : final_count sender view.journal.notes ≡ final_of inward inward.shut
     pub taken : length (delivered_names sender view.journal.notes) ≡ inward.taken
     pub behind : inward.taken ≤ length inward.seen
-    pub given : IsPrefix (named_outcomes sender view.core.core inward.given) (given_outcomes sender view.journal.notes)
+    pub given : given_outcomes sender view.journal.notes ≡ with_last (named_outcomes sender view.core.core inward.given) owed
+    pub ungiven : IsUngiven owed inward.given
     pub orders : (name : JobId) (order : Order J) → name.from ≡ sender → order_taken view.took name ≡ Some order →
         (place : ℕ) × (name ≡ name_of sender view.core.core (place + 1)) × (slice_get inward.seen place ≡ Some order)
+
+  -- the same, with no outcome owed
+  abbrev pub IsInOf : ℕ → RecordedView J T → Inward J T → Type 0
+  IsInOf sender view inward = IsInOwing sender None view inward
 
   -- the sender's end has seen as much of the other end as before, or more
   pub record ShowsMore (old new : Outward J T) : Type 0 where
     pub rest : new ≡ record old { seen = new.seen; closed = new.closed }
     pub seen : StartsWith new.seen old.seen
 
+  -- a step leaves this outcome owed on the end of this sender, if there is one, and else the end as it is to the core and its journal
+  pub record LeavesOwed (sender : ℕ) (owed : Option (JobId × OutcomeNote T)) (old new : RecordedView J T) : Type 0 where
+    pub each : (inward : Inward J T) → IsInOf sender old inward → IsInOwing sender owed new inward
+
   -- a step leaves the end of this sender as it is to the core and its journal
-  pub record KeepsIn (sender : ℕ) (old new : RecordedView J T) : Type 0 where
-    pub each : (inward : Inward J T) → IsInOf sender old inward → IsInOf sender new inward
+  abbrev pub KeepsIn : ℕ → RecordedView J T → RecordedView J T → Type 0
+  KeepsIn sender old new = LeavesOwed sender None old new
 
   -- a step leaves the end on which this actor sends to that core as it is to its journal
   pub record KeepsOut (core : ℕ) (old new : DeskView J T) : Type 0 where

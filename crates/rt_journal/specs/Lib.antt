@@ -5,7 +5,9 @@ pub mod Yet
 pub mod Agreement
 pub mod Submissions
 pub mod Recorded
+pub mod Lists
 pub mod Ends
 pub mod Steps
 pub mod Turns
+pub mod Owed
 pub mod Together

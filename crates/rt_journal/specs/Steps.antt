@@ -1,11 +1,13 @@
 -- What the calls of a core beside its journal do.
-use Rattle.std.specs.Prelude.{◌≡◌, ◌==◌, ℕ, ◌+◌, ◌*◌, ◌^◌, ◌<◌, ◌≤◌, Some, None, Bool, true, false, List, [], ◌∷◌, ◌++◌, Result, Ok, Err}
+use Rattle.std.specs.Prelude.{◌≡◌, ◌==◌, ℕ, ◌+◌, ◌*◌, ◌^◌, ◌<◌, ◌≤◌, Option, Some, None, Bool, true, false, List, [], ◌∷◌, ◌++◌, Result, Ok, Err}
 use Rattle.rt_ids.specs.declared.names.JobId.{JobId}
 use Rattle.rt_ids.specs.declared.note.Note.{Note}
 use Rattle.rt_ids.specs.declared.note.Note.TheVariants as writes
 use Rattle.rt_ids.specs.declared.order.Envelope.{Envelope}
+use Rattle.rt_ids.specs.declared.order.Outcome.{Outcome}
 use Rattle.rt_ids.specs.Work.{number_if}
-use Rattle.rt_ids.specs.Closing.{IsCounted, final_count}
+use Rattle.rt_ids.specs.Closing.{IsCounted, closes, core_mode, final_count}
+use Rattle.rt_ids.specs.declared.order.Mode.{Mode}
 use Rattle.rt_ids.specs.Commands.{created_count}
 use Rattle.rt_taskqueue.specs.declared.queues.CreateError.{CreateError}
 use Rattle.rt_taskqueue.specs.declared.queues.CreateError.TheVariants.{TooMany, Memory}
@@ -15,7 +17,7 @@ use Rattle.rt_link.specs.Calls.{Takes}
 use Rattle.rt_notes.specs.Journals.{JournalView}
 use Rattle.rt_journal.specs.Deliveries.{IsDelivery}
 use Rattle.rt_journal.specs.Recorded.{RecordedView, delivered_count, given_count}
-use Rattle.rt_journal.specs.Ends.{KeepsLists}
+use Rattle.rt_journal.specs.Ends.{KeepsLists, Gives}
 
 module _ {T : Type 0} where
   -- the journal is longer by these notes, the newest first
@@ -52,9 +54,11 @@ module _ {J T : Type 0} where
     pub delivered : (sender : ℕ) →
         delivered_count new.journal.notes sender ≡ delivered_count old.journal.notes sender + number_if (envelope.name.from == sender)
 
-  -- what a delivery from this end does: the next order is received, or nothing is there
+  -- what a delivery from this end does: the next order is received, and its outcome given, if it has one yet; or nothing is there
   abbrev pub Delivers : RecordedView J T → Inward J T → RecordedView J T → Inward J T → Bool → Type 0
-  Delivers old before new after true = (envelope : Envelope J) × Takes before after (Some envelope) × Receives old envelope new
+  Delivers old before new after true =
+      (envelope : Envelope J) × ((taken : Inward J T) × (outcome : Option (Outcome J T)) × Takes before taken (Some envelope) × Gives taken envelope.name.number outcome after)
+      × Receives old envelope new
   Delivers old before new after false = Takes before after None × (new ≡ old)
 
   -- a queue is made under the next number; a core that has 256 queues says so, else there was no memory
@@ -70,3 +74,10 @@ module _ {J T : Type 0} where
     pub journal : new.journal ≡ with_notes (writes.Shut sender count ∷ []) old.journal
     pub took : new.took ≡ old.took
     pub out : new.core.out ≡ old.core.out
+
+  -- the core closes by itself, where that changes anything
+  abbrev pub ClosesItself : RecordedView J T → Mode → Bool → RecordedView J T → Type 0
+  ClosesItself old mode true new =
+      (closes (core_mode old.journal.notes) mode ≡ true) × (new.journal ≡ with_notes (writes.CoreClosed mode ∷ []) old.journal)
+      × (new.core.out ≡ old.core.out) × (new.took ≡ old.took)
+  ClosesItself old mode false new = (closes (core_mode old.journal.notes) mode ≡ false) × (new ≡ old)

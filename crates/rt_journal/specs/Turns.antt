@@ -30,6 +30,11 @@ abbrev pub IsOut : {J : Type 0} → Option (JobOut J) → J → Type 0
 IsOut None job = ⊥
 IsOut (Some out) job = out.job ≡ job
 
+-- and this is its name
+abbrev pub IsOutUnder : {J : Type 0} → Option (JobOut J) → JobId → Type 0
+IsOutUnder None name = ⊥
+IsOutUnder (Some out) name = out.name ≡ name
+
 -- what may answer a poll, and what it leaves of its job
 pub record IsPolled {J T : Type 0} (same : J → J → Type 0) (made : J → ℕ) (polls : Owed J T) (answers : J → T → Type 0) (ran : AfterPoll J T) : Type 0 where
   pub answered : IfDone ran.step (answers ran.before)
@@ -83,8 +88,7 @@ module _ {J T : Type 0} where
     Picks old (Ok (Back name reason order)) new = IsHandBack old name reason order new
     Picks old (Ok Idle) new = ((queue : ℕ) → has_work queue old.journal.notes ≡ false) × (new ≡ old)
     Picks old (Err Busy) new = (old.core.out ≢ None) × (new ≡ old)
-    Picks old (Err Spent) new =
-        (turns old.journal.notes ≡ 2 ^ 64 - 1) × ((queue : ℕ) × (has_work queue old.journal.notes ≡ true)) × (new ≡ old)
+    Picks old (Err Spent) new = (turns old.journal.notes ≡ 2 ^ 64 - 1) × ((queue : ℕ) × (has_work queue old.journal.notes ≡ true)) × (new ≡ old)
 
   module _ (made : J → ℕ) (polls : Owed J T) (answers : J → T → Type 0) where
     -- the poll of the job that was out is settled: what it owed with the notes of its post before and after, the job that was sent owes, counted from its own polls
@@ -93,8 +97,7 @@ module _ {J T : Type 0} where
       pub was_out : old.core.out ≡ Some out
       pub sent : J
       pub task : order_taken old.took out.name ≡ Some (Job out.queue sent)
-      pub owed : (before after : Journal T) → polls ran.before (made ran.before) before after ran.step ran.told →
-          polls sent (made sent + polls_made out.name old.journal.notes) before after ran.step ran.told
+      pub owed : (before after : Journal T) → polls ran.before (made ran.before) before after ran.step ran.told → polls sent (made sent + polls_made out.name old.journal.notes) before after ran.step ran.told
       pub answered : IfDone ran.step (answers sent)
       pub tells : TellsStep ran.step settled
       pub journal : new.journal ≡ with_notes (settle_note out.name (unwrap_or ran.told spent) ran.step ∷ []) old.journal

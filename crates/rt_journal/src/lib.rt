@@ -2,6 +2,7 @@
 #![tactic(auto)]
 
 pub mod desk;
+mod given;
 pub mod laws;
 pub mod recorded;
 

@@ -1,20 +1,29 @@
 //! A core beside its journal, over any ends of links.
 
-ghost use Rattle.std.specs.Prelude.{◌≡◌, ℕ, ◌+◌, ◌<◌, ◌≤◌, ◌≢◌, ◌↔◌, length, None, is_some, IsSome, IsTrue, IfOk};
+ghost use Rattle.std.specs.Prelude.{◌≡◌, ℕ, ◌+◌, ◌<◌, ◌≤◌, ◌≢◌, ◌↔◌, length, Some, None, is_some, IsSome, IsTrue, IfOk, IfSome};
 ghost use Rattle.rt_ids.specs.Closing.{IsDrained, core_mode, final_count};
 ghost use Rattle.rt_ids.specs.Commands.{IsOpening};
 ghost use Rattle.rt_jobs.specs.Ready.{HasReadyJob};
 ghost use Rattle.rt_core.specs.Answers.{IsReadyTurn};
+ghost use Rattle.std.specs.Option.{option_map};
+ghost use Rattle.rt_ids.specs.declared.note.OutcomeNote.TheVariants.{Returned};
+ghost use Rattle.rt_ids.specs.declared.order.Outcome.TheVariants as outcome;
+ghost use Rattle.rt_ids.specs.Outcomes.{outcome_note};
 ghost use Rattle.rt_link.specs.Calls.{Sends, Shuts};
+ghost use Rattle.rt_link.specs.Fits.{Fits};
 ghost use Rattle.rt_journal.specs.Submissions.{Submits, numbered};
-ghost use Rattle.rt_journal.specs.Recorded.{IsRecorded, desk_of};
-ghost use Rattle.rt_journal.specs.Ends.{IsOutOf, IsInOf, KeepsIn, KeepsOut, KeepsOuts, IsSameSeat};
-ghost use Rattle.rt_journal.specs.Steps.{opened_beside, IsNextIn, Receives, Delivers, CreatesQueue, TellsShut};
-ghost use Rattle.rt_journal.specs.Turns.{Picks, IsOut, IsPolled, Settles};
+ghost use Rattle.rt_journal.specs.Recorded.{IsRecorded, desk_of, order_taken};
+ghost use Rattle.rt_journal.specs.Ends.{IsOutOf, IsInOf, IsInOwing, Gives, GivesMore, told_under, LeavesOwed, KeepsIn, KeepsOut, KeepsOuts, IsSameSeat};
+ghost use Rattle.rt_journal.specs.Steps.{opened_beside, IsNextIn, Receives, Delivers, CreatesQueue, TellsShut, ClosesItself};
+ghost use Rattle.rt_journal.specs.Turns.{Picks, IsOut, IsOutUnder, IsPolled, Settles};
+ghost use Rattle.rt_journal.specs.Owed.{IsSentUnder, OwesSettled, outcome_settled, owed_back};
 
 use crate::desk::RecordedDesk;
+use crate::given::{give_if, outcome_done, outcome_of};
 use rt_core::{Core, PickError, Settled, Turn};
-use rt_ids::{ActorNo, CoreNo, Envelope, Order, QueueNo, SendError, Ticket};
+use rt_ids::{
+    ActorNo, CoreNo, Envelope, JobId, Mode, Order, Outcome, QueueNo, Reason, SendError, Ticket,
+};
 use rt_jobs::{Ran, Task};
 use rt_link::{History, InEnd, OutEnd};
 use rt_notes::Journal;
@@ -117,7 +126,7 @@ impl<J: Task<Out = u64>, A: Allocator + Clone> Recorded<J, A> {
         created
     }
 
-    /// Takes the next order from this end and carries it out. Whether there was one.
+    /// Takes the next order from this end, carries it out, and gives its outcome on the end, if it has one yet. Whether there was one.
     pub fn deliver<I: InEnd<J>>(&mut self, end: &mut I) -> bool
         requires beside { IsInOf (I.inward end.old).from self.old (I.inward end.old) }
         requires room { length self.old.journal.notes + 2 ≤ self.old.journal.room }
@@ -132,27 +141,33 @@ impl<J: Task<Out = u64>, A: Allocator + Clone> Recorded<J, A> {
         let _said = &self.said;
         match end.take() {
             Some(envelope) => {
-                self.receive(envelope);
+                let number = envelope.name.number;
+                let outcome = self.receive(envelope);
+                give_if(end, number, outcome);
                 true
             }
             None => false,
         }
     }
 
-    /// Carries out the next order of its sender.
-    fn receive(&mut self, envelope: Envelope<J>)
+    /// Carries out the next order of its sender. Its outcome, if it has one yet.
+    fn receive(&mut self, envelope: Envelope<J>) -> Option<Outcome<J, u64>>
         requires next { IsNextIn self.old envelope.name }
         requires ready { HasReadyJob J.done J.CanPoll envelope.order }
         requires room { length self.old.journal.notes + 2 ≤ self.old.journal.room }
         ensures receives { Receives self.old envelope self.new }
+        ensures gives { GivesMore (told_under envelope.name (option_map outcome_note result)) self.old.journal.notes self.new.journal.notes }
+        ensures fits { IfSome result (λ outcome. Fits J.SameTask J.Answers envelope.order outcome) }
+        ensures stands { order_taken self.new.took envelope.name ≡ Some envelope.order }
         ensures sound { IsRecorded J.SameTask J.made J.Polls self.new }
         ensures seat { IsSameSeat self.old self.new }
     {
         // The queue and the shares of a command are within their ranges, which the law of its journal asks.
         let _within_ranges = envelope.order.without_job();
         self.took = self.took.with(&envelope);
-        let (_, notes) = self.core.deliver(envelope);
+        let (delivered, notes) = self.core.deliver(envelope);
         self.said.write(notes.as_slice());
+        outcome_of(delivered)
     }
 
     /// Shuts the gate of this sender, whose end is lent, in a core that is closed. The number is that of the last order that came through.
@@ -174,6 +189,28 @@ impl<J: Task<Out = u64>, A: Allocator + Clone> Recorded<J, A> {
         let told = self.core.gate_shut(from, count);
         self.said.write(told.as_slice());
         count
+    }
+
+    /// Closes the core by itself. Whether that did anything: the first closing does, and `Return` after `Finish`.
+    pub fn close(&mut self, mode: Mode) -> bool
+        requires room { length self.old.journal.notes < self.old.journal.room }
+        ensures closes { ClosesItself self.old mode result self.new }
+        ensures ins { (sender : ℕ) → KeepsIn sender self.old self.new }
+        ensures outs { KeepsOuts (desk_of self.old) (desk_of self.new) }
+        ensures seat { IsSameSeat self.old self.new }
+        ensures sound { IsRecorded J.SameTask J.made J.Polls self.new }
+    {
+        let (closed, notes) = self.core.close(mode);
+        self.said.write(notes.as_slice());
+        closed
+    }
+
+    /// How many orders of one sender may be without an outcome.
+    pub fn cap(&self) -> u16
+        ensures cap { result ≡ self.now.cap }
+        ensures sound { IsRecorded J.SameTask J.made J.Polls self.now }
+    {
+        self.said.cap()
     }
 
     /// Whether the core is closed, in either mode.
@@ -208,7 +245,7 @@ impl<J: Task<Out = u64>, A: Allocator + Clone> Recorded<J, A> {
         requires room { length self.old.journal.notes + 2 ≤ self.old.journal.room }
         ensures picks { Picks J.SameTask self.old result self.new }
         ensures ready { IsReadyTurn J.done J.CanPoll result }
-        ensures ins { (sender : ℕ) → KeepsIn sender self.old self.new }
+        ensures ins { (sender : ℕ) → LeavesOwed sender (owed_back result sender) self.old self.new }
         ensures outs { KeepsOuts (desk_of self.old) (desk_of self.new) }
         ensures seat { IsSameSeat self.old self.new }
         ensures sound { IsRecorded J.SameTask J.made J.Polls self.new }
@@ -220,13 +257,53 @@ impl<J: Task<Out = u64>, A: Allocator + Clone> Recorded<J, A> {
         picked
     }
 
-    /// Settles the poll of the job that is out. If the job told no time of its own, `spent` nanoseconds count.
-    pub fn settle(&mut self, ran: Ran<J>, spent: u64) -> Settled<u64>
+    /// Gives the outcome of a job that a pick handed back, on the end of its sender, before the next pick.
+    pub fn give_back<I: InEnd<J>>(&self, end: &mut I, name: JobId, reason: Reason, order: Order<J>)
+        requires owed { IsInOwing name.from (Some (name, Returned reason)) self.now (I.inward end.old) }
+        requires sent { IsSentUnder J.SameTask self.now.took name order }
+        ensures gives { Gives (I.inward end.old) name.number (Some (outcome.Returned reason order)) (I.inward end.new) }
+        ensures beside { IsInOf name.from self.now (I.inward end.new) }
+        ensures untouched { I.untouched end.new ≡ I.untouched end.old }
+    {
+        let _said = &self.said;
+        end.give(name.number, Outcome::Returned(reason, order));
+    }
+
+    /// Settles the poll of the job that is out, and gives its outcome on the end of its sender, if it is done. If the job told no time
+    /// of its own, `spent` nanoseconds count.
+    pub fn settle<I: InEnd<J>>(
+        &mut self,
+        end: &mut I,
+        name: JobId,
+        ran: Ran<J>,
+        spent: u64,
+    ) -> Settled<u64>
+        requires out { IsOut self.old.core.out ran.before }
+        requires named { IsOutUnder self.old.core.out name }
+        requires beside { IsInOf name.from self.old (I.inward end.old) }
+        requires polled { IsPolled J.SameTask J.made J.Polls J.Answers ran }
+        requires room { length self.old.journal.notes < self.old.journal.room }
+        ensures settles { Settles J.made J.Polls J.Answers self.old ran spent result self.new }
+        ensures gives { Gives (I.inward end.old) name.number (outcome_settled result) (I.inward end.new) }
+        ensures beside { IsInOf name.from self.new (I.inward end.new) }
+        ensures others { (sender : ℕ) → sender ≢ name.from → KeepsIn sender self.old self.new }
+        ensures outs { KeepsOuts (desk_of self.old) (desk_of self.new) }
+        ensures seat { IsSameSeat self.old self.new }
+        ensures sound { IsRecorded J.SameTask J.made J.Polls self.new }
+        ensures untouched { I.untouched end.new ≡ I.untouched end.old }
+    {
+        let settled = self.settle_out(ran, spent);
+        give_if(end, name.number, outcome_done(&settled));
+        settled
+    }
+
+    /// Settles the poll of the job that is out. Its outcome is owed from then on, if it is done.
+    fn settle_out(&mut self, ran: Ran<J>, spent: u64) -> Settled<u64>
         requires out { IsOut self.old.core.out ran.before }
         requires polled { IsPolled J.SameTask J.made J.Polls J.Answers ran }
         requires room { length self.old.journal.notes < self.old.journal.room }
         ensures settles { Settles J.made J.Polls J.Answers self.old ran spent result self.new }
-        ensures ins { (sender : ℕ) → KeepsIn sender self.old self.new }
+        ensures owes { OwesSettled self.old result self.new }
         ensures outs { KeepsOuts (desk_of self.old) (desk_of self.new) }
         ensures seat { IsSameSeat self.old self.new }
         ensures sound { IsRecorded J.SameTask J.made J.Polls self.new }

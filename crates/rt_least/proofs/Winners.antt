@@ -1,9 +1,9 @@
 -- The top of a tree of winners is the least key, also after a change.
-use Rattle.std.proofs.Common.{◌≡◌, ◌≢◌, ℕ, zero, suc, ◌+◌, ◌*◌, ◌/◌, ◌-◌, ◌<◌, ◌≤◌, ◌⊎◌, inl, inr, length, refl, sym, ◌∙◌, ap, subst, arith, set, replicate, get_or, get_or-set_other, get_or-set_same}
+use Rattle.std.proofs.Common.{◌≡◌, ◌≢◌, ℕ, zero, suc, ◌+◌, ◌*◌, ◌/◌, ◌-◌, ◌<◌, ◌≤◌, ◌⊎◌, inl, inr, refl, sym, ◌∙◌, ap, subst, arith}
 use Rattle.std.proofs.lemmas.Bool.{cases_eq, cases_lt}
 use Rattle.rt_ids.specs.declared.names.Key.{Key}
 use Rattle.rt_least.specs.declared.least.Least.{Least}
-use Rattle.rt_least.specs.Winners.{AtMost, Wins, WinsExcept, IsTree, IsAmong, IsOnTheWay, node_of, key_of, no_key}
+use Rattle.rt_least.specs.Winners.{AtMost, Wins, IsTree, IsAmong, IsOnTheWay, node_of}
 
 pub at_most_itself : (one : Key) → AtMost one one
 at_most_itself one = inr (refl, omega arith)

@@ -1,6 +1,6 @@
 -- The lists of a link as names, and the beginnings of lists that are told.
-use Rattle.std.proofs.Common.{◌≡◌, ℕ, zero, suc, ◌-◌, Bool, true, false, List, [], ◌∷◌, ◌++◌, length, drop, refl, sym, ◌∙◌, ap, subst, cond, arith}
-use Rattle.std.specs.Prelude.{Option, Some, None, IfSome, map, ◌==◌}
+use Rattle.std.proofs.Common.{◌≡◌, ℕ, zero, suc, ◌-◌, Bool, true, false, List, [], ◌∷◌, ◌++◌, length, drop, refl, sym, ◌∙◌, ap, subst, cond}
+use Rattle.std.specs.Prelude.{Option, Some, None, IfSome, ◌==◌}
 use Rattle.std.proofs.lemmas.List.{map-append, append_assoc, append-nil}
 use Rattle.rt_ids.specs.declared.names.JobId.{JobId}
 use Rattle.rt_ids.specs.declared.note.Note.{Note}
@@ -103,8 +103,7 @@ none_off told part journal whole (Some line) off begins =
     let front = part line journal in
     absurd
     (
-    off.broken
-    (
+    off.broken (
       front.0 ++ begins.0,
       sym (append_assoc (told (at_place line journal)) front.0 begins.0) ∙ (ap (λ items. items ++ begins.0) front.1 ∙ begins.1),
     )

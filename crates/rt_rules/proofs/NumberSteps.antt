@@ -1,16 +1,15 @@
 -- What the walk of the second rule knows after one more note, and when a start stands in order.
-use Rattle.std.proofs.Common.{◌≡◌, ℕ, zero, suc, ◌-◌, ◌<◌, ◌≤◌, ◌⊎◌, inl, inr, Bool, true, false, [], ◌∷◌, length, drop, refl, sym, ◌∙◌, ap, subst, cond, arith, get_or, replicate}
+use Rattle.std.proofs.Common.{◌≡◌, ℕ, zero, suc, ◌<◌, ◌≤◌, ◌⊎◌, inl, inr, Bool, true, false, [], ◌∷◌, refl, sym, ◌∙◌, ap, subst, cond, arith, get_or, replicate}
 use Rattle.std.specs.Prelude.{Option, Some, None}
 use Rattle.std.proofs.lemmas.Bool.{or_cases, true≢false}
 use Rattle.rt_ids.specs.declared.names.JobId.{JobId}
-use Rattle.rt_ids.specs.declared.note.Note.{Note}
 use Rattle.rt_ids.specs.declared.note.Note.TheVariants.{Took, Start}
 use Rattle.rt_ids.specs.declared.order.Order.{Order}
 use Rattle.rt_ids.specs.declared.order.Order.TheVariants.{Job}
 use Rattle.rt_ids.specs.Assembly.{Assembly, order_of}
 use Rattle.rt_ids.specs.Clauses.{StandsInOrder, IsAcceptedInside}
 use Rattle.rt_ids.specs.Filters.{name_started}
-use Rattle.rt_ids.specs.Journal.{Journal, EachNote, at_place, is_told, or_else}
+use Rattle.rt_ids.specs.Journal.{Journal, EachNote, is_told, or_else}
 use Rattle.rt_ids.specs.Names.{same_name}
 use Rattle.rt_ids.specs.Work.{queue_of}
 use Rattle.rt_ids.proofs.NameLemmas.{one_name}

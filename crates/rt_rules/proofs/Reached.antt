@@ -1,21 +1,20 @@
 -- Each number that is kept is that of a start, and where a start stands in order its number is above what is kept.
 use Rattle.std.proofs.Common.{◌≡◌, ℕ, ◌+◌, ◌*◌, ◌<◌, ◌≤◌, ◌⊎◌, inl, inr, Bool, true, false, List, [], ◌∷◌, length, refl, sym, ◌∙◌, ap, subst, cond, arith, get_or, replicate, zero, suc}
-use Rattle.std.specs.Prelude.{Option, Some, None, ◌||◌, is_some}
+use Rattle.std.specs.Prelude.{Option, Some, None, ◌||◌}
 use Rattle.std.specs.Option.{IsSome}
 use Rattle.std.proofs.lemmas.Bool.{cases_lt, or_cases, true≢false}
 use Rattle.rt_ids.specs.declared.names.JobId.{JobId}
 use Rattle.rt_ids.specs.declared.note.Note.{Note}
 use Rattle.rt_ids.specs.declared.note.Note.TheVariants.{Start, Took}
-use Rattle.rt_ids.specs.declared.order.Order.TheVariants.{Job}
 use Rattle.rt_ids.specs.Assembly.{Assembly, order_of}
 use Rattle.rt_ids.specs.Clauses.{StartsRight, StandsInOrder, IsAcceptedInside}
 use Rattle.rt_ids.specs.Filters.{name_started}
 use Rattle.rt_ids.specs.Journal.{Journal, EachNote, is_told, or_else}
 use Rattle.rt_ids.specs.Names.{is_name, same_name}
-use Rattle.rt_ids.specs.Work.{queue_of, queue_entered}
+use Rattle.rt_ids.specs.Work.{queue_of}
 use Rattle.rt_ids.proofs.NameLemmas.{one_name, same_as_itself}
 use Rattle.rt_rules.specs.declared.order.Numbers.{Numbers}
-use Rattle.rt_rules.specs.Numbers.{queue_asked, slot, last_started, HasReached, AreReached, Raises, EnteredAsSent, KnowsOrder}
+use Rattle.rt_rules.specs.Numbers.{queue_asked, last_started, HasReached, AreReached, Raises, EnteredAsSent, KnowsOrder}
 
 zeros : (count place default : ℕ) → place < length (replicate {A = ℕ} count 0) → ◌≡◌ {A = ℕ} (get_or (replicate count 0) place default) 0
 zeros zero place default within = absurd (omega arith)

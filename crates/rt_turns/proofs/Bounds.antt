@@ -1,5 +1,5 @@
 -- A virtual runtime is at most 2^50 for each note, if each pick is right and each note is spelled.
-use Rattle.std.proofs.Common.{ℕ, ◌+◌, ◌*◌, ◌^◌, ◌<◌, ◌≤◌, Bool, true, false, [], ◌∷◌, length, cond, arith}
+use Rattle.std.proofs.Common.{ℕ, ◌*◌, ◌^◌, ◌<◌, ◌≤◌, Bool, true, false, [], ◌∷◌, length, cond, arith}
 use Rattle.std.specs.Prelude.{Some, None, ◌==◌, unwrap_or}
 use Rattle.rt_shares.specs.Charge.{charge, InRange}
 use Rattle.rt_ids.specs.declared.note.Note.{Note}

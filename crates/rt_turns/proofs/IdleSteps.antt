@@ -1,5 +1,5 @@
 -- Queues without work wait behind all others after one more note, too.
-use Rattle.std.proofs.Common.{◌≡◌, ℕ, ◌<◌, ◌⊎◌, inl, inr, true, false, ◌∷◌, refl, sym, ◌∙◌, ap, subst, cond, get_or}
+use Rattle.std.proofs.Common.{◌≡◌, ℕ, ◌<◌, ◌⊎◌, inl, inr, false, ◌∷◌, refl, sym, ◌∙◌, ap, subst, cond, get_or}
 use Rattle.std.specs.Prelude.{Option, Some, None}
 use Rattle.std.proofs.lemmas.Bool.{cases_eq, ne_eqb}
 use Rattle.rt_ids.specs.declared.names.Key.{Key}

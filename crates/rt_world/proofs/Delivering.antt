@@ -1,16 +1,21 @@
 -- A world at rest stays one as a core takes the next order of a sender.
 use Rattle.std.proofs.Common.{◌≡◌, ◌≢◌, ℕ, zero, suc, ◌+◌, ◌<◌, ◌≤◌, Bool, true, false, List, [], ◌∷◌, length, refl, sym, ◌∙◌, ap, subst, arith}
-use Rattle.std.specs.Prelude.{None, slice_get}
-use Rattle.std.proofs.lemmas.List.{set-get_or}
+use Rattle.std.specs.Prelude.{Option, Some, None, slice_get}
+use Rattle.std.proofs.lemmas.List.{append-nil, set-get_or}
 use Rattle.rt_ids.specs.declared.order.Envelope.{Envelope}
+use Rattle.rt_ids.specs.declared.order.Order.{Order}
+use Rattle.rt_ids.specs.declared.order.Outcome.{Outcome}
 use Rattle.rt_ids.specs.Filters.{delivered_names}
 use Rattle.rt_jobs.specs.Steps.{Owed}
+use Rattle.rt_link.specs.declared.ends.Inward.{Inward}
 use Rattle.rt_link.specs.declared.plain.Whole.{Whole}
 use Rattle.rt_link.specs.Whole.{inward_of, kept_by_receiver}
-use Rattle.rt_link.specs.Calls.{SeesMore}
+use Rattle.rt_link.specs.Ends.{StartsWith}
+use Rattle.rt_link.specs.Calls.{SeesMore, Takes}
 use Rattle.rt_journal.specs.Recorded.{RecordedView, IsRecorded, desk_of}
-use Rattle.rt_journal.specs.Ends.{IsInOf, KeepsIn, KeepsOuts, IsSameSeat}
+use Rattle.rt_journal.specs.Ends.{IsInOf, Gives, KeepsIn, KeepsOuts, IsSameSeat}
 use Rattle.rt_journal.specs.Steps.{Delivers as DeliversTo}
+use Rattle.rt_journal.proofs.GivenEnds.{gave_rest}
 use Rattle.rt_world.specs.State.{sent_at}
 use Rattle.rt_world.specs.Deliveries.{Delivers, IsDelivery, next_place, taken_reply}
 use Rattle.rt_world.specs.Links.{link_at}
@@ -64,29 +69,61 @@ module _ {J T : Type 0} {same : J → J → Type 0} {made : J → ℕ} {polls : 
   beside_now : IsInOf sender now (inward_of after)
   beside_now = subst (λ from. IsInOf from now (inward_of after)) from_is did.beside
 
-  -- what the core did on the link: it took, and sees what it saw
+  -- what the core did on the link: it took, and gave an outcome, if there is one yet; and it sees what it saw
   record DidOnLink : Type 0 where
-    rest : inward_of after ≡ record (inward_of link) { seen = after.sent; taken = after.taken; shut = after.shut }
+    rest : inward_of after ≡ record (inward_of link) { seen = after.sent; taken = after.taken; given = after.given; shut = after.shut }
     more : SeesMore (inward_of link) (inward_of after)
+    given : StartsWith after.given link.given
     out : now.core.out ≡ view.core.out
 
-  taken_or_shut : (count : ℕ) (gate : Bool) → inward_of after ≡ record (inward_of link) { seen = after.sent; taken = count; shut = gate } →
-      inward_of after ≡ record (inward_of link) { seen = after.sent; taken = after.taken; shut = after.shut }
-  taken_or_shut count gate is = is ∙ (λ i. record (inward_of link) { seen = after.sent; taken = sym (ap (λ end. end.taken) is) i; shut = sym (ap (λ end. end.shut) is) i })
+  as_after : (seen : List (Order J)) (count : ℕ) → inward_of after ≡ record (inward_of link) { seen = seen; taken = count; given = after.given } →
+      inward_of after ≡ record (inward_of link) { seen = after.sent; taken = after.taken; given = after.given; shut = after.shut }
+  as_after seen count is = is ∙ (λ i. record (inward_of link) {
+    seen = sym (ap (λ end. end.seen) is) i;
+    taken = sym (ap (λ end. end.taken) is) i;
+    given = after.given;
+    shut = sym (ap (λ end. end.shut) is) i;
+  })
+
+  -- what was given before is given still
+  given_more : (taken : Inward J T) (number : ℕ) (outcome : Option (Outcome J T)) → Gives taken number outcome (inward_of after) → StartsWith after.given taken.given
+  given_more taken number None gives = ([], ap (λ end. end.given) gives ∙ sym (append-nil taken.given))
+  given_more taken number (Some outcome) gives = ((number, outcome) ∷ [], ap (λ end. end.given) gives)
+
+  module _ (taken : Inward J T) (envelope : Envelope J) (outcome : Option (Outcome J T)) (takes : Takes (inward_of link) taken (Some envelope))
+      (gives : Gives taken envelope.name.number outcome (inward_of after)) where
+    rest_is : inward_of after ≡ record taken { given = after.given }
+    rest_is = gave_rest taken envelope.name.number outcome (inward_of after) gives
+
+    seen_is : after.sent ≡ taken.seen
+    seen_is = ap (λ end. end.seen) rest_is
+
+    took_on_link : now.core.out ≡ view.core.out → DidOnLink
+    took_on_link out = record {
+      rest = as_after taken.seen (link.taken + 1) (rest_is ∙ (λ i. record (takes.0 i) { given = after.given }));
+      more = subst (λ seen. StartsWith seen link.sent × (link.shut ≡ true → seen ≡ link.sent)) (sym seen_is) takes.1;
+      given = subst (StartsWith after.given) (ap (λ end. end.given) takes.0) (given_more taken envelope.name.number outcome gives);
+      out = out;
+    }
 
   did_on_link : DidOnLink
   did_on_link = by_found found did.delivers
     where
       by_found : (found : Bool) → DeliversTo view (inward_of link) now (inward_of after) found → DidOnLink
-      by_found true delivers = record { rest = taken_or_shut (link.taken + 1) link.shut delivers.1.0; more = delivers.1.1; out = delivers.2.out }
-      by_found false delivers = record { rest = taken_or_shut link.taken link.shut delivers.0.0; more = delivers.0.1; out = ap (λ view. view.core.out) delivers.1 }
+      by_found true delivers = took_on_link delivers.1.0 delivers.0 delivers.1.1 delivers.1.2 delivers.1.3 delivers.2.out
+      by_found false delivers = record {
+        rest = as_after after.sent link.taken (delivers.0.0 ∙ (λ i. record (inward_of link) { seen = after.sent; given = sym (ap (λ end. end.given) delivers.0.0) i }));
+        more = delivers.0.1;
+        given = ([], ap (λ end. end.given) delivers.0.0 ∙ sym (append-nil link.given));
+        out = ap (λ view. view.core.out) delivers.1;
+      }
 
   same_orders : after.sent ≡ link.sent
   same_orders = sent_is link after did_on_link.more did.untouched did_on_link.rest
 
   received : DidReceive same made polls sender view link now after
   received = record {
-    received = only_received link after did_on_link.more did.untouched did_on_link.rest;
+    received = only_received link after did_on_link.more did.untouched did_on_link.rest did_on_link.given;
     at_rest = did_on_link.out;
     beside = beside_now;
     others = λ other away. did.others other (λ one. away (one ∙ from_is));
@@ -118,10 +155,10 @@ module _ {J T : Type 0} {same : J → J → Type 0} {made : J → ℕ} {polls : 
       by_found : (found : Bool) → DeliversTo view (inward_of link) now (inward_of after) found → Delivers core sender (world_of old) (world_of delivered) (taken_reply found)
       by_found true delivers = (
         delivers.0.order,
-        next_order ∙ (ap (λ orders. slice_get orders link.taken) (sym same_orders) ∙ delivers.1.3),
+        next_order ∙ (ap (λ orders. slice_get orders link.taken) (sym same_orders ∙ seen_is delivers.1.0 delivers.0 delivers.1.1 delivers.1.2 delivers.1.3) ∙ delivers.1.2.3),
         delivers.2.notes,
         subst (λ journal. IsDelivery (record { from = sender; to = core; number = next_place sender core (world_of old) + 1 }) delivers.0.order journal delivers.2.notes) (sym (journal_is world core core_there))
-            (subst (λ name. IsDelivery name delivers.0.order view.journal.notes delivers.2.notes) (name_is delivers.0 delivers.1.2) delivers.2.delivery),
+            (subst (λ name. IsDelivery name delivers.0.order view.journal.notes delivers.2.notes) (name_is delivers.0 delivers.1.2.2) delivers.2.delivery),
         λ i. record { cores = old.cores; cap = old.cap; room = old.room; journals = journals_now world core core_there now links delivers.2.notes delivers.2.journal i; sent = same_lists i },
       )
         where

@@ -37,7 +37,8 @@ module _ {J T : Type 0} (sender core cores cap room : ℕ) where
     behind = omega arith;
     gate = refl;
     taken = refl;
-    given = ([], refl);
+    given = refl;
+    ungiven = tt;
     orders = λ name order from at. absurd (none≢some order at);
   }
 

@@ -2,6 +2,7 @@ pub mod Desks
 pub mod LinkRows
 pub mod LinkSteps
 pub mod Borrowed
+pub mod LentLinks
 pub mod LinkOpening
 pub mod PartOpening
 pub mod Hollow

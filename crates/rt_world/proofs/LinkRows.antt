@@ -5,28 +5,28 @@ use Rattle.std.proofs.lemmas.List.{get_or-map, get_or_default, length-set, map-s
 use Rattle.rt_ids.specs.declared.order.Order.{Order}
 use Rattle.rt_link.specs.declared.plain.Whole.{Whole}
 use Rattle.rt_journal.proofs.NumberedOrders as by_place
+pub use Rattle.rt_world.specs.Links.{with_link}
 use Rattle.rt_world.specs.Links.{no_link, row_of, link_at, ChangesLink}
 
 module _ {J T : Type 0} (links : List (List (Whole J T))) (s d : ℕ) (link : Whole J T) where
-  -- the links, with one in the place of another
-  abbrev pub with_link : List (List (Whole J T))
-  with_link = set links s (set (row_of s links) d link)
+  abbrev now : List (List (Whole J T))
+  now = with_link links s d link
 
-  row_of-with_link : s < length links → row_of s with_link ≡ set (row_of s links) d link
+  row_of-with_link : s < length links → row_of s now ≡ set (row_of s links) d link
   row_of-with_link in_rows = get_or-set_same links s (set (row_of s links) d link) [] in_rows
 
-  row_of-with_link_other : (other : ℕ) → other ≢ s → row_of other with_link ≡ row_of other links
+  row_of-with_link_other : (other : ℕ) → other ≢ s → row_of other now ≡ row_of other links
   row_of-with_link_other other differs = get_or-set_other links s other (set (row_of s links) d link) [] differs
 
-  link_at-with_link_other : s < length links → (r e : ℕ) → (r ≡ s → e ≡ d → ⊥) → link_at r e with_link ≡ link_at r e links
+  link_at-with_link_other : s < length links → (r e : ℕ) → (r ≡ s → e ≡ d → ⊥) → link_at r e now ≡ link_at r e links
   link_at-with_link_other in_rows r e differs =
       ⊎_elim
-      (λ same. subst (λ n. link_at n e with_link ≡ link_at n e links) (sym same)
+      (λ same. subst (λ n. link_at n e now ≡ link_at n e links) (sym same)
       (ap (λ row. get_or row e (no_link s e)) (row_of-with_link in_rows) ∙ get_or-set_other (row_of s links) d e link (no_link s e) (differs same)))
       (λ other. ap (λ row. get_or row e (no_link r e)) (row_of-with_link_other r other))
       (cases_eq r s)
 
-  pub ChangesLink-with_link : s < length links → d < length (row_of s links) → ChangesLink links with_link s d link
+  pub ChangesLink-with_link : s < length links → d < length (row_of s links) → ChangesLink links now s d link
   ChangesLink-with_link in_rows in_row =
       record {
         changed = ap (λ row. get_or row d (no_link s d)) (row_of-with_link in_rows) ∙ get_or-set_same (row_of s links) d link (no_link s d) in_row;
@@ -34,7 +34,7 @@ module _ {J T : Type 0} (links : List (List (Whole J T))) (s d : ℕ) (link : Wh
         same_rows = length-set links s (set (row_of s links) d link);
         same_cores = λ r.
             ⊎_elim
-            (λ same. subst (λ n. length (row_of n with_link) ≡ length (row_of n links)) (sym same)
+            (λ same. subst (λ n. length (row_of n now) ≡ length (row_of n links)) (sym same)
             (ap length (row_of-with_link in_rows) ∙ length-set (row_of s links) d link))
             (λ other. ap length (row_of-with_link_other r other))
             (cases_eq r s);
@@ -44,7 +44,7 @@ module _ {J T : Type 0} (links : List (List (Whole J T))) (s d : ℕ) (link : Wh
   sent_lists = map (map (λ link. link.sent))
 
   -- the lists of what was sent, of which the one of this link changed
-  pub sent-with_link : sent_lists with_link ≡ set (sent_lists links) s (set (get_or (sent_lists links) s []) d link.sent)
+  pub sent-with_link : sent_lists now ≡ set (sent_lists links) s (set (get_or (sent_lists links) s []) d link.sent)
   sent-with_link =
       map-set (map (λ link. link.sent)) links s (set (row_of s links) d link)
       ∙ ap (set (sent_lists links) s)
@@ -54,7 +54,7 @@ module _ {J T : Type 0} (links : List (List (Whole J T))) (s d : ℕ) (link : Wh
       )
 
   -- a link that has sent what it had sent leaves all lists as they were
-  pub same_sent : link.sent ≡ (link_at s d links).sent → sent_lists with_link ≡ sent_lists links
+  pub same_sent : link.sent ≡ (link_at s d links).sent → sent_lists now ≡ sent_lists links
   same_sent same =
       sent-with_link
       ∙ (

@@ -2,6 +2,7 @@
 use Rattle.std.proofs.Common.{◌≡◌, ℕ, true, List, [], ◌∷◌, ◌++◌, length, refl, sym, ◌∙◌, ap, subst, ⊎_elim, arith}
 use Rattle.std.proofs.lemmas.Bool.{cases_eq}
 use Rattle.std.proofs.lemmas.List.{append-nil, length-append}
+use Rattle.rt_ids.specs.declared.order.Outcome.{Outcome}
 use Rattle.rt_link.specs.declared.plain.Whole.{Whole}
 use Rattle.rt_link.specs.Whole.{out_of, inward_of}
 use Rattle.rt_link.specs.Ends.{StartsWith}
@@ -33,6 +34,10 @@ module _ {J T : Type 0} where
 
   pub received-same : (link : Whole J T) → OnlyReceived link link
   received-same link = record { rest = refl; given = ([], sym (append-nil link.given)) }
+
+  -- what is given on a link, the receiver alone does
+  pub received-given : (old new : Whole J T) (given : List (ℕ × Outcome J T)) → new ≡ record old { given = old.given ++ given } → OnlyReceived old new
+  received-given old new given is = subst (OnlyReceived old) (sym is) (record { rest = refl; given = (given, refl) })
 
   pub sent-same : (link : Whole J T) → OnlySent link link
   sent-same link = record { rest = refl; sent = ([], sym (append-nil link.sent)); gate = λ shut. refl }

@@ -1,34 +1,77 @@
 -- A pick and the poll that it begins are one turn of a core.
-use Rattle.std.proofs.Common.{◌≡◌, ℕ, ◌+◌, ◌≤◌, Bool, true, false, [], ◌∷◌, length, inr, sym, ◌∙◌, ap, subst, arith, add-zero}
-use Rattle.std.specs.Prelude.{Some, None, Result, Ok, Err, unwrap_or}
+use Rattle.std.proofs.Common.{◌≡◌, ℕ, ◌+◌, ◌≤◌, Bool, true, false, List, [], ◌∷◌, length, inr, refl, sym, ◌∙◌, ap, subst, arith, add-zero}
+use Rattle.std.specs.Prelude.{Option, Some, None, Result, Ok, Err, unwrap_or}
 use Rattle.std.proofs.lemmas.Option.{same_Some}
 use Rattle.rt_ids.specs.declared.names.JobId.{JobId}
 use Rattle.rt_ids.specs.declared.note.Note.TheVariants as writes
+use Rattle.rt_ids.specs.declared.note.OutcomeNote.{OutcomeNote}
+use Rattle.rt_ids.specs.declared.note.OutcomeNote.TheVariants as outcomes
+use Rattle.rt_ids.specs.declared.order.Order.{Order}
 use Rattle.rt_ids.specs.declared.order.Order.TheVariants.{Job}
+use Rattle.rt_ids.specs.declared.order.Reason.{Reason}
+use Rattle.rt_link.specs.declared.plain.Whole.{Whole}
+use Rattle.rt_link.specs.Whole.{inward_of}
 use Rattle.rt_ids.specs.Journal.{Journal}
 use Rattle.rt_jobs.specs.Steps.{AfterPoll, Owed}
 use Rattle.rt_core.specs.State.{JobOut}
 use Rattle.rt_core.specs.declared.turn.Turn.{Turn}
-use Rattle.rt_core.specs.declared.turn.Turn.TheVariants.{Idle}
+use Rattle.rt_core.specs.declared.turn.Turn.TheVariants.{Back, Idle}
 use Rattle.rt_core.specs.declared.turn.PickError.{PickError}
 use Rattle.rt_core.specs.declared.turn.PickError.TheVariants.{Busy}
 use Rattle.rt_core.specs.declared.turn.Settled.{Settled}
 use Rattle.rt_journal.specs.Polls.{polls_made, poll_note, settle_note}
+use Rattle.rt_journal.specs.Submissions.{DeskView}
 use Rattle.rt_journal.specs.Recorded.{RecordedView, IsRecorded, desk_of, order_taken}
 use Rattle.rt_journal.specs.Steps.{with_notes}
-use Rattle.rt_journal.specs.Turns.{IsPick, IsHandBack, Picks, IsOut, Settles}
-use Rattle.rt_journal.specs.Ends.{KeepsIn, KeepsOuts, IsSameSeat}
+use Rattle.rt_journal.specs.Turns.{IsPick, IsHandBack, Picks, IsOut, IsOutUnder, Settles}
+use Rattle.rt_journal.specs.Ends.{IsInOwing, LeavesOwed, KeepsOuts, IsSameSeat, told_under}
+use Rattle.rt_journal.specs.Owed.{IsSentUnder, owed_back}
 use Rattle.rt_world.specs.declared.event.Reply.{Reply}
 use Rattle.rt_world.specs.declared.event.Reply.TheVariants as reply
-use Rattle.rt_world.specs.OneTurn.{StaysBeside, PollsOne, Turns}
+use Rattle.rt_world.specs.Links.{link_at, GivesOnOne}
+use Rattle.rt_world.specs.OneTurn.{none_owed, IsBesideAll, StaysBeside, PollsOne, Turns}
 use Rattle.rt_world.specs.PickedJobs.{turn_of, TookOut, TookNone}
+use Rattle.rt_world.proofs.LentLinks.{no_gift}
 
--- what one call says of a core, of its seat and of the ends beside it
-pub record IsKeptBeside {J T : Type 0} (same : J → J → Type 0) (made : J → ℕ) (polls : Owed J T) (old new : RecordedView J T) : Type 0 where
+-- what one call says of a core, of its seat and of the ends beside it, where these outcomes are owed then
+pub record IsKeptBeside {J T : Type 0} (same : J → J → Type 0) (made : J → ℕ) (polls : Owed J T) (owed : ℕ → Option (JobId × OutcomeNote T)) (old new : RecordedView J T) : Type 0 where
   pub sound : IsRecorded same made polls new
   pub seat : IsSameSeat old new
-  pub ins : (sender : ℕ) → KeepsIn sender old new
+  pub ins : (sender : ℕ) → LeavesOwed sender (owed sender) old new
   pub outs : KeepsOuts (desk_of old) (desk_of new)
+
+-- so each end is beside the core, except for what is owed
+pub beside_then : {J T : Type 0} {same : J → J → Type 0} {made : J → ℕ} {polls : Owed J T} {owed : ℕ → Option (JobId × OutcomeNote T)} {old new : RecordedView J T} →
+    IsKeptBeside same made polls owed old new → (number : ℕ) (links : List (List (Whole J T))) → IsBesideAll number none_owed old links → IsBesideAll number owed new links
+beside_then {old = old} {new = new} kept number links before = record {
+  rows = λ sender there. before.rows sender (its sender there);
+  cores = λ sender there. before.cores sender (its sender there);
+  ins = λ sender there. (kept.ins sender).each _ (before.ins sender (its sender there));
+}
+  where
+    its : (sender : ℕ) → sender ≤ new.core.cores → sender ≤ old.core.cores
+    its sender there = subst (λ cores. sender ≤ cores) kept.seat.cores there
+
+-- what is owed, said otherwise
+pub owed_as : {J T : Type 0} (owed other : ℕ → Option (JobId × OutcomeNote T)) → ((sender : ℕ) → owed sender ≡ other sender) →
+    (number : ℕ) (view : RecordedView J T) (links : List (List (Whole J T))) → IsBesideAll number owed view links → IsBesideAll number other view links
+owed_as owed other same number view links is = record {
+  rows = is.rows;
+  cores = is.cores;
+  ins = λ sender there. subst (λ what. IsInOwing sender what view (inward_of (link_at sender number links))) (same sender) (is.ins sender there);
+}
+
+-- two steps leave the seat and the sender's ends as they were
+pub same_seat-then : {J T : Type 0} (old middle new : RecordedView J T) → IsSameSeat old middle → IsSameSeat middle new → IsSameSeat old new
+same_seat-then old middle new first then = record {
+  number = then.number ∙ first.number;
+  cores = then.cores ∙ first.cores;
+  cap = then.cap ∙ first.cap;
+  room = then.room ∙ first.room;
+}
+
+pub keeps_outs-then : {J T : Type 0} (old middle new : DeskView J T) → KeepsOuts old middle → KeepsOuts middle new → KeepsOuts old new
+keeps_outs-then old middle new first then = λ core. record { each = λ out credited is. (then core).each out credited ((first core).each out credited is) }
 
 -- the notes of a pick settle no poll
 polls_made-picked : {T : Type 0} (name which : JobId) (queue runtime : ℕ) (was_started : Bool) (notes : Journal T) →
@@ -38,35 +81,68 @@ polls_made-picked name which queue runtime true notes = add-zero (polls_made whi
 
 module _ {J T : Type 0} {same : J → J → Type 0} {made : J → ℕ} {polls : Owed J T}
     (old : RecordedView J T) (free : old.core.out ≡ None) (picked : Result (Turn J) PickError) (middle : RecordedView J T)
-    (picks : Picks same old picked middle) (kept : IsKeptBeside same made polls old middle) where
+    (picks : Picks same old picked middle) (kept : IsKeptBeside same made polls (owed_back picked) old middle)
+    (number : ℕ) (links : List (List (Whole J T))) (before : IsBesideAll number none_owed old links) where
   pub not_busy : picked ≡ Err Busy → ⊥
   not_busy busy = (subst (λ answer. Picks same old answer middle) busy picks).0 free
 
-  -- where no job is taken out, the reply is that of a turn that hands one back, or changes nothing
+  -- where no job is taken, the reply says so, and nothing changes
   pub no_turn : (answers : J → T → Type 0) (spent : ℕ) (told : Reply J) → TookNone picked told → Turns same made polls answers spent old middle told
-  no_turn answers spent reply.Noted none =
-      inr (record { name = none.0; reason = none.1; order = none.2; did = subst (λ answer. Picks same old answer middle) none.3 picks })
   no_turn answers spent reply.Idle none = subst (λ answer. Picks same old answer middle) none picks
   no_turn answers spent reply.Spent none = subst (λ answer. Picks same old answer middle) none picks
   no_turn answers spent _ none = absurd none
 
-  pub no_turn_stays : (told : Reply J) → TookNone picked told → StaysBeside same made polls old middle
-  no_turn_stays told none = record { recorded = kept.sound; at_rest = by_reply told none; seat = kept.seat; ins = kept.ins; outs = kept.outs }
+  pub no_turn_stays : (told : Reply J) → TookNone picked told → StaysBeside same made polls number old middle links links
+  no_turn_stays told none = record {
+    recorded = kept.sound;
+    at_rest = by_reply told none;
+    seat = kept.seat;
+    outs = kept.outs;
+    links = no_gift number links;
+    ins = owed_as (owed_back picked) none_owed (nobody told none) number middle links (beside_then kept number links before);
+  }
     where
       by_reply : (told : Reply J) → TookNone picked told → middle.core.out ≡ None
-      by_reply reply.Noted none = let back : IsHandBack same old none.0 none.1 none.2 middle = subst (λ answer. Picks same old answer middle) none.3 picks in back.out
       by_reply reply.Idle none = ap (λ view. view.core.out) (subst (λ answer. Picks same old answer middle) none picks).1 ∙ free
       by_reply reply.Spent none = ap (λ view. view.core.out) (subst (λ answer. Picks same old answer middle) none picks).2 ∙ free
       by_reply _ none = absurd none
 
-  module _ (job : J) (is_job : TookOut picked job) where
-    abbrev out : JobOut J
-    out = record { name = is_job.name; queue = is_job.queue; job = job }
+      nobody : (told : Reply J) → TookNone picked told → (sender : ℕ) → owed_back {T = T} picked sender ≡ None
+      nobody reply.Idle none sender = ap (λ answer. owed_back {T = T} answer sender) none
+      nobody reply.Spent none sender = ap (λ answer. owed_back {T = T} answer sender) none
+      nobody _ none sender = absurd none
 
-    pick : IsPick old is_job.name is_job.queue is_job.was_started job middle
+  -- where a job is handed back, its outcome is owed to its sender, who is there
+  module _ (name : JobId) (reason : Reason) (order : Order J) (is_back : picked ≡ Ok (Back name reason order)) where
+    back : IsHandBack same old name reason order middle
+    back = subst (λ answer. Picks same old answer middle) is_back picks
+
+    task_now : order_taken middle.took name ≡ Some (Job back.queue back.sent)
+    task_now = ap (λ took. order_taken took name) back.took ∙ back.task
+
+    pub back_known : name.from ≤ middle.core.cores
+    back_known = (kept.sound.taken name _ task_now).sender
+
+    pub back_sent : IsSentUnder same middle.took name order
+    back_sent = record { queue = back.queue; sent = back.sent; task = task_now; job = back.job; back = back.back; same_task = back.same_task }
+
+    pub back_owed : IsBesideAll number (told_under name (Some (outcomes.Returned reason))) middle links
+    back_owed = owed_as (owed_back picked) (told_under name (Some (outcomes.Returned reason))) (λ sender. ap (λ answer. owed_back {T = T} answer sender) is_back) number middle links (beside_then kept number links before)
+
+    pub back_turns : (answers : J → T → Type 0) (spent : ℕ) → Turns same made polls answers spent old middle reply.Noted
+    back_turns answers spent = inr (record { name = name; reason = reason; order = order; did = back })
+
+    pub back_stays : (links_now : List (List (Whole J T))) → GivesOnOne number links links_now → IsBesideAll number none_owed middle links_now → StaysBeside same made polls number old middle links links_now
+    back_stays links_now gives then = record { recorded = kept.sound; at_rest = back.out; seat = kept.seat; outs = kept.outs; links = gives; ins = then }
+
+  module _ (name : JobId) (job : J) (is_job : TookOut picked name job) where
+    abbrev out : JobOut J
+    out = record { name = name; queue = is_job.queue; job = job }
+
+    pick : IsPick old name is_job.queue is_job.was_started job middle
     pick = by_start is_job.was_started (subst (λ answer. Picks same old answer middle) is_job.turn picks)
       where
-        by_start : (before : Bool) → Picks same old (Ok (turn_of before is_job.name is_job.queue job)) middle → IsPick old is_job.name is_job.queue before job middle
+        by_start : (before : Bool) → Picks same old (Ok (turn_of before name is_job.queue job)) middle → IsPick old name is_job.queue before job middle
         by_start false first = first
         by_start true further = further
 
@@ -74,24 +150,37 @@ module _ {J T : Type 0} {same : J → J → Type 0} {made : J → ℕ} {polls : 
     pub is_out : (before : J) → before ≡ job → IsOut middle.core.out before
     is_out before is = subst (λ who. IsOut who before) (sym pick.out) (sym is)
 
+    pub is_named : IsOutUnder middle.core.out name
+    is_named = subst (λ who. IsOutUnder who name) (sym pick.out) refl
+
+    pub job_known : name.from ≤ middle.core.cores
+    job_known = (kept.sound.taken name _ (kept.sound.out out pick.out).task).sender
+
+    -- nothing is owed while a job is out
+    pub job_beside : IsBesideAll number none_owed middle links
+    job_beside = owed_as (owed_back picked) none_owed (λ sender. ap (λ answer. owed_back {T = T} answer sender) is_job.turn ∙ by_start is_job.was_started sender) number middle links (beside_then kept number links before)
+      where
+        by_start : (before : Bool) (sender : ℕ) → owed_back {T = T} (Ok (turn_of before name is_job.queue job)) sender ≡ None
+        by_start false sender = refl
+        by_start true sender = refl
+
     -- the pick left room for the note of the poll
     pub room_left : length old.journal.notes + 3 ≤ old.journal.room → length middle.journal.notes + 1 ≤ middle.journal.room
     room_left room = omega (arith, room, ap (λ journal. length journal.notes) pick.journal, ap (λ journal. journal.room) pick.journal)
 
-    module _ (answers : J → T → Type 0) (ran : AfterPoll J T) (spent : ℕ) (settled : Settled T) (new : RecordedView J T) (settles : Settles made polls answers middle ran spent settled new)
-        (kept_then : IsKeptBeside same made polls middle new) where
+    module _ (answers : J → T → Type 0) (ran : AfterPoll J T) (spent : ℕ) (settled : Settled T) (new : RecordedView J T) (settles : Settles made polls answers middle ran spent settled new) where
       out_is : settles.out ≡ out
       out_is = same_Some _ _ (sym settles.was_out ∙ pick.out)
 
-      notes_are : middle.journal.notes ≡ poll_note is_job.name is_job.was_started ∷ writes.Pick is_job.queue pick.runtime ∷ old.journal.notes
+      notes_are : middle.journal.notes ≡ poll_note name is_job.was_started ∷ writes.Pick is_job.queue pick.runtime ∷ old.journal.notes
       notes_are = ap (λ journal. journal.notes) pick.journal
 
-      counted : polls_made settles.out.name middle.journal.notes ≡ polls_made is_job.name old.journal.notes
+      counted : polls_made settles.out.name middle.journal.notes ≡ polls_made name old.journal.notes
       counted =
           ap (λ out. polls_made out.name middle.journal.notes) out_is
-          ∙ (ap (polls_made is_job.name) notes_are ∙ polls_made-picked is_job.name is_job.name is_job.queue pick.runtime is_job.was_started old.journal.notes)
+          ∙ (ap (polls_made name) notes_are ∙ polls_made-picked name name is_job.queue pick.runtime is_job.was_started old.journal.notes)
 
-      settle_is : new.journal ≡ with_notes (settle_note is_job.name (unwrap_or ran.told spent) ran.step ∷ []) middle.journal
+      settle_is : new.journal ≡ with_notes (settle_note name (unwrap_or ran.told spent) ran.step ∷ []) middle.journal
       settle_is = settles.journal ∙ ap (λ out. with_notes (settle_note out.name (unwrap_or ran.told spent) ran.step ∷ []) middle.journal) out_is
 
       -- the turn is one poll
@@ -101,13 +190,13 @@ module _ {J T : Type 0} {same : J → J → Type 0} {made : J → ℕ} {polls : 
         queue = is_job.queue;
         runtime = pick.runtime;
         right = pick.right;
-        name = is_job.name;
+        name = name;
         others = pick.others;
         first = pick.first;
         kept = pick.kept;
         job = settles.sent;
         task =
-            ap (λ took. order_taken took is_job.name) (sym pick.took)
+            ap (λ took. order_taken took name) (sym pick.took)
             ∙ (ap (λ out. order_taken middle.took out.name) (sym out_is) ∙ (settles.task ∙ ap (λ out. Some (Job out.queue settles.sent)) out_is));
         step = ran.step;
         told = ran.told;
@@ -115,20 +204,17 @@ module _ {J T : Type 0} {same : J → J → Type 0} {made : J → ℕ} {polls : 
         answered = settles.answered;
         notes =
             settle_is
-            ∙ (ap (with_notes (settle_note is_job.name (unwrap_or ran.told spent) ran.step ∷ [])) pick.journal
-            ∙ ap (λ before. with_notes (settle_note is_job.name (unwrap_or ran.told spent) ran.step ∷ poll_note is_job.name before ∷ writes.Pick is_job.queue pick.runtime ∷ []) old.journal) pick.started);
+            ∙ (ap (with_notes (settle_note name (unwrap_or ran.told spent) ran.step ∷ [])) pick.journal
+            ∙ ap (λ before. with_notes (settle_note name (unwrap_or ran.told spent) ran.step ∷ poll_note name before ∷ writes.Pick is_job.queue pick.runtime ∷ []) old.journal) pick.started);
       }
 
-      pub turned_stays : StaysBeside same made polls old new
-      turned_stays = record {
-        recorded = kept_then.sound;
+      pub turned_stays : (links_now : List (List (Whole J T))) → GivesOnOne number links links_now → IsBesideAll number none_owed new links_now →
+          KeepsOuts (desk_of middle) (desk_of new) → IsSameSeat middle new → IsRecorded same made polls new → StaysBeside same made polls number old new links links_now
+      turned_stays links_now gives then outs seat sound = record {
+        recorded = sound;
         at_rest = settles.out_now;
-        seat = record {
-          number = kept_then.seat.number ∙ kept.seat.number;
-          cores = kept_then.seat.cores ∙ kept.seat.cores;
-          cap = kept_then.seat.cap ∙ kept.seat.cap;
-          room = kept_then.seat.room ∙ kept.seat.room;
-        };
-        ins = λ sender. record { each = λ inward is. (kept_then.ins sender).each inward ((kept.ins sender).each inward is) };
-        outs = λ core. record { each = λ out credited is. (kept_then.outs core).each out credited ((kept.outs core).each out credited is) };
+        seat = same_seat-then old middle new kept.seat seat;
+        outs = keeps_outs-then (desk_of old) (desk_of middle) (desk_of new) kept.outs outs;
+        links = gives;
+        ins = then;
       }

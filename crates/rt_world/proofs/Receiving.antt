@@ -1,10 +1,10 @@
 -- A world at rest stays one as a core does something on the link of a sender.
-use Rattle.std.proofs.Common.{◌≡◌, ◌≢◌, ℕ, ◌<◌, ◌≤◌, List, [], sym, ◌∙◌, ap, subst, ⊎_elim, arith, get_or}
+use Rattle.std.proofs.Common.{◌≡◌, ◌≢◌, ℕ, ◌<◌, ◌≤◌, List, sym, ◌∙◌, ap, subst, ⊎_elim, arith, get_or}
 use Rattle.std.proofs.lemmas.Bool.{cases_eq}
-use Rattle.std.proofs.lemmas.List.{append-nil}
 use Rattle.rt_jobs.specs.Steps.{Owed}
 use Rattle.rt_link.specs.declared.plain.Whole.{Whole}
 use Rattle.rt_link.specs.Whole.{out_of, inward_of, kept_by_receiver}
+use Rattle.rt_link.specs.Ends.{StartsWith}
 use Rattle.rt_link.specs.Calls.{SeesMore}
 use Rattle.rt_journal.specs.Recorded.{RecordedView, IsRecorded, desk_of}
 use Rattle.rt_journal.specs.Ends.{IsInOf, IsOutOf, KeepsIn, KeepsOuts, IsSameSeat}
@@ -24,12 +24,12 @@ may_take {old = old} world sender core there core_there view view_is link link_i
 
 -- a receiver sees what it saw, and the sender's numbers are the same
 module _ {J T : Type 0} (link after : Whole J T) (more : SeesMore (inward_of link) (inward_of after)) (untouched : kept_by_receiver after ≡ kept_by_receiver link)
-    (rest : inward_of after ≡ record (inward_of link) { seen = after.sent; taken = after.taken; shut = after.shut }) where
+    (rest : inward_of after ≡ record (inward_of link) { seen = after.sent; taken = after.taken; given = after.given; shut = after.shut }) where
   pub sent_is : after.sent ≡ link.sent
   sent_is = as_long after.sent link.sent more.0 (ap (λ kept. get_or kept 0 0) untouched)
 
-  pub only_received : OnlyReceived link after
-  only_received = record {
+  pub only_received : StartsWith after.given link.given → OnlyReceived link after
+  only_received given = record {
     rest = λ i. record {
       from = ap (λ end. end.from) rest i;
       to = ap (λ end. end.to) rest i;
@@ -42,7 +42,7 @@ module _ {J T : Type 0} (link after : Whole J T) (more : SeesMore (inward_of lin
       credited = ap (λ kept. get_or kept 2 0) untouched i;
       shut = after.shut;
     };
-    given = ([], ap (λ end. end.given) rest ∙ sym (append-nil link.given));
+    given = given;
   }
 
 -- what a call on a receiver's end says of the core, and of the link

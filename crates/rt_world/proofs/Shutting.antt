@@ -1,5 +1,6 @@
 -- A world at rest stays one as a core shuts the gate of a sender.
 use Rattle.std.proofs.Common.{◌≡◌, ◌≢◌, ℕ, ◌<◌, ◌≤◌, [], ◌∷◌, length, sym, ◌∙◌, ap, arith}
+use Rattle.std.proofs.lemmas.List.{append-nil}
 use Rattle.rt_ids.specs.declared.note.Note.TheVariants as writes
 use Rattle.rt_ids.specs.Filters.{accepted_orders}
 use Rattle.rt_jobs.specs.Steps.{Owed}
@@ -37,8 +38,8 @@ module _ {J T : Type 0} {same : J → J → Type 0} {made : J → ℕ} {polls : 
   abbrev link : Whole J T
   link = link_at sender core old.links
 
-  rest : inward_of after ≡ record (inward_of link) { seen = after.sent; taken = after.taken; shut = after.shut }
-  rest = did.shuts.0 ∙ (λ i. record (inward_of link) { seen = after.sent; taken = sym (ap (λ end. end.taken) did.shuts.0) i; shut = sym (ap (λ end. end.shut) did.shuts.0) i })
+  rest : inward_of after ≡ record (inward_of link) { seen = after.sent; taken = after.taken; given = after.given; shut = after.shut }
+  rest = did.shuts.0 ∙ (λ i. record (inward_of link) { seen = after.sent; taken = sym (ap (λ end. end.taken) did.shuts.0) i; given = sym (ap (λ end. end.given) did.shuts.0) i; shut = sym (ap (λ end. end.shut) did.shuts.0) i })
 
   same_orders : after.sent ≡ link.sent
   same_orders = sent_is link after did.shuts.1 did.untouched rest
@@ -48,7 +49,7 @@ module _ {J T : Type 0} {same : J → J → Type 0} {made : J → ℕ} {polls : 
 
   pub shut_rests : IsWorld same made polls after_shut
   shut_rests = receives_rests world sender core there core_there now after (record {
-    received = only_received link after did.shuts.1 did.untouched rest;
+    received = only_received link after did.shuts.1 did.untouched rest ([], ap (λ end. end.given) did.shuts.0 ∙ sym (append-nil link.given));
     at_rest = did.tells.out;
     beside = did.beside;
     others = did.others;

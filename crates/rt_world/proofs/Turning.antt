@@ -1,6 +1,6 @@
 -- A world at rest stays one as a core makes a turn, or creates a queue before the first event.
 use Rattle.std.proofs.Common.{◌≡◌, ℕ, ◌+◌, ◌-◌, ◌^◌, ◌<◌, ◌≤◌, [], ◌∷◌, ◌++◌, inl, inr, ⊎_elim, refl, sym, ◌∙◌, ap, subst, arith, set}
-use Rattle.std.specs.Prelude.{Some, Result, Ok, Err, unwrap_or, slice_get}
+use Rattle.std.specs.Prelude.{List, map, Some, Result, Ok, Err, unwrap_or, slice_get}
 use Rattle.std.proofs.lemmas.List.{set-get_or}
 use Rattle.rt_ids.specs.declared.names.JobId.{JobId}
 use Rattle.rt_ids.specs.declared.note.Note.TheVariants as writes
@@ -16,8 +16,9 @@ use Rattle.rt_jobs.specs.Steps.{Owed}
 use Rattle.rt_taskqueue.specs.declared.queues.CreateError.{CreateError}
 use Rattle.rt_taskqueue.specs.declared.queues.CreateError.TheVariants.{TooMany, Memory}
 use Rattle.rt_journal.specs.Polls.{polls_made, poll_note, settle_note}
-use Rattle.rt_journal.specs.Recorded.{RecordedView, order_taken}
+use Rattle.rt_journal.specs.Recorded.{RecordedView, desk_of, order_taken}
 use Rattle.rt_journal.specs.Steps.{CreatesQueue}
+use Rattle.rt_link.specs.declared.plain.Whole.{Whole}
 use Rattle.rt_link.specs.Whole.{out_of}
 use Rattle.rt_journal.specs.Ends.{IsOutOf}
 use Rattle.rt_world.specs.declared.event.Reply.{Reply}
@@ -29,40 +30,65 @@ use Rattle.rt_world.specs.Opening.{CreatesAtOpening}
 use Rattle.rt_world.specs.Links.{link_at}
 use Rattle.rt_world.specs.Inside.{Parts, core_at, world_of, IsWorld}
 use Rattle.rt_world.proofs.Desks.{sent_at-world}
-use Rattle.rt_world.proofs.LinkSteps.{received-same, sent-same}
-use Rattle.rt_world.proofs.OneTurn.{IsKeptBeside}
+use Rattle.rt_world.proofs.LinkRows.{same_sent}
+use Rattle.rt_world.proofs.LinkSteps.{OnlyReceived, OnlySent, received-same, received-given, sent-same, each_link, other_link, out_stays}
+use Rattle.rt_world.proofs.LentLinks.{no_gift}
+use Rattle.rt_world.proofs.OneTurn.{IsKeptBeside, beside_then}
 use Rattle.rt_world.proofs.CoreSteps.{cores_are, number_is, desk_is, parts_now, rests, journal_is, journals_now}
 
+-- a core that makes a step has each end beside it, and nothing is owed
+pub all_beside : {J T : Type 0} {same : J → J → Type 0} {made : J → ℕ} {polls : Owed J T} {old : Parts J T}
+    (world : IsWorld same made polls old) (core : ℕ) (there : core < old.cores) → one.IsBesideAll core one.none_owed (core_at core old) old.links
+all_beside {old = old} world core there = record {
+  rows = λ sender within. omega (arith, world.all_there.rows_are, its sender within);
+  cores = λ sender within. omega (arith, world.all_there.links_are sender (its sender within), there);
+  ins = λ sender within. world.beside.ins sender core (its sender within) there;
+}
+  where
+    its : (sender : ℕ) → sender ≤ (core_at core old).core.cores → sender ≤ old.cores
+    its sender within = subst (λ cores. sender ≤ cores) (cores_are world core there) within
+
 module _ {J T : Type 0} {same : J → J → Type 0} {made : J → ℕ} {polls : Owed J T} {old : Parts J T}
-    (world : IsWorld same made polls old) (core : ℕ) (there : core < old.cores) (now : RecordedView J T) where
+    (world : IsWorld same made polls old) (core : ℕ) (there : core < old.cores) (now : RecordedView J T) (links : List (List (Whole J T)))
+    (stays : one.StaysBeside same made polls core (core_at core old) now old.links links) where
   abbrev view : RecordedView J T
   view = core_at core old
 
   abbrev pub quiet : Parts J T
-  quiet = parts_now world core there now old.links
+  quiet = parts_now world core there now links
 
-  -- where no link changes, and the core stays beside its ends, the world is at rest again
-  pub quiet_rests : one.StaysBeside same made polls view now → IsWorld same made polls quiet
-  quiet_rests stays = rests world core there now old.links (record {
+  all_received : (from to : ℕ) → OnlyReceived (link_at from to old.links) (link_at from to links)
+  all_received =
+      each_link OnlyReceived received-same old.links links stays.links.sender core stays.links.link stays.links.changes
+      (received-given (link_at stays.links.sender core old.links) stays.links.link stays.links.given stays.links.gives)
+
+  -- the core stays beside its ends, on which at most an outcome was given: the world is at rest again
+  pub quiet_rests : IsWorld same made polls quiet
+  quiet_rests = rests world core there now links (record {
     recorded = stays.recorded;
     at_rest = stays.at_rest;
     seat = stays.seat;
-    rows_are = refl;
-    links_are = λ sender. refl;
-    received = λ sender to away. received-same (link_at sender to old.links);
-    sent = λ sender to away. sent-same (link_at sender to old.links);
+    rows_are = stays.links.changes.same_rows;
+    links_are = stays.links.changes.same_cores;
+    received = λ from to away. all_received from to;
+    sent = λ from to away. other_link OnlySent sent-same old.links links stays.links.sender core stays.links.link stays.links.changes from to (λ one two. away two);
     outs = λ to known.
-        (stays.outs to).each _ _ (subst (λ desk. IsOutOf to desk (out_of (link_at core to old.links)) (link_at core to old.links).credited) (desk_is world core there) (world.beside.outs core to (omega (arith, there)) known));
-    ins = λ sender known. (stays.ins sender).each _ (world.beside.ins sender core known there);
+        out_stays to (desk_of now) _ _ (all_received core to)
+        ((stays.outs to).each _ _ (subst (λ desk. IsOutOf to desk (out_of (link_at core to old.links)) (link_at core to old.links).credited) (desk_is world core there) (world.beside.outs core to (omega (arith, there)) known)));
+    ins = λ sender known. stays.ins.ins sender (subst (λ cores. sender ≤ cores) (sym (stays.seat.cores ∙ cores_are world core there)) known);
   })
+
+  -- nothing was sent
+  same_lists : (world_of quiet).sent ≡ (world_of old).sent
+  same_lists = ap (map (map (λ link. link.sent))) stays.links.links ∙ same_sent old.links stays.links.sender core stays.links.link (ap (λ link. link.sent) stays.links.gives)
 
   here : journal_at core (world_of old) ≡ view.journal.notes
   here = journal_is world core there
 
   unchanged : now ≡ view → world_of quiet ≡ world_of old
   unchanged is =
-      let journals = journals_now world core there now old.links [] (ap (λ view. view.journal) is) ∙ set-get_or (world_of old).journals core [] in
-      λ i. record { cores = old.cores; cap = old.cap; room = old.room; journals = journals i; sent = (world_of old).sent }
+      let journals = journals_now world core there now links [] (ap (λ view. view.journal) is) ∙ set-get_or (world_of old).journals core [] in
+      λ i. record { cores = old.cores; cap = old.cap; room = old.room; journals = journals i; sent = same_lists i }
 
   -- the order that was delivered under a name was sent under it
   task_sent : (name : JobId) (order : Order J) → order_taken view.took name ≡ Some order → order_under name (world_of old) ≡ Some order
@@ -93,12 +119,12 @@ module _ {J T : Type 0} {same : J → J → Type 0} {made : J → ℕ} {polls : 
       answered = did.answered;
       notes =
           let journals =
-          journals_now world core there now old.links
+          journals_now world core there now links
           (settle_note did.name (unwrap_or did.told spent) did.step ∷ poll_note did.name (is_told name_started did.name view.journal.notes) ∷ writes.Pick did.queue did.runtime ∷ [])
           did.notes
           ∙ ap (λ journal. set (world_of old).journals core
           ((settle_note did.name (unwrap_or did.told spent) did.step ∷ poll_note did.name (is_told name_started did.name journal) ∷ writes.Pick did.queue did.runtime ∷ []) ++ journal_at core (world_of old))) (sym here) in
-          λ i. record { cores = old.cores; cap = old.cap; room = old.room; journals = journals i; sent = (world_of old).sent };
+          λ i. record { cores = old.cores; cap = old.cap; room = old.room; journals = journals i; sent = same_lists i };
     }
 
     handed_back : one.HandsOneBack same view now → IsHandBack core (world_of old) (world_of quiet)
@@ -113,8 +139,8 @@ module _ {J T : Type 0} {same : J → J → Type 0} {made : J → ℕ} {polls : 
       reason = did.reason;
       returns = ap (return_reason did.did.queue) here ∙ did.did.returns;
       notes =
-          let journals = journals_now world core there now old.links (writes.Returned did.name did.reason ∷ writes.Pick did.did.queue did.did.runtime ∷ []) did.did.journal in
-          λ i. record { cores = old.cores; cap = old.cap; room = old.room; journals = journals i; sent = (world_of old).sent };
+          let journals = journals_now world core there now links (writes.Returned did.name did.reason ∷ writes.Pick did.did.queue did.did.runtime ∷ []) did.did.journal in
+          λ i. record { cores = old.cores; cap = old.cap; room = old.room; journals = journals i; sent = same_lists i };
     }
 
     -- the turn is the step of its event
@@ -124,23 +150,32 @@ module _ {J T : Type 0} {same : J → J → Type 0} {made : J → ℕ} {polls : 
     turns_now reply.Spent did = (ap turns here ∙ did.0, (did.1.0, ap (has_work did.1.0) here ∙ did.1.1), unchanged did.2)
     turns_now _ did = absurd did
 
-  -- a creation leaves the core at rest
-  pub created_stays : (weight : ℕ) (told : Result ℕ CreateError) → CreatesQueue weight view told now → IsKeptBeside same made polls view now → one.StaysBeside same made polls view now
-  created_stays weight told did kept =
-      record { recorded = kept.sound; at_rest = by_told told did ∙ world.at_rest core there; seat = kept.seat; ins = kept.ins; outs = kept.outs }
-    where
-      by_told : (told : Result ℕ CreateError) → CreatesQueue weight view told now → now.core.out ≡ view.core.out
-      by_told (Ok queue) did = did.3
-      by_told (Err TooMany) did = ap (λ view. view.core.out) did.1
-      by_told (Err Memory) did = ap (λ view. view.core.out) did.1
-
   -- the creation is the one of an opening
   pub creates_now : (weight : ℕ) (told : Result ℕ CreateError) → CreatesQueue weight view told now → CreatesAtOpening core weight (world_of old) told (world_of quiet)
   creates_now weight (Ok queue) did = (
     did.0 ∙ ap (λ journal. created_count journal + 1) (sym here),
     did.1,
-    let journals = journals_now world core there now old.links (writes.Created queue weight ∷ []) did.2 in
-        λ i. record { cores = old.cores; cap = old.cap; room = old.room; journals = journals i; sent = (world_of old).sent },
+    let journals = journals_now world core there now links (writes.Created queue weight ∷ []) did.2 in
+        λ i. record { cores = old.cores; cap = old.cap; room = old.room; journals = journals i; sent = same_lists i },
   )
   creates_now weight (Err TooMany) did = (ap (λ journal. created_count journal + 1) here ∙ did.0, unchanged did.1)
   creates_now weight (Err Memory) did = (subst (λ journal. created_count journal + 1 < 256) (sym here) did.0, unchanged did.1)
+
+-- a creation leaves the core at rest
+pub created_stays : {J T : Type 0} {same : J → J → Type 0} {made : J → ℕ} {polls : Owed J T} {old : Parts J T}
+    (world : IsWorld same made polls old) (core : ℕ) (there : core < old.cores) (now : RecordedView J T) (weight : ℕ) (told : Result ℕ CreateError) →
+    CreatesQueue weight (core_at core old) told now → IsKeptBeside same made polls one.none_owed (core_at core old) now →
+    one.StaysBeside same made polls core (core_at core old) now old.links old.links
+created_stays {old = old} world core there now weight told did kept = record {
+  recorded = kept.sound;
+  at_rest = by_told told did ∙ world.at_rest core there;
+  seat = kept.seat;
+  outs = kept.outs;
+  links = no_gift core old.links;
+  ins = beside_then kept core old.links (all_beside world core there);
+}
+  where
+    by_told : (told : Result ℕ CreateError) → CreatesQueue weight (core_at core old) told now → now.core.out ≡ (core_at core old).core.out
+    by_told (Ok queue) did = did.3
+    by_told (Err TooMany) did = ap (λ view. view.core.out) did.1
+    by_told (Err Memory) did = ap (λ view. view.core.out) did.1

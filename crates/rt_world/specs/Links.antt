@@ -1,5 +1,6 @@
 -- A link from each actor to each core, as rows by sender.
-use Rattle.std.specs.Prelude.{◌≡◌, ℕ, ◌+◌, ◌<◌, ◌≤◌, List, [], length, slice_index_or}
+use Rattle.std.specs.Prelude.{◌≡◌, ℕ, ◌+◌, ◌<◌, ◌≤◌, List, [], ◌++◌, length, slice_index_or, slice_set}
+use Rattle.rt_ids.specs.declared.order.Outcome.{Outcome}
 use Rattle.rt_link.specs.declared.plain.Whole.{Whole}
 use Rattle.rt_link.specs.Whole.{fresh}
 
@@ -16,12 +17,25 @@ module _ {J T : Type 0} where
   abbrev pub link_at : ℕ → ℕ → List (List (Whole J T)) → Whole J T
   link_at sender core links = slice_index_or (row_of sender links) core (no_link sender core)
 
+  -- the links, with one in the place of another
+  abbrev pub with_link : List (List (Whole J T)) → ℕ → ℕ → Whole J T → List (List (Whole J T))
+  with_link links sender core link = slice_set links sender (slice_set (row_of sender links) core link)
+
   -- the link from this sender to this core is now that one, and no other changed
   pub record ChangesLink (old new : List (List (Whole J T))) (sender core : ℕ) (link : Whole J T) : Type 0 where
     pub changed : link_at sender core new ≡ link
     pub others : (s d : ℕ) → (s ≡ sender → d ≡ core → ⊥) → link_at s d new ≡ link_at s d old
     pub same_rows : length new ≡ length old
     pub same_cores : (s : ℕ) → length (row_of s new) ≡ length (row_of s old)
+
+  -- on one link to this core outcomes were given, or none was, and nothing else changed
+  pub record GivesOnOne (core : ℕ) (old new : List (List (Whole J T))) : Type 0 where
+    pub sender : ℕ
+    pub link : Whole J T
+    pub given : List (ℕ × Outcome J T)
+    pub gives : link ≡ record (link_at sender core old) { given = (link_at sender core old).given ++ given }
+    pub links : new ≡ with_link old sender core link
+    pub changes : ChangesLink old new sender core link
 
   -- a link from this sender to each of the first cores, just opened
   pub record IsFreshRow (sender cores cap : ℕ) (row : List (Whole J T)) : Type 0 where

@@ -1,7 +1,8 @@
 -- What a turn is to its core and the journal beside it.
-use Rattle.std.specs.Prelude.{◌≡◌, ◌⊎◌, ℕ, ◌+◌, ◌-◌, ◌^◌, ◌<◌, Option, Some, None, true, false, unwrap_or, List, [], ◌∷◌}
+use Rattle.std.specs.Prelude.{◌≡◌, ◌⊎◌, ℕ, ◌+◌, ◌-◌, ◌^◌, ◌<◌, ◌≤◌, Option, Some, None, true, false, unwrap_or, List, [], ◌∷◌, length}
 use Rattle.rt_ids.specs.declared.names.JobId.{JobId}
 use Rattle.rt_ids.specs.declared.note.Note.TheVariants as writes
+use Rattle.rt_ids.specs.declared.note.OutcomeNote.{OutcomeNote}
 use Rattle.rt_ids.specs.declared.order.Order.{Order}
 use Rattle.rt_ids.specs.declared.order.Order.TheVariants.{Job}
 use Rattle.rt_ids.specs.declared.order.Reason.{Reason}
@@ -17,18 +18,33 @@ use Rattle.rt_journal.specs.Polls.{polls_made, poll_note, settle_note}
 use Rattle.rt_journal.specs.Recorded.{RecordedView, IsRecorded, desk_of, order_taken}
 use Rattle.rt_journal.specs.Steps.{with_notes}
 use Rattle.rt_journal.specs.Turns.{IsHandBack}
-use Rattle.rt_journal.specs.Ends.{KeepsIn, KeepsOuts, IsSameSeat}
+use Rattle.rt_journal.specs.Ends.{IsInOwing, KeepsOuts, IsSameSeat}
+use Rattle.rt_link.specs.declared.plain.Whole.{Whole}
+use Rattle.rt_link.specs.Whole.{inward_of}
+use Rattle.rt_world.specs.Links.{row_of, link_at, GivesOnOne}
 use Rattle.rt_world.specs.declared.event.Reply.{Reply}
 use Rattle.rt_world.specs.declared.event.Reply.TheVariants as reply
 
+-- no outcome is owed to any sender
+abbrev pub none_owed : {T : Type 0} → ℕ → Option (JobId × OutcomeNote T)
+none_owed sender = None
+
+module _ {J T : Type 0} where
+  -- there is a link from each sender to this core, and each end is beside the core, where these outcomes are owed
+  pub record IsBesideAll (number : ℕ) (owed : ℕ → Option (JobId × OutcomeNote T)) (view : RecordedView J T) (links : List (List (Whole J T))) : Type 0 where
+    pub rows : (sender : ℕ) → sender ≤ view.core.cores → sender < length links
+    pub cores : (sender : ℕ) → sender ≤ view.core.cores → number < length (row_of sender links)
+    pub ins : (sender : ℕ) → sender ≤ view.core.cores → IsInOwing sender (owed sender) view (inward_of (link_at sender number links))
+
 module _ {J T : Type 0} (same : J → J → Type 0) (made : J → ℕ) (polls : Owed J T) where
-  -- the core is recorded and has no job out, its seat is the same, and the ends of its links are beside it as before
-  pub record StaysBeside (old new : RecordedView J T) : Type 0 where
+  -- the core is recorded and has no job out, its seat is the same, and the ends of its links are beside it: the outcome of the turn, if there is one, was given
+  pub record StaysBeside (number : ℕ) (old new : RecordedView J T) (before after : List (List (Whole J T))) : Type 0 where
     pub recorded : IsRecorded same made polls new
     pub at_rest : new.core.out ≡ None
     pub seat : IsSameSeat old new
-    pub ins : (sender : ℕ) → KeepsIn sender old new
     pub outs : KeepsOuts (desk_of old) (desk_of new)
+    pub links : GivesOnOne number before after
+    pub ins : IsBesideAll number none_owed new after
 
 module _ {J T : Type 0} (same : J → J → Type 0) where
   -- the first job of the line of the right pick is handed back

@@ -1,12 +1,12 @@
--- What a core's pick came to: a job that it took out, or why it took none.
+-- What a core's pick came to: a job that it took out, one that it hands back, or why it took none.
 use Rattle.std.specs.Prelude.{◌≡◌, ℕ, Bool, true, false, Result, Ok, Err}
 use Rattle.rt_ids.specs.declared.names.JobId.{JobId}
-use Rattle.rt_ids.specs.declared.order.Order.{Order}
-use Rattle.rt_ids.specs.declared.order.Reason.{Reason}
 use Rattle.rt_core.specs.declared.turn.Turn.{Turn}
 use Rattle.rt_core.specs.declared.turn.Turn.TheVariants.{Start, Resume, Back, Idle}
 use Rattle.rt_core.specs.declared.turn.PickError.{PickError}
 use Rattle.rt_core.specs.declared.turn.PickError.TheVariants.{Spent}
+use Rattle.rt_world.specs.declared.model.steps.Picked.{Picked}
+use Rattle.rt_world.specs.declared.model.steps.Picked.TheVariants as came
 use Rattle.rt_world.specs.declared.event.Reply.{Reply}
 use Rattle.rt_world.specs.declared.event.Reply.TheVariants as reply
 
@@ -16,16 +16,20 @@ module _ {J : Type 0} where
   turn_of false name queue job = Start name queue job
   turn_of true name queue job = Resume name queue job
 
-  -- the pick took this job out
-  pub record TookOut (picked : Result (Turn J) PickError) (job : J) : Type 0 where
-    pub name : JobId
+  -- the pick took this job out, under this name
+  pub record TookOut (picked : Result (Turn J) PickError) (name : JobId) (job : J) : Type 0 where
     pub queue : ℕ
     pub was_started : Bool
     pub turn : picked ≡ Ok (turn_of was_started name queue job)
 
-  -- the pick took no job out, which the reply says: a job was handed back, no queue has work, or all turns are used
+  -- the pick took no job, which the reply says: no queue has work, or all turns are used
   abbrev pub TookNone : Result (Turn J) PickError → Reply J → Type 0
-  TookNone picked reply.Noted = (name : JobId) × (reason : Reason) × (order : Order J) × (picked ≡ Ok (Back name reason order))
   TookNone picked reply.Idle = picked ≡ Ok Idle
   TookNone picked reply.Spent = picked ≡ Err Spent
   TookNone picked _ = ⊥
+
+  -- what a pick came to: a job is out, a job is handed back, or nothing
+  abbrev pub IsPicked : Result (Turn J) PickError → Picked J → Type 0
+  IsPicked picked (came.Job name job) = TookOut picked name job
+  IsPicked picked (came.Returned name reason order) = picked ≡ Ok (Back name reason order)
+  IsPicked picked (came.Nothing told) = TookNone picked told

@@ -1,6 +1,5 @@
 use Rattle.std.proofs.Common.{refl}
 use Rattle.std.proofs.lemmas.Bool.{both_ways}
-use Rattle.rt_audit.specs.Verdicts.{rule_named}
 use Rattle.rt_audit.proofs.KeptRules.{none_before}
 use Rattle.rt_audit.proofs.judge.audit.Goals as goal
 

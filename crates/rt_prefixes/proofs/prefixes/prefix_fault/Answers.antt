@@ -1,8 +1,8 @@
-use Rattle.std.proofs.Common.{◌≡◌, ℕ, refl, sym, ap, subst, ◌∙◌, arith}
+use Rattle.std.proofs.Common.{refl, sym, ap, subst, ◌∙◌, arith}
 use Rattle.rt_ids.specs.Assembly.{IsPrefix}
-use Rattle.rt_ids.specs.Journal.{Journal, list_told, with_last, at_place}
+use Rattle.rt_ids.specs.Journal.{list_told, with_last}
 use Rattle.rt_tables.proofs.Walks.{at_start, whole_walk}
-use Rattle.rt_prefixes.specs.Sides.{name_told, AreEven}
+use Rattle.rt_prefixes.specs.Sides.{name_told}
 use Rattle.rt_prefixes.proofs.ToldNames.{told_at_place}
 use Rattle.rt_prefixes.proofs.prefixes.prefix_fault.Goals as goal
 

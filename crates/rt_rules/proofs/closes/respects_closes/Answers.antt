@@ -52,14 +52,14 @@ returns-else-not-closes-sender-clause-only c =
     λ right.
     elim c.if-closes.branch [
       | then-closes w ↦ (
-        let shut =
-        knows.gates_shut c.in-Shut.sender
-        (
-        subst (λ (sender : ℕ). get_or c.args.closes.now.gates sender false ≡ true) c.sender.view_is
-        (not-false (get_or c.args.closes.now.gates c.sender.inside.0 false) (sym w.value-is ∙ c.if-not-closes-sender.false))
-        ) in
-        absurd (true≢false (sym shut ∙ ap is_some right.1))
-      )
+          let shut =
+          knows.gates_shut c.in-Shut.sender
+          (
+          subst (λ (sender : ℕ). get_or c.args.closes.now.gates sender false ≡ true) c.sender.view_is
+          (not-false (get_or c.args.closes.now.gates c.sender.inside.0 false) (sym w.value-is ∙ c.if-not-closes-sender.false))
+          ) in
+          absurd (true≢false (sym shut ∙ ap is_some right.1))
+          )
       | else-closes w ↦ absurd (true≢false (sym right.0 ∙ ap is_some (knows.core_open w.if-closes.false)))
     ]
     )

@@ -1,6 +1,5 @@
-use Rattle.std.proofs.Common.{ℕ, sym, ◌∙◌, ap, subst}
-use Rattle.std.specs.Prelude.{Option}
-use Rattle.rt_turns.specs.Picks.{out_list, IsPlaced, key_waiting}
+use Rattle.std.proofs.Common.{sym, ◌∙◌, ap}
+use Rattle.rt_turns.specs.Picks.{out_list}
 use Rattle.rt_turns.proofs.PickSteps.{out_next, next_least}
 use Rattle.rt_turns.proofs.IdleSteps.{next_idle}
 use Rattle.rt_turns.proofs.picks.Turns.add.Goals as goal

@@ -1,0 +1,91 @@
+-- An outcome that is owed may be given on the end of its sender, and is owed no more then.
+use Rattle.std.proofs.Common.{◌≡◌, ℕ, ◌+◌, ◌-◌, [], ◌∷◌, ◌++◌, refl, sym, ◌∙◌, ap, subst, arith, cond}
+use Rattle.std.specs.Prelude.{Option, Some, None, IfSome, slice_get}
+use Rattle.std.specs.Option.{option_map}
+use Rattle.std.proofs.lemmas.Bool.{eq-eqb}
+use Rattle.std.proofs.lemmas.List.{map-append}
+use Rattle.rt_ids.specs.declared.names.JobId.{JobId}
+use Rattle.rt_ids.specs.declared.order.Order.{Order}
+use Rattle.rt_ids.specs.declared.order.Order.TheVariants.{Job}
+use Rattle.rt_ids.specs.declared.order.Outcome.{Outcome}
+use Rattle.rt_ids.specs.declared.order.Outcome.TheVariants as outcome
+use Rattle.rt_ids.specs.declared.order.Reason.{Reason}
+use Rattle.rt_ids.specs.declared.note.OutcomeNote.TheVariants as note
+use Rattle.rt_ids.specs.Outcomes.{outcome_note}
+use Rattle.rt_jobs.specs.Steps.{Owed}
+use Rattle.rt_link.specs.declared.ends.Inward.{Inward}
+use Rattle.rt_link.specs.Calls.{MayGive}
+use Rattle.rt_link.specs.Fits.{Fits}
+use Rattle.rt_journal.specs.Owed.{IsSentUnder}
+use Rattle.rt_journal.specs.Recorded.{RecordedView, IsRecorded, IsTaken, order_taken}
+use Rattle.rt_journal.specs.Ends.{IsInOf, IsInOwing, Gives, told_under, name_of, named_outcomes}
+
+module _ {J T : Type 0} (view : RecordedView J T) (name : JobId) (order : Order J) (took : order_taken view.took name ≡ Some order) (inward : Inward J T) where
+  -- what is told under a name, for its own sender
+  its_own : (outcome : Outcome J T) → told_under name (Some (outcome_note outcome)) name.from ≡ Some (name, outcome_note outcome)
+  its_own outcome = ap (λ test. cond test (Some (name, outcome_note outcome)) None) (eq-eqb name.from name.from refl)
+
+  module _ (outcome : Outcome J T) (is : IsInOwing name.from (told_under name (Some (outcome_note outcome)) name.from) view inward) where
+    owes : IsInOwing name.from (Some (name, outcome_note outcome)) view inward
+    owes = subst (λ owed. IsInOwing name.from owed view inward) (its_own outcome) is
+
+    pub may_give_one : IsTaken view.core.cores view.journal.notes name → (fits : Order J → Outcome J T → Type 0) → fits order outcome → MayGive fits inward name.number outcome
+    may_give_one taken fits fit =
+        let found = is.orders name order refl took in
+        let number : name.number ≡ found.0 + 1 = ap (λ name. name.number) found.1 in
+        let place : name.number - inward.base - 1 ≡ found.0 = omega (arith, number, is.base) in (
+          omega (arith, number, is.base),
+          omega (arith, taken.old, is.taken, is.base),
+          subst (λ found. IfSome found (λ order. fits order outcome)) (sym (ap (slice_get inward.seen) place ∙ found.2)) fit,
+          owes.ungiven,
+        )
+
+    pub gave_one : IsInOf name.from view (record inward { given = inward.given ++ (name.number, outcome) ∷ [] })
+    gave_one = record {
+      known = is.known;
+      from = is.from;
+      to = is.to;
+      base = is.base;
+      capacity = is.capacity;
+      gate = is.gate;
+      taken = is.taken;
+      behind = is.behind;
+      given =
+          let found = is.orders name order refl took in
+          let its_name : name ≡ name_of name.from view.core.core name.number = found.1 ∙ ap (name_of name.from view.core.core) (sym (ap (λ name. name.number) found.1)) in
+          owes.given
+          ∙ (ap (λ id. named_outcomes name.from view.core.core inward.given ++ (id, outcome_note outcome) ∷ []) its_name
+          ∙ sym (map-append (λ outcome. (name_of name.from view.core.core outcome.0, outcome_note outcome.1)) inward.given ((name.number, outcome) ∷ [])));
+      ungiven = tt;
+      orders = is.orders;
+    }
+
+  -- the same of an outcome that there may be
+  pub may_give : IsTaken view.core.cores view.journal.notes name → (fits : Order J → Outcome J T → Type 0) (outcome : Option (Outcome J T)) → IfSome outcome (fits order) →
+      IsInOwing name.from (told_under name (option_map outcome_note outcome) name.from) view inward → IfSome outcome (λ outcome. MayGive fits inward name.number outcome)
+  may_give taken fits None fit is = tt
+  may_give taken fits (Some outcome) fit is = may_give_one outcome is taken fits fit
+
+  pub gave : (outcome : Option (Outcome J T)) → IsInOwing name.from (told_under name (option_map outcome_note outcome) name.from) view inward →
+      (after : Inward J T) → Gives inward name.number outcome after → IsInOf name.from view after
+  gave None is after gives = subst (IsInOf name.from view) (sym gives) is
+  gave (Some outcome) is after gives = subst (IsInOf name.from view) (sym gives) (gave_one outcome is)
+
+-- what is given changes nothing else of an end
+pub gave_rest : {J T : Type 0} (before : Inward J T) (number : ℕ) (outcome : Option (Outcome J T)) (after : Inward J T) → Gives before number outcome after → after ≡ record before { given = after.given }
+gave_rest before number None after gives = subst (λ after. after ≡ record before { given = after.given }) (sym gives) refl
+gave_rest before number (Some outcome) after gives = subst (λ after. after ≡ record before { given = after.given }) (sym gives) refl
+
+-- a job that is handed back may be given back
+module _ {J T : Type 0} {same : J → J → Type 0} (view : RecordedView J T) (name : JobId) (reason : Reason) (order : Order J) (under : IsSentUnder same view.took name order)
+    (inward : Inward J T) (is : IsInOwing name.from (Some (name, note.Returned reason)) view inward) where
+  owing_back : IsInOwing name.from (told_under name (Some (outcome_note {T = T} (outcome.Returned reason order))) name.from) view inward
+  owing_back = subst (λ owed. IsInOwing name.from owed view inward) (sym (its_own view name (Job under.queue under.sent) under.task inward (outcome.Returned reason order))) is
+
+  pub may_give_back : {made : J → ℕ} {polls : Owed J T} → IsRecorded same made polls view → (answers : J → T → Type 0) → MayGive (Fits same answers) inward name.number (outcome.Returned reason order)
+  may_give_back recorded answers =
+      may_give_one view name (Job under.queue under.sent) under.task inward (outcome.Returned reason order) owing_back (recorded.taken name _ under.task) (Fits same answers)
+      (subst (λ order. Fits same answers (Job under.queue under.sent) (outcome.Returned reason order)) (sym under.back) (refl, under.same_task))
+
+  pub gave_back : (after : Inward J T) → after ≡ record inward { given = inward.given ++ (name.number, outcome.Returned reason order) ∷ [] } → IsInOf name.from view after
+  gave_back after gives = subst (IsInOf name.from view) (sym gives) (gave_one view name (Job under.queue under.sent) under.task inward (outcome.Returned reason order) owing_back)

@@ -1,0 +1,28 @@
+-- What the notes of a call change of the lists that a journal tells of its links.
+use Rattle.std.specs.Prelude.{◌≡◌, ℕ, Option, Some, None}
+use Rattle.rt_ids.specs.declared.names.JobId.{JobId}
+use Rattle.rt_ids.specs.declared.note.OutcomeNote.{OutcomeNote}
+use Rattle.rt_ids.specs.Journal.{Journal, with_last}
+use Rattle.rt_ids.specs.Filters.{if_from, accepted_orders, given_outcomes, collected_outcomes}
+use Rattle.rt_ids.specs.Outstanding.{outstanding_count}
+use Rattle.rt_ids.specs.Closing.{final_count}
+
+-- what a journal tells of the links on which its actor sends stays as it was
+pub record KeepsSent {T : Type 0} (old new : Journal T) : Type 0 where
+  pub accepted : (core : ℕ) → accepted_orders core new ≡ accepted_orders core old
+  pub outstanding : (core : ℕ) → outstanding_count core new ≡ outstanding_count core old
+  pub collected : (core : ℕ) → collected_outcomes core new ≡ collected_outcomes core old
+
+-- the lists that a journal tells of its links, except what was delivered and given, stay as they were; no gate is shut
+pub record KeepsLists {T : Type 0} (old new : Journal T) : Type 0 where
+  pub sent : KeepsSent old new
+  pub gates : (sender : ℕ) → final_count sender new ≡ final_count sender old
+
+-- what a journal tells as given is longer by one outcome for each sender who is given one
+abbrev pub GivesMore : {T : Type 0} → (ℕ → Option (JobId × OutcomeNote T)) → Journal T → Journal T → Type 0
+GivesMore more old new = (sender : ℕ) → given_outcomes sender new ≡ with_last (given_outcomes sender old) (more sender)
+
+-- this outcome under this name, for the sender of the name
+abbrev pub told_under : {T : Type 0} → JobId → Option (OutcomeNote T) → ℕ → Option (JobId × OutcomeNote T)
+told_under name None sender = None
+told_under name (Some outcome) sender = if_from sender name (name, outcome)

@@ -1,0 +1,49 @@
+//! Outcomes on their way back: what a delivery or a settled poll came to, given on the end of its sender.
+
+ghost use Rattle.std.specs.Prelude.{◌≡◌, IfSome};
+ghost use Rattle.rt_link.specs.Calls.{MayGive};
+ghost use Rattle.rt_link.specs.Fits.{Fits};
+ghost use Rattle.rt_journal.specs.Deliveries.{outcome_delivered};
+ghost use Rattle.rt_journal.specs.Ends.{Gives};
+ghost use Rattle.rt_journal.specs.Owed.{outcome_settled};
+
+use rt_core::{Delivered, Settled};
+use rt_ids::Outcome;
+use rt_jobs::Task;
+use rt_link::InEnd;
+
+/// The outcome of a delivery, if it has one yet.
+pub(crate) fn outcome_of<J: Task<Out = u64>>(delivered: Delivered<J>) -> Option<Outcome<J, u64>>
+    ensures { result ≡ outcome_delivered delivered }
+{
+    match delivered {
+        Delivered::Took => None,
+        Delivered::Back(reason, order) => Some(Outcome::Returned(reason, order)),
+        Delivered::Answered(answer) => Some(Outcome::Answered(answer)),
+    }
+}
+
+/// The outcome of a settled poll, if the job is done.
+pub(crate) fn outcome_done<J: Task<Out = u64>>(settled: &Settled<u64>) -> Option<Outcome<J, u64>>
+    ensures { result ≡ outcome_settled settled.now }
+{
+    match settled {
+        Settled::Yielded => None,
+        Settled::Finished(answer) => Some(Outcome::Finished(*answer)),
+    }
+}
+
+/// Gives an outcome on this end, if there is one.
+pub(crate) fn give_if<J: Task<Out = u64>, I: InEnd<J>>(
+    end: &mut I,
+    number: u64,
+    outcome: Option<Outcome<J, u64>>,
+)
+    requires { IfSome outcome (λ outcome. MayGive (Fits J.SameTask J.Answers) (I.inward end.old) number outcome) }
+    ensures gives { Gives (I.inward end.old) number outcome (I.inward end.new) }
+    ensures untouched { I.untouched end.new ≡ I.untouched end.old }
+{
+    if let Some(outcome) = outcome {
+        end.give(number, outcome);
+    }
+}

@@ -1,0 +1,125 @@
+-- A core is lent the link of one sender, and gives an outcome on it.
+use Rattle.std.proofs.Common.{◌≡◌, ◌≢◌, ℕ, ◌<◌, ◌≤◌, ◌+◌, List, [], ◌∷◌, ◌++◌, length, refl, sym, ◌∙◌, ap, subst, ⊎_elim, cond, arith, get_or, set}
+use Rattle.std.specs.Prelude.{map, Option, Some, None}
+use Rattle.std.proofs.lemmas.Bool.{cases_eq, eq-eqb}
+use Rattle.std.proofs.lemmas.List.{append-nil, length-map, set-get_or}
+use Rattle.rt_ids.specs.declared.names.JobId.{JobId}
+use Rattle.rt_ids.specs.declared.note.OutcomeNote.{OutcomeNote}
+use Rattle.rt_ids.specs.declared.order.Outcome.{Outcome}
+use Rattle.rt_link.specs.declared.ends.Inward.{Inward}
+use Rattle.rt_link.specs.declared.plain.Whole.{Whole}
+use Rattle.rt_link.specs.Whole.{inward_of, kept_by_receiver}
+use Rattle.rt_journal.specs.Recorded.{RecordedView}
+use Rattle.rt_journal.specs.Ends.{IsInOf, IsInOwing, Gives, IsSameSeat, told_under}
+use Rattle.rt_journal.proofs.DeliveredEnds.{told_elsewhere}
+use Rattle.rt_world.specs.Links.{no_link, row_of, link_at, with_link, ChangesLink, GivesOnOne}
+use Rattle.rt_world.specs.OneTurn.{none_owed, IsBesideAll}
+use Rattle.rt_world.proofs.LinkRows as by_rows
+use Rattle.rt_world.proofs.LinkSteps.{no_change}
+
+-- the outcomes of a link, and what was given on it
+module _ {J T : Type 0} (link after : Whole J T) (untouched : kept_by_receiver after ≡ kept_by_receiver link) where
+  -- an end that differs in its outcomes is of a link that differs in them
+  whole : (given : List (ℕ × Outcome J T)) → inward_of after ≡ record (inward_of link) { given = given } → after ≡ record link { given = given }
+  whole given is = λ i. record {
+    from = ap (λ end. end.from) is i;
+    to = ap (λ end. end.to) is i;
+    base = ap (λ end. end.base) is i;
+    capacity = ap (λ end. end.capacity) is i;
+    sent = ap (λ end. end.seen) is i;
+    taken = ap (λ end. end.taken) is i;
+    given = ap (λ end. end.given) is i;
+    got = ap (λ kept. get_or kept 1 0) untouched i;
+    credited = ap (λ kept. get_or kept 2 0) untouched i;
+    shut = ap (λ end. end.shut) is i;
+  }
+
+  -- this much was given
+  abbrev pub IsGift : Type 0
+  IsGift = (given : List (ℕ × Outcome J T)) × (after ≡ record link { given = link.given ++ given })
+
+  pub gift : (number : ℕ) (outcome : Option (Outcome J T)) → Gives (inward_of link) number outcome (inward_of after) → IsGift
+  gift number None gives = ([], whole link.given gives ∙ (λ i. record link { given = sym (append-nil link.given) i }))
+  gift number (Some outcome) gives = ((number, outcome) ∷ [], whole (link.given ++ (number, outcome) ∷ []) gives)
+
+-- nothing is given on links that stay as they are
+pub no_gift : {J T : Type 0} (core : ℕ) (links : List (List (Whole J T))) → GivesOnOne core links links
+no_gift core links = record {
+  sender = 0;
+  link = link_at 0 core links;
+  given = [];
+  gives = λ i. record (link_at 0 core links) { given = sym (append-nil (link_at 0 core links).given) i };
+  links = sym (ap (set links 0) (set-get_or (row_of 0 links) core (no_link 0 core)) ∙ set-get_or links 0 []);
+  changes = no_change links 0 core;
+}
+
+-- the row and the link that a call borrows
+module _ {J T V : Type 0} (items : V → List (Whole J T)) (rows : List V) (number : ℕ) (owed : ℕ → Option (JobId × OutcomeNote T)) (view : RecordedView J T)
+    (beside : IsBesideAll number owed view (map items rows)) (sender : ℕ) (known : sender ≤ view.core.cores) where
+  pub row_within : sender < length rows
+  row_within = omega (arith, beside.rows sender known, length-map rows items)
+
+  module _ (row : V) (row_is : row ≡ get_or rows sender row) where
+    pub link_within : number < length (items row)
+    link_within = omega (arith, beside.cores sender known, ap length (by_rows.row_of-borrowed items rows sender row_within row row_is))
+
+    module _ (link : Whole J T) (link_is : link ≡ get_or (items row) number link) where
+      link_here : link ≡ link_at sender number (map items rows)
+      link_here = by_rows.link_at-borrowed items rows sender row_within row row_is number link link_within link_is
+
+      -- the link that is lent is beside the core
+      pub lent : IsInOwing sender (owed sender) view (inward_of link)
+      lent = subst (λ at. IsInOwing sender (owed sender) view (inward_of at)) (sym link_here) (beside.ins sender known)
+
+      -- after an outcome was given on it, if there is one, each end is beside the core, and nothing is owed
+      module _ (after : Whole J T) (number_of : ℕ) (outcome : Option (Outcome J T)) (gives : Gives (inward_of link) number_of outcome (inward_of after))
+          (untouched : kept_by_receiver after ≡ kept_by_receiver link) (after_row : V) (written : items after_row ≡ set (items row) number after) where
+        abbrev old_links : List (List (Whole J T))
+        old_links = map items rows
+
+        abbrev new_links : List (List (Whole J T))
+        new_links = map items (set rows sender after_row)
+
+        links_are : new_links ≡ with_link old_links sender number after
+        links_are = by_rows.rows-with_link items rows sender row_within row row_is number after_row after written
+
+        changes : ChangesLink old_links new_links sender number after
+        changes = subst (λ links. ChangesLink old_links links sender number after) (sym links_are)
+            (by_rows.ChangesLink-with_link old_links sender number after (beside.rows sender known) (beside.cores sender known))
+
+        pub gave_on_one : GivesOnOne number old_links new_links
+        gave_on_one =
+            let is = gift link after untouched number_of outcome gives in
+            record {
+              sender = sender;
+              link = after;
+              given = is.0;
+              gives = subst (λ at. after ≡ record at { given = at.given ++ is.0 }) link_here is.1;
+              links = links_are;
+              changes = changes;
+            }
+
+        pub none_left : (now : RecordedView J T) → IsSameSeat view now → IsInOf sender now (inward_of after) →
+            ((other : ℕ) → other ≢ sender → (inward : Inward J T) → IsInOwing other (owed other) view inward → IsInOf other now inward) →
+            IsBesideAll number none_owed now new_links
+        none_left now seat here others = record {
+          rows = λ s there. subst (λ count. s < count) (sym changes.same_rows) (beside.rows s (its s there));
+          cores = λ s there. subst (λ count. number < count) (sym (changes.same_cores s)) (beside.cores s (its s there));
+          ins = λ s there.
+              ⊎_elim
+              (λ one. subst (λ at. IsInOf at now (inward_of (link_at at number new_links))) (sym one) (subst (λ link. IsInOf sender now (inward_of link)) (sym changes.changed) here))
+              (λ away. subst (λ link. IsInOf s now (inward_of link)) (sym (changes.others s number (λ one two. away one))) (others s away _ (beside.ins s (its s there))))
+              (cases_eq s sender);
+        }
+          where
+            its : (s : ℕ) → s ≤ now.core.cores → s ≤ view.core.cores
+            its s there = subst (λ count. s ≤ count) seat.cores there
+
+module _ {T : Type 0} (name : JobId) (what : OutcomeNote T) where
+  -- what is owed under a name is owed to its sender
+  pub owed_here : told_under name (Some what) name.from ≡ Some (name, what)
+  owed_here = ap (λ test. cond test (Some (name, what)) None) (eq-eqb name.from name.from refl)
+
+  -- and to nobody else
+  pub owed_elsewhere : {J : Type 0} (view : RecordedView J T) (other : ℕ) → other ≢ name.from → (inward : Inward J T) → IsInOwing other (told_under name (Some what) other) view inward → IsInOf other view inward
+  owed_elsewhere view other away inward = subst (λ owed. IsInOwing other owed view inward) (told_elsewhere name (Some what) other away)
