@@ -2,16 +2,28 @@
 
 use crate::devices::{FaultyReader, reader_of};
 use crate::texts::{FAULTY, TURNS, WHOLE};
-use rt_reading::{ReadError, read_journal};
+use rt_reading::{JournalCause, ReadError, read_journal};
 use rt_spelling::{is_spelled, write_journal};
 use std::alloc::Global;
+
+/// Whether the error tells this line and a cause of these words.
+fn tells(error: ReadError, line: u32, words: &str) -> bool {
+    match error {
+        ReadError::Text { line: at, cause } => at == line && is_spelled_so(cause, words),
+        _ => false,
+    }
+}
+
+fn is_spelled_so(cause: JournalCause, words: &str) -> bool {
+    cause.words() == words
+}
 
 /// Whether the text is refused at this line, for the cause of these words.
 fn is_refused(alloc: Global, text: &str, line: u32, words: &str) -> bool {
     let mut source = text.as_bytes();
     match read_journal(alloc, &mut source) {
-        Err(ReadError::Text { line: at, cause }) => at == line && cause.words() == words,
-        _ => false,
+        Ok(_) => false,
+        Err(error) => tells(error, line, words),
     }
 }
 
