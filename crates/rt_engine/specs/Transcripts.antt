@@ -28,7 +28,7 @@ ScriptWorld = WorldView Script ℕ
 -- one event of script jobs
 abbrev pub Occurs : Event Script → ScriptWorld → ScriptWorld → Reply Script → Type 0
 Occurs event old new answer =
-    Happens (λ job. job.polled) (λ job made before after step told. Does (slice_get job.polls made) before after step told) (λ job out. IsAnswer job.polls out) event old new answer
+    Happens (λ job back. job.polls ≡ back.polls) (λ job. job.polled) (λ job made before after step told. Does (slice_get job.polls made) before after step told) (λ job out. IsAnswer job.polls out) event old new answer
 
 -- the event was not handed back: its actors exist, and their journals have room
 abbrev pub IsHeard : Reply Script → Type 0
