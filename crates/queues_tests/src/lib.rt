@@ -23,3 +23,5 @@ mod scenes;
 mod steps;
 #[cfg(test)]
 mod turns;
+#[cfg(test)]
+mod whole;

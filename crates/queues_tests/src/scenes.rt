@@ -4,6 +4,7 @@ use crate::closings::{a_core_finishes, a_core_hands_back, a_queue_finishes, a_qu
 use crate::deliveries::{all_queues, commands, eight_jobs};
 use crate::one_core::OneCore;
 use crate::turns::{a_core_is_busy, a_job_waits_behind};
+use crate::whole::{a_hand_back_is_told, turns_come_as_they_are_told};
 use linked_list_allocator::LocalHeap;
 use rt_ids::CoreNo;
 use std::test::Fail;
@@ -19,6 +20,8 @@ fn plays(core: &mut OneCore<'_>, scene: u8) -> bool {
         5 => a_queue_hands_back(core),
         6 => a_core_finishes(core),
         7 => a_core_hands_back(core),
+        8 => turns_come_as_they_are_told(core),
+        9 => a_hand_back_is_told(core),
         _ => a_core_is_busy(core),
     }
 }
@@ -32,7 +35,7 @@ fn plays_in(heap: &LocalHeap, scene: u8) -> Option<bool> {
 #[test]
 fn each_scene_comes_out(rt: HostRuntime) -> Result<(), Fail> {
     let heap = LocalHeap::new(rt.alloc(), 1 << 18)?;
-    for scene in 0..9 {
+    for scene in 0..11 {
         let went = plays_in(&heap, scene);
         assert!(rt; went == Some(true) && heap.used() == 0, "scene {scene}");
     }

@@ -1,6 +1,7 @@
 //! Turns of a core: what each poll notes, and the last turn.
 
 use crate::one_core::{FIRST, OneCore, is_one, name, one_turn, picks, takes};
+use crate::whole::tells_none;
 use linked_list_allocator::LocalHeap;
 use rt_core::{PickError, Turn};
 use rt_ids::{CoreNo, Note, QueueStats};
@@ -12,15 +13,16 @@ fn is_turn(core: &mut OneCore<'_>, picked: [Note<u64>; 2], settled: Note<u64>) -
     first.as_slice() == picked.as_slice() && is_one(&second, settled)
 }
 
-/// A pick takes no job out: it comes to this error, or else there is no work.
+/// A pick takes no job out, as was told ahead: it comes to this error, or else there is no work.
 fn picks_none(core: &mut OneCore<'_>, error: Option<PickError>) -> bool {
+    let told = tells_none(core, &error);
     let (picked, notes) = core.pick();
     let same = match picked {
         Ok(Turn::Idle) => error.is_none(),
         Ok(_) => false,
         Err(other) => error == Some(other),
     };
-    same && notes.is_empty()
+    told && same && notes.is_empty()
 }
 
 /// Three polls, which make 30 nanoseconds, and two jobs done.

@@ -2,7 +2,7 @@
 use Rattle.std.proofs.Common.{◌≡◌, ℕ, ◌+◌, ◌*◌, ◌^◌, ◌<◌, ◌≤◌, Bool, true, false, List, [], ◌∷◌, ◌++◌, length, max, Option, Some, None, refl, sym, ap, ◌∙◌, subst, arith, length-set}
 use Rattle.std.specs.Prelude.{◌-◌, All, is_some, slice_set, slice_index_or}
 use Rattle.std.proofs.lemmas.Bool.{true≢false}
-use Rattle.std.proofs.lemmas.List.{set-set, get_or-set_same}
+use Rattle.std.proofs.lemmas.List.{set-set, set-get_or, get_or-set_same}
 use Rattle.std.proofs.lemmas.List.Elements.{All-head, All-tail}
 use Rattle.rt_ids.specs.declared.names.JobId.{JobId}
 use Rattle.rt_ids.specs.declared.names.Key.{Key}
@@ -166,3 +166,7 @@ pub charged_at_once : (tallies : List Tally) (queue : ℕ) (picked charged : Tal
     charged ≡ after_poll (slice_index_or (slice_set tallies queue picked) queue no_tally) time weight done
 charged_at_once tallies queue picked charged time weight done within value =
     value ∙ ap (λ (tally : Tally). after_poll tally time weight done) (sym (get_or-set_same tallies queue picked no_tally within))
+
+-- the slip of a queue that is listed again never comes back to its queue
+pub slip_stays : (slips : List Bool) (queue : ℕ) → slice_index_or slips queue false ≡ false → slice_set (slice_set slips queue true) queue false ≡ slips
+slip_stays slips queue out = set-set slips queue true false ∙ ap (slice_set slips queue) (sym out) ∙ set-get_or slips queue false

@@ -9,7 +9,7 @@ use rt_shares::{Shares, charge, clamped};
 pub(crate) const MOST_QUEUES: usize = 256;
 
 /// What is counted of a queue. Times are nanoseconds.
-#[derive(Clone, Copy, PartialEq, Eq, Debug)]
+#[derive(Clone, Copy)]
 pub struct Tally {
     /// Its virtual runtime.
     pub runtime: u128,

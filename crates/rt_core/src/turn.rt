@@ -3,7 +3,7 @@
 use rt_ids::{JobId, Order, QueueNo, Reason};
 
 /// What a pick came to.
-#[derive(PartialEq, Eq, Debug, Drop)]
+#[derive(Drop)]
 pub enum Turn<J> {
     /// The job is out for its first poll.
     Start(JobId, QueueNo, J),
@@ -27,7 +27,7 @@ pub enum PickError {
 }
 
 /// What became of a job that was out.
-#[derive(PartialEq, Eq, Debug, Drop)]
+#[derive(Drop)]
 pub enum Settled<T> {
     /// It waits at the tail of its queue.
     Yielded,

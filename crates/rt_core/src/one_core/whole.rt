@@ -7,7 +7,6 @@ ghost use Rattle.rt_core.specs.State.{IsBounded};
 ghost use Rattle.rt_core.specs.Whole.{IsAhead, TellsAhead, TurnsFirst, TurnsWhole, pick_notes, settled_of, settle_notes};
 
 use super::Core;
-use crate::ready::enter;
 use crate::tally::place;
 use crate::turn::{Ahead, Next, PickError};
 use rt_jobs::{Job, Post, Step, Task};
@@ -116,7 +115,6 @@ impl<J: Job, A: Allocator + Clone> Core<J, A> {
         };
         let queue = key.queue;
         let (step, told) = self.queues.turn_front(queue, post);
-        self.queues.put_slip(slip);
         let time = told.unwrap_or(spent);
         let shares = self.queues.shares(queue);
         let done = ended(&step);
@@ -127,8 +125,10 @@ impl<J: Job, A: Allocator + Clone> Core<J, A> {
         self.floor = self.floor.max(key.vr);
         self.turns += 1;
         self.inside -= done as usize;
-        if !self.queues.is_empty(queue) {
-            enter(&mut self.queues, &mut self.ready, queue, tally.runtime);
+        if self.queues.is_empty(queue) {
+            self.queues.put_slip(slip);
+        } else {
+            self.ready.insert(slip, tally.runtime);
         }
         (step, time)
     }

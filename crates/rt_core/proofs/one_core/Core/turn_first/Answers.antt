@@ -4,7 +4,7 @@ use Rattle.std.proofs.lemmas.Bool.{true≢false}
 use Rattle.rt_ids.specs.Work.{number_if}
 use Rattle.rt_jobs.specs.Steps.{is_done_step}
 use Rattle.rt_taskqueue.specs.Queues.{waiting_of, shares_of}
-use Rattle.rt_taskqueue.specs.Slips.{SlippedView, queues_alone, without_slip}
+use Rattle.rt_taskqueue.specs.Slips.{SlippedView, queues_alone}
 use Rattle.rt_core.specs.declared.tally.Tally.{Tally}
 use Rattle.rt_core.specs.State.{CoreView, JobOut, tally_of, runtime_of, is_any}
 use Rattle.rt_core.specs.Inside.{core_view, job_out, KeepsSlips, unsettled_count, FitsTurns}
@@ -15,9 +15,9 @@ use Rattle.rt_core.proofs.Fits.{picked_fits, IsBounded-from_turns}
 use Rattle.rt_core.proofs.Picking.{exists_if_waiting, first_runtime, first_waits, first_is_next}
 use Rattle.rt_core.proofs.Settling.{IsWithinTurns-settles}
 use Rattle.rt_core.proofs.SlipsKept.{slip_out}
-use Rattle.rt_core.proofs.Whole.{IsCore-taken, IsCore-settled, front_ready, turned_shares, settles_step, one_at_most, written_at_once, charged_at_once}
+use Rattle.rt_core.proofs.Whole.{IsCore-taken, IsCore-settled, front_ready, turned_shares, settles_step, one_at_most, written_at_once, charged_at_once, slip_stays}
 use Rattle.rt_core.proofs.one_core.Core.turn_first.Goals as goal
-use Rattle.rt_core.proofs.one_core.Core.turn_first.Goals.{then-not-is_empty, else-not-is_empty}
+use Rattle.rt_core.proofs.one_core.Core.turn_first.Goals.{then-is_empty, else-is_empty}
 
 pub turn_front-step-requires : goal.turn_front-step-requires
 turn_front-step-requires g c =
@@ -141,17 +141,14 @@ invariant_of-self g c =
     (subst (λ (one : Tally). charged.time < one.time + 2 ^ 40) picked c.charged-tally.ensures.clamped) few in
     let tallies = written_at_once inside.tallies.items c.place-2.result key.queue tally charged c.place-2.ensures in
     let floor = c.max-self-inside.ensures ∙ ap (max inside.floor) (sym (first_runtime old inside.ready.keys key later are core.listed)) in
-    let lines : waiting_of key.queue (queues_alone c.put_slip.new.self) ≡ waiting_of key.queue (queues_alone c.turn_front-step.new.self) =
-    ap (λ (view : SlippedView g.row.J.Denot). waiting_of key.queue (queues_alone view)) c.put_slip.ensures in
-    let some : is_any (waiting_of key.queue (queues_alone c.turn_front-step.new.self)) ≡ true =
-    is_any-from_some (waiting_of key.queue (queues_alone c.turn_front-step.new.self)) (λ gone. true≢false (sym (c.is_empty.ensures.1 (lines ∙ gone)) ∙ c.if-not-is_empty.true)) in
-    rw (c.enter.ensures.keys, c.enter.ensures.given, c.put_slip.ensures, c.in-Some.ensures.slip, c.turn_front-step.ensures.slips, c.ended-done.ensures) (
-    IsCore-settled g.J.Task.done g.J.Task.CanPoll mid _ (slice_set inside.queues.slips key.queue true) later inside.inside inside.room inside.tallies.cap out turned.job charged true step middle refl free turned.joins c.turn_front-step.ensures.limits
+    let some : is_any (waiting_of key.queue (queues_alone c.turn_front-step.new.self)) ≡ false = ap is_any (c.is_empty.ensures.0 c.if-is_empty.true) in
+    rw (c.put_slip.ensures, c.in-Some.ensures.slip, c.turn_front-step.ensures.slips, c.ended-done.ensures) (
+    IsCore-settled g.J.Task.done g.J.Task.CanPoll mid _ (slice_set inside.queues.slips key.queue true) later inside.inside inside.room inside.tallies.cap out turned.job charged false step middle refl free turned.joins c.turn_front-step.ensures.limits
     tallies fits refl refl refl floor turned.polled.ended turned.polled.ready some
     )
 
-pub invariant_of-self-else-not-is_empty : goal.invariant_of-self-else-not-is_empty
-invariant_of-self-else-not-is_empty g c =
+pub invariant_of-self-else-is_empty : goal.invariant_of-self-else-is_empty
+invariant_of-self-else-is_empty g c =
     let inside = c.self.inside in
     let core = c.self.invariant in
     let key = c.in-Some.key in
@@ -199,13 +196,16 @@ invariant_of-self-else-not-is_empty g c =
     (subst (λ (one : Tally). charged.time < one.time + 2 ^ 40) picked c.charged-tally.ensures.clamped) few in
     let tallies = written_at_once inside.tallies.items c.place-2.result key.queue tally charged c.place-2.ensures in
     let floor = c.max-self-inside.ensures ∙ ap (max inside.floor) (sym (first_runtime old inside.ready.keys key later are core.listed)) in
-    let lines : waiting_of key.queue (queues_alone c.put_slip.new.self) ≡ waiting_of key.queue (queues_alone c.turn_front-step.new.self) =
-    ap (λ (view : SlippedView g.row.J.Denot). waiting_of key.queue (queues_alone view)) c.put_slip.ensures in
-    let some : is_any (waiting_of key.queue (queues_alone c.turn_front-step.new.self)) ≡ false = ap is_any (sym lines ∙ c.is_empty.ensures.0 c.if-not-is_empty.false) in
-    rw (c.put_slip.ensures, c.in-Some.ensures.slip, c.turn_front-step.ensures.slips, c.ended-done.ensures) (
-    IsCore-settled g.J.Task.done g.J.Task.CanPoll mid _ (slice_set inside.queues.slips key.queue true) later inside.inside inside.room inside.tallies.cap out turned.job charged false step middle refl free turned.joins c.turn_front-step.ensures.limits
+    let some : is_any (waiting_of key.queue (queues_alone c.turn_front-step.new.self)) ≡ true =
+    is_any-from_some (waiting_of key.queue (queues_alone c.turn_front-step.new.self)) (λ gone. true≢false (sym (c.is_empty.ensures.1 gone) ∙ c.if-is_empty.false)) in
+    let stays = slip_stays inside.queues.slips key.queue (slip_out _ _ key later exists (subst (KeepsSlips _ _) are core.slipped)) in
+    rw (c.insert.ensures.keys, c.in-Some.ensures.slip, c.turn_front-step.ensures.slips, c.ended-done.ensures, ← stays) (
+    IsCore-settled g.J.Task.done g.J.Task.CanPoll mid _ (slice_set inside.queues.slips key.queue true) later inside.inside inside.room inside.tallies.cap out turned.job charged true step middle refl free turned.joins c.turn_front-step.ensures.limits
     tallies fits refl refl refl floor turned.polled.ended turned.polled.ready some
     )
+
+pub insert-requires : goal.insert-requires
+insert-requires g c = record { absent = rw c.in-Some.ensures.slip c.in-Some.ensures.absent }
 
 pub returns-clause-turns : goal.returns-clause-turns
 returns-clause-turns g c =
@@ -259,14 +259,13 @@ returns-clause-turns g c =
     let new : CoreView g.row.J.Denot = core_view inside.core inside.cores (queues_alone c.turn_front-step.new.self) (slice_set inside.tallies.items c.place-2.result charged) c.max-self-inside.result (inside.turns + 1) (job_out inside.out) inside.senders inside.mode in
     let shown : SlippedView g.row.J.Denot → CoreView g.row.J.Denot =
     λ queues. core_view inside.core inside.cores (queues_alone queues) (slice_set inside.tallies.items c.place-2.result charged) c.max-self-inside.result (inside.turns + 1) (job_out inside.out) inside.senders inside.mode in
-    let same : c.if-not-is_empty.self ≡ new =
-    elim c.if-not-is_empty.branch [
-      | then-not-is_empty w ↦ w.self-is ∙ ap shown (w.enter.ensures.given ∙ ap (without_slip key.queue) c.put_slip.ensures)
-      | else-not-is_empty w ↦ w.self-is ∙ ap shown c.put_slip.ensures
+    let same : c.if-is_empty.self ≡ new =
+    elim c.if-is_empty.branch [
+      | then-is_empty w ↦ w.self-is ∙ ap shown w.put_slip.ensures
+      | else-is_empty w ↦ w.self-is
     ] in
     let weight : c.shares-shares.result ≡ shares_of key.queue turned.between =
-    c.shares-shares.ensures ∙ ap (λ (view : SlippedView g.row.J.Denot). shares_of key.queue (queues_alone view)) c.put_slip.ensures
-    ∙ turned_shares step turned.between (queues_alone c.turn_front-step.new.self) key.queue turned.name turned.job turned.joins in
+    c.shares-shares.ensures ∙ turned_shares step turned.between (queues_alone c.turn_front-step.new.self) key.queue turned.name turned.job turned.joins in
     let counted : charged ≡ after_poll tally c.unwrap_or-time.result (shares_of key.queue turned.between) (number_if (is_done_step step)) =
     value ∙ (λ i. after_poll tally c.unwrap_or-time.result (weight i) (c.ended-done.ensures i)) in
     let written = tallies ∙ ap (slice_set (slice_set inside.tallies.items key.queue tally) key.queue)
@@ -337,9 +336,9 @@ returns-clause-bounded g c =
     let new : CoreView g.row.J.Denot = core_view inside.core inside.cores (queues_alone c.turn_front-step.new.self) (slice_set inside.tallies.items c.place-2.result charged) c.max-self-inside.result (inside.turns + 1) (job_out inside.out) inside.senders inside.mode in
     let shown : SlippedView g.row.J.Denot → CoreView g.row.J.Denot =
     λ queues. core_view inside.core inside.cores (queues_alone queues) (slice_set inside.tallies.items c.place-2.result charged) c.max-self-inside.result (inside.turns + 1) (job_out inside.out) inside.senders inside.mode in
-    let same : c.if-not-is_empty.self ≡ new =
-    elim c.if-not-is_empty.branch [
-      | then-not-is_empty w ↦ w.self-is ∙ ap shown (w.enter.ensures.given ∙ ap (without_slip key.queue) c.put_slip.ensures)
-      | else-not-is_empty w ↦ w.self-is ∙ ap shown c.put_slip.ensures
+    let same : c.if-is_empty.self ≡ new =
+    elim c.if-is_empty.branch [
+      | then-is_empty w ↦ w.self-is ∙ ap shown w.put_slip.ensures
+      | else-is_empty w ↦ w.self-is
     ] in
     rw same (IsBounded-from_turns new (IsWithinTurns-settles mid new out key.queue charged refl free refl floor tallies fits middle.turns))
