@@ -104,7 +104,12 @@ impl<I: InEnd<ScriptJob> + Drop> Receiver<I> {
                 }
                 true
             }
-            _ => false,
+            Ok(Turn::Resume(_, _, job)) => {
+                drop(job);
+                false
+            }
+            Ok(Turn::Idle) => false,
+            Err(_) => false,
         }
     }
 
