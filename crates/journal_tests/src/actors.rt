@@ -97,8 +97,7 @@ impl<I: InEnd<ScriptJob> + Drop> Receiver<I> {
             }
             Ok(Turn::Back(name, reason, order)) => {
                 if name.from == OUTSIDE {
-                    self.core
-                        .give_back(&mut self.outside, name, reason, order);
+                    self.core.give_back(&mut self.outside, name, reason, order);
                 } else if name.from == OWN {
                     self.core.give_back(&mut self.own, name, reason, order);
                 }

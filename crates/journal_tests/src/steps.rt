@@ -111,7 +111,10 @@ fn a_core_makes_a_queue_and_closes(rt: HostRuntime) -> Result<(), Fail> {
     let mut core: Recorded<ScriptJob> = Recorded::open(rt.alloc(), rt.alloc(), CORE, 1, 4, 10)?;
     let made = core.create(half) == Ok(QueueNo(1)) && core.cap() == 4;
     let closed = core.journal().free() >= 1 && core.close(Mode::Return) && core.is_closed();
-    let notes = [Note::Created(QueueNo(1), half), Note::CoreClosed(Mode::Return)];
+    let notes = [
+        Note::Created(QueueNo(1), half),
+        Note::CoreClosed(Mode::Return),
+    ];
     assert!(rt; made && closed && tells(core.journal(), &notes));
     Ok(())
 }
