@@ -3,7 +3,9 @@
 ghost use Rattle.rt_jobs.specs.Ready.{HasReadyJob};
 ghost use Rattle.rt_world.specs.Opening.{HasReadyEvent};
 
-use rt_ids::{ActorNo, CoreNo, JobId, Mode, Order, Outcome, QueueNo, SendError, Ticket, TicketError};
+use rt_ids::{
+    ActorNo, CoreNo, JobId, Mode, Order, Outcome, QueueNo, SendError, Ticket, TicketError,
+};
 use rt_jobs::{ScriptJob, Task};
 use rt_shares::Shares;
 use rt_world::{Event, Reply, World};
