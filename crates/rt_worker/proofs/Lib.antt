@@ -1,0 +1,12 @@
+pub mod Along
+pub mod Stepping
+pub mod Delivered
+pub mod Polled
+pub mod Turning
+pub mod Noted
+pub mod Spare
+pub mod Gated
+pub mod Serving
+pub mod Opened
+pub mod Creating
+pub mod Ending

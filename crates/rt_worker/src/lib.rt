@@ -1,0 +1,19 @@
+//! One worker: a core beside its journal, over its actor's ends of the links.
+#![tactic(auto)]
+
+pub mod ended;
+mod gates;
+pub mod laws;
+mod lent;
+pub mod linked;
+mod next;
+mod opening;
+pub mod served;
+pub mod turn;
+pub mod worker;
+
+pub use ended::Ended;
+pub use linked::Linked;
+pub use served::Served;
+pub use turn::Made;
+pub use worker::{Bell, Worker};
