@@ -1,6 +1,6 @@
 -- Two outputs of a script are one, unless one of its runs was refused memory.
-use Rattle.std.proofs.Common.{◌≡◌, ℕ, List, [], ◌∷◌, ◌++◌, refl, sym, ◌∙◌, ap, subst, ◌⊎◌, inl, inr, ⊎_elim}
-use Rattle.std.specs.Prelude.{map, reverse, Result, Ok}
+use Rattle.std.proofs.Common.{◌≡◌, ℕ, List, [], ◌∷◌, ◌++◌, refl, sym, ◌∙◌, ap, subst, ◌⊎◌, inl, inr, ⊎_elim, append-nil}
+use Rattle.std.specs.Prelude.{map, reverse, Result, Ok, false}
 use Rattle.std.proofs.lemmas.List.{append_cancel_right}
 use Rattle.std.proofs.lemmas.Option.{same_Some}
 use Rattle.rt_jobs.specs.Scripts.{Script}
@@ -22,6 +22,7 @@ use Rattle.rt_script.specs.declared.event.ScriptEvent.{ScriptEvent}
 use Rattle.rt_script.specs.Drafts.{Drafted}
 use Rattle.rt_script.specs.Scripts.{script_of}
 use Rattle.rt_engine.specs.Replies.{event_of, ends_of, quiet_of}
+use Rattle.rt_engine.specs.Printed.{IsPrinted}
 use Rattle.rt_engine.specs.Transcripts.{ScriptWorld, event_text, Prints, PrintsAll, with_queue, with_queues, script_room, IsOutput}
 use Rattle.rt_engine.specs.OneOutput.{OutputIsDetermined, OutputOfJobsIsDetermined, TextHasOneOutput}
 
@@ -136,7 +137,25 @@ output_of_jobs_once script output other none first second =
 same_ok : {A E : Type 0} (found : Result A E) (one other : A) → found ≡ Ok one → found ≡ Ok other → one ≡ other
 same_ok found one other first second = cc
 
+-- what is printed of the events alone
+module _ (script : Drafted) (output other : List ℕ) (first : IsPrinted false false script output) (second : IsPrinted false false script other) where
+  front_is : (text : List ℕ) (is : IsPrinted false false script text) → text ≡ is.front
+  front_is text is = is.whole ∙ (ap (λ rear. is.front ++ rear) is.counted ∙ append-nil is.front)
+
+  printed_once : (output ≡ other) ⊎ (WasRefused first.assembly.journals ⊎ WasRefused second.assembly.journals)
+  printed_once =
+      ⊎_elim (λ same. inl (front_is output first ∙ (same ∙ sym (front_is other second))))
+      (
+      λ refused.
+      inr
+      (
+      ⊎_elim (λ told. inl (subst (λ all. WasRefused all.journals) (sym first.printed.journals) told))
+      (λ told. inr (subst (λ all. WasRefused all.journals) (sym second.printed.journals) told)) refused
+      )
+      )
+      (once script first.front second.front first.printed.output second.printed.output)
+
 pub text_once : TextHasOneOutput
 text_once text sink sink_new other_sink other_new first second =
-    subst (λ script. (right : IsOutput script second.output) → (first.output ≡ second.output) ⊎ (WasRefused first.right.end.journals ⊎ WasRefused right.end.journals))
-    (same_ok (script_of text) first.script second.script first.told second.told) (λ right. once first.script first.output second.output first.right right) second.right
+    subst (λ script. (right : IsPrinted false false script second.output) → (first.output ≡ second.output) ⊎ (WasRefused first.right.assembly.journals ⊎ WasRefused right.assembly.journals))
+    (same_ok (script_of text) first.script second.script first.told second.told) (λ right. printed_once first.script first.output second.output first.right right) second.right

@@ -18,9 +18,6 @@ const FAULTY: &str = "cores 1 cap 4\nturn 0\nturn 1\n";
 /// The script has 52 bytes: six reads, and a seventh finds the end.
 const READS: u32 = 7;
 
-/// What it prints has 85 bytes: nine writes.
-const WRITES: u32 = 9;
-
 /// Whether a run from the source to the sink comes to this answer, and the sink then has these bytes.
 fn comes_to(
     alloc: Global,
@@ -29,14 +26,8 @@ fn comes_to(
     want: Result<bool, EngineFault>,
     written: &str,
 ) -> bool {
-    let answer = run_script(alloc, &mut source, &mut sink);
+    let answer = run_script(alloc, false, false, &mut source, &mut sink);
     answer == want && sink.written.as_slice() == written.as_bytes()
-}
-
-/// Whether a run whose write fails leaves the first bytes of what it prints.
-fn leaves_a_beginning(alloc: Global, mut sink: FaultyWriter) -> bool {
-    let answer = run_script(alloc, &mut SCRIPT.as_bytes(), &mut sink);
-    answer == Err(EngineFault::Write) && PRINTED.as_bytes().starts_with(sink.written.as_slice())
 }
 
 #[test]
@@ -68,18 +59,6 @@ fn a_failed_read_prints_nothing(rt: HostRuntime) {
     let source = reader_of(SCRIPT, 0, READS + 1);
     let sink = writer_of(rt.alloc(), 0, 0, 4096);
     assert!(rt; all && comes_to(rt.alloc(), source, sink, Ok(true), PRINTED));
-}
-
-#[test]
-fn a_failed_write_leaves_a_beginning(rt: HostRuntime) {
-    let mut all = true;
-    for failing in 1..WRITES + 1 {
-        all = all && leaves_a_beginning(rt.alloc(), writer_of(rt.alloc(), 0, failing, 4096));
-    }
-    let source = reader_of(SCRIPT, 0, 0);
-    let full = writer_of(rt.alloc(), 0, 0, 20);
-    let kept = "0 sent 0>0#1 job q0\n";
-    assert!(rt; all && comes_to(rt.alloc(), source, full, Err(EngineFault::Write), kept));
 }
 
 #[test]
