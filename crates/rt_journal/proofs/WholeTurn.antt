@@ -1,6 +1,6 @@
 -- A whole turn beside its journal: the notes of the pick are written behind the old ones, and behind them the note of the settling.
-use Rattle.std.specs.Prelude.{◌-◌, unwrap_or, Some, Ok}
-use Rattle.std.proofs.Common.{◌≡◌, ℕ, ◌^◌, ◌<◌, ◌≤◌, Bool, true, false, List, ◌++◌, length, reverse, refl, sym, ◌∙◌, ap, subst, arith}
+use Rattle.std.specs.Prelude.{Some, Ok}
+use Rattle.std.proofs.Common.{◌≡◌, ℕ, ◌<◌, Bool, true, false, List, ◌++◌, reverse, sym, ◌∙◌, ap, subst}
 use Rattle.std.proofs.lemmas.Option.{same_Some}
 use Rattle.rt_ids.specs.Limits.{most_turns}
 use Rattle.rt_ids.specs.declared.names.JobId.{JobId}
@@ -9,7 +9,6 @@ use Rattle.rt_ids.specs.declared.order.Envelope.{Envelope}
 use Rattle.rt_ids.specs.Journal.{Journal}
 use Rattle.rt_ids.specs.Picks.{turns}
 use Rattle.rt_jobs.specs.declared.job.Step.{Step}
-use Rattle.rt_jobs.specs.declared.job.Step.TheVariants as steps
 use Rattle.rt_jobs.specs.Steps.{Owed, IsSameTask}
 use Rattle.rt_core.specs.declared.turn.Turn.TheVariants.{Start, Resume}
 use Rattle.rt_core.specs.State.{CoreView, JobOut}
@@ -17,8 +16,7 @@ use Rattle.rt_core.specs.Turns.{Picks as CorePicks}
 use Rattle.rt_core.specs.Whole.{TurnsWhole, goes_out, pick_notes, settled_of, settle_notes}
 use Rattle.rt_journal.specs.Submissions.{DeskView, IsWritten, terms_of_desk, desk_with}
 use Rattle.rt_journal.specs.Recorded.{RecordedView, IsRecorded, desk_of}
-use Rattle.rt_journal.specs.Ends.{KeepsSent, KeepsIn, KeepsOuts, IsSameSeat}
-use Rattle.rt_journal.specs.Owed.{OwesSettled}
+use Rattle.rt_journal.specs.Ends.{KeepsSent, KeepsOuts, IsSameSeat}
 use Rattle.rt_journal.specs.Turns.{IsPick, IsPolled, Settles}
 use Rattle.rt_journal.specs.Whole.{IsTurn}
 use Rattle.rt_journal.proofs.Picked.{step-picked, picks-now}
@@ -26,7 +24,7 @@ use Rattle.rt_journal.proofs.Quiet.{nobody, given_settled}
 use Rattle.rt_journal.proofs.QuietSteps.{stepped, IsQuietStep, everyone}
 use Rattle.rt_journal.proofs.SettledEnds.{owes_settled}
 use Rattle.rt_journal.proofs.SettledPolls.{step-settled, settles-now}
-use Rattle.rt_journal.proofs.Wrote.{view_of, quiet_written, quiet_sent, now_is, quiet_sound, quiet_invariant, quiet_seat, quiet_ins, quiet_outs}
+use Rattle.rt_journal.proofs.Wrote.{view_of, quiet_written, quiet_sent, now_is, quiet_invariant, quiet_seat, quiet_ins, quiet_outs}
 
 module _ {J T : Type 0} {same : J → J → Type 0} {done : J → Bool} {can_poll : J → Type 0} {made : J → ℕ} {polls : Owed J T} {answers : J → T → Type 0} (is_same : IsSameTask same)
     (answers_same : (a b : J) (out : T) → same a b → answers a out → answers b out)

@@ -77,6 +77,7 @@ impl<J: Job<Out = u64>, A: Allocator + Clone> Recorded<J, A> {
         ensures beside { IsInOf next.now.name.from self.new (I.inward end.new) }
         ensures others { (sender : ℕ) → sender ≢ next.now.name.from → KeepsIn sender self.old self.new }
         ensures outs { KeepsOuts (desk_of self.old) (desk_of self.new) }
+        ensures lanes { self.new.lanes ≡ self.old.lanes }
         ensures seat { IsSameSeat self.old self.new }
         ensures sound { IsRecorded J.SameTask J.made J.Polls self.new }
         ensures untouched { I.untouched end.new ≡ I.untouched end.old }
@@ -92,6 +93,7 @@ impl<J: Job<Out = u64>, A: Allocator + Clone> Recorded<J, A> {
         requires room { length self.old.journal.notes + 3 ≤ self.old.journal.room }
         ensures turns { IsTurn J.SameTask J.made J.Polls J.Answers self.old next.now.name next.now.queue next.now.started (P.notes post.old) (P.notes post.new) spent result self.new }
         ensures outs { KeepsOuts (desk_of self.old) (desk_of self.new) }
+        ensures lanes { self.new.lanes ≡ self.old.lanes }
         ensures seat { IsSameSeat self.old self.new }
         ensures sound { IsRecorded J.SameTask J.made J.Polls self.new }
     {

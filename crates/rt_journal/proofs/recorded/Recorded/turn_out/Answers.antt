@@ -1,9 +1,8 @@
-use Rattle.std.proofs.Common.{◌≡◌, ◌+◌, ◌<◌, ◌≤◌, length, sym, ◌∙◌, subst, ap, arith}
+use Rattle.std.proofs.Common.{◌<◌, length, ap, arith}
 use Rattle.rt_ids.specs.Limits.{most_turns}
 use Rattle.rt_ids.specs.Picks.{turns}
 use Rattle.rt_journal.proofs.Picked.{turns-within}
 use Rattle.rt_journal.proofs.WholeTurn.{may_pick, sent_pick, may_settle, sent_settled, turned_invariant, turned, turned_outs}
-use Rattle.rt_journal.proofs.Wrote.{view_of}
 use Rattle.rt_journal.proofs.recorded.Recorded.turn_out.Goals as goal
 
 pub write-requires-clause-written : goal.write-requires-clause-written
