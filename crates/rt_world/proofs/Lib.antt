@@ -41,3 +41,4 @@ pub mod OneJobRow
 pub mod TwoQueuesRow
 pub mod TwoSendersRow
 pub mod ClosedRow
+pub mod InPlace
