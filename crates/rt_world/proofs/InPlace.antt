@@ -7,7 +7,6 @@ use Rattle.rt_ids.specs.declared.names.JobId.{JobId}
 use Rattle.rt_ids.specs.declared.note.Note.TheVariants as writes
 use Rattle.rt_ids.specs.declared.order.Order.TheVariants.{Job}
 use Rattle.rt_jobs.specs.Steps.{Owed}
-use Rattle.rt_core.specs.State.{JobOut}
 use Rattle.rt_core.specs.Whole.{IsAhead}
 use Rattle.rt_core.specs.declared.turn.Settled.{Settled}
 use Rattle.rt_journal.specs.Polls.{polls_made, poll_note, settle_note}
