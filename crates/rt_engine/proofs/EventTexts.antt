@@ -23,7 +23,7 @@ use Rattle.rt_engine.specs.Replies.{event_of, ends_of, quiet_of}
 use Rattle.rt_engine.specs.Rooms.{IsRoomy}
 use Rattle.rt_engine.specs.Transcripts.{ScriptWorld, Occurs, IsHeard, Prints, PrintsAll, event_text, note_lines, quiet_text, script_room}
 use Rattle.rt_engine.proofs.EventLimits.{are_there}
-use Rattle.rt_engine.proofs.WorldSteps.{event_grows, is_heard, is_free}
+use Rattle.rt_engine.proofs.WorldSteps.{event_grows, of_scripts, is_heard, is_free}
 
 pub same_actor : (event : ScriptEvent) → (ends_of event).actor ≡ actor_of (event_of event)
 same_actor (Send sender core what) = refl
@@ -58,7 +58,7 @@ module _ (event : ScriptEvent) (old new : ScriptWorld) (answer : Reply Script) (
   pub prints_notes : length (journal_at (actor_of (event_of event)) old) < length (journal_at (actor_of (event_of event)) new) →
       Prints event old new (note_lines (ends_of event).actor (drop (length (journal_at (actor_of (event_of event)) old)) (reverse (journal_at (actor_of (event_of event)) new))))
   prints_notes more =
-      let grows = event_grows (event_of event) old new answer occurs in
+      let grows = event_grows (event_of event) (of_scripts event) old new answer occurs in
       let count = ap length grows.noted ∙ length-append grows.notes (journal_at (actor_of (event_of event)) old) in
       let turned = length-reverse grows.notes in
       let some : 1 ≤ length (reverse grows.notes) = omega arith in
@@ -77,7 +77,7 @@ module _ (event : ScriptEvent) (old new : ScriptWorld) (answer : Reply Script) (
   -- an event with none prints what its reply says
   pub prints_quiet : length (journal_at (actor_of (event_of event)) new) ≤ length (journal_at (actor_of (event_of event)) old) → Prints event old new (quiet_text (ends_of event) (quiet_of answer))
   prints_quiet same =
-      let grows = event_grows (event_of event) old new answer occurs in
+      let grows = event_grows (event_of event) (of_scripts event) old new answer occurs in
       let count = ap length grows.noted ∙ length-append grows.notes (journal_at (actor_of (event_of event)) old) in
       let none : grows.notes ≡ [] = no_notes grows.notes (omega arith) in
       record {
@@ -122,7 +122,7 @@ module _ (event : ScriptEvent) (old new : ScriptWorld) (answer : Reply Script) (
 -- an event adds at most four notes to a journal
 pub roomy_more : (cores cap notes more : ℕ) (event : ScriptEvent) (old new : ScriptWorld) (text : List ℕ) → IsRoomy cores cap notes old → Prints event old new text → notes + 4 ≤ more → IsRoomy cores cap more new
 roomy_more cores cap notes more event old new text roomy prints within =
-    let grows = event_grows (event_of event) old new prints.answer prints.occurs in
+    let grows = event_grows (event_of event) (of_scripts event) old new prints.answer prints.occurs in
     record {
       cores_are = grows.cores ∙ roomy.cores_are;
       cap_is = grows.cap ∙ roomy.cap_is;
