@@ -26,18 +26,17 @@ use Rattle.rt_engine.specs.Printed.{IsPrinted}
 use Rattle.rt_engine.specs.Transcripts.{ScriptWorld, event_text, Prints, PrintsAll, with_queue, with_queues, script_room, IsOutput}
 use Rattle.rt_engine.specs.OneOutput.{OutputIsDetermined, OutputOfJobsIsDetermined, TextHasOneOutput}
 
--- replies that are alike are printed so
-same_quiet : (answer other : Reply Script) → AreAlike ScriptSame ScriptAnswers answer other → quiet_of answer ≡ quiet_of other
-same_quiet answer other (inl is) = ap quiet_of is
-same_quiet answer other (inr both) = ap quiet_of both.redeemed ∙ sym (ap quiet_of both.other_redeemed)
-
 -- what an event prints is determined, if what it does is
 module _ (event : ScriptEvent) (old new other : ScriptWorld) (text other_text : List ℕ) (first : Prints event old new text) (second : Prints event old other other_text) where
+  same_quiet : AreAlike ScriptSame ScriptAnswers first.answer second.answer → quiet_of first.answer ≡ quiet_of second.answer
+  same_quiet (inl same) = ap quiet_of same
+  same_quiet (inr both) = ap quiet_of both.redeemed ∙ sym (ap quiet_of both.other_redeemed)
+
   same_text : (new ≡ other) × AreAlike ScriptSame ScriptAnswers first.answer second.answer → text ≡ other_text
   same_text same =
       first.printed
       ∙ (ap (λ notes. event_text (ends_of event) (reverse notes) (quiet_of first.answer)) same_notes
-      ∙ (ap (event_text (ends_of event) (reverse second.notes)) (same_quiet first.answer second.answer same.1) ∙ sym second.printed))
+      ∙ (ap (λ quiet. event_text (ends_of event) (reverse second.notes) quiet) (same_quiet same.1) ∙ sym second.printed))
     where
       same_notes : first.notes ≡ second.notes
       same_notes =
