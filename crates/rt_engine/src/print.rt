@@ -25,7 +25,8 @@ pub(crate) type Model = World<ScriptJob, Global>;
 /// A page of this many bytes is full, and is written.
 pub(crate) const FULL_PAGE: usize = 16384;
 
-/// More than the lines of one event, which fill the page a little above that: four notes of at most 128 bytes.
+/// More than the lines of most events: four notes of at most 128 bytes. If an event collects many outcomes, or a core has many
+/// queues, the page grows.
 pub(crate) const LONGEST_PRINT: usize = 1024;
 
 /// Lets the events happen, one after another. A full page is written to the sink at once.
