@@ -41,6 +41,7 @@ pub mod Redeemed
 pub mod CollectedNext
 pub mod CollectedAll
 pub mod LaneEnds
+pub mod Spending
 pub mod Submitted
 pub mod SentNotes
 pub mod DeliveredNames

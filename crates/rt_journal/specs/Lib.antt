@@ -10,4 +10,5 @@ pub mod Steps
 pub mod Turns
 pub mod Owed
 pub mod Tickets
+pub mod Spending
 pub mod Together

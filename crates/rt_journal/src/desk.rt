@@ -10,6 +10,7 @@ ghost use Rattle.rt_desk.specs.Lanes.{fresh_lane, IsGot, FitsSent};
 ghost use Rattle.rt_journal.specs.Submissions.{opened_desk, terms_of_desk, desk_with, IsWritten, Submits, numbered};
 ghost use Rattle.rt_journal.specs.Ends.{IsOutOf, KeepsOut, KeepsSent};
 ghost use Rattle.rt_journal.specs.Tickets.{HasLane, KnowsLanes, StaysBeside, RefusesTicket, RedeemsTicket, DetachesTicket, CollectsFrom, GetsAll, GetsNext};
+ghost use Rattle.rt_journal.specs.Spending.{Spends};
 
 use rt_desk::lane::Lane;
 use rt_ids::{ActorNo, CoreNo, JobId, Note, Order, Outcome, SendError, Ticket, TicketError};
@@ -108,6 +109,7 @@ impl<J: Task<Out = u64>> RecordedDesk<J> {
         ensures sends { Sends (O.out end.old) (O.credited end.old) order (O.out end.new) (numbered result) }
         ensures credited { O.credited end.new ≡ O.credited end.old }
         ensures stays { StaysBeside (Fits J.SameTask J.Answers) to self.old self.new (O.out end.new) (O.credited end.new) }
+        ensures spends { IfOk result (λ _. Spends to self.old self.new) }
         ensures untouched { O.untouched end.new ≡ O.untouched end.old }
     {
         let what = order.without_job();
@@ -189,6 +191,7 @@ impl<J: Task<Out = u64>> RecordedDesk<J> {
         ensures fits { IfOk result (FitsSent (Fits J.SameTask J.Answers) (O.out end.old) ticket.number) }
         ensures out { O.out end.new ≡ O.out end.old }
         ensures stays { StaysBeside (Fits J.SameTask J.Answers) ticket.to self.old self.new (O.out end.new) (O.credited end.new) }
+        ensures spends { IfOk result (λ _. Spends ticket.to self.old self.new) }
         ensures untouched { O.untouched end.new ≡ O.untouched end.old }
     {
         let name = ticket.name();
@@ -217,6 +220,7 @@ impl<J: Task<Out = u64>> RecordedDesk<J> {
         ensures detaches { DetachesTicket ticket self.old result self.new }
         ensures out { O.out end.new ≡ O.out end.old }
         ensures stays { StaysBeside (Fits J.SameTask J.Answers) ticket.to self.old self.new (O.out end.new) (O.credited end.new) }
+        ensures spends { IfOk result (λ _. Spends ticket.to self.old self.new) }
         ensures untouched { O.untouched end.new ≡ O.untouched end.old }
     {
         let name = ticket.name();
