@@ -11,4 +11,5 @@ pub mod Turns
 pub mod Owed
 pub mod Tickets
 pub mod Spending
+pub mod Posts
 pub mod Together

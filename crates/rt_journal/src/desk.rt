@@ -246,6 +246,14 @@ impl<J: Task<Out = u64>> RecordedDesk<J> {
         end.outstanding()
     }
 
+    /// For the proofs alone: the lanes know what the journal says.
+    pub(crate) fn see_lanes(&self)
+        ensures known { KnowsLanes self.now }
+        ensures written { IsWritten (terms_of_desk self.now) self.now.journal.notes }
+    {
+        let _lanes = &self.lanes;
+    }
+
     /// Adds these notes one after another, so that the last of them is the newest. None of them is of a submission.
     pub(crate) fn write(&mut self, notes: &[Note<u64>])
         requires room { length self.old.journal.notes + length notes.now ≤ self.old.journal.room }

@@ -1,0 +1,104 @@
+//! A desk and its ends, lent to a job for one poll.
+
+ghost use Rattle.std.specs.Prelude.{◌≡◌, ℕ, ◌+◌, ◌*◌, ◌<◌, length};
+ghost use Rattle.rt_jobs.specs.Ready.{HasReadyJob};
+ghost use Rattle.rt_jobs.specs.Posts.{NotesSubmit, NotesRedeem, NotesDetach};
+ghost use Rattle.rt_link.specs.Fits.{Fits};
+ghost use Rattle.rt_journal.specs.Posts.{AreOutsOf, IsLent};
+
+use crate::desk::RecordedDesk;
+use rt_ids::{CoreNo, Order, Outcome, SendError, Ticket, TicketError};
+use rt_jobs::{Post, Task};
+use rt_link::OutEnd;
+use std::alloc::Global;
+use std::marker::Model;
+use std::snapshot::Snapshot;
+
+/// A desk and its ends, one for each core, lent to a job for one poll.
+///
+/// A contract sees both as they are, and as they were lent.
+pub struct RecordedPost<J: Task<Out = u64>, O: OutEnd<J>> {
+    said: RecordedDesk<J>,
+    ends: Vec<O, Global>,
+    begun: Snapshot<RecordedDesk<J>>,
+    lent: Snapshot<Vec<O, Global>>,
+}
+
+impl<J: Task<Out = u64>, O: OutEnd<J>> Model for RecordedPost<J, O> {
+    ghost use Rattle.std.specs.Prelude.{ℕ};
+    ghost use Rattle.rt_link.specs.Fits.{Fits};
+    ghost use Rattle.rt_journal.specs.Posts.{PostView, IsLent};
+
+    ghost Value = { PostView J ℕ O };
+
+    ghost view = { λ p. record { desk = p.said; ends = p.ends.items; begun = p.begun.value; lent = p.lent.value.items } };
+
+    ghost invariant = { λ p. IsLent (Fits J.SameTask J.Answers) O.out O.credited O.untouched
+        (record { desk = p.said; ends = p.ends.items; begun = p.begun.value; lent = p.lent.value.items }) };
+}
+
+impl<J: Task<Out = u64>, O: OutEnd<J>> RecordedPost<J, O> {
+    /// Lends a desk and its ends. There is room for three notes for each place of each link, and for one more.
+    pub fn lend(said: RecordedDesk<J>, ends: Vec<O, Global>) -> Self
+        requires outs { AreOutsOf (Fits J.SameTask J.Answers) O.out O.credited said ends.items }
+        requires room { length said.journal.notes + said.cores * (3 * said.cap) < said.journal.room }
+        ensures { result ≡ record { desk = said; ends = ends.items; begun = said; lent = ends.items } }
+    {
+        said.see_lanes();
+        let begun = Snapshot::of(&said);
+        let lent = Snapshot::of(&ends);
+        RecordedPost {
+            said,
+            ends,
+            begun,
+            lent,
+        }
+    }
+
+    /// The desk and its ends, after what was posted.
+    pub fn into_parts(self) -> (RecordedDesk<J>, Vec<O, Global>)
+        ensures desk { result.0 ≡ self.desk }
+        ensures ends { result.1.items ≡ self.ends }
+        ensures lent { IsLent (Fits J.SameTask J.Answers) O.out O.credited O.untouched self }
+    {
+        let RecordedPost {
+            said,
+            ends,
+            begun: _,
+            lent: _,
+        } = self;
+        (said, ends)
+    }
+}
+
+impl<J: Task<Out = u64>, O: OutEnd<J>> Post<J, u64> for RecordedPost<J, O> {
+    ghost use Rattle.rt_ids.specs.Collecting.{IsDetachable};
+
+    ghost notes = { λ post. post.desk.journal.notes };
+
+    ghost Waits = { λ post name. IsDetachable name post.desk.journal.notes };
+
+    fn submit(&mut self, to: CoreNo, order: Order<J>) -> Result<Ticket, SendError<J>> {
+        if to.0 as usize >= self.ends.len() {
+            return Err(SendError::NoCore(order));
+        }
+        let end = &mut self.ends[to.0 as usize];
+        self.said.submit(end, to, order)
+    }
+
+    fn redeem(&mut self, ticket: Ticket) -> Result<Outcome<J, u64>, TicketError> {
+        if !self.said.knows(ticket) {
+            return Err(TicketError::Unknown);
+        }
+        let end = &mut self.ends[ticket.name().to.0 as usize];
+        self.said.redeem(end, ticket)
+    }
+
+    fn detach(&mut self, ticket: Ticket) -> Result<(), TicketError> {
+        if !self.said.knows(ticket) {
+            return Err(TicketError::Unknown);
+        }
+        let end = &mut self.ends[ticket.name().to.0 as usize];
+        self.said.detach(end, ticket)
+    }
+}
