@@ -42,6 +42,8 @@ pub mod CollectedNext
 pub mod CollectedAll
 pub mod LaneEnds
 pub mod Spending
+pub mod Posting
+pub mod Posted
 pub mod Submitted
 pub mod SentNotes
 pub mod DeliveredNames

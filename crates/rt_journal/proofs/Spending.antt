@@ -26,6 +26,9 @@ module _ {J T : Type 0} where
   pub within_room : {fits : Order J → Outcome J T → Type 0} (lane : Lane J T) (out : Outward J T) (credited : ℕ) → IsLaneOf fits lane out credited → count_of lane.entries ≤ lane.room
   within_room lane out credited is = omega (arith, is.outstanding, is.sound.room, is.room)
 
+  pub left_within : {fits : Order J → Outcome J T → Type 0} (lane : Lane J T) (cap : ℕ) (out : Outward J T) (credited : ℕ) → IsLaneOf fits lane out credited → out.capacity ≡ cap → left_of lane ≤ 3 * cap
+  left_within lane cap out credited is capacity = omega (arith, within_room lane out credited is, all_three lane.entries, is.room, capacity)
+
   module _ (lane later : Lane J T) (number : ℕ) (room : later.room ≡ lane.room) where
     pub spent_sent : Adds lane.entries later.entries number Pending → count_of lane.entries < lane.room → left_of later < left_of lane
     spent_sent adds free = omega (arith, free, room, all_three lane.entries, adds.tallies is_waiting, adds.tallies is_detached, adds.tallies is_collected)

@@ -1,6 +1,7 @@
 //! A desk and its ends, lent to a job for one poll.
 
-ghost use Rattle.std.specs.Prelude.{◌≡◌, ℕ, ◌+◌, ◌*◌, ◌<◌, length};
+ghost use Rattle.std.specs.Prelude.{◌≡◌, ℕ, ◌+◌, ◌*◌, ◌<◌, length, IfOk, IsOk};
+ghost use Rattle.rt_ids.specs.Collecting.{IsDetachable};
 ghost use Rattle.rt_jobs.specs.Ready.{HasReadyJob};
 ghost use Rattle.rt_jobs.specs.Posts.{NotesSubmit, NotesRedeem, NotesDetach};
 ghost use Rattle.rt_link.specs.Fits.{Fits};
@@ -78,15 +79,22 @@ impl<J: Task<Out = u64>, O: OutEnd<J>> Post<J, u64> for RecordedPost<J, O> {
 
     ghost Waits = { λ post name. IsDetachable name post.desk.journal.notes };
 
-    fn submit(&mut self, to: CoreNo, order: Order<J>) -> Result<Ticket, SendError<J>> {
+    fn submit(&mut self, to: CoreNo, order: Order<J>) -> Result<Ticket, SendError<J>>
+        requires ready { HasReadyJob J.done J.CanPoll order }
+        ensures noted { NotesSubmit self.old.desk.journal.notes to order result self.new.desk.journal.notes }
+        ensures waits { IfOk result (λ name. IsDetachable name self.new.desk.journal.notes) }
+    {
         if to.0 as usize >= self.ends.len() {
             return Err(SendError::NoCore(order));
         }
+        self.said.see_lanes();
         let end = &mut self.ends[to.0 as usize];
         self.said.submit(end, to, order)
     }
 
-    fn redeem(&mut self, ticket: Ticket) -> Result<Outcome<J, u64>, TicketError> {
+    fn redeem(&mut self, ticket: Ticket) -> Result<Outcome<J, u64>, TicketError>
+        ensures noted { NotesRedeem self.old.desk.journal.notes ticket result self.new.desk.journal.notes }
+    {
         if !self.said.knows(ticket) {
             return Err(TicketError::Unknown);
         }
@@ -94,7 +102,10 @@ impl<J: Task<Out = u64>, O: OutEnd<J>> Post<J, u64> for RecordedPost<J, O> {
         self.said.redeem(end, ticket)
     }
 
-    fn detach(&mut self, ticket: Ticket) -> Result<(), TicketError> {
+    fn detach(&mut self, ticket: Ticket) -> Result<(), TicketError>
+        ensures noted { NotesDetach self.old.desk.journal.notes ticket result self.new.desk.journal.notes }
+        ensures waits { IsDetachable ticket self.old.desk.journal.notes → IsOk result }
+    {
         if !self.said.knows(ticket) {
             return Err(TicketError::Unknown);
         }
