@@ -35,7 +35,7 @@ item_at items place within = elim (option_cases (slice_get items place)) [
   | inr some ↦ some
 ]
 
-module _ {J T E : Type 0} {fits : Order J → Outcome J T → Type 0} {out : E → Outward J T} {credited : E → ℕ} {untouched : E → List ℕ} where
+module _ {J T E : Type 0} {fits : Order J → Outcome J T → Type 0} {out : E → Outward J T} {credited : E → ℕ} where
   -- the room that is asked for is enough for all that can be noted
   room_for : (desk : DeskView J T) (ends : List E) → AreOutsOf fits out credited desk ends → KnowsLanes desk → sum_by left_of desk.lanes ≤ desk.cores * (3 * desk.cap)
   room_for desk ends outs known =
@@ -53,6 +53,7 @@ module _ {J T E : Type 0} {fits : Order J → Outcome J T → Type 0} {out : E �
           subst (λ lane. left_of lane ≤ 3 * desk.cap) same
           (left_within has.lane desk.cap (out end.0) (credited end.0) has.lane_of (outs.beside place end.0 end.1).capacity)
 
+module _ {J T E : Type 0} {fits : Order J → Outcome J T → Type 0} {out : E → Outward J T} {credited : E → ℕ} {untouched : E → List ℕ} where
   pub lent_first : (desk : DeskView J T) (ends : List E) → AreOutsOf fits out credited desk ends → KnowsLanes desk → length desk.journal.notes + desk.cores * (3 * desk.cap) < desk.journal.room →
       IsLent fits out credited untouched (record { desk = desk; ends = ends; begun = desk; lent = ends })
   lent_first desk ends outs known room = record {
