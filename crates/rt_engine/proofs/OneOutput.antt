@@ -9,8 +9,8 @@ use Rattle.rt_world.specs.State.{journal_at}
 use Rattle.rt_world.specs.Sends.{actor_of}
 use Rattle.rt_world.specs.Opening.{HasAllLists, IsUnbegun, IsFresh}
 use Rattle.rt_world.specs.Creations.{OrderNoQueues, with_creations}
-use Rattle.rt_world.specs.Determined.{WasRefused}
-use Rattle.rt_world.specs.ScriptRuns.{script_made, ScriptPolls, ScriptAnswers, IsScriptRun}
+use Rattle.rt_world.specs.Determined.{WasRefused, AreAlike}
+use Rattle.rt_world.specs.ScriptRuns.{ScriptSame, script_made, ScriptPolls, ScriptAnswers, IsScriptRun}
 use Rattle.rt_world.proofs.KeptLists.{happens_keep}
 use Rattle.rt_world.proofs.DeterminedOpenings.{fresh_once}
 use Rattle.rt_world.proofs.DeterminedRefusals.{refused-happens, was_refused}
@@ -28,11 +28,15 @@ use Rattle.rt_engine.specs.OneOutput.{OutputIsDetermined, OutputOfJobsIsDetermin
 
 -- what an event prints is determined, if what it does is
 module _ (event : ScriptEvent) (old new other : ScriptWorld) (text other_text : List ℕ) (first : Prints event old new text) (second : Prints event old other other_text) where
-  same_text : (new ≡ other) × (first.answer ≡ second.answer) → text ≡ other_text
+  same_quiet : AreAlike ScriptSame ScriptAnswers first.answer second.answer → quiet_of first.answer ≡ quiet_of second.answer
+  same_quiet (inl same) = ap quiet_of same
+  same_quiet (inr both) = ap quiet_of both.redeemed ∙ sym (ap quiet_of both.other_redeemed)
+
+  same_text : (new ≡ other) × AreAlike ScriptSame ScriptAnswers first.answer second.answer → text ≡ other_text
   same_text same =
       first.printed
       ∙ (ap (λ notes. event_text (ends_of event) (reverse notes) (quiet_of first.answer)) same_notes
-      ∙ (ap (λ answer. event_text (ends_of event) (reverse second.notes) (quiet_of answer)) same.1 ∙ sym second.printed))
+      ∙ (ap (λ quiet. event_text (ends_of event) (reverse second.notes) quiet) (same_quiet same.1) ∙ sym second.printed))
     where
       same_notes : first.notes ≡ second.notes
       same_notes =
@@ -42,13 +46,13 @@ module _ (event : ScriptEvent) (old new other : ScriptWorld) (text other_text : 
   prints_once : HasAllLists old → ((new ≡ other) × (text ≡ other_text)) ⊎ (WasRefused new.journals ⊎ WasRefused other.journals)
   prints_once lists =
       ⊎_elim (λ same. inl (same.0, same_text same)) (λ refused. inr (⊎_elim (λ told. inl (was_refused told)) (λ told. inr (was_refused told)) refused))
-      (happens_once script_made ScriptPolls ScriptAnswers scripts_owe_one (event_of event) old new other first.answer second.answer lists first.occurs second.occurs)
+      (happens_once ScriptSame script_made ScriptPolls ScriptAnswers scripts_owe_one (event_of event) old new other first.answer second.answer lists first.occurs second.occurs)
 
 refused-prints : (events : List ScriptEvent) (old new : ScriptWorld) (text : List ℕ) → PrintsAll events old new text → WasRefused old.journals → WasRefused new.journals
 refused-prints [] old new text all refused = subst (λ world. WasRefused world.journals) (sym all.0) refused
 refused-prints (event ∷ events) old new text all refused =
     refused-prints events all.0 new all.2 all.4
-    (refused-happens script_made ScriptPolls ScriptAnswers (event_of event) old all.0 all.3.answer all.3.occurs refused)
+    (refused-happens ScriptSame script_made ScriptPolls ScriptAnswers (event_of event) old all.0 all.3.answer all.3.occurs refused)
 
 all_once : (events : List ScriptEvent) (old new other : ScriptWorld) (text other_text : List ℕ) → HasAllLists old → PrintsAll events old new text → PrintsAll events old other other_text →
     (text ≡ other_text) ⊎ (WasRefused new.journals ⊎ WasRefused other.journals)
@@ -59,7 +63,7 @@ all_once (event ∷ events) old new other text other_text lists all other_all =
     λ same.
     ⊎_elim (λ rest. inl (all.5 ∙ (ap (λ first. first ++ all.2) same.1 ∙ (ap (λ rest. other_all.1 ++ rest) rest ∙ sym other_all.5)))) inr
     (
-    all_once events all.0 new other all.2 other_all.2 (happens_keep script_made ScriptPolls ScriptAnswers (event_of event) old all.0 all.3.answer all.3.occurs lists) all.4
+    all_once events all.0 new other all.2 other_all.2 (happens_keep ScriptSame script_made ScriptPolls ScriptAnswers (event_of event) old all.0 all.3.answer all.3.occurs lists) all.4
     (subst (λ world. PrintsAll events world other other_all.2) (sym same.0) other_all.4)
     )
     )
@@ -94,7 +98,7 @@ module _ (script : Drafted) (output : List ℕ) (is : IsOutput script output) wh
   not_refused : OrderNoQueues (map event_of script.events) → WasRefused is.end.journals → ⊥
   not_refused none =
       let run = run_of script.events start is.end output is.all in
-      (run_plain script_made ScriptPolls ScriptAnswers (map event_of script.events) none start is.end run.0 run.1 (plain_unbegun start unbegun)).told
+      (run_plain ScriptSame script_made ScriptPolls ScriptAnswers (map event_of script.events) none start is.end run.0 run.1 (plain_unbegun start unbegun)).told
 
 module _ (script : Drafted) (output other : List ℕ) (first : IsOutput script output) (second : IsOutput script other) where
   abbrev first_size : ℕ × ℕ

@@ -35,7 +35,7 @@ pub(crate) fn print_events<W: Write>(
     page: &mut String,
     sink: &mut W,
 ) -> Result<(), EngineFault>
-    requires roomy { IsRoomy model.old.cores model.old.cap 255 model.old }
+    requires roomy { IsRoomy model.old.cores model.old.cap 510 model.old }
     requires there { AreEventsOf (Some (model.old.cores, model.old.cap)) events.items }
     requires short { length events.items ≤ 4096 }
     ensures ok { OnOk result (WritesAll events.items model.old model.new (string_bytes page.old) (string_bytes page.new)
@@ -60,6 +60,8 @@ fn print_event(model: &mut Model, event: ScriptEvent, page: &mut String) -> Resu
         × (string_bytes page.new ≡ string_bytes page.old ++ text)) }
     ensures device { IfErr result (IfUnread ⊥) }
 {
+    // Lawful journals have no more collected outcomes than submissions, so the event has room.
+    model.joined();
     let ends = ends_of(&event);
     let before = model.journal(ends.actor).len();
     let reply = model.step(event_of(event));

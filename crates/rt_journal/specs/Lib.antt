@@ -9,6 +9,7 @@ pub mod Ends
 pub mod Steps
 pub mod Turns
 pub mod Owed
+pub mod Whole
 pub mod Tickets
 pub mod Spending
 pub mod Posts
