@@ -11,12 +11,10 @@ use Rattle.rt_journal.specs.Ends.{IsOutOf}
 use Rattle.rt_journal.specs.Tickets.{HasLane}
 use Rattle.rt_journal.specs.Spending.{left_of}
 
--- the desk and the ends as they are, and as they were lent
+-- a desk, and an end for each core
 pub record PostView (J T E : Type 0) : Type 0 where
   pub desk : DeskView J T
   pub ends : List E
-  pub begun : DeskView J T
-  pub lent : List E
 
 -- these notes submit, redeem and detach
 abbrev pub ArePosts : {T : Type 0} → List (Note T) → Type 0
@@ -37,13 +35,16 @@ module _ {J T E : Type 0} (fits : Order J → Outcome J T → Type 0) (out : E �
     pub beside : (core : ℕ) (end : E) → slice_get ends core ≡ Some end → IsOutOf core desk (out end) (credited end)
     pub lanes : (core : ℕ) (end : E) → slice_get ends core ≡ Some end → HasLane fits core desk (out end) (credited end)
 
-  -- since they were lent, the desk has noted what it submitted, redeemed and detached, and the ends have sent more;
-  -- there is room for each note that can be made before the next outcome is collected, and for one more
-  pub record IsLent (untouched : E → List ℕ) (post : PostView J T E) : Type 0 where
+  -- the ends are beside the desk, and there is room for each note that can be made before the next outcome is collected, and for one more
+  pub record IsLent (post : PostView J T E) : Type 0 where
     pub outs : AreOutsOf post.desk post.ends
+    pub spare : length post.desk.journal.notes + sum_by left_of post.desk.lanes < post.desk.journal.room
+
+module _ {J T E : Type 0} (out : E → Outward J T) (untouched : E → List ℕ) where
+  -- the desk has noted what it submitted, redeemed and detached, and the ends have sent more
+  pub record HasPosted (old new : PostView J T E) : Type 0 where
     pub notes : List (Note T)
     pub posts : ArePosts notes
-    pub desk : post.desk ≡ record post.begun { journal = record post.begun.journal { notes = notes ++ post.begun.journal.notes }; lanes = post.desk.lanes }
-    pub count : length post.lent ≡ length post.ends
-    pub ends : (core : ℕ) (was end : E) → slice_get post.lent core ≡ Some was → slice_get post.ends core ≡ Some end → (untouched end ≡ untouched was) × SendsMore (out was) (out end)
-    pub spare : length post.desk.journal.notes + sum_by left_of post.desk.lanes < post.desk.journal.room
+    pub desk : new.desk ≡ record old.desk { journal = record old.desk.journal { notes = notes ++ old.desk.journal.notes }; lanes = new.desk.lanes }
+    pub count : length new.ends ≡ length old.ends
+    pub ends : (core : ℕ) (was end : E) → slice_get old.ends core ≡ Some was → slice_get new.ends core ≡ Some end → (untouched end ≡ untouched was) × SendsMore (out was) (out end)

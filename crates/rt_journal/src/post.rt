@@ -5,7 +5,7 @@ ghost use Rattle.rt_ids.specs.Collecting.{IsDetachable};
 ghost use Rattle.rt_jobs.specs.Ready.{HasReadyJob};
 ghost use Rattle.rt_jobs.specs.Posts.{NotesSubmit, NotesRedeem, NotesDetach};
 ghost use Rattle.rt_link.specs.Fits.{Fits};
-ghost use Rattle.rt_journal.specs.Posts.{AreOutsOf, IsLent};
+ghost use Rattle.rt_journal.specs.Posts.{AreOutsOf, IsLent, HasPosted};
 
 use crate::desk::RecordedDesk;
 use rt_ids::{CoreNo, Order, Outcome, SendError, Ticket, TicketError};
@@ -13,16 +13,13 @@ use rt_jobs::{Post, Task};
 use rt_link::OutEnd;
 use std::alloc::Global;
 use std::marker::Model;
-use std::snapshot::Snapshot;
 
 /// A desk and its ends, one for each core, lent to a job for one poll.
 ///
-/// A contract sees both as they are, and as they were lent.
+/// A contract sees both as they are. A post that follows another has noted what it submitted, redeemed and detached since, and nothing else (`HasPosted`).
 pub struct RecordedPost<J: Task<Out = u64>, O: OutEnd<J>> {
     said: RecordedDesk<J>,
     ends: Vec<O, Global>,
-    begun: Snapshot<RecordedDesk<J>>,
-    lent: Snapshot<Vec<O, Global>>,
 }
 
 impl<J: Task<Out = u64>, O: OutEnd<J>> Model for RecordedPost<J, O> {
@@ -32,10 +29,9 @@ impl<J: Task<Out = u64>, O: OutEnd<J>> Model for RecordedPost<J, O> {
 
     ghost Value = { PostView J ℕ O };
 
-    ghost view = { λ p. record { desk = p.said; ends = p.ends.items; begun = p.begun.value; lent = p.lent.value.items } };
+    ghost view = { λ p. record { desk = p.said; ends = p.ends.items } };
 
-    ghost invariant = { λ p. IsLent (Fits J.SameTask J.Answers) O.out O.credited O.untouched
-        (record { desk = p.said; ends = p.ends.items; begun = p.begun.value; lent = p.lent.value.items }) };
+    ghost invariant = { λ p. IsLent (Fits J.SameTask J.Answers) O.out O.credited (record { desk = p.said; ends = p.ends.items }) };
 }
 
 impl<J: Task<Out = u64>, O: OutEnd<J>> RecordedPost<J, O> {
@@ -43,31 +39,19 @@ impl<J: Task<Out = u64>, O: OutEnd<J>> RecordedPost<J, O> {
     pub fn lend(said: RecordedDesk<J>, ends: Vec<O, Global>) -> Self
         requires outs { AreOutsOf (Fits J.SameTask J.Answers) O.out O.credited said ends.items }
         requires room { length said.journal.notes + said.cores * (3 * said.cap) < said.journal.room }
-        ensures { result ≡ record { desk = said; ends = ends.items; begun = said; lent = ends.items } }
+        ensures { result ≡ record { desk = said; ends = ends.items } }
     {
         said.see_lanes();
-        let begun = Snapshot::of(&said);
-        let lent = Snapshot::of(&ends);
-        RecordedPost {
-            said,
-            ends,
-            begun,
-            lent,
-        }
+        RecordedPost { said, ends }
     }
 
     /// The desk and its ends, after what was posted.
     pub fn into_parts(self) -> (RecordedDesk<J>, Vec<O, Global>)
         ensures desk { result.0 ≡ self.desk }
         ensures ends { result.1.items ≡ self.ends }
-        ensures lent { IsLent (Fits J.SameTask J.Answers) O.out O.credited O.untouched self }
+        ensures lent { IsLent (Fits J.SameTask J.Answers) O.out O.credited self }
     {
-        let RecordedPost {
-            said,
-            ends,
-            begun: _,
-            lent: _,
-        } = self;
+        let RecordedPost { said, ends } = self;
         (said, ends)
     }
 }
@@ -79,10 +63,20 @@ impl<J: Task<Out = u64>, O: OutEnd<J>> Post<J, u64> for RecordedPost<J, O> {
 
     ghost Waits = { λ post name. IsDetachable name post.desk.journal.notes };
 
+    ghost use Rattle.rt_journal.specs.Posts.{HasPosted};
+    ghost use Rattle.rt_journal.proofs.Posting.{posted_nothing, posted_then};
+
+    ghost Follows = { HasPosted O.out O.untouched };
+
+    ghost follows_itself = { posted_nothing };
+
+    ghost follows_along = { posted_then };
+
     fn submit(&mut self, to: CoreNo, order: Order<J>) -> Result<Ticket, SendError<J>>
         requires ready { HasReadyJob J.done J.CanPoll order }
         ensures noted { NotesSubmit self.old.desk.journal.notes to order result self.new.desk.journal.notes }
         ensures waits { IfOk result (λ name. IsDetachable name self.new.desk.journal.notes) }
+        ensures follows { HasPosted O.out O.untouched self.old self.new }
     {
         if to.0 as usize >= self.ends.len() {
             return Err(SendError::NoCore(order));
@@ -94,6 +88,7 @@ impl<J: Task<Out = u64>, O: OutEnd<J>> Post<J, u64> for RecordedPost<J, O> {
 
     fn redeem(&mut self, ticket: Ticket) -> Result<Outcome<J, u64>, TicketError>
         ensures noted { NotesRedeem self.old.desk.journal.notes ticket result self.new.desk.journal.notes }
+        ensures follows { HasPosted O.out O.untouched self.old self.new }
     {
         if !self.said.knows(ticket) {
             return Err(TicketError::Unknown);
@@ -105,6 +100,7 @@ impl<J: Task<Out = u64>, O: OutEnd<J>> Post<J, u64> for RecordedPost<J, O> {
     fn detach(&mut self, ticket: Ticket) -> Result<(), TicketError>
         ensures noted { NotesDetach self.old.desk.journal.notes ticket result self.new.desk.journal.notes }
         ensures waits { IsDetachable ticket self.old.desk.journal.notes → IsOk result }
+        ensures follows { HasPosted O.out O.untouched self.old self.new }
     {
         if !self.said.knows(ticket) {
             return Err(TicketError::Unknown);

@@ -2,4 +2,4 @@ use Rattle.rt_journal.proofs.Posting.{lent_first}
 use Rattle.rt_journal.proofs.post.RecordedPost.lend.Goals as goal
 
 pub invariant_of-result : goal.invariant_of-result
-invariant_of-result g c = rw (c.of-begun.ensures, c.of-lent.ensures) (lent_first c.args.said c.args.ends.items c.requires.outs c.see_lanes.ensures.known c.requires.room)
+invariant_of-result g c = lent_first c.args.said c.args.ends.items c.requires.outs c.see_lanes.ensures.known c.requires.room
