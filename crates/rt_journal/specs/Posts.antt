@@ -48,3 +48,7 @@ module _ {J T E : Type 0} (out : E → Outward J T) (untouched : E → List ℕ)
     pub desk : new.desk ≡ record old.desk { journal = record old.desk.journal { notes = notes ++ old.desk.journal.notes }; lanes = new.desk.lanes }
     pub count : length new.ends ≡ length old.ends
     pub ends : (core : ℕ) (was end : E) → slice_get old.ends core ≡ Some was → slice_get new.ends core ≡ Some end → (untouched end ≡ untouched was) × SendsMore (out was) (out end)
+
+  -- whatever a post follows, the later one follows
+  abbrev pub GoesOn : PostView J T E → PostView J T E → Type 0
+  GoesOn old new = (first : PostView J T E) → HasPosted first old → HasPosted first new
