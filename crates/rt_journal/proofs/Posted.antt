@@ -56,7 +56,7 @@ module _ {J T E : Type 0} {fits : Order J → Outcome J T → Type 0} {out : E �
   pub end_lane : HasLane fits to desk (out end) (credited end)
   end_lane = subst (λ core. HasLane fits core desk (out end) (credited end)) core_is (is.outs.lanes core end there)
 
-module _ {J T E : Type 0} {fits : Order J → Outcome J T → Type 0} {out : E → Outward J T} {credited : E → ℕ} {untouched : E → List ℕ}
+module _ {J T E : Type 0} {fits : Order J → Outcome J T → Type 0} {out : E → Outward J T} {credited : E → ℕ} (untouched : E → List ℕ)
     (desk : DeskView J T) (ends : List E) (is : IsLent fits out credited (record { desk = desk; ends = ends }))
     (core to : ℕ) (core_is : core ≡ to) (end now : E) (there : slice_get ends core ≡ Some end) where
   module _ (later : DeskView J T) (stays : StaysBeside fits to desk later (out now) (credited now)) (same : untouched now ≡ untouched end) where
@@ -69,28 +69,28 @@ module _ {J T E : Type 0} {fits : Order J → Outcome J T → Type 0} {out : E �
     pub submitted_lent : (order : Order J) (answer : Result JobId (SendError J)) → Submits to order desk answer later → Sends (out end) (credited end) order (out now) (numbered answer) → IfOk answer (λ _. Spends to desk later) →
         IsLent fits out credited (record { desk = later; ends = set ends core now }) × HasPosted out untouched (record { desk = desk; ends = ends }) (record { desk = later; ends = set ends core now })
     submitted_lent order (Ok name) submits sends spends =
-        lent_more desk ends is core end now there later stays_here same (sends_order (out end) (out now) (credited end) order (Ok name.number) sends) (writes.Sent name (without_job order)) tt submits.2 (spends_here spends)
+        lent_more untouched desk ends is core end now there later stays_here same (sends_order (out end) (out now) (credited end) order (Ok name.number) sends) (writes.Sent name (without_job order)) tt submits.2 (spends_here spends)
     submitted_lent order (Err (Closed back final)) submits sends spends =
-        lent_same desk ends is core end now there later stays_here same (sends_order (out end) (out now) (credited end) order (Err (Closed back final)) sends) submits.2
+        lent_same untouched desk ends is core end now there later stays_here same (sends_order (out end) (out now) (credited end) order (Err (Closed back final)) sends) submits.2
     submitted_lent order (Err (Full back)) submits sends spends =
-        lent_same desk ends is core end now there later stays_here same (sends_order (out end) (out now) (credited end) order (Err (Full back)) sends) submits.2
+        lent_same untouched desk ends is core end now there later stays_here same (sends_order (out end) (out now) (credited end) order (Err (Full back)) sends) submits.2
     submitted_lent order (Err (Spent back)) submits sends spends =
-        lent_same desk ends is core end now there later stays_here same (sends_order (out end) (out now) (credited end) order (Err (Spent back)) sends) submits.3
+        lent_same untouched desk ends is core end now there later stays_here same (sends_order (out end) (out now) (credited end) order (Err (Spent back)) sends) submits.3
     submitted_lent order (Err (NoCore back)) submits sends spends = absurd submits
 
     pub redeemed_lent : (name : JobId) (answer : Result (Outcome J T) TicketError) → RedeemsTicket name desk answer later → out now ≡ out end → IfOk answer (λ _. Spends to desk later) →
         IsLent fits out credited (record { desk = later; ends = set ends core now }) × HasPosted out untouched (record { desk = desk; ends = ends }) (record { desk = later; ends = set ends core now })
     redeemed_lent name (Ok outcome) redeems out_is spends =
-        lent_more desk ends is core end now there later stays_here same (sends_nothing (out end) (out now) out_is) (writes.Redeemed name (outcome_note outcome)) tt redeems.2 (spends_here spends)
-    redeemed_lent name (Err error) redeems out_is spends = lent_same desk ends is core end now there later stays_here same (sends_nothing (out end) (out now) out_is) redeems.1
+        lent_more untouched desk ends is core end now there later stays_here same (sends_nothing (out end) (out now) out_is) (writes.Redeemed name (outcome_note outcome)) tt redeems.2 (spends_here spends)
+    redeemed_lent name (Err error) redeems out_is spends = lent_same untouched desk ends is core end now there later stays_here same (sends_nothing (out end) (out now) out_is) redeems.1
 
     pub detached_lent : (name : JobId) (answer : Result (Unit {0}) TicketError) → DetachesTicket name desk answer later → out now ≡ out end → IfOk answer (λ _. Spends to desk later) →
         IsLent fits out credited (record { desk = later; ends = set ends core now }) × HasPosted out untouched (record { desk = desk; ends = ends }) (record { desk = later; ends = set ends core now })
     detached_lent name (Ok done) detaches out_is spends =
-        lent_more desk ends is core end now there later stays_here same (sends_nothing (out end) (out now) out_is) (writes.Detached name) tt detaches.1 (spends_here spends)
+        lent_more untouched desk ends is core end now there later stays_here same (sends_nothing (out end) (out now) out_is) (writes.Detached name) tt detaches.1 (spends_here spends)
     detached_lent name (Err Pending) detaches out_is spends = absurd detaches
-    detached_lent name (Err Unknown) detaches out_is spends = lent_same desk ends is core end now there later stays_here same (sends_nothing (out end) (out now) out_is) detaches.1
-    detached_lent name (Err Gone) detaches out_is spends = lent_same desk ends is core end now there later stays_here same (sends_nothing (out end) (out now) out_is) detaches.1
+    detached_lent name (Err Unknown) detaches out_is spends = lent_same untouched desk ends is core end now there later stays_here same (sends_nothing (out end) (out now) out_is) detaches.1
+    detached_lent name (Err Gone) detaches out_is spends = lent_same untouched desk ends is core end now there later stays_here same (sends_nothing (out end) (out now) out_is) detaches.1
 
 -- a submission that was accepted waits for its outcome
 pub waits_sent : {J T : Type 0} (desk later : DeskView J T) (known : KnowsLanes desk) (to : ℕ) {fits : Order J → Outcome J T → Type 0} (out : Outward J T) (credited : ℕ) → IsOutOf to desk out credited → HasLane fits to desk out credited →

@@ -97,7 +97,7 @@ module _ {J T E : Type 0} {out : E → Outward J T} {untouched : E → List ℕ}
         (after.0 ∙ before.0, sends_then (out was) (out between.0) (out end) before.1 after.1);
   }
 
-module _ {J T E : Type 0} {fits : Order J → Outcome J T → Type 0} {out : E → Outward J T} {credited : E → ℕ} {untouched : E → List ℕ} where
+module _ {J T E : Type 0} {fits : Order J → Outcome J T → Type 0} {out : E → Outward J T} {credited : E → ℕ} (untouched : E → List ℕ) where
   -- a call on the end of one core
   module _ (desk : DeskView J T) (ends : List E) (is : IsLent fits out credited (record { desk = desk; ends = ends }))
       (core : ℕ) (end now : E) (there : slice_get ends core ≡ Some end) (later : DeskView J T) (stays : StaysBeside fits core desk later (out now) (credited now))

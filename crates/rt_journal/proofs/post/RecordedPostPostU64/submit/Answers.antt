@@ -18,7 +18,7 @@ submit-requires-clause-lane g c =
 pub invariant_of-self : goal.invariant_of-self
 invariant_of-self g c =
     let there = found c.self.inside.ends.items c.to.inside.0 c.index_mut-end.result.now (omega (arith, c.if-to-len.false, c.len.ensures)) c.index_mut-end.ensures.value in
-    (submitted_lent c.self.inside.said c.self.inside.ends.items c.self.invariant c.to.inside.0 c.args.to c.to.view_is c.index_mut-end.result.now c.submit.new.end there c.submit.new.self c.submit.ensures.stays c.submit.ensures.untouched c.args.order c.submit.result c.submit.ensures.submits c.submit.ensures.sends c.submit.ensures.spends).0
+    (submitted_lent g.O.OutEnd.untouched c.self.inside.said c.self.inside.ends.items c.self.invariant c.to.inside.0 c.args.to c.to.view_is c.index_mut-end.result.now c.submit.new.end there c.submit.new.self c.submit.ensures.stays c.submit.ensures.untouched c.args.order c.submit.result c.submit.ensures.submits c.submit.ensures.sends c.submit.ensures.spends).0
 
 pub returns-clause-waits : goal.returns-clause-waits
 returns-clause-waits g c =
@@ -29,4 +29,4 @@ pub returns-clause-follows : goal.returns-clause-follows
 returns-clause-follows g c =
     let there = found c.self.inside.ends.items c.to.inside.0 c.index_mut-end.result.now (omega (arith, c.if-to-len.false, c.len.ensures)) c.index_mut-end.ensures.value in
     subst (λ post. GoesOn g.O.OutEnd.out g.O.OutEnd.untouched post (record { desk = c.submit.new.self; ends = set c.self.inside.ends.items c.to.inside.0 c.submit.new.end })) c.self.view_is
-    (λ first posted. posted_then first (record { desk = c.self.inside.said; ends = c.self.inside.ends.items }) (record { desk = c.submit.new.self; ends = set c.self.inside.ends.items c.to.inside.0 c.submit.new.end }) posted (submitted_lent c.self.inside.said c.self.inside.ends.items c.self.invariant c.to.inside.0 c.args.to c.to.view_is c.index_mut-end.result.now c.submit.new.end there c.submit.new.self c.submit.ensures.stays c.submit.ensures.untouched c.args.order c.submit.result c.submit.ensures.submits c.submit.ensures.sends c.submit.ensures.spends).1)
+    (λ first posted. posted_then first (record { desk = c.self.inside.said; ends = c.self.inside.ends.items }) (record { desk = c.submit.new.self; ends = set c.self.inside.ends.items c.to.inside.0 c.submit.new.end }) posted (submitted_lent g.O.OutEnd.untouched c.self.inside.said c.self.inside.ends.items c.self.invariant c.to.inside.0 c.args.to c.to.view_is c.index_mut-end.result.now c.submit.new.end there c.submit.new.self c.submit.ensures.stays c.submit.ensures.untouched c.args.order c.submit.result c.submit.ensures.submits c.submit.ensures.sends c.submit.ensures.spends).1)
