@@ -44,6 +44,7 @@ pub mod LaneEnds
 pub mod Spending
 pub mod Posting
 pub mod Posted
+pub mod PolledDesks
 pub mod Submitted
 pub mod SentNotes
 pub mod DeliveredNames

@@ -69,6 +69,19 @@ impl<J: Task<Out = u64>> RecordedDesk<J> {
         })
     }
 
+    /// A desk of no core and no note, which takes no memory.
+    pub(crate) fn nothing(alloc: Global) -> Self
+        ensures { result ≡ opened_desk 0 0 0 0 }
+    {
+        RecordedDesk {
+            actor: ActorNo(0),
+            cores: 0,
+            cap: 0,
+            journal: Journal::of(Vec::new(alloc)),
+            lanes: Vec::new(alloc),
+        }
+    }
+
     /// How many submissions to one core may be outstanding.
     pub fn cap(&self) -> u16
         ensures { result ≡ self.now.cap }
