@@ -39,8 +39,18 @@ module _ {J T : Type 0} where
   pub spent_detached : (lane later : Lane J T) (number credited after : ℕ) (done : Unit {0}) → Detaches lane later number credited after (Ok done) → count_of lane.entries ≤ lane.room → left_of later < left_of lane
   spent_detached lane later number credited after done detaches free = elim detaches.1 [
     | inl waited ↦
-        omega (arith, free, ap (λ lane. lane.room) detaches.0, all_three lane.entries, waited.0.removes.tallies is_waiting, waited.0.removes.tallies is_detached, waited.0.removes.tallies is_collected,
-        waited.0.adds.tallies is_waiting, waited.0.adds.tallies is_detached, waited.0.adds.tallies is_collected)
+        omega (
+          arith,
+          free,
+          ap (λ lane. lane.room) detaches.0,
+          all_three lane.entries,
+          waited.0.removes.tallies is_waiting,
+          waited.0.removes.tallies is_detached,
+          waited.0.removes.tallies is_collected,
+          waited.0.adds.tallies is_waiting,
+          waited.0.adds.tallies is_detached,
+          waited.0.adds.tallies is_collected,
+        )
     | inr had ↦ spent_gone lane later number (ap (λ lane. lane.room) detaches.0) had.0 had.1 free
   ]
 

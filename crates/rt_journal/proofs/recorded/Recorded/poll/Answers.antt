@@ -1,6 +1,6 @@
 use Rattle.std.proofs.Common.{refl, sym, ◌∙◌, ap, subst}
 use Rattle.rt_link.specs.Fits.{Fits}
-use Rattle.rt_journal.specs.Recorded.{desk_of}
+use Rattle.rt_journal.specs.Recorded.{RecordedView, desk_of}
 use Rattle.rt_journal.specs.Posts.{AreOutsOf, IsLent, HasPosted}
 use Rattle.rt_journal.proofs.PolledDesks.{posted_parts, posted_rest, posted_silent}
 use Rattle.rt_journal.proofs.SentNotes.{desk_sound, desk_is_its, desk_ins}
@@ -33,7 +33,7 @@ pub returns-clause-rest : goal.returns-clause-rest
 returns-clause-rest g c =
     let posted = posted_parts {out = g.O.OutEnd.out} {untouched = g.O.OutEnd.untouched} (record { desk = c.self.inside.said; ends = c.args.ends.now.items }) c.lend-post.result c.poll-ran.new.post (record { desk = c.into_parts-said.result.0; ends = c.into_parts-said.result.1.items }) (c.lend-post.ensures ∙ (λ i. record { desk = c.replace-said.ensures.value i; ends = (c.replace-lent.ensures.value i).items })) c.poll-ran.ensures.follows (λ i. record { desk = sym c.into_parts-said.ensures.desk i; ends = sym c.into_parts-said.ensures.ends i }) in
     (λ i. record { cap = ap (λ desk. desk.cap) (posted_rest c.self.inside.said c.into_parts-said.result.0 c.args.ends.now.items c.into_parts-said.result.1.items posted) i; core = c.self.inside.core; journal = c.into_parts-said.result.0.journal; took = c.self.inside.took.items; lanes = c.into_parts-said.result.0.lanes })
-    ∙ ap (λ view. record view { journal = c.into_parts-said.result.0.journal; lanes = c.into_parts-said.result.0.lanes }) c.self.view_is
+    ∙ ap (λ (view : RecordedView _ _). record view { journal = c.into_parts-said.result.0.journal; lanes = c.into_parts-said.result.0.lanes }) c.self.view_is
 
 pub returns-clause-ins : goal.returns-clause-ins
 returns-clause-ins g c =
