@@ -1,0 +1,45 @@
+-- How many notes a worker keeps free, and what it does where few are free.
+use Rattle.std.specs.Prelude.{◌≡◌, ◌⊎◌, ℕ, ◌+◌, ◌-◌, ◌*◌, ◌<◌, ◌≤◌, Bool, true, false, Some, length, unwrap_or, IsSome}
+use Rattle.rt_ids.specs.declared.note.Note.{Note}
+use Rattle.rt_ids.specs.declared.note.Note.TheVariants.{CoreClosed}
+use Rattle.rt_ids.specs.declared.order.Mode.{Mode}
+use Rattle.rt_ids.specs.declared.order.Mode.TheVariants.{Return}
+use Rattle.rt_ids.specs.Journal.{Journal, EachNote}
+use Rattle.rt_ids.specs.Closing.{core_mode, final_count}
+use Rattle.rt_ids.specs.Commands.{effect_awaited}
+use Rattle.rt_notes.specs.Journals.{JournalView, free_notes}
+use Rattle.rt_journal.specs.Recorded.{RecordedView, given_count, sum_upto}
+
+-- a journal with fewer notes free than this is short
+abbrev pub least_free : ℕ → ℕ → ℕ
+least_free cores cap = 8 * ((cores + 1) * (cap + 1))
+
+module _ {T : Type 0} where
+  -- how many orders came through the shut gate of a sender and have no outcome yet
+  abbrev pub unanswered : Journal T → ℕ → ℕ
+  unanswered notes sender = unwrap_or (final_count sender notes) 0 - given_count notes sender
+
+  -- the core closes where a command to close it was just answered, or by itself in mode `Return` where the journal is short
+  abbrev pub ClosesRightly : ℕ → ℕ → Note T → Journal T → Type 0
+  ClosesRightly least room (CoreClosed mode) before = IsSome (effect_awaited before) ⊎ ((mode ≡ Return) × (room - length before < least))
+  ClosesRightly least room _ before = Unit {0}
+
+  -- no core closed by itself unless its journal was short
+  abbrev pub ClosesOnlyShort : ℕ → ℕ → JournalView T → Type 0
+  ClosesOnlyShort cores cap journal = EachNote (ClosesRightly (least_free cores cap) journal.room) journal.notes
+
+module _ {J T : Type 0} where
+  -- there is room for a turn, and behind it for all notes of the end
+  abbrev pub HasSpare : RecordedView J T → Type 0
+  HasSpare view = length view.journal.notes + 4 * ((view.core.cores + 1) * (view.cap + 1)) ≤ view.journal.room
+
+  -- the core hands back what is inside and each gate is shut, and there is room for two notes more than all outcomes that are left take
+  pub record IsEnding (view : RecordedView J T) : Type 0 where
+    pub returning : core_mode view.journal.notes ≡ Some Return
+    pub gates : (sender : ℕ) → sender ≤ view.core.cores → IsSome (final_count sender view.journal.notes)
+    pub room : length view.journal.notes + 2 + 2 * sum_upto (unanswered view.journal.notes) view.core.cores ≤ view.journal.room
+
+  -- a worker has room for its next step, also at its end
+  abbrev pub IsProvided : Bool → RecordedView J T → Type 0
+  IsProvided false view = HasSpare view
+  IsProvided true view = IsEnding view

@@ -1,0 +1,65 @@
+-- What the steps of a worker do: a gate is shut, an order is delivered, a turn is made.
+use Rattle.std.specs.Prelude.{◌≡◌, ℕ, ◌-◌, ◌^◌, Bool, true, false, []}
+use Rattle.rt_ids.specs.declared.names.JobId.{JobId}
+use Rattle.rt_ids.specs.declared.order.Order.{Order}
+use Rattle.rt_ids.specs.declared.order.Reason.{Reason}
+use Rattle.rt_ids.specs.Picks.{turns}
+use Rattle.rt_ids.specs.Work.{has_work}
+use Rattle.rt_jobs.specs.Steps.{AfterPoll, Owed}
+use Rattle.rt_core.specs.declared.turn.Settled.{Settled}
+use Rattle.rt_link.specs.Calls.{Shuts}
+use Rattle.rt_journal.specs.Recorded.{RecordedView}
+use Rattle.rt_journal.specs.Steps.{Delivers, TellsShut}
+use Rattle.rt_journal.specs.Turns.{IsPick, IsHandBack, Settles}
+use Rattle.rt_grid.specs.Ends.{in_at}
+use Rattle.rt_worker.specs.Linked.{LinkedView, StaysLinked}
+use Rattle.rt_worker.specs.declared.turn.Made.{Made}
+use Rattle.rt_worker.specs.declared.turn.Made.TheVariants.{Polled, Returned, Idle, Spent}
+
+module _ {J T : Type 0} where
+  -- the gate of this sender is shut, and its count is told
+  pub record ShutsGate (sender : ℕ) (old new : LinkedView J T) : Type 0 where
+    pub count : ℕ
+    pub tells : TellsShut old.recorded sender count new.recorded
+    pub shuts : Shuts (in_at sender old.ends).inward (in_at sender new.ends).inward count
+    pub stays : StaysLinked old new
+
+  -- the next order of this sender is delivered, or none shows
+  pub record DeliversFrom (sender : ℕ) (old : LinkedView J T) (found : Bool) (new : LinkedView J T) : Type 0 where
+    pub delivers : Delivers old.recorded (in_at sender old.ends).inward new.recorded (in_at sender new.ends).inward found
+    pub stays : StaysLinked old new
+
+module _ {J T : Type 0} (same : J → J → Type 0) where
+  -- the first job of the right pick is handed back
+  pub record HandsBack (old new : RecordedView J T) : Type 0 where
+    pub name : JobId
+    pub reason : Reason
+    pub order : Order J
+    pub did : IsHandBack same old name reason order new
+
+module _ {J T : Type 0} (made : J → ℕ) (polls : Owed J T) (answers : J → T → Type 0) where
+  -- the poll of the job that was out is settled
+  pub record SettlesPoll (old new : RecordedView J T) : Type 0 where
+    pub ran : AfterPoll J T
+    pub owed : polls ran.before (made ran.before) [] [] ran.step ran.told
+    pub spent : ℕ
+    pub settled : Settled T
+    pub settles : Settles made polls answers old ran spent settled new
+
+  -- the first job of the right pick is polled once, with a post that notes nothing, and its poll is settled
+  pub record PollsOne (old new : RecordedView J T) : Type 0 where
+    pub name : JobId
+    pub queue : ℕ
+    pub was_started : Bool
+    pub job : J
+    pub out : RecordedView J T
+    pub picks : IsPick old name queue was_started job out
+    pub settles : SettlesPoll out new
+
+module _ {J T : Type 0} (same : J → J → Type 0) (made : J → ℕ) (polls : Owed J T) (answers : J → T → Type 0) where
+  -- what a turn came to: a poll, a job that is handed back, no work, or no turn that is left
+  abbrev pub MakesTurn : RecordedView J T → Made → RecordedView J T → Type 0
+  MakesTurn old Polled new = PollsOne made polls answers old new
+  MakesTurn old Returned new = HandsBack same old new
+  MakesTurn old Idle new = ((queue : ℕ) → has_work queue old.journal.notes ≡ false) × (new ≡ old)
+  MakesTurn old Spent new = (turns old.journal.notes ≡ 2 ^ 64 - 1) × ((queue : ℕ) × (has_work queue old.journal.notes ≡ true)) × (new ≡ old)

@@ -1,0 +1,95 @@
+//! A core beside its journal, with its actor's ends of the links.
+
+ghost use Rattle.std.specs.Prelude.{◌≡◌, ◌+◌, ◌<◌, ◌≤◌, ◌↔◌, IsSome, IsTrue, None, length, is_some};
+ghost use Rattle.rt_ids.specs.Closing.{IsDrained, core_mode, final_count};
+ghost use Rattle.rt_worker.specs.Linked.{IsLinked};
+ghost use Rattle.rt_worker.specs.Steps.{ShutsGate, DeliversFrom};
+
+use rt_grid::Ends;
+use rt_ids::ActorNo;
+use rt_jobs::Task;
+use rt_journal::Recorded;
+use std::marker::Model;
+
+/// A core, its journal, and its actor's ends of the links. No job of it is out.
+#[derive(Drop)]
+pub struct Linked<J: Task<Out = u64>> {
+    pub(crate) recorded: Recorded<J>,
+    pub(crate) ends: Ends<J>,
+}
+
+impl<J: Task<Out = u64>> Model for Linked<J> {
+    ghost use Rattle.std.specs.Prelude.{ℕ};
+    ghost use Rattle.rt_worker.specs.Linked.{LinkedView};
+
+    ghost Value = { LinkedView J ℕ };
+
+    ghost use Rattle.rt_worker.specs.Linked.{IsLinked};
+
+    ghost view = { λ l. record { recorded = l.recorded; ends = l.ends } };
+
+    ghost invariant = { λ l. IsLinked J.SameTask J.made J.Polls (record { recorded = l.recorded; ends = l.ends }) };
+}
+
+impl<J: Task<Out = u64>> Linked<J> {
+    /// A core beside its ends.
+    pub fn of(recorded: Recorded<J>, ends: Ends<J>) -> Self
+        requires { IsLinked J.SameTask J.made J.Polls (record { recorded = recorded; ends = ends }) }
+        ensures { result ≡ record { recorded = recorded; ends = ends } }
+    {
+        Linked { recorded, ends }
+    }
+
+    /// The core beside its journal, and the ends.
+    pub fn into_parts(self) -> (Recorded<J>, Ends<J>)
+        ensures recorded { result.0 ≡ self.recorded }
+        ensures ends { result.1 ≡ self.ends }
+        ensures linked { IsLinked J.SameTask J.made J.Polls self }
+    {
+        let Linked { recorded, ends } = self;
+        (recorded, ends)
+    }
+
+    /// Whether the core is closed, in either mode.
+    pub fn is_closed(&self) -> bool
+        ensures { result ≡ is_some (core_mode self.now.recorded.journal.notes) }
+    {
+        self.recorded.is_closed()
+    }
+
+    /// Whether the gate of this sender is shut.
+    pub fn is_shut(&self, sender: ActorNo) -> bool
+        requires { sender ≤ self.now.recorded.core.cores }
+        ensures { result ≡ is_some (final_count sender self.now.recorded.journal.notes) }
+    {
+        self.recorded.gate(sender).is_some()
+    }
+
+    /// Whether every gate is shut, all behind it was delivered, and no queue has work.
+    pub fn is_drained(&self) -> bool
+        ensures { IsTrue result ↔ IsDrained self.now.recorded.core.cores self.now.recorded.journal.notes }
+    {
+        self.recorded.is_drained()
+    }
+
+    /// Shuts the gate of this sender in a closed core.
+    pub fn shut_one(&mut self, sender: ActorNo)
+        requires known { sender ≤ self.old.recorded.core.cores }
+        requires closed { IsSome (core_mode self.old.recorded.journal.notes) }
+        requires untold { final_count sender self.old.recorded.journal.notes ≡ None }
+        requires room { length self.old.recorded.journal.notes < self.old.recorded.journal.room }
+        ensures { ShutsGate sender self.old self.new }
+    {
+        self.recorded
+            .shut(&mut self.ends.ins[sender.0 as usize], sender);
+    }
+
+    /// Delivers the next order of this sender, if one shows. Whether there was one.
+    pub fn deliver_from(&mut self, sender: ActorNo) -> bool
+        requires known { sender ≤ self.old.recorded.core.cores }
+        requires room { length self.old.recorded.journal.notes + 2 ≤ self.old.recorded.journal.room }
+        ensures { DeliversFrom sender self.old result self.new }
+    {
+        self.recorded.deliver(&mut self.ends.ins[sender.0 as usize])
+    }
+}
