@@ -17,21 +17,6 @@ use Rattle.rt_journal.specs.Turns.{Picks, IsPick, IsOut, IsOutUnder}
 use Rattle.rt_worker.specs.Next.{TakesOut}
 
 module _ {J T : Type 0} where
-  -- two steps one after another
-  pub ins_along : (old middle new : RecordedView J T) (sender : ℕ) → KeepsIn sender old middle → KeepsIn sender middle new → KeepsIn sender old new
-  ins_along old middle new sender one two = record { each = λ inward is. two.each inward (one.each inward is) }
-
-  pub outs_along : (old middle new : DeskView J T) → KeepsOuts old middle → KeepsOuts middle new → KeepsOuts old new
-  outs_along old middle new one two core = record { each = λ out credited is. (two core).each out credited ((one core).each out credited is) }
-
-  pub seat_along : (old middle new : RecordedView J T) → IsSameSeat old middle → IsSameSeat middle new → IsSameSeat old new
-  seat_along old middle new one two = record {
-    number = two.number ∙ one.number;
-    cores = two.cores ∙ one.cores;
-    cap = two.cap ∙ one.cap;
-    room = two.room ∙ one.room;
-  }
-
   -- nobody is out, so no pick is refused for that
   pub not_busy : (same : J → J → Type 0) (old new : RecordedView J T) (picked : Result (Turn J) PickError) →
       Picks same old picked new → old.core.out ≡ None → picked ≢ Err Busy

@@ -5,12 +5,17 @@ use Rattle.rt_jobs.specs.Steps.{Owed}
 use Rattle.rt_worker.specs.Linked.{LinkedView, IsLinked}
 use Rattle.rt_worker.specs.Rooms.{ClosesOnlyShort, IsProvided}
 
+-- a linked core, and whether its worker is at its end: then it hands everything back and polls no more
+pub record ServedView (J T : Type 0) : Type 0 where
+  pub linked : LinkedView J T
+  pub ending : Bool
+
 module _ {J T : Type 0} (same : J → J → Type 0) (made : J → ℕ) (polls : Owed J T) where
   -- core, journal and ends agree, there is room for what is left, and the core closed by itself only where the journal was short
-  pub record IsWorker (view : LinkedView J T) (ending : Bool) : Type 0 where
-    pub linked : IsLinked same made polls view
-    pub provided : IsProvided ending view.recorded
-    pub closes : ClosesOnlyShort view.recorded.core.cores view.recorded.cap view.recorded.journal
+  pub record IsServed (view : ServedView J T) : Type 0 where
+    pub linked : IsLinked same made polls view.linked
+    pub provided : IsProvided view.ending view.linked.recorded
+    pub closes : ClosesOnlyShort view.linked.recorded.core.cores view.linked.recorded.cap view.linked.recorded.journal
 
   -- the core is drained, and core, journal and ends agree
   pub record HasEnded (view : LinkedView J T) : Type 0 where

@@ -2,5 +2,6 @@ pub mod Linked
 pub mod Steps
 pub mod Next
 pub mod Rooms
+pub mod Gates
 pub mod Ended
 pub mod Together

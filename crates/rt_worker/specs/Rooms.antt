@@ -15,9 +15,9 @@ abbrev pub least_free : ℕ → ℕ → ℕ
 least_free cores cap = 8 * ((cores + 1) * (cap + 1))
 
 module _ {T : Type 0} where
-  -- how many orders came through the shut gate of a sender and have no outcome yet
-  abbrev pub unanswered : Journal T → ℕ → ℕ
-  unanswered notes sender = unwrap_or (final_count sender notes) 0 - given_count notes sender
+  -- the number of the last order that comes through the gate of a sender, once it is shut
+  abbrev pub last_through : Journal T → ℕ → ℕ
+  last_through notes sender = unwrap_or (final_count sender notes) 0
 
   -- the core closes where a command to close it was just answered, or by itself in mode `Return` where the journal is short
   abbrev pub ClosesRightly : ℕ → ℕ → Note T → Journal T → Type 0
@@ -29,17 +29,27 @@ module _ {T : Type 0} where
   ClosesOnlyShort cores cap journal = EachNote (ClosesRightly (least_free cores cap) journal.room) journal.notes
 
 module _ {J T : Type 0} where
-  -- there is room for a turn, and behind it for all notes of the end
+  -- the journal is short
+  abbrev pub IsShort : RecordedView J T → Type 0
+  IsShort view = free_notes view.journal < least_free view.core.cores view.cap
+
+  -- there is room for a step, and behind it for all notes of the end
   abbrev pub HasSpare : RecordedView J T → Type 0
   HasSpare view = length view.journal.notes + 4 * ((view.core.cores + 1) * (view.cap + 1)) ≤ view.journal.room
 
-  -- the core hands back what is inside and each gate is shut, and there is room for two notes more than all outcomes that are left take
+  -- The core hands back what is inside, and each gate is shut. There is room for three notes, and for two more for each order that has no outcome yet.
   pub record IsEnding (view : RecordedView J T) : Type 0 where
     pub returning : core_mode view.journal.notes ≡ Some Return
     pub gates : (sender : ℕ) → sender ≤ view.core.cores → IsSome (final_count sender view.journal.notes)
-    pub room : length view.journal.notes + 2 + 2 * sum_upto (unanswered view.journal.notes) view.core.cores ≤ view.journal.room
+    pub room : length view.journal.notes + 3 + 2 * sum_upto (last_through view.journal.notes) view.core.cores
+        ≤ view.journal.room + 2 * sum_upto (given_count view.journal.notes) view.core.cores
 
   -- a worker has room for its next step, also at its end
   abbrev pub IsProvided : Bool → RecordedView J T → Type 0
   IsProvided false view = HasSpare view
   IsProvided true view = IsEnding view
+
+  -- right before a step: the journal isn't short, or the worker is at its end
+  abbrev pub IsReady : Bool → RecordedView J T → Type 0
+  IsReady false view = least_free view.core.cores view.cap ≤ free_notes view.journal
+  IsReady true view = IsEnding view

@@ -2,11 +2,16 @@
 #![tactic(auto)]
 
 pub mod ended;
+mod gates;
 pub mod laws;
 pub mod linked;
 mod next;
+pub mod served;
 pub mod turn;
+pub mod worker;
 
 pub use ended::Ended;
 pub use linked::Linked;
+pub use served::Served;
 pub use turn::Made;
+pub use worker::{Bell, Worker};

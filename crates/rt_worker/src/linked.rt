@@ -3,6 +3,7 @@
 ghost use Rattle.std.specs.Prelude.{◌≡◌, ◌+◌, ◌<◌, ◌≤◌, ◌↔◌, IsSome, IsTrue, None, length, is_some};
 ghost use Rattle.rt_ids.specs.Closing.{IsDrained, core_mode, final_count};
 ghost use Rattle.rt_worker.specs.Linked.{IsLinked};
+ghost use Rattle.rt_worker.specs.Rooms.{IsShort};
 ghost use Rattle.rt_worker.specs.Steps.{ShutsGate, DeliversFrom};
 
 use rt_grid::Ends;
@@ -14,6 +15,7 @@ use std::marker::Model;
 /// A core, its journal, and its actor's ends of the links. No job of it is out.
 #[derive(Drop)]
 pub struct Linked<J: Task<Out = u64>> {
+    pub(crate) cores: u8,
     pub(crate) recorded: Recorded<J>,
     pub(crate) ends: Ends<J>,
 }
@@ -24,20 +26,26 @@ impl<J: Task<Out = u64>> Model for Linked<J> {
 
     ghost Value = { LinkedView J ℕ };
 
+    ghost use Rattle.std.specs.Prelude.{◌≡◌};
     ghost use Rattle.rt_worker.specs.Linked.{IsLinked};
 
     ghost view = { λ l. record { recorded = l.recorded; ends = l.ends } };
 
-    ghost invariant = { λ l. IsLinked J.SameTask J.made J.Polls (record { recorded = l.recorded; ends = l.ends }) };
+    ghost invariant = { λ l. IsLinked J.SameTask J.made J.Polls (record { recorded = l.recorded; ends = l.ends }) × (l.cores ≡ l.recorded.core.cores) };
 }
 
 impl<J: Task<Out = u64>> Linked<J> {
-    /// A core beside its ends.
-    pub fn of(recorded: Recorded<J>, ends: Ends<J>) -> Self
-        requires { IsLinked J.SameTask J.made J.Polls (record { recorded = recorded; ends = ends }) }
+    /// A core beside its ends. There are so many cores in its house.
+    pub fn of(cores: u8, recorded: Recorded<J>, ends: Ends<J>) -> Self
+        requires linked { IsLinked J.SameTask J.made J.Polls (record { recorded = recorded; ends = ends }) }
+        requires cores { cores ≡ recorded.core.cores }
         ensures { result ≡ record { recorded = recorded; ends = ends } }
     {
-        Linked { recorded, ends }
+        Linked {
+            cores,
+            recorded,
+            ends,
+        }
     }
 
     /// The core beside its journal, and the ends.
@@ -46,7 +54,7 @@ impl<J: Task<Out = u64>> Linked<J> {
         ensures ends { result.1 ≡ self.ends }
         ensures linked { IsLinked J.SameTask J.made J.Polls self }
     {
-        let Linked { recorded, ends } = self;
+        let Linked { recorded, ends, .. } = self;
         (recorded, ends)
     }
 
@@ -70,6 +78,14 @@ impl<J: Task<Out = u64>> Linked<J> {
         ensures { IsTrue result ↔ IsDrained self.now.recorded.core.cores self.now.recorded.journal.notes }
     {
         self.recorded.is_drained()
+    }
+
+    /// Whether fewer notes are free than a worker keeps for its end.
+    pub fn is_short(&self) -> bool
+        ensures { IsTrue result ↔ IsShort self.now.recorded }
+    {
+        let places = (self.cores as usize + 1) * (self.recorded.cap() as usize + 1);
+        (self.recorded.journal().free() as usize) < 8 * places
     }
 
     /// Shuts the gate of this sender in a closed core.

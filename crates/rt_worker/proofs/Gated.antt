@@ -1,0 +1,150 @@
+-- Gates that are shut one after another, and the room that is left behind.
+use Rattle.std.proofs.Common.{◌≡◌, ◌≢◌, ◌⊎◌, inl, inr, ℕ, zero, suc, ◌+◌, ◌*◌, ◌<◌, ◌≤◌, cond, [], ◌∷◌, length, refl, sym, ◌∙◌, ap, subst, arith, ⊎_elim}
+use Rattle.std.specs.Prelude.{◌==◌, Bool, true, false, Option, Some, None, unwrap_or, IsSome}
+use Rattle.std.proofs.lemmas.Bool.{cases_eq, ne_eqb}
+use Rattle.rt_ids.specs.declared.note.Note.TheVariants.{CoreClosed, Shut}
+use Rattle.rt_ids.specs.declared.order.Mode.{Mode}
+use Rattle.rt_ids.specs.declared.order.Mode.TheVariants.{Finish, Return}
+use Rattle.rt_ids.specs.Journal.{Journal, EachNote, or_else}
+use Rattle.rt_ids.specs.Closing.{closes, core_mode, final_count}
+use Rattle.rt_jobs.specs.Steps.{Owed}
+use Rattle.rt_link.specs.declared.ends.Inward.{Inward}
+use Rattle.rt_link.specs.Ends.{SoundIn}
+use Rattle.rt_link.specs.Calls.{final_of}
+use Rattle.rt_notes.specs.Journals.{JournalView}
+use Rattle.rt_journal.specs.Recorded.{RecordedView, sum_upto, given_count}
+use Rattle.rt_journal.specs.Ends.{IsInOf, IsSameSeat, named_outcomes}
+use Rattle.rt_journal.specs.Steps.{with_notes, ClosesItself}
+use Rattle.rt_worker.specs.Linked.{LinkedView, IsLinked, StaysLinked}
+use Rattle.rt_worker.specs.Gates.{WritesShut, WritesReturn, IsShutWithin, LeavesShut, LeavesReturning, ShutsFirst}
+use Rattle.rt_worker.specs.Rooms.{last_through, least_free, ClosesRightly, ClosesOnlyShort, HasSpare, IsShort, IsEnding}
+use Rattle.rt_worker.proofs.Along.{stays_along, stays_same}
+use Rattle.rt_worker.proofs.Spare.{sums_within, places_more}
+use Rattle.std.proofs.lemmas.List.{length-map}
+
+module _ {T : Type 0} where
+  -- a note that shuts one gate shuts no other
+  other_gate : (sender other count : ℕ) (before : Journal T) → other ≢ sender → final_count other (Shut sender count ∷ before) ≡ final_count other before
+  other_gate sender other count before away = ap (λ test. or_else (cond test (Some count) None) (final_count other before)) (ne_eqb other sender away)
+
+  -- the gate of another sender is as it was
+  gate_elsewhere : (sender other : ℕ) (old new : JournalView T) → WritesShut sender old new → other ≢ sender → final_count other new.notes ≡ final_count other old.notes
+  gate_elsewhere sender other old new (inl same) away = ap (λ journal. final_count other journal.notes) same
+  gate_elsewhere sender other old new (inr wrote) away = ap (λ journal. final_count other journal.notes) wrote.2 ∙ other_gate sender other wrote.0 old.notes away
+
+  -- no outcome is given by it
+  given_same : (sender other : ℕ) (old new : JournalView T) → WritesShut sender old new → given_count new.notes other ≡ given_count old.notes other
+  given_same sender other old new (inl same) = ap (λ journal. given_count journal.notes other) same
+  given_same sender other old new (inr wrote) = ap (λ journal. given_count journal.notes other) wrote.2
+
+  mode_same : (sender : ℕ) (old new : JournalView T) → WritesShut sender old new → core_mode new.notes ≡ core_mode old.notes
+  mode_same sender old new (inl same) = ap (λ journal. core_mode journal.notes) same
+  mode_same sender old new (inr wrote) = ap (λ journal. core_mode journal.notes) wrote.2
+
+  one_longer : (sender : ℕ) (old new : JournalView T) → WritesShut sender old new → length new.notes ≤ length old.notes + 1
+  one_longer sender old new (inl same) = let now : length new.notes ≡ length old.notes = ap (λ journal. length journal.notes) same in omega (arith, now)
+  one_longer sender old new (inr wrote) = let now : length new.notes ≡ length old.notes + 1 = ap (λ journal. length journal.notes) wrote.2 in omega (arith, now)
+
+  shut_closes : (sender least room : ℕ) (old new : JournalView T) → WritesShut sender old new → EachNote (ClosesRightly least room) old.notes → EachNote (ClosesRightly least room) new.notes
+  shut_closes sender least room old new (inl same) each = subst (λ journal. EachNote (ClosesRightly least room) journal.notes) (sym same) each
+  shut_closes sender least room old new (inr wrote) each = subst (λ journal. EachNote (ClosesRightly least room) journal.notes) (sym wrote.2) (tt, each)
+
+  -- a core that `Return` doesn't change is in that mode
+  pub was_returning : (mode : Option Mode) → closes mode Return ≡ false → mode ≡ Some Return
+  was_returning None changes = cc
+  was_returning (Some Finish) changes = cc
+  was_returning (Some Return) changes = refl
+
+module _ {J T : Type 0} where
+  -- what an end with a shut gate tells: as many orders came through as have an outcome, and a link holds more
+  pub shut_within : (sender : ℕ) (view : RecordedView J T) (inward : Inward J T) → IsInOf sender view inward → SoundIn inward → IsSome (final_count sender view.journal.notes) → IsShutWithin sender view
+  shut_within sender view inward is sound some = record {
+    gate = some;
+    within =
+        let now : last_through view.journal.notes sender ≡ unwrap_or (final_of inward inward.shut) 0 = ap (λ count. unwrap_or count 0) is.gate in
+        let low : unwrap_or (final_of inward inward.shut) 0 ≤ length inward.seen = by_final inward.shut in
+        let given : given_count view.journal.notes sender ≡ length inward.given = ap length is.given ∙ length-map _ inward.given in
+        omega (arith, now, low, given, sound.room, is.capacity);
+  }
+    where
+      by_final : (shut : Bool) → unwrap_or (final_of inward shut) 0 ≤ length inward.seen
+      by_final true = omega (arith, is.base)
+      by_final false = omega arith
+
+  -- none is shut yet
+  pub shuts_none : (old : LinkedView J T) → ShutsFirst 0 old old
+  shuts_none old = record {
+    shut = λ sender low. absurd (omega (arith, low));
+    mode = refl;
+    longer = omega arith;
+    closes = λ least each. each;
+    stays = stays_same old;
+  }
+
+  -- the next one is shut
+  pub shuts_more : (count : ℕ) (old middle new : LinkedView J T) → ShutsFirst count old middle → LeavesShut count middle new → ShutsFirst (count + 1) old new
+  shuts_more count old middle new first next = record {
+    shut = λ sender low. ⊎_elim
+        (λ (is : sender ≡ count). subst (λ one. IsShutWithin one new.recorded) (sym is) next.shut)
+        (λ (away : sender ≢ count).
+        let before = first.shut sender (omega (arith, low, away)) in
+        let gate : final_count sender new.recorded.journal.notes ≡ final_count sender middle.recorded.journal.notes = gate_elsewhere count sender middle.recorded.journal new.recorded.journal next.wrote away in
+        let through : last_through new.recorded.journal.notes sender ≡ last_through middle.recorded.journal.notes sender = ap (λ count. unwrap_or count 0) gate in
+        let given = given_same count sender middle.recorded.journal new.recorded.journal next.wrote in
+        record {
+          gate = subst (λ count. IsSome count) (sym gate) before.gate;
+          within = omega (arith, through, given, before.within, next.stays.seat.cap);
+        })
+        (cases_eq sender count);
+    mode = mode_same count middle.recorded.journal new.recorded.journal next.wrote ∙ first.mode;
+    longer = omega (arith, first.longer, one_longer count middle.recorded.journal new.recorded.journal next.wrote);
+    closes = λ least each. shut_closes count least old.recorded.journal.room middle.recorded.journal new.recorded.journal next.wrote (first.closes least each);
+    stays = stays_along old middle new first.stays next.stays;
+  }
+
+  module _ {same : J → J → Type 0} {made : J → ℕ} {polls : Owed J T} (old middle new : LinkedView J T) (linked : IsLinked same made polls old) (spare : HasSpare old.recorded)
+      (returns : LeavesReturning old middle) (shuts : ShutsFirst (middle.recorded.core.cores + 1) middle new) where
+    returns_longer : (old new : JournalView T) → WritesReturn old new → length new.notes ≤ length old.notes + 1
+    returns_longer old new (inl same) = let now : length new.notes ≡ length old.notes = ap (λ journal. length journal.notes) same in omega (arith, now)
+    returns_longer old new (inr wrote) = let now : length new.notes ≡ length old.notes + 1 = ap (λ journal. length journal.notes) wrote in omega (arith, now)
+
+    pub returned_room : length middle.recorded.journal.notes ≤ length old.recorded.journal.notes + 1
+    returned_room = returns_longer old.recorded.journal middle.recorded.journal returns.wrote
+
+    all_within : sum_upto (last_through new.recorded.journal.notes) new.recorded.core.cores
+        ≤ sum_upto (given_count new.recorded.journal.notes) new.recorded.core.cores + (new.recorded.core.cores + 1) * new.recorded.cap
+    all_within =
+        sums_within (last_through new.recorded.journal.notes) (given_count new.recorded.journal.notes) new.recorded.cap new.recorded.core.cores
+        (λ sender known. (shuts.shut sender (omega (arith, known, shuts.stays.seat.cores))).within)
+
+    -- what is left has its room
+    pub ending_now : IsEnding new.recorded
+    ending_now = record {
+      returning = shuts.mode ∙ returns.returning;
+      gates = λ sender known. (shuts.shut sender (omega (arith, known, shuts.stays.seat.cores))).gate;
+      room =
+          let cores : new.recorded.core.cores ≡ old.recorded.core.cores = shuts.stays.seat.cores ∙ returns.stays.seat.cores in
+          let cap : new.recorded.cap ≡ old.recorded.cap = shuts.stays.seat.cap ∙ returns.stays.seat.cap in
+          let room : new.recorded.journal.room ≡ old.recorded.journal.room = shuts.stays.seat.room ∙ returns.stays.seat.room in
+          let places = places_more old.recorded.core.cores old.recorded.cap in
+          let same_places : (new.recorded.core.cores + 1) * new.recorded.cap ≡ (old.recorded.core.cores + 1) * old.recorded.cap = ap (λ cores. (cores + 1) * new.recorded.cap) cores ∙ ap (λ cap. (old.recorded.core.cores + 1) * cap) cap in
+          omega (arith, all_within, same_places, places, spare, returned_room, shuts.longer, returns.stays.seat.cores, cores, room, linked.recorded.kept.is_core);
+    }
+
+    pub ending_closes : IsShort old.recorded → ClosesOnlyShort old.recorded.core.cores old.recorded.cap old.recorded.journal →
+        ClosesOnlyShort new.recorded.core.cores new.recorded.cap new.recorded.journal
+    ending_closes short each =
+        let cores : new.recorded.core.cores ≡ old.recorded.core.cores = shuts.stays.seat.cores ∙ returns.stays.seat.cores in
+        let cap : new.recorded.cap ≡ old.recorded.cap = shuts.stays.seat.cap ∙ returns.stays.seat.cap in
+        let room : new.recorded.journal.room ≡ middle.recorded.journal.room = shuts.stays.seat.room in
+        subst (λ least. EachNote (ClosesRightly least new.recorded.journal.room) new.recorded.journal.notes)
+        (sym (ap (λ cores. least_free cores new.recorded.cap) cores ∙ ap (λ cap. least_free old.recorded.core.cores cap) cap))
+        (subst (λ room. EachNote (ClosesRightly (least_free old.recorded.core.cores old.recorded.cap) room) new.recorded.journal.notes) (sym room)
+        (shuts.closes (least_free old.recorded.core.cores old.recorded.cap)
+        (subst (λ room. EachNote (ClosesRightly (least_free old.recorded.core.cores old.recorded.cap) room) middle.recorded.journal.notes) (sym returns.stays.seat.room)
+        (by_return middle.recorded.journal returns.wrote))))
+      where
+        by_return : (now : JournalView T) → WritesReturn old.recorded.journal now → EachNote (ClosesRightly (least_free old.recorded.core.cores old.recorded.cap) old.recorded.journal.room) now.notes
+        by_return now (inl same) = subst (λ journal. EachNote (ClosesRightly (least_free old.recorded.core.cores old.recorded.cap) old.recorded.journal.room) journal.notes) (sym same) each
+        by_return now (inr wrote) =
+            subst (λ journal. EachNote (ClosesRightly (least_free old.recorded.core.cores old.recorded.cap) old.recorded.journal.room) journal.notes) (sym wrote) (inr (refl, short), each)

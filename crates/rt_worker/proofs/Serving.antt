@@ -1,0 +1,216 @@
+-- Each step of a worker leaves it room for the next.
+use Rattle.std.proofs.Common.{◌≡◌, inr, ℕ, ◌+◌, ◌*◌, ◌<◌, ◌≤◌, List, [], ◌∷◌, ◌++◌, length, refl, sym, ◌∙◌, ap, subst, arith}
+use Rattle.std.specs.Prelude.{◌==◌, Bool, true, false, Some, None, unwrap_or, IsSome}
+use Rattle.std.proofs.lemmas.List.{length-append}
+use Rattle.rt_ids.specs.declared.note.Note.{Note}
+use Rattle.rt_ids.specs.declared.note.Note.TheVariants as writes
+use Rattle.rt_ids.specs.declared.order.Mode.TheVariants.{Return}
+use Rattle.rt_ids.specs.Filters.{given_outcomes}
+use Rattle.rt_ids.specs.Work.{number_if}
+use Rattle.rt_ids.specs.Journal.{Journal, EachNote}
+use Rattle.rt_ids.specs.Closing.{core_mode, final_count}
+use Rattle.rt_ids.specs.Lawful.{MayStand}
+use Rattle.rt_ids.proofs.Returning.{has_reason}
+use Rattle.rt_jobs.specs.declared.job.Step.{Step}
+use Rattle.rt_jobs.specs.declared.job.Step.TheVariants as step
+use Rattle.rt_jobs.specs.Steps.{Owed}
+use Rattle.rt_ids.specs.declared.names.JobId.{JobId}
+use Rattle.rt_journal.specs.Polls.{poll_note, settle_note}
+use Rattle.rt_journal.specs.Recorded.{RecordedView, IsRecorded, terms_at, sum_upto, given_count}
+use Rattle.rt_journal.specs.Ends.{IsSameSeat}
+use Rattle.rt_journal.specs.Steps.{Delivers, Receives}
+use Rattle.rt_journal.proofs.Sums.{sum_upto-same, sum_upto-one_more}
+use Rattle.rt_grid.specs.Ends.{in_at}
+use Rattle.rt_worker.specs.Linked.{LinkedView, IsLinked, StaysLinked}
+use Rattle.rt_worker.specs.Steps.{DeliversFrom, MakesTurn, PollsOne, HandsBack}
+use Rattle.rt_worker.specs.Gates.{ShutsFirst}
+use Rattle.rt_worker.specs.Ended.{ServedView, IsServed}
+use Rattle.rt_worker.specs.Rooms.{least_free, last_through, ClosesRightly, ClosesOnlyShort, HasSpare, IsEnding, IsProvided, IsReady}
+use Rattle.rt_worker.specs.declared.turn.Made.{Made}
+use Rattle.rt_worker.specs.declared.turn.Made.TheVariants as came
+use Rattle.rt_worker.proofs.Noted.{more_from, delivery_short, delivery_closes, delivery_gives}
+use Rattle.rt_worker.proofs.Spare.{stays_returning, places_some, places_more}
+
+module _ {J T : Type 0} where
+  -- what was closed rightly by the old numbers was so by the new ones
+  pub closes_here : (old new : RecordedView J T) → IsSameSeat old new → EachNote (ClosesRightly (least_free old.core.cores old.cap) old.journal.room) new.journal.notes →
+      ClosesOnlyShort new.core.cores new.cap new.journal
+  closes_here old new seat each =
+      subst (λ least. EachNote (ClosesRightly least new.journal.room) new.journal.notes)
+      (sym (ap (λ cores. least_free cores new.cap) seat.cores ∙ ap (λ cap. least_free old.core.cores cap) seat.cap))
+      (subst (λ room. EachNote (ClosesRightly (least_free old.core.cores old.cap) room) new.journal.notes) (sym seat.room) each)
+
+  -- who is ready for a step is provided
+  pub ready_provided : (ending : Bool) (view : RecordedView J T) → IsReady ending view → IsProvided ending view
+  ready_provided false view ready = omega (arith, ready, places_some view.core.cores view.cap)
+  ready_provided true view ready = ready
+
+  -- a step with at most so many notes leaves room for the end
+  spare_after : (old new : RecordedView J T) (count : ℕ) → IsSameSeat old new → IsReady false old → length new.journal.notes ≤ length old.journal.notes + count → count ≤ old.core.cores + 3 → HasSpare new
+  spare_after old new count seat ready longer few =
+      let same_places : (new.core.cores + 1) * (new.cap + 1) ≡ (old.core.cores + 1) * (old.cap + 1) = ap (λ cores. (cores + 1) * (new.cap + 1)) seat.cores ∙ ap (λ cap. (old.core.cores + 1) * (cap + 1)) seat.cap in
+      omega (arith, ready, longer, few, same_places, seat.room, places_some old.core.cores old.cap, places_more old.core.cores old.cap)
+
+  -- at its end a worker writes at most two notes for an outcome
+  record AnswersOne (old new : RecordedView J T) : Type 0 where
+    seat : IsSameSeat old new
+    from : ℕ
+    known : from ≤ old.core.cores
+    longer : length new.journal.notes ≤ length old.journal.notes + 2
+    gates : (sender : ℕ) → final_count sender new.journal.notes ≡ final_count sender old.journal.notes
+    gives : (sender : ℕ) → given_count new.journal.notes sender ≡ given_count old.journal.notes sender + number_if (from == sender)
+    returning : core_mode new.journal.notes ≡ Some Return
+
+  ending_after : (old new : RecordedView J T) → AnswersOne old new → IsEnding old → IsEnding new
+  ending_after old new did ending = record {
+    returning = did.returning;
+    gates = λ sender known. subst (λ count. IsSome count) (sym (did.gates sender)) (ending.gates sender (omega (arith, known, did.seat.cores)));
+    room =
+        let given : sum_upto (given_count new.journal.notes) old.core.cores ≡ sum_upto (given_count old.journal.notes) old.core.cores + 1 =
+            sum_upto-one_more (given_count old.journal.notes) (given_count new.journal.notes) did.from did.gives old.core.cores did.known in
+        let through : sum_upto (last_through new.journal.notes) old.core.cores ≡ sum_upto (last_through old.journal.notes) old.core.cores =
+            sum_upto-same (last_through new.journal.notes) (last_through old.journal.notes) old.core.cores (λ sender. ap (λ count. unwrap_or count 0) (did.gates sender)) in
+        let given_here : sum_upto (given_count new.journal.notes) new.core.cores ≡ sum_upto (given_count new.journal.notes) old.core.cores = ap (sum_upto (given_count new.journal.notes)) did.seat.cores in
+        let through_here : sum_upto (last_through new.journal.notes) new.core.cores ≡ sum_upto (last_through new.journal.notes) old.core.cores = ap (sum_upto (last_through new.journal.notes)) did.seat.cores in
+        omega (arith, given, through, given_here, through_here, did.longer, did.seat.room, ending.room);
+  }
+
+  module _ {same : J → J → Type 0} {made : J → ℕ} {polls : Owed J T} where
+    -- the same core is as well served as before
+    pub unmoved : (ending : Bool) (old new : LinkedView J T) → IsLinked same made polls new → IsReady ending old.recorded → new.recorded ≡ old.recorded →
+        ClosesOnlyShort old.recorded.core.cores old.recorded.cap old.recorded.journal → IsServed same made polls (record { linked = new; ending = ending })
+    unmoved ending old new linked ready is closes = record {
+      linked = linked;
+      provided = subst (IsProvided ending) (sym is) (ready_provided ending old.recorded ready);
+      closes = subst (λ (view : RecordedView J T). ClosesOnlyShort view.core.cores view.cap view.journal) (sym is) closes;
+    }
+
+    module _ (sender : ℕ) (old new : LinkedView J T) (was : IsLinked same made polls old) (now : IsLinked same made polls new) (known : sender ≤ old.recorded.core.cores) (seat : IsSameSeat old.recorded new.recorded)
+        (does : Delivers old.recorded (in_at sender old.ends).inward new.recorded (in_at sender new.ends).inward true) where
+      abbrev received : Receives old.recorded does.0 new.recorded
+      received = does.2
+
+      notes_now : new.recorded.journal.notes ≡ received.notes ++ old.recorded.journal.notes
+      notes_now = ap (λ journal. journal.notes) received.journal
+
+      delivered_longer : length new.recorded.journal.notes ≤ length old.recorded.journal.notes + 2
+      delivered_longer =
+          let short = delivery_short does.0.name old.recorded.journal.notes does.0.order received.notes received.delivery in
+          let longer : length new.recorded.journal.notes ≡ length received.notes + length old.recorded.journal.notes = ap length notes_now ∙ length-append received.notes old.recorded.journal.notes in
+          omega (arith, short, longer)
+
+      delivered_one : core_mode old.recorded.journal.notes ≡ Some Return → AnswersOne old.recorded new.recorded
+      delivered_one returning = record {
+        seat = seat;
+        from = does.0.name.from;
+        known =
+            let from : does.0.name.from ≡ sender = ap (λ name. name.from) does.1.2.2 ∙ (was.beside.ins sender known).from in
+            omega (arith, known, from);
+        longer = delivered_longer;
+        gates = received.lists.gates;
+        gives = λ other. ap (λ notes. given_count notes other) notes_now ∙ delivery_gives does.0.name old.recorded.journal.notes does.0.order received.notes received.delivery returning other;
+        returning =
+            ap core_mode notes_now
+            ∙ stays_returning (terms_at new.recorded) received.notes old.recorded.journal.notes (subst (EachNote (MayStand (terms_at new.recorded))) notes_now now.recorded.kept.notes) returning;
+      }
+
+      delivered_provided : (ending : Bool) → IsReady ending old.recorded → IsProvided ending new.recorded
+      delivered_provided false ready = spare_after old.recorded new.recorded 2 seat ready delivered_longer (omega arith)
+      delivered_provided true ready = ending_after old.recorded new.recorded (delivered_one ready.returning) ready
+
+      pub delivered_served : (ending : Bool) → IsReady ending old.recorded → ClosesOnlyShort old.recorded.core.cores old.recorded.cap old.recorded.journal →
+          IsServed same made polls (record { linked = new; ending = ending })
+      delivered_served ending ready closes = record {
+        linked = now;
+        provided = delivered_provided ending ready;
+        closes = closes_here old.recorded new.recorded seat
+            (subst (EachNote (ClosesRightly (least_free old.recorded.core.cores old.recorded.cap) old.recorded.journal.room)) (sym notes_now)
+            (delivery_closes does.0.name old.recorded.journal.notes (least_free old.recorded.core.cores old.recorded.cap) old.recorded.journal.room does.0.order received.notes received.delivery closes));
+      }
+
+    -- whether an order was delivered or not
+    pub delivers_served : (sender : ℕ) (found ending : Bool) (old new : LinkedView J T) → IsLinked same made polls old → IsLinked same made polls new → sender ≤ old.recorded.core.cores →
+        DeliversFrom sender old found new → IsReady ending old.recorded → ClosesOnlyShort old.recorded.core.cores old.recorded.cap old.recorded.journal →
+        IsServed same made polls (record { linked = new; ending = ending })
+    delivers_served sender true ending old new was now known does ready closes = delivered_served sender old new was now known does.stays.seat does.delivers ending ready closes
+    delivers_served sender false ending old new was now known does ready closes = unmoved ending old new now ready does.delivers.1 closes
+
+    -- gates that are shut in a core that was closed by an order
+    pub shuts_served : (old new : LinkedView J T) → IsLinked same made polls new → ShutsFirst (old.recorded.core.cores + 1) old new → IsReady false old.recorded →
+        ClosesOnlyShort old.recorded.core.cores old.recorded.cap old.recorded.journal → IsServed same made polls (record { linked = new; ending = false })
+    shuts_served old new now shuts ready closes = record {
+      linked = now;
+      provided = spare_after old.recorded new.recorded (old.recorded.core.cores + 1) shuts.stays.seat ready shuts.longer (omega arith);
+      closes = closes_here old.recorded new.recorded shuts.stays.seat (shuts.closes (least_free old.recorded.core.cores old.recorded.cap) closes);
+    }
+
+    module _ {answers : J → T → Type 0} (old new : LinkedView J T) (was : IsLinked same made polls old) (now : IsLinked same made polls new) (seat : IsSameSeat old.recorded new.recorded) where
+      -- a poll
+      module _ (did : PollsOne made polls answers old.recorded new.recorded) where
+        polled_notes : new.recorded.journal.notes
+            ≡ settle_note did.settles.settles.out.name (unwrap_or did.settles.ran.told did.settles.spent) did.settles.ran.step ∷ poll_note did.name did.was_started ∷ writes.Pick did.queue did.picks.runtime ∷ old.recorded.journal.notes
+        polled_notes =
+            ap (λ journal. journal.notes) did.settles.settles.journal
+            ∙ ap (λ journal. settle_note did.settles.settles.out.name (unwrap_or did.settles.ran.told did.settles.spent) did.settles.ran.step ∷ journal.notes) did.picks.journal
+
+        polled_longer : length new.recorded.journal.notes ≤ length old.recorded.journal.notes + 3
+        polled_longer = let now : length new.recorded.journal.notes ≡ length old.recorded.journal.notes + 3 = ap length polled_notes in omega (arith, now)
+
+        polls_close : (least room : ℕ) (name other : JobId) (time : ℕ) (did : Step T) (was_started : Bool) (queue runtime : ℕ) (before : Journal T) → EachNote (ClosesRightly least room) before →
+            EachNote (ClosesRightly least room) (settle_note name time did ∷ poll_note other was_started ∷ writes.Pick queue runtime ∷ before)
+        polls_close least room name other time step.Yield false queue runtime before each = (tt, tt, tt, each)
+        polls_close least room name other time step.Yield true queue runtime before each = (tt, tt, tt, each)
+        polls_close least room name other time (step.Done out) false queue runtime before each = (tt, tt, tt, each)
+        polls_close least room name other time (step.Done out) true queue runtime before each = (tt, tt, tt, each)
+
+        polled_provided : (ending : Bool) → IsReady ending old.recorded → IsProvided ending new.recorded
+        polled_provided false ready = spare_after old.recorded new.recorded 3 seat ready polled_longer (omega arith)
+        polled_provided true ready = absurd (has_reason did.queue old.recorded.journal.notes (inr ready.returning) did.picks.kept)
+
+        polled_served : (ending : Bool) → IsReady ending old.recorded → ClosesOnlyShort old.recorded.core.cores old.recorded.cap old.recorded.journal → IsServed same made polls (record { linked = new; ending = ending })
+        polled_served ending ready closes = record {
+          linked = now;
+          provided = polled_provided ending ready;
+          closes = closes_here old.recorded new.recorded seat
+              (subst (EachNote (ClosesRightly (least_free old.recorded.core.cores old.recorded.cap) old.recorded.journal.room)) (sym polled_notes)
+              (polls_close _ _ _ did.name _ did.settles.ran.step did.was_started did.queue did.picks.runtime old.recorded.journal.notes closes));
+        }
+
+      -- a job that is handed back
+      module _ (did : HandsBack same old.recorded new.recorded) where
+        returned_notes : new.recorded.journal.notes ≡ writes.Returned did.name did.reason ∷ writes.Pick did.did.queue did.did.runtime ∷ old.recorded.journal.notes
+        returned_notes = ap (λ journal. journal.notes) did.did.journal
+
+        returned_longer : length new.recorded.journal.notes ≤ length old.recorded.journal.notes + 2
+        returned_longer = let now : length new.recorded.journal.notes ≡ length old.recorded.journal.notes + 2 = ap length returned_notes in omega (arith, now)
+
+        returned_provided : (ending : Bool) → IsReady ending old.recorded → IsProvided ending new.recorded
+        returned_provided false ready = spare_after old.recorded new.recorded 2 seat ready returned_longer (omega arith)
+        returned_provided true ready =
+            ending_after old.recorded new.recorded
+            (record {
+              seat = seat;
+              from = did.name.from;
+              known = (was.recorded.taken did.name _ did.did.task).sender;
+              longer = returned_longer;
+              gates = λ sender. ap (final_count sender) returned_notes;
+              gives = λ sender. ap (λ notes. given_count notes sender) returned_notes ∙ more_from (given_outcomes sender old.recorded.journal.notes) sender did.name _;
+              returning = ap core_mode returned_notes ∙ ready.returning;
+            })
+            ready
+
+        returned_served : (ending : Bool) → IsReady ending old.recorded → ClosesOnlyShort old.recorded.core.cores old.recorded.cap old.recorded.journal → IsServed same made polls (record { linked = new; ending = ending })
+        returned_served ending ready closes = record {
+          linked = now;
+          provided = returned_provided ending ready;
+          closes = closes_here old.recorded new.recorded seat
+              (subst (EachNote (ClosesRightly (least_free old.recorded.core.cores old.recorded.cap) old.recorded.journal.room)) (sym returned_notes) (tt, tt, closes));
+        }
+
+      -- whatever a turn came to
+      pub turned_served : (came_to : Made) (ending : Bool) → MakesTurn same made polls answers old.recorded came_to new.recorded → IsReady ending old.recorded →
+          ClosesOnlyShort old.recorded.core.cores old.recorded.cap old.recorded.journal → IsServed same made polls (record { linked = new; ending = ending })
+      turned_served came.Polled ending did ready closes = polled_served did ending ready closes
+      turned_served came.Returned ending did ready closes = returned_served did ending ready closes
+      turned_served came.Idle ending did ready closes = unmoved ending old new now ready did.1 closes
+      turned_served came.Spent ending did ready closes = unmoved ending old new now ready did.2 closes
