@@ -12,6 +12,7 @@ use Rattle.rt_desk.specs.Held.{at, Removes}
 use Rattle.rt_desk.specs.Lanes.{Lane, is_collected, IsSent, IsGot, FitsSent, Stands, IsLaneOf}
 use Rattle.rt_desk.specs.Steps.{Becomes}
 use Rattle.rt_desk.specs.declared.entry.Entry.{Entry}
+use Rattle.rt_desk.proofs.Taken.{taken-get, AreOf-taken}
 use Rattle.rt_desk.specs.declared.entry.Entry.TheVariants.{Pending, Detached, Collected}
 
 module _ {J T : Type 0} (fits : Order J → Outcome J T → Type 0) (lane : Lane J T) (out : Outward J T) (credited : ℕ) (l : IsLaneOf fits lane out credited) where
@@ -20,7 +21,7 @@ module _ {J T : Type 0} (fits : Order J → Outcome J T → Type 0) (lane : Lane
   collected-got number outcome there = (l.standing number (Collected outcome) there).1
 
   pub collected-fits : (number : ℕ) (outcome : Outcome J T) → at lane.entries number ≡ Some (Collected outcome) → FitsSent fits out number outcome
-  collected-fits number outcome there = let got : IsGot out number outcome = collected-got number outcome there in (l.named.0 got.place (number, outcome) got.is).1
+  collected-fits number outcome there = let got : IsGot out number outcome = collected-got number outcome there in (l.named.0 got.place (number, outcome) (taken-get out.got out.seen got.place (number, outcome) got.got got.is)).1
 
   -- it has a credit that was not given back
   pub collected-earned : (new : List (ℕ × Entry J T)) (number : ℕ) (outcome : Outcome J T) → Removes lane.entries new number (Collected outcome) → credited < out.got
@@ -100,7 +101,7 @@ module _ {J T : Type 0} (fits : Order J → Outcome J T → Type 0) (lane : Lane
       count = l.count;
       last = l.last;
       sound = sound;
-      named = named;
+      named = AreOf-taken fits out.base out.sent seen out.got named;
       standing = λ n. λ entry. λ there. Stands-more out.got n entry (omega arith) (λ i. λ found. λ late. λ low. absurd (omega arith)) (l.standing n entry there);
       gone = λ n. λ sent. λ none. let had = l.gone n sent none in (had.0, IsGot-more out.got n had.0 (omega arith) had.1);
       outstanding = l.outstanding;
@@ -144,7 +145,7 @@ module _ {J T : Type 0} (fits : Order J → Outcome J T → Type 0) (lane : Lane
         count = count ∙ l.count;
         last = λ some. omega (arith, l.last (omega arith));
         sound = sound;
-        named = named;
+        named = AreOf-taken fits out.base out.sent seen (out.got + 1) named;
         standing = λ n. λ entry. λ there. elim (eqb_tells n number) [
           | inl same ↦
               let entry_is : Collected outcome ≡ entry = let e : at new.entries n ≡ Some (Collected outcome) = ap (at new.entries) same.1 ∙ becomes.adds.here in cc in
@@ -166,7 +167,7 @@ module _ {J T : Type 0} (fits : Order J → Outcome J T → Type 0) (lane : Lane
         count = count ∙ l.count;
         last = λ some. omega (arith, l.last (omega arith));
         sound = SoundOut-credit later credited sound earned;
-        named = named;
+        named = AreOf-taken fits out.base out.sent seen (out.got + 1) named;
         standing = λ n. λ entry. λ there. elim (eqb_tells n number) [
           | inl same ↦ absurd (let e : at new.entries n ≡ None = ap (at new.entries) same.1 ∙ removes.gone in cc)
           | inr other ↦ others_stand n entry other.1 (l.standing n entry (sym (removes.others n other.1) ∙ there))

@@ -14,6 +14,7 @@ use Rattle.rt_desk.specs.Held.{at, tally}
 use Rattle.rt_desk.specs.Lanes.{Lane, is_detached, IsLaneOf}
 use Rattle.rt_desk.specs.Steps.{Keeps, CollectsNext, Settles, CollectsThese, CollectsMany, CollectsAll}
 use Rattle.rt_desk.specs.declared.entry.Entry.{Entry}
+use Rattle.rt_desk.proofs.Taken.{taken-get}
 
 -- a list that goes on behind another goes on behind its beginning
 StartsWith-trans : {A : Type 0} (whole front first : List A) → StartsWith whole front → StartsWith front first → StartsWith whole first
@@ -104,10 +105,13 @@ module _ {J T : Type 0} where
         })
 
     -- one more outcome
-    module _ (l : IsLaneOf fits mid shown between) (distinct : AreDistinct later.seen) (outcomes : List (ℕ × Outcome J T)) (these : CollectsThese old mid out shown credited between outcomes)
+    module _ (l : IsLaneOf fits mid shown between) (distinct : AreDistinct (take later.got later.seen)) (outcomes : List (ℕ × Outcome J T)) (these : CollectsThese old mid out shown credited between outcomes)
         (found : ℕ × Outcome J T) (next : CollectsNext mid new shown later between after (Some found)) where
       behind : shown.got ≤ length shown.seen
       behind = l.sound.behind
+
+      got : later.got ≡ shown.got + 1
+      got = ap (λ (o : Outward J T). o.got) next.0.0
 
       -- its number is none of those before
       apart : (other : ℕ × Outcome J T) → Contains outcomes other → other.0 ≢ found.0
@@ -115,7 +119,7 @@ module _ {J T : Type 0} where
           let low = placed shown.seen shown.got other behind (subst (λ xs. Contains xs other) (sym these.in_order) (Contains-append_right (take out.got out.seen) outcomes other contains)) in
           let here : slice_get later.seen low.0 ≡ Some other = slice_get-starts later.seen shown.seen low.0 next.0.1 (slice_get_within shown.seen low.0 other low.2) ∙ low.2 in
           let below : low.0 < shown.got = low.1 in
-          let equal : low.0 ≡ shown.got = distinct low.0 shown.got other found here next.0.2 same in omega arith
+          let equal : low.0 ≡ shown.got = distinct low.0 shown.got other found (taken-get later.got later.seen low.0 other (omega (arith, got)) here) (taken-get later.got later.seen shown.got found (omega (arith, got)) next.0.2) same in omega arith
 
       all_apart : All (λ (other : ℕ × Outcome J T). other.0 ≢ found.0) outcomes
       all_apart k d low = apart (get_or outcomes k d) (Contains-get_or outcomes k d low)
@@ -135,9 +139,6 @@ module _ {J T : Type 0} where
       others_now number away =
           let split = All-pop (λ (other : ℕ × Outcome J T). other.0 ≢ number) (outcomes ++ found ∷ []) outcomes (Some found) refl away in
           Keeps-others mid.entries new.entries found.0 found.1 between after next.2 number (λ e. split.1 (sym e)) ∙ these.others number split.0
-
-      got : later.got ≡ shown.got + 1
-      got = ap (λ (o : Outward J T). o.got) next.0.0
 
       pub CollectsThese-next : CollectsThese old new out later credited after (outcomes ++ found ∷ [])
       CollectsThese-next = record {

@@ -1,19 +1,22 @@
 -- What a lane knows of its numbers, and that a send keeps it.
 use Rattle.std.proofs.Common.{◌≡◌, Bool, ◌≢◌, ◌⊎◌, inl, inr, ℕ, ◌+◌, ◌<◌, ◌≤◌, true, List, [], ◌∷◌, ◌++◌, length, length-append, Option, Some, None, Ok, Err, refl, sym, ap, subst, ◌∙◌, arith}
-use Rattle.std.specs.Prelude.{slice_get}
+use Rattle.std.specs.Prelude.{slice_get, take}
 use Rattle.std.proofs.lemmas.Bool.Decides.{eqb_tells}
+use Rattle.std.proofs.lemmas.List.{take-append-le}
 use Rattle.rt_ids.specs.declared.order.Order.{Order}
 use Rattle.rt_ids.specs.declared.order.Outcome.{Outcome}
 use Rattle.rt_ids.specs.declared.order.SendError.{SendError}
 use Rattle.rt_ids.specs.declared.order.SendError.TheVariants.{Closed, Full, Spent, NoCore}
 use Rattle.rt_link.specs.declared.ends.Outward.{Outward}
 use Rattle.rt_link.specs.Calls.{Sends}
-use Rattle.rt_link.specs.Ends.{AreOf, SoundOut}
+use Rattle.rt_link.specs.Ends.{StartsWith, AreOf, SoundOut}
 use Rattle.rt_link.proofs.EndFacts.{SoundOut-Sends}
+use Rattle.rt_link.proofs.Lists.{StartsWith-self, slice_get-starts}
 use Rattle.rt_link.proofs.Numbers.{AreOf-starts}
 use Rattle.rt_desk.specs.Held.{at, Adds}
-use Rattle.rt_desk.specs.Lanes.{Lane, is_collected, IsSent, Stands, IsLaneOf, IsUnused, fresh_lane}
+use Rattle.rt_desk.specs.Lanes.{Lane, is_collected, IsSent, IsGot, Stands, IsLaneOf, IsUnused, fresh_lane}
 use Rattle.rt_desk.specs.declared.entry.Entry.{Entry}
+use Rattle.rt_desk.proofs.Taken.{taken-get, take-nothing}
 use Rattle.rt_desk.specs.declared.entry.Entry.TheVariants.{Pending, Detached, Collected}
 
 -- an option is nothing or something
@@ -58,7 +61,7 @@ module _ {J T : Type 0} (fits : Order J → Outcome J T → Type 0) where
         count = omega (arith, l.count);
         last = λ _. omega (arith, l.count);
         sound = subst (λ o. SoundOut o credited) sends.4 (SoundOut-Sends out later credited order (Ok number) l.sound sends);
-        named = AreOf-starts fits out.base out.sent (out.sent ++ order ∷ []) out.seen (order ∷ [], refl) l.named;
+        named = AreOf-starts fits out.base out.sent (out.sent ++ order ∷ []) (take out.got out.seen) (order ∷ [], refl) l.named;
         standing = λ n. λ entry. λ there. elim (eqb_tells n number) [
           | inl same ↦
               let is : n ≡ number = same.1 in
@@ -66,7 +69,7 @@ module _ {J T : Type 0} (fits : Order J → Outcome J T → Type 0) where
               subst (Stands (record out { sent = out.sent ++ order ∷ [] }) n) entry_is (
                 (omega arith, omega arith),
                 λ i. λ found. λ low. λ found_is. λ equal.
-                    let named = l.named.0 i found found_is in let high : found.0 ≤ out.base + length out.sent = named.2 in absurd (omega arith),
+                    let named = l.named.0 i found (taken-get out.got out.seen i found low found_is) in let high : found.0 ≤ out.base + length out.sent = named.2 in absurd (omega arith),
               )
           | inr other ↦ Stands-longer out (out.sent ++ order ∷ []) n entry (omega arith) (l.standing n entry (sym (adds.others n other.1) ∙ there))
         ];
@@ -88,30 +91,43 @@ module _ {J T : Type 0} (fits : Order J → Outcome J T → Type 0) where
   IsLaneOf-accepted lane new out later credited after order number l same sends adds room count last =
       subst (λ k. IsLaneOf fits new later k) (sym same) (IsLaneOf-sent lane new out later credited order number l sends adds room count last)
 
-  -- to see the gate shut changes nothing of a lane
-  pub IsLaneOf-closed : (lane : Lane J T) (out : Outward J T) (credited : ℕ) (closed : Bool) → IsLaneOf fits lane out credited → IsLaneOf fits lane (record out { closed = closed }) credited
-  IsLaneOf-closed lane out credited closed l = record {
+  -- to see more outcomes, or the gate shut, changes nothing of a lane
+  pub IsLaneOf-more : (lane : Lane J T) (out : Outward J T) (credited : ℕ) (seen : List (ℕ × Outcome J T)) (closed : Bool) → StartsWith seen out.seen
+      → IsLaneOf fits lane out credited → IsLaneOf fits lane (record out { seen = seen; closed = closed }) credited
+  IsLaneOf-more lane out credited seen closed longer l = record {
     room = l.room;
     count = l.count;
     last = l.last;
-    sound = record { numbered = l.sound.numbered; room = l.sound.room; credits = l.sound.credits; behind = l.sound.behind; within = l.sound.within };
-    named = l.named;
-    standing = λ n. λ entry. λ there. Stands-closed n entry (l.standing n entry there);
-    gone = λ n. λ sent. λ none. let had = l.gone n sent none in (had.0, record { place = had.1.place; got = had.1.got; is = had.1.is });
+    sound = record {
+      numbered = l.sound.numbered;
+      room = l.sound.room;
+      credits = l.sound.credits;
+      behind = omega (arith, l.sound.behind, ap length longer.1, length-append out.seen longer.0);
+      within = l.sound.within;
+    };
+    named = subst (AreOf fits out.base out.sent) (sym (ap (take out.got) longer.1 ∙ take-append-le out.got out.seen longer.0 l.sound.behind)) l.named;
+    standing = λ n. λ entry. λ there. Stands-more n entry (l.standing n entry there);
+    gone = λ n. λ sent. λ none. let had = l.gone n sent none in (had.0, IsGot-more n had.0 had.1);
     outstanding = l.outstanding;
     kept = l.kept;
   }
     where
-      Stands-closed : (n : ℕ) (entry : Entry J T) → Stands out n entry → Stands (record out { closed = closed }) n entry
-      Stands-closed n Pending stands = stands
-      Stands-closed n Detached stands = stands
-      Stands-closed n (Collected outcome) stands = (stands.0, record { place = stands.1.place; got = stands.1.got; is = stands.1.is })
+      same_there : (i : ℕ) → i < out.got → slice_get seen i ≡ slice_get out.seen i
+      same_there i low = slice_get-starts seen out.seen i longer (omega (arith, low, l.sound.behind))
+
+      IsGot-more : (n : ℕ) (outcome : Outcome J T) → IsGot out n outcome → IsGot (record out { seen = seen; closed = closed }) n outcome
+      IsGot-more n outcome found = record { place = found.place; got = found.got; is = same_there found.place found.got ∙ found.is }
+
+      Stands-more : (n : ℕ) (entry : Entry J T) → Stands out n entry → Stands (record out { seen = seen; closed = closed }) n entry
+      Stands-more n Pending stands = (stands.0, λ i. λ found. λ low. λ is. stands.1 i found low (sym (same_there i low) ∙ is))
+      Stands-more n Detached stands = (stands.0, λ i. λ found. λ low. λ is. stands.1 i found low (sym (same_there i low) ∙ is))
+      Stands-more n (Collected outcome) stands = (stands.0, IsGot-more n outcome stands.1)
 
   -- a send that is refused
   pub IsLaneOf-refused : (lane : Lane J T) (out later : Outward J T) (credited : ℕ) (order : Order J) (error : SendError J) → IsLaneOf fits lane out credited
       → Sends out credited order later (Err error) → IsLaneOf fits lane later credited
   IsLaneOf-refused lane out later credited order (Closed back final) l sends =
-      subst (λ o. IsLaneOf fits lane o credited) (sym sends.2) (IsLaneOf-closed lane out credited true l)
+      subst (λ o. IsLaneOf fits lane o credited) (sym sends.2) (IsLaneOf-more lane out credited out.seen true (StartsWith-self out.seen) l)
   IsLaneOf-refused lane out later credited order (Full back) l sends = subst (λ o. IsLaneOf fits lane o credited) (sym sends.3) l
   IsLaneOf-refused lane out later credited order (Spent back) l sends = subst (λ o. IsLaneOf fits lane o credited) (sym sends.4) l
   IsLaneOf-refused lane out later credited order (NoCore back) l sends = absurd sends
@@ -127,7 +143,7 @@ module _ {J T : Type 0} (fits : Order J → Outcome J T → Type 0) where
         count = sym none_sent;
         last = λ some. absurd (omega arith);
         sound = unused.5;
-        named = subst (AreOf fits out.base out.sent) (sym unused.2) ((λ i. λ x. λ is. absurd (nothing_there i x is)), (λ i. λ j. λ x. λ y. λ is. absurd (nothing_there i x is)));
+        named = subst (AreOf fits out.base out.sent) (sym (ap (take out.got) unused.2 ∙ take-nothing out.got)) ((λ i. λ x. λ is. absurd (nothing_there i x is)), (λ i. λ j. λ x. λ y. λ is. absurd (nothing_there i x is)));
         standing = λ n. λ entry. λ there. absurd cc;
         gone = λ n. λ sent. λ none. let low : out.base < n = sent.0 in let high : n ≤ out.base + length out.sent = sent.1 in absurd (omega arith);
         outstanding = omega arith;

@@ -2,6 +2,7 @@ pub mod Digits
 pub mod Sides
 pub mod Remainders
 pub mod Tops
+pub mod Taken
 pub mod Lanes
 pub mod Collections
 pub mod Collected

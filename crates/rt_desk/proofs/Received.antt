@@ -6,13 +6,11 @@ use Rattle.std.proofs.lemmas.Bool.Decides.{eqb_tells}
 use Rattle.rt_ids.specs.declared.order.Order.{Order}
 use Rattle.rt_ids.specs.declared.order.Outcome.{Outcome}
 use Rattle.rt_link.specs.declared.plain.Whole.{Whole}
-use Rattle.rt_link.specs.Ends.{StartsWith, SoundOut}
+use Rattle.rt_link.specs.Ends.{StartsWith}
 use Rattle.rt_link.specs.Whole.{out_of, IsLink}
-use Rattle.rt_link.proofs.EndFacts.{SoundOut-IsLink}
 use Rattle.rt_desk.specs.Lanes.{Lane, IsLaneOf}
 use Rattle.rt_desk.specs.Desks.{Desk, AreEndsOf}
-use Rattle.rt_desk.proofs.Lanes.{IsLaneOf-closed}
-use Rattle.rt_desk.proofs.Collections.{IsLaneOf-seen}
+use Rattle.rt_desk.proofs.Lanes.{IsLaneOf-more}
 use Rattle.rt_desk.proofs.Cores.{found, changed, unchanged}
 
 module _ {J T : Type 0} (fits : Order J → Outcome J T → Type 0) (ready : Order J → Type 0) where
@@ -20,12 +18,8 @@ module _ {J T : Type 0} (fits : Order J → Outcome J T → Type 0) (ready : Ord
   pub IsLaneOf-received : (lane : Lane J T) (old new : Whole J T) → IsLaneOf fits lane (out_of old) old.credited → IsLink fits ready new
       → new ≡ record old { taken = new.taken; given = new.given; shut = new.shut } → StartsWith new.given old.given → IsLaneOf fits lane (out_of new) new.credited
   IsLaneOf-received lane old new l law is more =
-      let law' = subst (IsLink fits ready) is law in
-      let s = SoundOut-IsLink law' in
-      let sound : SoundOut (record (out_of old) { seen = new.given }) old.credited =
-      record { numbered = s.numbered; room = s.room; credits = s.credits; behind = s.behind; within = s.within } in
       subst (λ (link : Whole J T). IsLaneOf fits lane (out_of link) link.credited) (sym is)
-      (IsLaneOf-closed fits lane (record (out_of old) { seen = new.given }) old.credited new.shut (IsLaneOf-seen fits lane (out_of old) old.credited l new.given more law'.fitting sound))
+      (IsLaneOf-more fits lane (out_of old) old.credited new.given new.shut more l)
 
   -- the same of a desk over plain links
   pub AreEndsOf-received : (desk : Desk J T) (ends : List (Whole J T)) (core : ℕ) (old new : Whole J T) → AreEndsOf fits out_of (λ link. link.credited) desk ends

@@ -1,5 +1,5 @@
 -- What is known of the submissions of one actor to one core, and how it belongs to the out end of their link.
-use Rattle.std.specs.Prelude.{◌≡◌, ◌⊎◌, ℕ, ◌+◌, ◌-◌, ◌<◌, ◌≤◌, Bool, true, false, List, [], length, Some, None, slice_get, IfSome}
+use Rattle.std.specs.Prelude.{◌≡◌, ◌⊎◌, ℕ, ◌+◌, ◌-◌, ◌<◌, ◌≤◌, Bool, true, false, List, [], length, take, Some, None, slice_get, IfSome}
 use Rattle.rt_ids.specs.declared.order.Order.{Order}
 use Rattle.rt_ids.specs.declared.order.Outcome.{Outcome}
 use Rattle.rt_link.specs.declared.ends.Outward.{Outward}
@@ -72,7 +72,7 @@ module _ {J T : Type 0} where
     pub count : lane.count ≡ length out.sent
     pub last : 0 < lane.count → lane.last ≡ out.base + lane.count
     pub sound : SoundOut out credited
-    pub named : AreOf fits out.base out.sent out.seen
+    pub named : AreOf fits out.base out.sent (take out.got out.seen)
     pub standing : (number : ℕ) (entry : Entry J T) → at lane.entries number ≡ Some entry → Stands out number entry
     pub gone : (number : ℕ) → IsSent out number → at lane.entries number ≡ None → (outcome : Outcome J T) × IsGot out number outcome
     pub outstanding : count_of lane.entries + credited ≡ length out.sent

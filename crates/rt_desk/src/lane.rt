@@ -42,7 +42,7 @@ impl<J: Task> Model for Lane<J> {
 }
 
 impl<J: Task> Lane<J> {
-    pub(crate) fn open(alloc: Global, room: u16) -> Result<Self, AllocError>
+    pub fn open(alloc: Global, room: u16) -> Result<Self, AllocError>
         ensures { IfOk result (λ lane. lane ≡ fresh_lane room) }
     {
         Ok(Lane {
@@ -53,7 +53,7 @@ impl<J: Task> Lane<J> {
     }
 
     /// Sends an order, whose number is outstanding from then on.
-    pub(crate) fn submit<O: OutEnd<J>>(
+    pub fn submit<O: OutEnd<J>>(
         &mut self,
         end: &mut O,
         order: Order<J>,
@@ -112,7 +112,7 @@ impl<J: Task> Lane<J> {
     }
 
     /// Collects one outcome, if the link from this actor to this core shows one. Its name, and what became of the submission.
-    pub(crate) fn collect_told<O: OutEnd<J>>(
+    pub fn collect_told<O: OutEnd<J>>(
         &mut self,
         end: &mut O,
         from: ActorNo,
@@ -150,7 +150,7 @@ impl<J: Task> Lane<J> {
     }
 
     /// How many submissions are outstanding.
-    pub(crate) fn outstanding<O: OutEnd<J>>(&self, end: &O) -> u64
+    pub fn outstanding<O: OutEnd<J>>(&self, end: &O) -> u64
         requires { IsLaneOf (Fits J.SameTask J.Answers) self.now (O.out end.now) (O.credited end.now) }
         ensures { result ≡ count_of self.now.entries }
     {
@@ -175,7 +175,7 @@ impl<J: Task> Lane<J> {
     }
 
     /// The outcome of a number, which is gone from then on.
-    pub(crate) fn redeem<O: OutEnd<J>>(
+    pub fn redeem<O: OutEnd<J>>(
         &mut self,
         end: &mut O,
         number: u64,
@@ -205,11 +205,7 @@ impl<J: Task> Lane<J> {
     }
 
     /// Nobody will ask for the outcome of a number.
-    pub(crate) fn detach<O: OutEnd<J>>(
-        &mut self,
-        end: &mut O,
-        number: u64,
-    ) -> Result<(), TicketError>
+    pub fn detach<O: OutEnd<J>>(&mut self, end: &mut O, number: u64) -> Result<(), TicketError>
         requires { IsLaneOf (Fits J.SameTask J.Answers) self.old (O.out end.old) (O.credited end.old) }
         ensures lane { IsLaneOf (Fits J.SameTask J.Answers) self.new (O.out end.new) (O.credited end.new) }
         ensures untouched { O.untouched end.new ≡ O.untouched end.old }

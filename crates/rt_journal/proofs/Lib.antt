@@ -30,6 +30,7 @@ pub mod SettledPolls
 pub mod SettledEnds
 pub mod Wrote
 pub mod Shutting
+pub mod ClosedItself
 pub mod Drained
 pub mod Submitted
 pub mod SentNotes

@@ -6,7 +6,8 @@ use Rattle.rt_ids.specs.declared.note.Note.TheVariants as writes
 use Rattle.rt_ids.specs.declared.order.Envelope.{Envelope}
 use Rattle.rt_ids.specs.declared.order.Outcome.{Outcome}
 use Rattle.rt_ids.specs.Work.{number_if}
-use Rattle.rt_ids.specs.Closing.{IsCounted, final_count}
+use Rattle.rt_ids.specs.Closing.{IsCounted, closes, core_mode, final_count}
+use Rattle.rt_ids.specs.declared.order.Mode.{Mode}
 use Rattle.rt_ids.specs.Commands.{created_count}
 use Rattle.rt_taskqueue.specs.declared.queues.CreateError.{CreateError}
 use Rattle.rt_taskqueue.specs.declared.queues.CreateError.TheVariants.{TooMany, Memory}
@@ -73,3 +74,10 @@ module _ {J T : Type 0} where
     pub journal : new.journal ≡ with_notes (writes.Shut sender count ∷ []) old.journal
     pub took : new.took ≡ old.took
     pub out : new.core.out ≡ old.core.out
+
+  -- the core closes by itself, where that changes anything
+  abbrev pub ClosesItself : RecordedView J T → Mode → Bool → RecordedView J T → Type 0
+  ClosesItself old mode true new =
+      (closes (core_mode old.journal.notes) mode ≡ true) × (new.journal ≡ with_notes (writes.CoreClosed mode ∷ []) old.journal)
+      × (new.core.out ≡ old.core.out) × (new.took ≡ old.took)
+  ClosesItself old mode false new = (closes (core_mode old.journal.notes) mode ≡ false) × (new ≡ old)

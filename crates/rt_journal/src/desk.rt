@@ -58,6 +58,13 @@ impl<J: Task<Out = u64>> RecordedDesk<J> {
         })
     }
 
+    /// How many submissions to one core may be outstanding.
+    pub fn cap(&self) -> u16
+        ensures { result ≡ self.now.cap }
+    {
+        self.cap
+    }
+
     /// The notes of this actor.
     pub fn journal(&self) -> &Journal<u64>
         ensures { result.now ≡ self.now.journal }

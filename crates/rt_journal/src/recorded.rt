@@ -14,14 +14,16 @@ ghost use Rattle.rt_link.specs.Fits.{Fits};
 ghost use Rattle.rt_journal.specs.Submissions.{Submits, numbered};
 ghost use Rattle.rt_journal.specs.Recorded.{IsRecorded, desk_of, order_taken};
 ghost use Rattle.rt_journal.specs.Ends.{IsOutOf, IsInOf, IsInOwing, Gives, GivesMore, told_under, LeavesOwed, KeepsIn, KeepsOut, KeepsOuts, IsSameSeat};
-ghost use Rattle.rt_journal.specs.Steps.{opened_beside, IsNextIn, Receives, Delivers, CreatesQueue, TellsShut};
+ghost use Rattle.rt_journal.specs.Steps.{opened_beside, IsNextIn, Receives, Delivers, CreatesQueue, TellsShut, ClosesItself};
 ghost use Rattle.rt_journal.specs.Turns.{Picks, IsOut, IsOutUnder, IsPolled, Settles};
 ghost use Rattle.rt_journal.specs.Owed.{IsSentUnder, OwesSettled, outcome_settled, owed_back};
 
 use crate::desk::RecordedDesk;
 use crate::given::{give_if, outcome_done, outcome_of};
 use rt_core::{Core, PickError, Settled, Turn};
-use rt_ids::{ActorNo, CoreNo, Envelope, JobId, Order, Outcome, QueueNo, Reason, SendError, Ticket};
+use rt_ids::{
+    ActorNo, CoreNo, Envelope, JobId, Mode, Order, Outcome, QueueNo, Reason, SendError, Ticket,
+};
 use rt_jobs::{Ran, Task};
 use rt_link::{History, InEnd, OutEnd};
 use rt_notes::Journal;
@@ -187,6 +189,28 @@ impl<J: Task<Out = u64>, A: Allocator + Clone> Recorded<J, A> {
         let told = self.core.gate_shut(from, count);
         self.said.write(told.as_slice());
         count
+    }
+
+    /// Closes the core by itself. Whether that did anything: the first closing does, and `Return` after `Finish`.
+    pub fn close(&mut self, mode: Mode) -> bool
+        requires room { length self.old.journal.notes < self.old.journal.room }
+        ensures closes { ClosesItself self.old mode result self.new }
+        ensures ins { (sender : ℕ) → KeepsIn sender self.old self.new }
+        ensures outs { KeepsOuts (desk_of self.old) (desk_of self.new) }
+        ensures seat { IsSameSeat self.old self.new }
+        ensures sound { IsRecorded J.SameTask J.made J.Polls self.new }
+    {
+        let (closed, notes) = self.core.close(mode);
+        self.said.write(notes.as_slice());
+        closed
+    }
+
+    /// How many orders of one sender may be without an outcome.
+    pub fn cap(&self) -> u16
+        ensures cap { result ≡ self.now.cap }
+        ensures sound { IsRecorded J.SameTask J.made J.Polls self.now }
+    {
+        self.said.cap()
     }
 
     /// Whether the core is closed, in either mode.

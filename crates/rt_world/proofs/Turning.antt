@@ -50,7 +50,7 @@ all_beside {old = old} world core there = record {
 
 module _ {J T : Type 0} {same : J → J → Type 0} {made : J → ℕ} {polls : Owed J T} {old : Parts J T}
     (world : IsWorld same made polls old) (core : ℕ) (there : core < old.cores) (now : RecordedView J T) (links : List (List (Whole J T)))
-    (stays : one.StaysBeside same made polls core (core_at core old) now links links) where
+    (stays : one.StaysBeside same made polls core (core_at core old) now old.links links) where
   abbrev view : RecordedView J T
   view = core_at core old
 

@@ -63,7 +63,8 @@ impl<J: Job + Task<Out = u64>, A: Allocator + Clone> World<J, A> {
         requires room { length (journal_at core self.old) + 4 ≤ self.old.room }
         ensures { Turns J.made J.Polls J.Answers core spent self.old self.new result }
     {
-        turn_of(&mut self.inside[core.0 as usize], &mut self.links, core, spent)
+        let number = core.0 as usize;
+        turn_of(&mut self.inside[number], &mut self.links, number, spent)
     }
 }
 
@@ -72,7 +73,7 @@ impl<J: Job + Task<Out = u64>, A: Allocator + Clone> World<J, A> {
 fn turn_of<J: Job + Task<Out = u64>, A: Allocator + Clone>(
     core: &mut Recorded<J, A>,
     links: &mut Vec<Vec<PlainLink<J>>>,
-    number: CoreNo,
+    number: usize,
     spent: u64,
 ) -> Reply<J>
     requires free { core.old.core.out ≡ None }
@@ -101,7 +102,7 @@ fn turn_of<J: Job + Task<Out = u64>, A: Allocator + Clone>(
 fn settle_on<J: Task<Out = u64>, A: Allocator + Clone>(
     core: &mut Recorded<J, A>,
     links: &mut Vec<Vec<PlainLink<J>>>,
-    number: CoreNo,
+    number: usize,
     name: JobId,
     ran: Ran<J>,
     spent: u64,
@@ -120,7 +121,7 @@ fn settle_on<J: Task<Out = u64>, A: Allocator + Clone>(
     ensures sound { IsRecorded J.SameTask J.made J.Polls core.new }
 {
     let row = &mut links[name.from.0 as usize];
-    let link = &mut row[number.0 as usize];
+    let link = &mut row[number];
     core.settle(link, name, ran, spent)
 }
 
@@ -128,7 +129,7 @@ fn settle_on<J: Task<Out = u64>, A: Allocator + Clone>(
 fn give_back_on<J: Task<Out = u64>, A: Allocator + Clone>(
     core: &Recorded<J, A>,
     links: &mut Vec<Vec<PlainLink<J>>>,
-    number: CoreNo,
+    number: usize,
     name: JobId,
     reason: Reason,
     order: Order<J>,
@@ -140,7 +141,7 @@ fn give_back_on<J: Task<Out = u64>, A: Allocator + Clone>(
     ensures beside { one.IsBesideAll number one.none_owed core.now (map vec_items links.new.items) }
 {
     let row = &mut links[name.from.0 as usize];
-    let link = &mut row[number.0 as usize];
+    let link = &mut row[number];
     core.give_back(link, name, reason, order);
 }
 

@@ -19,22 +19,20 @@ turn_of-requires g c =
       free = ap (λ at. at.core.out) view ∙ c.self.invariant.1.at_rest c.core.inside.0 there;
       room = omega (arith, places, ap (λ at. length at.journal.notes) view, ap (λ at. at.journal.room) view);
       sound = subst (IsRecorded g.J.Task.SameTask g.J.Task.made g.J.Task.Polls) (sym view) (c.self.invariant.1.recorded c.core.inside.0 there);
-      beside = subst (λ core. one.IsBesideAll core one.none_owed c.index_mut.result.now (map vec_items c.self.inside.links.items)) c.core.view_is its;
+      beside = its;
     }
 
 pub invariant_of-self : goal.invariant_of-self
 invariant_of-self g c =
     let there : c.core.inside.0 < c.self.inside.cores = omega (arith, c.core.view_is, c.requires.core, ap (λ world. world.cores) c.self.view_is) in
     let view = viewed c.self.invariant.1 c.core.inside.0 there _ c.index_mut.ensures.value in
-    let stays = subst (λ at. one.StaysBeside g.J.Task.SameTask g.J.Task.made g.J.Task.Polls c.core.inside.0 at c.turn_of.new.core (map vec_items c.self.inside.links.items) (map vec_items c.turn_of.new.links.items)) view
-    (subst (λ core. one.StaysBeside g.J.Task.SameTask g.J.Task.made g.J.Task.Polls core c.index_mut.result.now c.turn_of.new.core (map vec_items c.self.inside.links.items) (map vec_items c.turn_of.new.links.items)) (sym c.core.view_is) c.turn_of.ensures.beside) in
+    let stays = subst (λ at. one.StaysBeside g.J.Task.SameTask g.J.Task.made g.J.Task.Polls c.core.inside.0 at c.turn_of.new.core (map vec_items c.self.inside.links.items) (map vec_items c.turn_of.new.links.items)) view c.turn_of.ensures.beside in
     (c.self.invariant.0, quiet_rests c.self.invariant.1 c.core.inside.0 there c.turn_of.new.core _ stays, c.self.invariant.2)
 
 pub returns : goal.returns
 returns g c =
     let there : c.core.inside.0 < c.self.inside.cores = omega (arith, c.core.view_is, c.requires.core, ap (λ world. world.cores) c.self.view_is) in
     let view = viewed c.self.invariant.1 c.core.inside.0 there _ c.index_mut.ensures.value in
-    let stays = subst (λ at. one.StaysBeside g.J.Task.SameTask g.J.Task.made g.J.Task.Polls c.core.inside.0 at c.turn_of.new.core (map vec_items c.self.inside.links.items) (map vec_items c.turn_of.new.links.items)) view
-    (subst (λ core. one.StaysBeside g.J.Task.SameTask g.J.Task.made g.J.Task.Polls core c.index_mut.result.now c.turn_of.new.core (map vec_items c.self.inside.links.items) (map vec_items c.turn_of.new.links.items)) (sym c.core.view_is) c.turn_of.ensures.beside) in
+    let stays = subst (λ at. one.StaysBeside g.J.Task.SameTask g.J.Task.made g.J.Task.Polls c.core.inside.0 at c.turn_of.new.core (map vec_items c.self.inside.links.items) (map vec_items c.turn_of.new.links.items)) view c.turn_of.ensures.beside in
     let turns = subst (λ at. one.Turns g.J.Task.SameTask g.J.Task.made g.J.Task.Polls g.J.Task.Answers c.args.spent at c.turn_of.new.core c.turn_of.result) view c.turn_of.ensures.turns in
     rw (← c.self.view_is, ← c.core.view_is) (turns_now c.self.invariant.1 c.core.inside.0 there c.turn_of.new.core _ stays g.J.Task.Answers c.args.spent c.turn_of.result turns)
