@@ -1,7 +1,7 @@
 -- Gates that are shut one after another, and the room that is left behind.
 use Rattle.std.proofs.Common.{◌≡◌, ◌≢◌, ◌⊎◌, inl, inr, ℕ, zero, suc, ◌+◌, ◌*◌, ◌<◌, ◌≤◌, cond, [], ◌∷◌, length, refl, sym, ◌∙◌, ap, subst, arith, ⊎_elim}
-use Rattle.std.specs.Prelude.{◌==◌, Bool, true, false, Option, Some, None, unwrap_or, IsSome}
-use Rattle.std.proofs.lemmas.Bool.{cases_eq, ne_eqb}
+use Rattle.std.specs.Prelude.{◌==◌, Bool, true, false, Option, Some, None, unwrap_or, is_some, IsSome}
+use Rattle.std.proofs.lemmas.Bool.{cases_eq, eq-eqb, ne_eqb}
 use Rattle.rt_ids.specs.declared.note.Note.TheVariants.{CoreClosed, Shut}
 use Rattle.rt_ids.specs.declared.order.Mode.{Mode}
 use Rattle.rt_ids.specs.declared.order.Mode.TheVariants.{Finish, Return}
@@ -12,15 +12,24 @@ use Rattle.rt_link.specs.declared.ends.Inward.{Inward}
 use Rattle.rt_link.specs.Ends.{SoundIn}
 use Rattle.rt_link.specs.Calls.{final_of}
 use Rattle.rt_notes.specs.Journals.{JournalView}
-use Rattle.rt_journal.specs.Recorded.{RecordedView, sum_upto, given_count}
-use Rattle.rt_journal.specs.Ends.{IsInOf, IsSameSeat, named_outcomes}
+use Rattle.rt_journal.specs.Recorded.{RecordedView, IsRecorded, desk_of, sum_upto, given_count}
+use Rattle.rt_journal.specs.Ends.{IsInOf, IsSameSeat, KeepsIn, KeepsOuts, name_of}
+use Rattle.rt_grid.specs.Ends.{EndsView, in_at}
+use Rattle.rt_ids.specs.Outcomes.{outcome_note}
 use Rattle.rt_journal.specs.Steps.{with_notes, ClosesItself}
 use Rattle.rt_worker.specs.Linked.{LinkedView, IsLinked, StaysLinked}
+use Rattle.rt_worker.specs.Steps.{ShutsGate}
 use Rattle.rt_worker.specs.Gates.{WritesShut, WritesReturn, IsShutWithin, LeavesShut, LeavesReturning, ShutsFirst}
 use Rattle.rt_worker.specs.Rooms.{last_through, least_free, ClosesRightly, ClosesOnlyShort, HasSpare, IsShort, IsEnding}
 use Rattle.rt_worker.proofs.Along.{stays_along, stays_same}
 use Rattle.rt_worker.proofs.Spare.{sums_within, places_more}
 use Rattle.std.proofs.lemmas.List.{length-map}
+
+-- a core that `Return` doesn't change is in that mode
+pub was_returning : (mode : Option Mode) → closes mode Return ≡ false → mode ≡ Some Return
+was_returning None changes = cc
+was_returning (Some Finish) changes = cc
+was_returning (Some Return) changes = refl
 
 module _ {T : Type 0} where
   -- a note that shuts one gate shuts no other
@@ -30,30 +39,24 @@ module _ {T : Type 0} where
   -- the gate of another sender is as it was
   gate_elsewhere : (sender other : ℕ) (old new : JournalView T) → WritesShut sender old new → other ≢ sender → final_count other new.notes ≡ final_count other old.notes
   gate_elsewhere sender other old new (inl same) away = ap (λ journal. final_count other journal.notes) same
-  gate_elsewhere sender other old new (inr wrote) away = ap (λ journal. final_count other journal.notes) wrote.2 ∙ other_gate sender other wrote.0 old.notes away
+  gate_elsewhere sender other old new (inr wrote) away = ap (λ journal. final_count other journal.notes) wrote.1 ∙ other_gate sender other wrote.0 old.notes away
 
   -- no outcome is given by it
   given_same : (sender other : ℕ) (old new : JournalView T) → WritesShut sender old new → given_count new.notes other ≡ given_count old.notes other
   given_same sender other old new (inl same) = ap (λ journal. given_count journal.notes other) same
-  given_same sender other old new (inr wrote) = ap (λ journal. given_count journal.notes other) wrote.2
+  given_same sender other old new (inr wrote) = ap (λ journal. given_count journal.notes other) wrote.1
 
   mode_same : (sender : ℕ) (old new : JournalView T) → WritesShut sender old new → core_mode new.notes ≡ core_mode old.notes
   mode_same sender old new (inl same) = ap (λ journal. core_mode journal.notes) same
-  mode_same sender old new (inr wrote) = ap (λ journal. core_mode journal.notes) wrote.2
+  mode_same sender old new (inr wrote) = ap (λ journal. core_mode journal.notes) wrote.1
 
   one_longer : (sender : ℕ) (old new : JournalView T) → WritesShut sender old new → length new.notes ≤ length old.notes + 1
   one_longer sender old new (inl same) = let now : length new.notes ≡ length old.notes = ap (λ journal. length journal.notes) same in omega (arith, now)
-  one_longer sender old new (inr wrote) = let now : length new.notes ≡ length old.notes + 1 = ap (λ journal. length journal.notes) wrote.2 in omega (arith, now)
+  one_longer sender old new (inr wrote) = let now : length new.notes ≡ suc (length old.notes) = ap (λ journal. length journal.notes) wrote.1 in omega (arith, now)
 
   shut_closes : (sender least room : ℕ) (old new : JournalView T) → WritesShut sender old new → EachNote (ClosesRightly least room) old.notes → EachNote (ClosesRightly least room) new.notes
   shut_closes sender least room old new (inl same) each = subst (λ journal. EachNote (ClosesRightly least room) journal.notes) (sym same) each
-  shut_closes sender least room old new (inr wrote) each = subst (λ journal. EachNote (ClosesRightly least room) journal.notes) (sym wrote.2) (tt, each)
-
-  -- a core that `Return` doesn't change is in that mode
-  pub was_returning : (mode : Option Mode) → closes mode Return ≡ false → mode ≡ Some Return
-  was_returning None changes = cc
-  was_returning (Some Finish) changes = cc
-  was_returning (Some Return) changes = refl
+  shut_closes sender least room old new (inr wrote) each = subst (λ journal. EachNote (ClosesRightly least room) journal.notes) (sym wrote.1) (tt, each)
 
 module _ {J T : Type 0} where
   -- what an end with a shut gate tells: as many orders came through as have an outcome, and a link holds more
@@ -63,7 +66,7 @@ module _ {J T : Type 0} where
     within =
         let now : last_through view.journal.notes sender ≡ unwrap_or (final_of inward inward.shut) 0 = ap (λ count. unwrap_or count 0) is.gate in
         let low : unwrap_or (final_of inward inward.shut) 0 ≤ length inward.seen = by_final inward.shut in
-        let given : given_count view.journal.notes sender ≡ length inward.given = ap length is.given ∙ length-map _ inward.given in
+        let given : given_count view.journal.notes sender ≡ length inward.given = ap length is.given ∙ length-map inward.given (λ outcome. (name_of sender view.core.core outcome.0, outcome_note outcome.1)) in
         omega (arith, now, low, given, sound.room, is.capacity);
   }
     where
@@ -106,7 +109,7 @@ module _ {J T : Type 0} where
       (returns : LeavesReturning old middle) (shuts : ShutsFirst (middle.recorded.core.cores + 1) middle new) where
     returns_longer : (old new : JournalView T) → WritesReturn old new → length new.notes ≤ length old.notes + 1
     returns_longer old new (inl same) = let now : length new.notes ≡ length old.notes = ap (λ journal. length journal.notes) same in omega (arith, now)
-    returns_longer old new (inr wrote) = let now : length new.notes ≡ length old.notes + 1 = ap (λ journal. length journal.notes) wrote in omega (arith, now)
+    returns_longer old new (inr wrote) = let now : length new.notes ≡ suc (length old.notes) = ap (λ journal. length journal.notes) wrote in omega (arith, now)
 
     pub returned_room : length middle.recorded.journal.notes ≤ length old.recorded.journal.notes + 1
     returned_room = returns_longer old.recorded.journal middle.recorded.journal returns.wrote
@@ -148,3 +151,57 @@ module _ {J T : Type 0} where
         by_return now (inl same) = subst (λ journal. EachNote (ClosesRightly (least_free old.recorded.core.cores old.recorded.cap) old.recorded.journal.room) journal.notes) (sym same) each
         by_return now (inr wrote) =
             subst (λ journal. EachNote (ClosesRightly (least_free old.recorded.core.cores old.recorded.cap) old.recorded.journal.room) journal.notes) (sym wrote) (inr (refl, short), each)
+
+  -- a core that closed by itself is linked as before
+  pub returned_linked : {same : J → J → Type 0} {made : J → ℕ} {polls : Owed J T} (old new : RecordedView J T) (ends : EndsView J T) → IsLinked same made polls (record { recorded = old; ends = ends }) →
+      (did : Bool) → ClosesItself old Return did new → ((sender : ℕ) → KeepsIn sender old new) → KeepsOuts (desk_of old) (desk_of new) → IsSameSeat old new → IsRecorded same made polls new →
+      IsLinked same made polls (record { recorded = new; ends = ends })
+  returned_linked old new ends linked did closes ins outs seat sound = record {
+    recorded = sound;
+    at_rest = still did closes;
+    beside = record {
+      number = linked.beside.number ∙ sym seat.number;
+      outs_are = linked.beside.outs_are ∙ sym seat.cores;
+      ins_are = linked.beside.ins_are ∙ ap (λ cores. cores + 1) (sym seat.cores);
+      outs = λ core low. (outs core).each _ _ (linked.beside.outs core (omega (arith, low, seat.cores)));
+      ins = λ sender known. (ins sender).each _ (linked.beside.ins sender (omega (arith, known, seat.cores)));
+    };
+  }
+    where
+      still : (did : Bool) → ClosesItself old Return did new → new.core.out ≡ None
+      still true closes = closes.2 ∙ linked.at_rest
+      still false closes = ap (λ view. view.core.out) closes.1 ∙ linked.at_rest
+
+  -- a gate that was shut just now
+  pub shut_now : (sender : ℕ) (old new : LinkedView J T) → ShutsGate sender old new → WritesShut sender old.recorded.journal new.recorded.journal × IsSome (final_count sender new.recorded.journal.notes)
+  shut_now sender old new did = (
+    inr (did.count, did.tells.journal),
+    ap (λ journal. is_some (final_count sender journal.notes)) did.tells.journal
+    ∙ ap (λ test. is_some (or_else (cond test (Some did.count) None) (final_count sender old.recorded.journal.notes))) (eq-eqb sender sender refl),
+  )
+
+  -- the gate is shut, whether it was so before or not
+  pub leaves_shut : {same : J → J → Type 0} {made : J → ℕ} {polls : Owed J T} (sender : ℕ) (old new : LinkedView J T) → WritesShut sender old.recorded.journal new.recorded.journal → StaysLinked old new →
+      IsSome (final_count sender new.recorded.journal.notes) → sender ≤ old.recorded.core.cores → IsLinked same made polls new → SoundIn (in_at sender new.ends).inward → LeavesShut sender old new
+  leaves_shut sender old new wrote stays some known linked sound = record {
+    wrote = wrote;
+    shut = shut_within sender new.recorded (in_at sender new.ends).inward (linked.beside.ins sender (omega (arith, known, stays.seat.cores))) sound some;
+    stays = stays;
+  }
+
+  module _ {same : J → J → Type 0} {made : J → ℕ} {polls : Owed J T} (sender : ℕ) (old new inside : LinkedView J T) (seen : inside ≡ new) (known : sender ≤ old.recorded.core.cores)
+      (linked : IsLinked same made polls inside) (sound : SoundIn (in_at sender inside.ends).inward) where
+    leaves_here : WritesShut sender old.recorded.journal new.recorded.journal → StaysLinked old new → IsSome (final_count sender new.recorded.journal.notes) → LeavesShut sender old new
+    leaves_here wrote stays some =
+        leaves_shut sender old new wrote stays some known (subst (IsLinked same made polls) seen linked) (subst (λ (view : LinkedView J T). SoundIn (in_at sender view.ends).inward) seen sound)
+
+    -- it was shut just now
+    pub leaves_then : (did : LinkedView J T) → new ≡ did → ShutsGate sender old did → LeavesShut sender old new
+    leaves_then did is shuts =
+        let now = shut_now sender old new (subst (ShutsGate sender old) (sym is) shuts) in
+        leaves_here now.0 (subst (ShutsGate sender old) (sym is) shuts).stays now.1
+
+    -- it was shut before
+    pub leaves_else : new ≡ old → IsSome (final_count sender old.recorded.journal.notes) → LeavesShut sender old new
+    leaves_else is some =
+        leaves_here (inl (ap (λ view. view.recorded.journal) is)) (subst (StaysLinked old) (sym is) (stays_same old)) (subst (λ (view : LinkedView J T). IsSome (final_count sender view.recorded.journal.notes)) (sym is) some)

@@ -1,5 +1,7 @@
 pub mod Along
 pub mod Stepping
+pub mod Delivered
+pub mod Polled
 pub mod Turning
 pub mod Noted
 pub mod Spare

@@ -33,7 +33,7 @@ more_from {A} items sender name item = by_test (name.from == sender)
 
 module _ {T : Type 0} (name : JobId) (before : Journal T) where
   -- one or two notes
-  effects_short : (order : Order (Unit {0})) (answer : Answer) → length (with_effect (effect_note order answer) (writes.Answered {T = T} name answer ∷ [])) ≤ 2
+  effects_short : (order : Order (Unit {0})) (answer : Answer) → length (with_effect {T = T} (effect_note order answer) (writes.Answered name answer ∷ [])) ≤ 2
   effects_short order answer = by_effect (effect_note order answer)
     where
       by_effect : (effect : Option (Note T)) → length (with_effect effect (writes.Answered name answer ∷ [])) ≤ 2
@@ -43,10 +43,10 @@ module _ {T : Type 0} (name : JobId) (before : Journal T) where
   -- a command's effect follows its answer
   effects_close : (least room : ℕ) (order : Order (Unit {0})) (answer : Answer) → EachNote (ClosesRightly least room) before →
       EachNote (ClosesRightly least room) (with_effect (effect_note order answer) (writes.Answered name answer ∷ []) ++ before)
-  effects_close least room (Create weight) (answers.Created queue) each = (tt, tt, each)
-  effects_close least room (SetShares queue weight) answers.SharesSet each = (tt, tt, each)
-  effects_close least room (Close queue mode) answers.Closed each = (tt, tt, each)
-  effects_close least room (CloseCore mode) answers.Closed each = (inl refl, tt, each)
+  effects_close least room (Create weight) (answers.Created queue) each = (tt, (tt, each))
+  effects_close least room (SetShares queue weight) answers.SharesSet each = (tt, (tt, each))
+  effects_close least room (Close queue mode) answers.Closed each = (tt, (tt, each))
+  effects_close least room (CloseCore mode) answers.Closed each = (inl refl, (tt, each))
   effects_close least room _ _ each = (tt, each)
 
   -- an answer gives one outcome, and its effect none

@@ -1,5 +1,5 @@
 -- Each step of a worker leaves it room for the next.
-use Rattle.std.proofs.Common.{◌≡◌, inr, ℕ, ◌+◌, ◌*◌, ◌<◌, ◌≤◌, List, [], ◌∷◌, ◌++◌, length, refl, sym, ◌∙◌, ap, subst, arith}
+use Rattle.std.proofs.Common.{◌≡◌, inr, ℕ, suc, ◌+◌, ◌*◌, ◌<◌, ◌≤◌, List, [], ◌∷◌, ◌++◌, length, refl, sym, ◌∙◌, ap, subst, arith}
 use Rattle.std.specs.Prelude.{◌==◌, Bool, true, false, Some, None, unwrap_or, IsSome}
 use Rattle.std.proofs.lemmas.List.{length-append}
 use Rattle.rt_ids.specs.declared.note.Note.{Note}
@@ -30,6 +30,15 @@ use Rattle.rt_worker.specs.declared.turn.Made.{Made}
 use Rattle.rt_worker.specs.declared.turn.Made.TheVariants as came
 use Rattle.rt_worker.proofs.Noted.{more_from, delivery_short, delivery_closes, delivery_gives}
 use Rattle.rt_worker.proofs.Spare.{stays_returning, places_some, places_more}
+
+module _ {T : Type 0} where
+  -- the notes of a poll close nothing
+  polls_close : (least room : ℕ) (name other : JobId) (time : ℕ) (did : Step T) (was_started : Bool) (queue runtime : ℕ) (before : Journal T) → EachNote (ClosesRightly least room) before →
+      EachNote (ClosesRightly least room) (settle_note name time did ∷ poll_note other was_started ∷ writes.Pick queue runtime ∷ before)
+  polls_close least room name other time step.Yield false queue runtime before each = (tt, (tt, (tt, each)))
+  polls_close least room name other time step.Yield true queue runtime before each = (tt, (tt, (tt, each)))
+  polls_close least room name other time (step.Done out) false queue runtime before each = (tt, (tt, (tt, each)))
+  polls_close least room name other time (step.Done out) true queue runtime before each = (tt, (tt, (tt, each)))
 
 module _ {J T : Type 0} where
   -- what was closed rightly by the old numbers was so by the new ones
@@ -144,9 +153,9 @@ module _ {J T : Type 0} where
       closes = closes_here old.recorded new.recorded shuts.stays.seat (shuts.closes (least_free old.recorded.core.cores old.recorded.cap) closes);
     }
 
-    module _ {answers : J → T → Type 0} (old new : LinkedView J T) (was : IsLinked same made polls old) (now : IsLinked same made polls new) (seat : IsSameSeat old.recorded new.recorded) where
+    module _ (old new : LinkedView J T) (was : IsLinked same made polls old) (now : IsLinked same made polls new) (seat : IsSameSeat old.recorded new.recorded) where
       -- a poll
-      module _ (did : PollsOne made polls answers old.recorded new.recorded) where
+      module _ {answers : J → T → Type 0} (did : PollsOne made polls answers old.recorded new.recorded) where
         polled_notes : new.recorded.journal.notes
             ≡ settle_note did.settles.settles.out.name (unwrap_or did.settles.ran.told did.settles.spent) did.settles.ran.step ∷ poll_note did.name did.was_started ∷ writes.Pick did.queue did.picks.runtime ∷ old.recorded.journal.notes
         polled_notes =
@@ -154,14 +163,7 @@ module _ {J T : Type 0} where
             ∙ ap (λ journal. settle_note did.settles.settles.out.name (unwrap_or did.settles.ran.told did.settles.spent) did.settles.ran.step ∷ journal.notes) did.picks.journal
 
         polled_longer : length new.recorded.journal.notes ≤ length old.recorded.journal.notes + 3
-        polled_longer = let now : length new.recorded.journal.notes ≡ length old.recorded.journal.notes + 3 = ap length polled_notes in omega (arith, now)
-
-        polls_close : (least room : ℕ) (name other : JobId) (time : ℕ) (did : Step T) (was_started : Bool) (queue runtime : ℕ) (before : Journal T) → EachNote (ClosesRightly least room) before →
-            EachNote (ClosesRightly least room) (settle_note name time did ∷ poll_note other was_started ∷ writes.Pick queue runtime ∷ before)
-        polls_close least room name other time step.Yield false queue runtime before each = (tt, tt, tt, each)
-        polls_close least room name other time step.Yield true queue runtime before each = (tt, tt, tt, each)
-        polls_close least room name other time (step.Done out) false queue runtime before each = (tt, tt, tt, each)
-        polls_close least room name other time (step.Done out) true queue runtime before each = (tt, tt, tt, each)
+        polled_longer = let now : length new.recorded.journal.notes ≡ suc (suc (suc (length old.recorded.journal.notes))) = ap length polled_notes in omega (arith, now)
 
         polled_provided : (ending : Bool) → IsReady ending old.recorded → IsProvided ending new.recorded
         polled_provided false ready = spare_after old.recorded new.recorded 3 seat ready polled_longer (omega arith)
@@ -182,7 +184,7 @@ module _ {J T : Type 0} where
         returned_notes = ap (λ journal. journal.notes) did.did.journal
 
         returned_longer : length new.recorded.journal.notes ≤ length old.recorded.journal.notes + 2
-        returned_longer = let now : length new.recorded.journal.notes ≡ length old.recorded.journal.notes + 2 = ap length returned_notes in omega (arith, now)
+        returned_longer = let now : length new.recorded.journal.notes ≡ suc (suc (length old.recorded.journal.notes)) = ap length returned_notes in omega (arith, now)
 
         returned_provided : (ending : Bool) → IsReady ending old.recorded → IsProvided ending new.recorded
         returned_provided false ready = spare_after old.recorded new.recorded 2 seat ready returned_longer (omega arith)
@@ -204,13 +206,13 @@ module _ {J T : Type 0} where
           linked = now;
           provided = returned_provided ending ready;
           closes = closes_here old.recorded new.recorded seat
-              (subst (EachNote (ClosesRightly (least_free old.recorded.core.cores old.recorded.cap) old.recorded.journal.room)) (sym returned_notes) (tt, tt, closes));
+              (subst (EachNote (ClosesRightly (least_free old.recorded.core.cores old.recorded.cap) old.recorded.journal.room)) (sym returned_notes) (tt, (tt, closes)));
         }
 
       -- whatever a turn came to
-      pub turned_served : (came_to : Made) (ending : Bool) → MakesTurn same made polls answers old.recorded came_to new.recorded → IsReady ending old.recorded →
+      pub turned_served : (answers : J → T → Type 0) (came_to : Made) (ending : Bool) → MakesTurn same made polls answers old.recorded came_to new.recorded → IsReady ending old.recorded →
           ClosesOnlyShort old.recorded.core.cores old.recorded.cap old.recorded.journal → IsServed same made polls (record { linked = new; ending = ending })
-      turned_served came.Polled ending did ready closes = polled_served did ending ready closes
-      turned_served came.Returned ending did ready closes = returned_served did ending ready closes
-      turned_served came.Idle ending did ready closes = unmoved ending old new now ready did.1 closes
-      turned_served came.Spent ending did ready closes = unmoved ending old new now ready did.2 closes
+      turned_served answers came.Polled ending did ready closes = polled_served did ending ready closes
+      turned_served answers came.Returned ending did ready closes = returned_served did ending ready closes
+      turned_served answers came.Idle ending did ready closes = unmoved ending old new now ready did.1 closes
+      turned_served answers came.Spent ending did ready closes = unmoved ending old new now ready did.2 closes

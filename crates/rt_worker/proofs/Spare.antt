@@ -1,5 +1,5 @@
 -- Sums over senders, and the room that a worker keeps.
-use Rattle.std.proofs.Common.{◌≡◌, ℕ, zero, suc, ◌+◌, ◌*◌, ◌<◌, ◌≤◌, List, ◌++◌, length, refl, sym, ◌∙◌, ap, subst, arith}
+use Rattle.std.proofs.Common.{◌≡◌, ℕ, zero, suc, ◌+◌, ◌*◌, ◌<◌, ◌≤◌, List, [], ◌∷◌, ◌++◌, length, refl, sym, ◌∙◌, ap, subst, arith}
 use Rattle.std.specs.Prelude.{◌==◌, Some, None, unwrap_or, IsSome, Bool, true, false}
 use Rattle.rt_ids.specs.Terms.{Terms}
 use Rattle.rt_ids.specs.declared.note.Note.{Note}
@@ -15,7 +15,7 @@ use Rattle.rt_journal.specs.Recorded.{RecordedView, sum_upto, given_count, deliv
 use Rattle.rt_journal.specs.Ends.{IsInOf}
 use Rattle.rt_grid.specs.Ends.{in_at}
 use Rattle.rt_worker.specs.Linked.{LinkedView, IsLinked}
-use Rattle.rt_worker.specs.Rooms.{last_through, IsEnding}
+use Rattle.rt_worker.specs.Rooms.{last_through, IsEnding, IsReady}
 
 -- each of them at most so much above the other, and so are the sums
 pub sums_within : (f g : ℕ → ℕ) (more last : ℕ) → ((s : ℕ) → s ≤ last → f s ≤ g s + more) → sum_upto f last ≤ sum_upto g last + (last + 1) * more
@@ -72,3 +72,8 @@ module _ {J T : Type 0} {same : J → J → Type 0} {made : J → ℕ} {polls : 
   -- there is room for the next step
   pub step_room : IsEnding view.recorded → length view.recorded.journal.notes + 3 ≤ view.recorded.journal.room
   step_room ending = let through = given_through ending in omega (arith, through, ending.room)
+
+  -- the same at any time
+  pub ready_room : (ending : Bool) → IsReady ending view.recorded → length view.recorded.journal.notes + 3 ≤ view.recorded.journal.room
+  ready_room true ready = step_room ready
+  ready_room false ready = omega (arith, ready, places_some view.recorded.core.cores view.recorded.cap)

@@ -1,62 +1,137 @@
 -- A step on the end of one sender leaves a core linked as before.
-use Rattle.std.proofs.Common.{◌≡◌, ◌≢◌, ℕ, ◌+◌, ◌<◌, ◌≤◌, None, length, set, refl, sym, ◌∙◌, ap, subst, arith, ⊎_elim, get_or-set_same, get_or-set_other, length-set}
+use Rattle.std.proofs.Common.{◌≡◌, ◌≢◌, ℕ, ◌+◌, ◌<◌, ◌≤◌, Some, None, get_or, length, set, get_or-set_same, get_or-set_other, length-set, refl, sym, ◌∙◌, ap, subst, arith, ⊎_elim}
 use Rattle.std.proofs.lemmas.Bool.{cases_eq}
+use Rattle.std.proofs.lemmas.List.{get_or_default}
+use Rattle.rt_ids.specs.declared.names.JobId.{JobId}
+use Rattle.rt_ids.specs.declared.order.Reason.{Reason}
+use Rattle.rt_ids.specs.declared.note.OutcomeNote.TheVariants.{Returned}
 use Rattle.rt_jobs.specs.Steps.{Owed}
-use Rattle.rt_link.specs.declared.ends.Inward.{Inward}
 use Rattle.rt_ring.specs.declared.ring_in.Receiving.{Receiving}
 use Rattle.rt_journal.specs.Recorded.{RecordedView, IsRecorded, desk_of}
-use Rattle.rt_journal.specs.Ends.{IsInOf, IsSameSeat, KeepsIn, KeepsOuts}
-use Rattle.rt_grid.specs.Ends.{EndsView, out_at, in_at, no_in}
+use Rattle.rt_journal.specs.Ends.{IsInOf, IsInOwing, IsSameSeat, KeepsIn, KeepsOuts}
+use Rattle.rt_grid.specs.Ends.{EndsView, in_at, no_in, SameEnds}
 use Rattle.rt_grid.proofs.Using.{in_used}
-use Rattle.rt_worker.specs.Linked.{LinkedView, AreBeside, IsLinked, StaysLinked}
+use Rattle.rt_worker.specs.Linked.{LinkedView, AreBeside, AreOwing, IsLinked, StaysLinked}
 
-module _ {J T : Type 0} (same : J → J → Type 0) (made : J → ℕ) (polls : Owed J T) where
-  -- the core after a step, and the end of this sender that it was lent
-  pub record StepsOn (sender : ℕ) (old : LinkedView J T) (recorded : RecordedView J T) (end : Receiving J T) : Type 0 where
-    pub linked : IsLinked same made polls old
-    pub known : sender ≤ old.recorded.core.cores
-    pub sound : IsRecorded same made polls recorded
-    pub at_rest : recorded.core.out ≡ None
-    pub seat : IsSameSeat old.recorded recorded
-    pub beside : IsInOf sender recorded end.inward
-    pub others : (other : ℕ) → other ≢ sender → KeepsIn other old.recorded recorded
-    pub outs : KeepsOuts (desk_of old.recorded) (desk_of recorded)
-    pub link : end.link ≡ (in_at sender old.ends).link
+module _ {J T : Type 0} where
+  -- the end in its place
+  abbrev pub lent : ℕ → EndsView J T → Receiving J T → Type 0
+  lent sender ends end = end ≡ get_or ends.ins sender end
 
-module _ {J T : Type 0} {same : J → J → Type 0} {made : J → ℕ} {polls : Owed J T} where
-  -- the end of the sender is in its place again
-  abbrev pub stepped : ℕ → LinkedView J T → RecordedView J T → Receiving J T → LinkedView J T
-  stepped sender old recorded end = record { recorded = recorded; ends = record old.ends { ins = set old.ends.ins sender end } }
+  pub lent_at : (sender : ℕ) (ends : EndsView J T) (end : Receiving J T) → sender < length ends.ins → lent sender ends end → end ≡ in_at sender ends
+  lent_at sender ends end low is = is ∙ get_or_default ends.ins sender end no_in low
 
-  pub in_place : (sender : ℕ) (old : LinkedView J T) → IsLinked same made polls old → sender ≤ old.recorded.core.cores → sender < length old.ends.ins
-  in_place sender old linked known = omega (arith, linked.beside.ins_are, known)
+  -- the end is put back, as it is now
+  abbrev pub put_back : ℕ → EndsView J T → Receiving J T → EndsView J T
+  put_back sender ends end = record ends { ins = set ends.ins sender end }
 
-  module _ (sender : ℕ) (old : LinkedView J T) (recorded : RecordedView J T) (end : Receiving J T) (step : StepsOn same made polls sender old recorded end) where
-    pub end_now : in_at sender (stepped sender old recorded end).ends ≡ end
-    end_now = get_or-set_same old.ends.ins sender end no_in (in_place sender old step.linked step.known)
+  -- the ends beside a core after a step on one of them
+  pub record StepsOn (sender : ℕ) (recorded now : RecordedView J T) (ends : EndsView J T) (end : Receiving J T) : Type 0 where
+    pub beside : AreBeside recorded ends
+    pub known : sender ≤ recorded.core.cores
+    pub seat : IsSameSeat recorded now
+    pub its_own : IsInOf sender now end.inward
+    pub others : (other : ℕ) → other ≢ sender → KeepsIn other recorded now
+    pub outs : KeepsOuts (desk_of recorded) (desk_of now)
+    pub link : end.link ≡ (in_at sender ends).link
 
-    ins_now : (other : ℕ) → other ≤ recorded.core.cores → IsInOf other recorded (in_at other (stepped sender old recorded end).ends).inward
+  pub in_place : (sender : ℕ) (recorded : RecordedView J T) (ends : EndsView J T) → AreBeside recorded ends → sender ≤ recorded.core.cores → sender < length ends.ins
+  in_place sender recorded ends beside known = omega (arith, beside.ins_are, known)
+
+  -- the ends as the code has them, under the number as the code has it
+  pub record Opens (sender : ℕ) (ends : EndsView J T) (at : ℕ) (inside : EndsView J T) : Type 0 where
+    pub number : at ≡ sender
+    pub seen : inside ≡ ends
+
+  pub lent_seen : (sender : ℕ) (ends : EndsView J T) (at : ℕ) (inside : EndsView J T) (end : Receiving J T) → Opens sender ends at inside → lent at inside end → lent sender ends end
+  lent_seen sender ends at inside end opens is = subst (λ number. lent number ends end) opens.number (subst (λ ends. lent at ends end) opens.seen is)
+
+  pub put_seen : (sender : ℕ) (ends : EndsView J T) (at : ℕ) (inside : EndsView J T) (end : Receiving J T) → Opens sender ends at inside → put_back sender ends end ≡ put_back at inside end
+  put_seen sender ends at inside end opens = ap (λ number. put_back number ends end) (sym opens.number) ∙ ap (λ ends. put_back at ends end) (sym opens.seen)
+
+  -- the end that is lent is beside the core
+  pub lent_here : (sender : ℕ) (recorded : RecordedView J T) (ends : EndsView J T) (at : ℕ) (inside : EndsView J T) (end : Receiving J T) → Opens sender ends at inside → AreBeside recorded ends →
+      sender ≤ recorded.core.cores → lent at inside end → end ≡ in_at sender ends
+  lent_here sender recorded ends at inside end opens beside known is =
+      lent_at sender ends end (in_place sender recorded ends beside known) (lent_seen sender ends at inside end opens is)
+
+  pub lent_beside : (sender : ℕ) (recorded : RecordedView J T) (ends : EndsView J T) (at : ℕ) (inside : EndsView J T) (end : Receiving J T) → Opens sender ends at inside → AreBeside recorded ends →
+      sender ≤ recorded.core.cores → lent at inside end → IsInOf sender recorded end.inward
+  lent_beside sender recorded ends at inside end opens beside known is =
+      subst (λ end. IsInOf sender recorded end.inward) (sym (lent_here sender recorded ends at inside end opens beside known is)) (beside.ins sender known)
+
+  -- the same, where the end names its sender
+  pub its_sender : (sender : ℕ) (recorded : RecordedView J T) (end : Receiving J T) → IsInOf sender recorded end.inward → IsInOf end.inward.from recorded end.inward
+  its_sender sender recorded end is = subst (λ from. IsInOf from recorded end.inward) (sym is.from) is
+
+  module _ (sender : ℕ) (recorded now : RecordedView J T) (ends : EndsView J T) (at : ℕ) (inside : EndsView J T) (end : Receiving J T) (opens : Opens sender ends at inside) (step : StepsOn sender recorded now ends end) where
+    here : sender < length ends.ins
+    here = in_place sender recorded ends step.beside step.known
+
+    end_now : in_at sender (put_back sender ends end) ≡ end
+    end_now = get_or-set_same ends.ins sender end no_in here
+
+    ins_now : (other : ℕ) → other ≤ now.core.cores → IsInOf other now (in_at other (put_back sender ends end)).inward
     ins_now other known =
         ⊎_elim
         (λ (is : other ≡ sender).
-        subst (λ one. IsInOf one recorded (in_at one (stepped sender old recorded end).ends).inward) (sym is)
-        (subst (λ now. IsInOf sender recorded now.inward) (sym end_now) step.beside))
+        subst (λ one. IsInOf one now (in_at one (put_back sender ends end)).inward) (sym is)
+        (subst (λ lent. IsInOf sender now lent.inward) (sym end_now) step.its_own))
         (λ (away : other ≢ sender).
-        subst (λ now. IsInOf other recorded now.inward) (sym (get_or-set_other old.ends.ins sender other end no_in away))
-        ((step.others other away).each _ (step.linked.beside.ins other (omega (arith, known, step.seat.cores)))))
+        subst (λ lent. IsInOf other now lent.inward) (sym (get_or-set_other ends.ins sender other end no_in away))
+        ((step.others other away).each _ (step.beside.ins other (omega (arith, known, step.seat.cores)))))
         (cases_eq other sender)
 
-    pub beside_now : AreBeside recorded (stepped sender old recorded end).ends
+    beside_now : AreBeside now (put_back sender ends end)
     beside_now = record {
-      number = step.linked.beside.number ∙ sym step.seat.number;
-      outs_are = step.linked.beside.outs_are ∙ sym step.seat.cores;
-      ins_are = length-set old.ends.ins sender end ∙ step.linked.beside.ins_are ∙ ap (λ cores. cores + 1) (sym step.seat.cores);
-      outs = λ core low. (step.outs core).each _ _ (step.linked.beside.outs core (omega (arith, low, step.seat.cores)));
+      number = step.beside.number ∙ sym step.seat.number;
+      outs_are = step.beside.outs_are ∙ sym step.seat.cores;
+      ins_are = length-set ends.ins sender end ∙ step.beside.ins_are ∙ ap (λ cores. cores + 1) (sym step.seat.cores);
+      outs = λ core low. (step.outs core).each _ _ (step.beside.outs core (omega (arith, low, step.seat.cores)));
       ins = ins_now;
     }
 
-    pub linked_now : IsLinked same made polls (stepped sender old recorded end)
-    linked_now = record { recorded = step.sound; at_rest = step.at_rest; beside = beside_now }
+    pub same_ends : SameEnds ends (put_back at inside end)
+    same_ends = subst (SameEnds ends) (put_seen sender ends at inside end opens) (in_used ends sender end here step.link)
 
-    pub stays_now : StaysLinked old (stepped sender old recorded end)
-    stays_now = record { seat = step.seat; ends = in_used old.ends sender end (in_place sender old step.linked step.known) step.link }
+    pub put_beside : AreBeside now (put_back at inside end)
+    put_beside = subst (AreBeside now) (put_seen sender ends at inside end opens) beside_now
+
+    pub end_put : in_at sender (put_back at inside end) ≡ end
+    end_put = subst (λ ends. in_at sender ends ≡ end) (put_seen sender ends at inside end opens) end_now
+
+  -- the outcome that was owed is given
+  module _ (name : JobId) (reason : Reason) (recorded : RecordedView J T) (ends : EndsView J T) (at : ℕ) (inside : EndsView J T) (opens : Opens name.from ends at inside) (owing : AreOwing name reason recorded ends) (known : name.from ≤ recorded.core.cores) where
+    here_owing : name.from < length ends.ins
+    here_owing = omega (arith, owing.ins_are, known)
+
+    pub owing_here : (end : Receiving J T) → lent at inside end → end ≡ in_at name.from ends
+    owing_here end is = lent_at name.from ends end here_owing (lent_seen name.from ends at inside end opens is)
+
+    pub owing_end : (end : Receiving J T) → lent at inside end → IsInOwing name.from (Some (name, Returned reason)) recorded end.inward
+    owing_end end is = subst (λ end. IsInOwing name.from (Some (name, Returned reason)) recorded end.inward) (sym (owing_here end is)) owing.owed
+
+    module _ (end : Receiving J T) (gave : IsInOf name.from recorded end.inward) (link : end.link ≡ (in_at name.from ends).link) where
+      ins_given : (other : ℕ) → other ≤ recorded.core.cores → IsInOf other recorded (in_at other (put_back name.from ends end)).inward
+      ins_given other there =
+          ⊎_elim
+          (λ (is : other ≡ name.from).
+          subst (λ one. IsInOf one recorded (in_at one (put_back name.from ends end)).inward) (sym is)
+          (subst (λ lent. IsInOf name.from recorded lent.inward) (sym (get_or-set_same ends.ins name.from end no_in here_owing)) gave))
+          (λ (away : other ≢ name.from).
+          subst (λ lent. IsInOf other recorded lent.inward) (sym (get_or-set_other ends.ins name.from other end no_in away)) (owing.ins other there away))
+          (cases_eq other name.from)
+
+      pub given_beside : AreBeside recorded (put_back at inside end)
+      given_beside =
+          subst (AreBeside recorded) (put_seen name.from ends at inside end opens)
+          (record {
+            number = owing.number;
+            outs_are = owing.outs_are;
+            ins_are = length-set ends.ins name.from end ∙ owing.ins_are;
+            outs = owing.outs;
+            ins = ins_given;
+          })
+
+      pub given_ends : SameEnds ends (put_back at inside end)
+      given_ends = subst (SameEnds ends) (put_seen name.from ends at inside end opens) (in_used ends name.from end here_owing link)

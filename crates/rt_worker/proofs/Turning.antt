@@ -1,20 +1,38 @@
 -- What a pick leaves for the poll, or for the outcome that is given.
-use Rattle.std.proofs.Common.{◌≡◌, ◌≢◌, ℕ, ◌+◌, ◌<◌, ◌≤◌, refl, sym, ◌∙◌, ap, subst}
+use Rattle.std.proofs.Common.{◌≡◌, ◌≢◌, ℕ, ◌+◌, ◌<◌, ◌≤◌, cond, refl, sym, ◌∙◌, ap, subst, arith}
 use Rattle.std.specs.Prelude.{Bool, true, false, Some, None, Result, Ok, Err}
+use Rattle.std.proofs.lemmas.Bool.{eq-eqb, ne_eqb}
 use Rattle.rt_ids.specs.declared.names.JobId.{JobId}
+use Rattle.rt_ids.specs.declared.order.Order.{Order}
+use Rattle.rt_ids.specs.declared.order.Reason.{Reason}
+use Rattle.rt_ids.specs.declared.note.OutcomeNote.TheVariants as outcomes
 use Rattle.rt_core.specs.declared.turn.Turn.{Turn}
 use Rattle.rt_core.specs.declared.turn.Turn.TheVariants as turn
 use Rattle.rt_core.specs.declared.turn.PickError.{PickError}
-use Rattle.rt_core.specs.declared.turn.PickError.TheVariants.{Busy}
+use Rattle.rt_core.specs.declared.turn.PickError.TheVariants.{Busy, Spent}
 use Rattle.rt_jobs.specs.Steps.{Owed}
 use Rattle.rt_jobs.specs.Ready.{IsReady}
 use Rattle.rt_core.specs.Answers.{IsReadyTurn}
-use Rattle.rt_journal.specs.Recorded.{RecordedView, IsRecorded}
-use Rattle.rt_journal.specs.Ends.{KeepsIn, KeepsOut, KeepsOuts, IsSameSeat, LeavesOwed}
-use Rattle.rt_journal.specs.Owed.{owed_back}
-use Rattle.rt_journal.specs.Submissions.{DeskView}
-use Rattle.rt_journal.specs.Turns.{Picks, IsPick, IsOut, IsOutUnder}
-use Rattle.rt_worker.specs.Next.{TakesOut}
+use Rattle.rt_grid.specs.Ends.{EndsView, in_at}
+use Rattle.rt_journal.specs.Recorded.{RecordedView, IsRecorded, desk_of, order_taken}
+use Rattle.rt_journal.specs.Ends.{KeepsIn, KeepsOuts, IsSameSeat, LeavesOwed, IsInOf, IsInOwing}
+use Rattle.rt_journal.specs.Owed.{owed_back, IsSentUnder}
+use Rattle.rt_journal.specs.Turns.{Picks, IsPick, IsHandBack, IsOut, IsOutUnder}
+use Rattle.rt_worker.specs.Linked.{AreBeside, AreOwing}
+use Rattle.rt_worker.specs.Next.{TakesOut, HandsOut, FindsNothing}
+use Rattle.rt_worker.specs.Steps.{HandsBack}
+use Rattle.rt_worker.specs.declared.turn.Made.{Made}
+use Rattle.rt_worker.specs.declared.turn.Made.TheVariants as made
+
+module _ {J : Type 0} where
+  -- it may be polled
+  pub ready_out : (done : J → Bool) (can_poll : J → Type 0) (picked : Result (Turn J) PickError) (name : JobId) (job : J) →
+      IsReadyTurn done can_poll picked → TakesOut picked name job → IsReady done can_poll job
+  ready_out done can_poll (Ok (turn.Start its_name queue its_job)) name job ready is = rw is.1 ready
+  ready_out done can_poll (Ok (turn.Resume its_name queue its_job)) name job ready is = rw is.1 ready
+  ready_out done can_poll (Ok (turn.Back its_name reason order)) name job ready is = absurd is
+  ready_out done can_poll (Ok turn.Idle) name job ready is = absurd is
+  ready_out done can_poll (Err error) name job ready is = absurd is
 
 module _ {J T : Type 0} where
   -- nobody is out, so no pick is refused for that
@@ -34,27 +52,96 @@ module _ {J T : Type 0} where
       record { queue = queue; was_started = false; picks = rw is.0 (rw is.1 picks) }
   taken_out same old new (Ok (turn.Resume its_name queue its_job)) name job picks is =
       record { queue = queue; was_started = true; picks = rw is.0 (rw is.1 picks) }
+  taken_out same old new (Ok (turn.Back its_name reason order)) name job picks is = absurd is
+  taken_out same old new (Ok turn.Idle) name job picks is = absurd is
+  taken_out same old new (Err error) name job picks is = absurd is
 
-  -- it may be polled
-  pub ready_out : (done : J → Bool) (can_poll : J → Type 0) (picked : Result (Turn J) PickError) (name : JobId) (job : J) →
-      IsReadyTurn done can_poll picked → TakesOut picked name job → IsReady done can_poll job
-  ready_out done can_poll (Ok (turn.Start its_name queue its_job)) name job ready is = rw is.1 ready
-  ready_out done can_poll (Ok (turn.Resume its_name queue its_job)) name job ready is = rw is.1 ready
-
-  -- no outcome is owed to anybody
-  pub keeps_out : (old new : RecordedView J T) (picked : Result (Turn J) PickError) (name : JobId) (job : J) → TakesOut picked name job →
+  -- no outcome is owed to anybody then
+  keeps_out : (old new : RecordedView J T) (picked : Result (Turn J) PickError) (name : JobId) (job : J) → TakesOut picked name job →
       (sender : ℕ) → LeavesOwed sender (owed_back picked sender) old new → KeepsIn sender old new
   keeps_out old new (Ok (turn.Start its_name queue its_job)) name job is sender leaves = leaves
   keeps_out old new (Ok (turn.Resume its_name queue its_job)) name job is sender leaves = leaves
+  keeps_out old new (Ok (turn.Back its_name reason order)) name job is sender leaves = absurd is
+  keeps_out old new (Ok turn.Idle) name job is sender leaves = absurd is
+  keeps_out old new (Err error) name job is sender leaves = absurd is
 
-  module _ {same : J → J → Type 0} {made : J → ℕ} {polls : Owed J T} (old : RecordedView J T) (name : JobId) (job : J) (new : RecordedView J T)
-      (out : IsTakenOut old name job new) where
-    pub is_out : IsOut new.core.out job
-    is_out = subst (λ one. IsOut one job) (sym out.picks.out) refl
+  pub is_out : (old new : RecordedView J T) (name : JobId) (job : J) → IsTakenOut old name job new → IsOut new.core.out job
+  is_out old new name job out = subst (λ one. IsOut one job) (sym out.picks.out) refl
 
-    pub is_out_under : IsOutUnder new.core.out name
-    is_out_under = subst (λ one. IsOutUnder one name) (sym out.picks.out) refl
+  pub is_out_under : (old new : RecordedView J T) (name : JobId) (job : J) → IsTakenOut old name job new → IsOutUnder new.core.out name
+  is_out_under old new name job out = subst (λ one. IsOutUnder one name) (sym out.picks.out) refl
 
-    -- there is such a sender
-    pub sender_known : IsRecorded same made polls new → name.from ≤ new.core.cores
-    sender_known sound = let task = sound.out _ out.picks.out in (sound.taken name _ task.task).sender
+  -- there is such a sender
+  pub sender_known : {same : J → J → Type 0} {made : J → ℕ} {polls : Owed J T} (old new : RecordedView J T) (name : JobId) (job : J) → IsTakenOut old name job new →
+      IsRecorded same made polls new → name.from ≤ new.core.cores
+  sender_known old new name job out sound = let task = sound.out _ out.picks.out in (sound.taken name _ task.task).sender
+
+  -- the ends stay beside a core whose job was taken out
+  pub stay_out : (old new : RecordedView J T) (ends : EndsView J T) (picked : Result (Turn J) PickError) (name : JobId) (job : J) → AreBeside old ends → TakesOut picked name job → IsSameSeat old new →
+      KeepsOuts (desk_of old) (desk_of new) → ((sender : ℕ) → LeavesOwed sender (owed_back picked sender) old new) → AreBeside new ends
+  stay_out old new ends picked name job beside takes seat outs ins = record {
+    number = beside.number ∙ sym seat.number;
+    outs_are = beside.outs_are ∙ sym seat.cores;
+    ins_are = beside.ins_are ∙ ap (λ cores. cores + 1) (sym seat.cores);
+    outs = λ core low. (outs core).each _ _ (beside.outs core (omega (arith, low, seat.cores)));
+    ins = λ sender known. (keeps_out old new picked name job takes sender (ins sender)).each _ (beside.ins sender (omega (arith, known, seat.cores)));
+  }
+
+  -- a job that was handed back
+  pub handed_back : (same : J → J → Type 0) (old new : RecordedView J T) (picked : Result (Turn J) PickError) (name : JobId) (reason : Reason) (order : Order J) →
+      Picks same old picked new → HandsOut picked name reason order → IsHandBack same old name reason order new
+  handed_back same old new (Ok (turn.Back its_name its_reason its_order)) name reason order picks is = rw (is.0, is.1, is.2) picks
+  handed_back same old new (Ok (turn.Start its_name queue its_job)) name reason order picks is = absurd is
+  handed_back same old new (Ok (turn.Resume its_name queue its_job)) name reason order picks is = absurd is
+  handed_back same old new (Ok turn.Idle) name reason order picks is = absurd is
+  handed_back same old new (Err error) name reason order picks is = absurd is
+
+  -- its outcome is owed to its sender, and nothing to the others
+  owed_to : (picked : Result (Turn J) PickError) (name : JobId) (reason : Reason) (order : Order J) → HandsOut picked name reason order → owed_back {T = T} picked name.from ≡ Some (name, outcomes.Returned reason)
+  owed_to (Ok (turn.Back its_name its_reason its_order)) name reason order is =
+      rw (is.0, is.1) (ap (λ test. cond test (Some (its_name, outcomes.Returned its_reason)) None) (eq-eqb its_name.from its_name.from refl))
+  owed_to (Ok (turn.Start its_name queue its_job)) name reason order is = absurd is
+  owed_to (Ok (turn.Resume its_name queue its_job)) name reason order is = absurd is
+  owed_to (Ok turn.Idle) name reason order is = absurd is
+  owed_to (Err error) name reason order is = absurd is
+
+  owed_none : (picked : Result (Turn J) PickError) (name : JobId) (reason : Reason) (order : Order J) → HandsOut picked name reason order → (sender : ℕ) → sender ≢ name.from → owed_back {T = T} picked sender ≡ None
+  owed_none (Ok (turn.Back its_name its_reason its_order)) name reason order is sender away =
+      ap (λ test. cond test (Some (its_name, outcomes.Returned its_reason)) None) (ne_eqb its_name.from sender (λ one. away (sym one ∙ ap (λ name. name.from) (sym is.0))))
+  owed_none (Ok (turn.Start its_name queue its_job)) name reason order is sender away = absurd is
+  owed_none (Ok (turn.Resume its_name queue its_job)) name reason order is sender away = absurd is
+  owed_none (Ok turn.Idle) name reason order is sender away = absurd is
+  owed_none (Err error) name reason order is sender away = absurd is
+
+  -- the ends beside a core that has just handed a job back
+  pub stay_owing : (old new : RecordedView J T) (ends : EndsView J T) (picked : Result (Turn J) PickError) (name : JobId) (reason : Reason) (order : Order J) → AreBeside old ends → HandsOut picked name reason order →
+      name.from ≤ old.core.cores → IsSameSeat old new → KeepsOuts (desk_of old) (desk_of new) → ((sender : ℕ) → LeavesOwed sender (owed_back picked sender) old new) → AreOwing name reason new ends
+  stay_owing old new ends picked name reason order beside hands known seat outs ins = record {
+    number = beside.number ∙ sym seat.number;
+    outs_are = beside.outs_are ∙ sym seat.cores;
+    ins_are = beside.ins_are ∙ ap (λ cores. cores + 1) (sym seat.cores);
+    outs = λ core low. (outs core).each _ _ (beside.outs core (omega (arith, low, seat.cores)));
+    owed = subst (λ owed. IsInOwing name.from owed new (in_at name.from ends).inward) (owed_to picked name reason order hands) ((ins name.from).each _ (beside.ins name.from known));
+    ins = λ sender there away.
+        subst (λ owed. IsInOwing sender owed new (in_at sender ends).inward) (owed_none picked name reason order hands sender away) ((ins sender).each _ (beside.ins sender (omega (arith, there, seat.cores))));
+  }
+
+  -- the order that is given back is of the task that was sent
+  pub sent_under : (same : J → J → Type 0) (old new : RecordedView J T) (name : JobId) (reason : Reason) (order : Order J) → IsHandBack same old name reason order new → IsSentUnder same new.took name order
+  sent_under same old new name reason order did = record {
+    queue = did.queue;
+    sent = did.sent;
+    task = ap (λ took. order_taken took name) did.took ∙ did.task;
+    job = did.job;
+    back = did.back;
+    same_task = did.same_task;
+  }
+
+  -- a pick that found nothing changed nothing
+  pub found_nothing : (same : J → J → Type 0) (old new : RecordedView J T) (picked : Result (Turn J) PickError) (came_to : Made) → Picks same old picked new → FindsNothing picked came_to → new ≡ old
+  found_nothing same old new (Ok turn.Idle) came_to picks is = picks.1
+  found_nothing same old new (Err Spent) came_to picks is = picks.2
+  found_nothing same old new (Err Busy) came_to picks is = absurd is
+  found_nothing same old new (Ok (turn.Start its_name queue its_job)) came_to picks is = absurd is
+  found_nothing same old new (Ok (turn.Resume its_name queue its_job)) came_to picks is = absurd is
+  found_nothing same old new (Ok (turn.Back its_name reason order)) came_to picks is = absurd is

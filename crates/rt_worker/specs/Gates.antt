@@ -1,5 +1,5 @@
 -- What is done to close a core and to shut all its gates.
-use Rattle.std.specs.Prelude.{◌≡◌, ◌⊎◌, ℕ, ◌+◌, ◌<◌, ◌≤◌, Some, None, [], ◌∷◌, length, IsSome}
+use Rattle.std.specs.Prelude.{◌≡◌, ◌⊎◌, ℕ, ◌+◌, ◌<◌, ◌≤◌, Some, [], ◌∷◌, length, IsSome}
 use Rattle.rt_ids.specs.declared.note.Note.TheVariants.{CoreClosed, Shut}
 use Rattle.rt_ids.specs.declared.order.Mode.TheVariants.{Return}
 use Rattle.rt_ids.specs.Journal.{EachNote}
@@ -14,7 +14,7 @@ module _ {T : Type 0} where
   -- nothing is written, or that the gate of this sender was shut
   abbrev pub WritesShut : ℕ → JournalView T → JournalView T → Type 0
   WritesShut sender old new =
-      (new ≡ old) ⊎ ((count : ℕ) × (final_count sender old.notes ≡ None) × (new ≡ with_notes (Shut sender count ∷ []) old))
+      (new ≡ old) ⊎ ((count : ℕ) × (new ≡ with_notes (Shut sender count ∷ []) old))
 
   -- nothing is written, or that the core closed in mode `Return`
   abbrev pub WritesReturn : JournalView T → JournalView T → Type 0

@@ -1,8 +1,11 @@
 -- A core beside its journal, with its actor's ends of the links.
-use Rattle.std.specs.Prelude.{◌≡◌, ℕ, ◌+◌, ◌<◌, ◌≤◌, None, length}
+use Rattle.std.specs.Prelude.{◌≡◌, ◌≢◌, ℕ, ◌+◌, ◌<◌, ◌≤◌, Some, None, length}
+use Rattle.rt_ids.specs.declared.names.JobId.{JobId}
+use Rattle.rt_ids.specs.declared.order.Reason.{Reason}
+use Rattle.rt_ids.specs.declared.note.OutcomeNote.TheVariants.{Returned}
 use Rattle.rt_jobs.specs.Steps.{Owed}
 use Rattle.rt_journal.specs.Recorded.{RecordedView, IsRecorded, desk_of}
-use Rattle.rt_journal.specs.Ends.{IsInOf, IsOutOf, IsSameSeat}
+use Rattle.rt_journal.specs.Ends.{IsInOf, IsInOwing, IsOutOf, IsSameSeat}
 use Rattle.rt_grid.specs.Ends.{EndsView, out_at, in_at, SameEnds}
 
 -- the core and its journal, and the ends
@@ -18,6 +21,15 @@ module _ {J T : Type 0} where
     pub ins_are : length ends.ins ≡ recorded.core.cores + 1
     pub outs : (core : ℕ) → core < recorded.core.cores → IsOutOf core (desk_of recorded) (out_at core ends).out (out_at core ends).credited
     pub ins : (sender : ℕ) → sender ≤ recorded.core.cores → IsInOf sender recorded (in_at sender ends).inward
+
+  -- the same, but the outcome of a job that was just handed back is owed to its sender
+  pub record AreOwing (name : JobId) (reason : Reason) (recorded : RecordedView J T) (ends : EndsView J T) : Type 0 where
+    pub number : ends.number ≡ recorded.core.core
+    pub outs_are : length ends.outs ≡ recorded.core.cores
+    pub ins_are : length ends.ins ≡ recorded.core.cores + 1
+    pub outs : (core : ℕ) → core < recorded.core.cores → IsOutOf core (desk_of recorded) (out_at core ends).out (out_at core ends).credited
+    pub owed : IsInOwing name.from (Some (name, Returned reason)) recorded (in_at name.from ends).inward
+    pub ins : (sender : ℕ) → sender ≤ recorded.core.cores → sender ≢ name.from → IsInOf sender recorded (in_at sender ends).inward
 
   -- what no step changes: whose core it is, and which links its ends are of
   pub record StaysLinked (old new : LinkedView J T) : Type 0 where

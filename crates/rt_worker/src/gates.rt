@@ -2,14 +2,14 @@
 
 ghost use Rattle.std.specs.Prelude.{◌≡◌, ◌+◌, ◌<◌, ◌≤◌, IsSome, length};
 ghost use Rattle.rt_ids.specs.Closing.{core_mode};
-ghost use Rattle.rt_worker.specs.Linked.{StaysLinked};
+ghost use Rattle.rt_worker.specs.Linked.{IsLinked, StaysLinked};
 ghost use Rattle.rt_worker.specs.Gates.{LeavesShut, LeavesReturning, ShutsFirst};
 ghost use Rattle.rt_worker.specs.Rooms.{ClosesOnlyShort, HasSpare, IsEnding, IsShort};
 
+use crate::lent::look_at;
 use crate::linked::Linked;
 use rt_ids::{ActorNo, Mode};
 use rt_jobs::Task;
-use rt_link::InEnd;
 
 impl<J: Task<Out = u64>> Linked<J> {
     /// Shuts the gate of this sender in a closed core, if it is open. Whether it was.
@@ -17,22 +17,24 @@ impl<J: Task<Out = u64>> Linked<J> {
         requires known { sender ≤ self.old.recorded.core.cores }
         requires closed { IsSome (core_mode self.old.recorded.journal.notes) }
         requires room { length self.old.recorded.journal.notes < self.old.recorded.journal.room }
-        ensures { LeavesShut sender self.old self.new }
+        ensures leaves { LeavesShut sender self.old self.new }
+        ensures linked { IsLinked J.SameTask J.made J.Polls self.new }
     {
-        let open = !self.is_shut(sender);
-        if open {
+        let shut = self.is_shut(sender);
+        if !shut {
             self.shut_one(sender);
         }
         // The end tells how many orders may be without an outcome.
-        let _count = self.ends.ins[sender.0 as usize].final_count();
-        open
+        look_at(&self.ends, sender);
+        !shut
     }
 
     /// Shuts each gate that is open, in a closed core. Whether there was one.
     pub(crate) fn shut_gates(&mut self) -> bool
         requires closed { IsSome (core_mode self.old.recorded.journal.notes) }
         requires room { length self.old.recorded.journal.notes + self.old.recorded.core.cores + 1 ≤ self.old.recorded.journal.room }
-        ensures { ShutsFirst (self.old.recorded.core.cores + 1) self.old self.new }
+        ensures shuts { ShutsFirst (self.old.recorded.core.cores + 1) self.old self.new }
+        ensures linked { IsLinked J.SameTask J.made J.Polls self.new }
     {
         let mut some = false;
         for sender in 0..self.cores as usize + 1 {
@@ -59,7 +61,9 @@ impl<J: Task<Out = u64>> Linked<J> {
         ensures ending { IsEnding self.new.recorded }
         ensures closes { ClosesOnlyShort self.new.recorded.core.cores self.new.recorded.cap self.new.recorded.journal }
         ensures stays { StaysLinked self.old self.new }
+        ensures linked { IsLinked J.SameTask J.made J.Polls self.new }
     {
+        let _cores = self.cores;
         self.close_returning();
         self.shut_gates();
     }

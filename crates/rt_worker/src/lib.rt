@@ -4,6 +4,7 @@
 pub mod ended;
 mod gates;
 pub mod laws;
+mod lent;
 pub mod linked;
 mod next;
 pub mod served;

@@ -6,6 +6,7 @@ ghost use Rattle.rt_worker.specs.Linked.{IsLinked};
 ghost use Rattle.rt_worker.specs.Rooms.{IsShort};
 ghost use Rattle.rt_worker.specs.Steps.{ShutsGate, DeliversFrom};
 
+use crate::lent::{deliver_on, shut_on};
 use rt_grid::Ends;
 use rt_ids::ActorNo;
 use rt_jobs::Task;
@@ -96,16 +97,16 @@ impl<J: Task<Out = u64>> Linked<J> {
         requires room { length self.old.recorded.journal.notes < self.old.recorded.journal.room }
         ensures { ShutsGate sender self.old self.new }
     {
-        self.recorded
-            .shut(&mut self.ends.ins[sender.0 as usize], sender);
+        shut_on(&mut self.recorded, &mut self.ends, sender);
     }
 
     /// Delivers the next order of this sender, if one shows. Whether there was one.
     pub fn deliver_from(&mut self, sender: ActorNo) -> bool
         requires known { sender ≤ self.old.recorded.core.cores }
         requires room { length self.old.recorded.journal.notes + 2 ≤ self.old.recorded.journal.room }
-        ensures { DeliversFrom sender self.old result self.new }
+        ensures delivers { DeliversFrom sender self.old result self.new }
+        ensures linked { IsLinked J.SameTask J.made J.Polls self.new }
     {
-        self.recorded.deliver(&mut self.ends.ins[sender.0 as usize])
+        deliver_on(&mut self.recorded, &mut self.ends, sender)
     }
 }

@@ -116,7 +116,13 @@ impl<J: Task<Out = u64>> Served<J> {
     {
         self.look();
         // At its end each gate is shut already.
-        !self.ending && self.linked.is_closed() && self.linked.shut_gates()
+        if self.ending {
+            return false;
+        }
+        if !self.linked.is_closed() {
+            return false;
+        }
+        self.linked.shut_gates()
     }
 }
 

@@ -1,15 +1,18 @@
 //! One turn of a core: a pick, a poll and its settlement, or a job that is handed back.
 
-ghost use Rattle.std.specs.Prelude.{◌≡◌, ◌≢◌, ◌+◌, ◌<◌, ◌≤◌, ℕ, false, length};
+ghost use Rattle.std.specs.Prelude.{◌≡◌, ◌≢◌, ◌+◌, ◌<◌, ◌≤◌, ℕ, false, None, length};
 ghost use Rattle.rt_journal.specs.Recorded.{IsRecorded, desk_of};
 ghost use Rattle.rt_journal.specs.Ends.{IsInOf, IsSameSeat, KeepsIn, KeepsOuts};
 ghost use Rattle.rt_journal.specs.Turns.{IsOut, IsOutUnder};
-ghost use Rattle.rt_worker.specs.Linked.{StaysLinked};
+ghost use Rattle.rt_journal.specs.Owed.{IsSentUnder};
+ghost use Rattle.rt_grid.specs.Ends.{SameEnds};
+ghost use Rattle.rt_worker.specs.Linked.{AreBeside, AreOwing, IsLinked, StaysLinked};
 ghost use Rattle.rt_worker.specs.Steps.{MakesTurn, SettlesPoll};
 
 use crate::linked::Linked;
 use crate::next::{Next, next_of};
-use rt_ids::JobId;
+use rt_grid::Ends;
+use rt_ids::{JobId, Order, Reason};
 use rt_jobs::{Job, NoPost, Ran, Task};
 use rt_journal::Recorded;
 use rt_ring::RingIn;
@@ -63,6 +66,49 @@ fn poll_out<J: Job + Task<Out = u64>, C: Clock, G: Gate>(
     drop(recorded.settle(end, name, ran, spent_between(before, after)));
 }
 
+// Polls the job that a pick took out, on the end of its sender.
+fn poll_on<J: Job + Task<Out = u64>, C: Clock, G: Gate>(
+    recorded: &mut Recorded<J>,
+    ends: &mut Ends<J>,
+    name: JobId,
+    job: J,
+    clock: &mut C,
+    gate: &mut G,
+)
+    requires out { IsOut recorded.old.core.out job }
+    requires named { IsOutUnder recorded.old.core.out name }
+    requires known { name.from ≤ recorded.old.core.cores }
+    requires beside { AreBeside recorded.old ends.old }
+    requires open { J.done job ≡ false }
+    requires ready { J.CanPoll job }
+    requires room { length recorded.old.journal.notes < recorded.old.journal.room }
+    ensures settles { SettlesPoll J.made J.Polls J.Answers recorded.old recorded.new }
+    ensures linked { IsLinked J.SameTask J.made J.Polls (record { recorded = recorded.new; ends = ends.new }) }
+    ensures stays { StaysLinked (record { recorded = recorded.old; ends = ends.old }) (record { recorded = recorded.new; ends = ends.new }) }
+{
+    let end = &mut ends.ins[name.from.0 as usize];
+    poll_out(recorded, end, name, job, clock, gate);
+}
+
+// Gives the outcome of a job that a pick handed back, on the end of its sender.
+fn give_on<J: Task<Out = u64>>(
+    recorded: &Recorded<J>,
+    ends: &mut Ends<J>,
+    name: JobId,
+    reason: Reason,
+    order: Order<J>,
+)
+    requires known { name.from ≤ recorded.now.core.cores }
+    requires rest { recorded.now.core.out ≡ None }
+    requires sound { IsRecorded J.SameTask J.made J.Polls recorded.now }
+    requires sent { IsSentUnder J.SameTask recorded.now.took name order }
+    requires owing { AreOwing name reason recorded.now ends.old }
+    ensures linked { IsLinked J.SameTask J.made J.Polls (record { recorded = recorded.now; ends = ends.new }) }
+    ensures ends { SameEnds ends.old ends.new }
+{
+    recorded.give_back(&mut ends.ins[name.from.0 as usize], name, reason, order);
+}
+
 impl<J: Job + Task<Out = u64>> Linked<J> {
     /// Makes one turn: the first job of the right pick is polled once, or handed back.
     ///
@@ -71,16 +117,15 @@ impl<J: Job + Task<Out = u64>> Linked<J> {
         requires room { length self.old.recorded.journal.notes + 3 ≤ self.old.recorded.journal.room }
         ensures makes { MakesTurn J.SameTask J.made J.Polls J.Answers self.old.recorded result self.new.recorded }
         ensures stays { StaysLinked self.old self.new }
+        ensures linked { IsLinked J.SameTask J.made J.Polls self.new }
     {
         match next_of(self.recorded.pick()) {
             Next::Poll(name, job) => {
-                let end = &mut self.ends.ins[name.from.0 as usize];
-                poll_out(&mut self.recorded, end, name, job, clock, gate);
+                poll_on(&mut self.recorded, &mut self.ends, name, job, clock, gate);
                 Made::Polled
             }
             Next::Give(name, reason, order) => {
-                let end = &mut self.ends.ins[name.from.0 as usize];
-                self.recorded.give_back(end, name, reason, order);
+                give_on(&self.recorded, &mut self.ends, name, reason, order);
                 Made::Returned
             }
             Next::Nothing(made) => made,

@@ -16,6 +16,9 @@ use std::sync::{Arc, Wait};
 /// How many rounds in which nothing was done a worker makes before it parks.
 const TRIES: u32 = 256;
 
+/// A thread parks on the low half of its bell.
+const BELL_TURNS: u64 = 1 << 32;
+
 /// The word that an idle worker parks on. Whoever has something for it adds one, and wakes it.
 pub type Bell = Arc<AtomicU64, Global>;
 
@@ -60,7 +63,7 @@ impl<J: Task<Out = u64>, C: Drop, G: Drop> Worker<J, C, G> {
         if self.idle < TRIES {
             self.idle += 1;
         } else {
-            self.bell.park(rt, heard as u32);
+            self.bell.park(rt, (heard % BELL_TURNS) as u32);
         }
     }
 }

@@ -1,4 +1,4 @@
-use Rattle.std.proofs.Common.{sym, subst}
+use Rattle.std.proofs.Common.{[], sym, subst}
 use Rattle.rt_jobs.specs.Steps.{IfDone, OnYield, OwesOn}
 use Rattle.rt_journal.specs.Turns.{IsOut}
 use Rattle.rt_worker.proofs.turn.poll_out.Goals as goal
@@ -14,4 +14,13 @@ settle-requires g c = record {
     later = subst (λ job. OnYield c.poll-ran.result.step (OwesOn g.J.Task.made g.J.Task.Polls job c.poll-ran.result.job)) (sym c.poll-ran.ensures.before) c.poll-ran.ensures.later;
   };
   room = c.requires.room;
+}
+
+pub returns-clause-settles : goal.returns-clause-settles
+returns-clause-settles g c = record {
+  ran = c.poll-ran.result;
+  owed = subst (λ job. g.J.Task.Polls job (g.J.Task.made job) [] [] c.poll-ran.result.step c.poll-ran.result.told) (sym c.poll-ran.ensures.before) c.poll-ran.ensures.owed;
+  spent = c.spent_between.result;
+  settled = c.settle.result;
+  settles = c.settle.ensures.settles;
 }
