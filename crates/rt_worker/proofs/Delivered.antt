@@ -8,7 +8,7 @@ use Rattle.rt_journal.specs.Recorded.{RecordedView, IsRecorded, desk_of}
 use Rattle.rt_journal.specs.Ends.{IsInOf, IsSameSeat, KeepsIn, KeepsOuts}
 use Rattle.rt_journal.specs.Steps.{Delivers, TellsShut}
 use Rattle.rt_grid.specs.Ends.{EndsView, in_at}
-use Rattle.rt_worker.specs.Linked.{LinkedView, AreBeside, IsLinked, StaysLinked}
+use Rattle.rt_worker.specs.Linked.{IsLinked, StaysLinked}
 use Rattle.rt_worker.specs.Steps.{ShutsGate, DeliversFrom}
 use Rattle.rt_worker.proofs.Stepping.{StepsOn, Opens, lent, lent_beside, lent_here, put_back, same_ends, put_beside, end_put}
 

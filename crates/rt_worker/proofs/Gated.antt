@@ -1,8 +1,8 @@
 -- Gates that are shut one after another, and the room that is left behind.
-use Rattle.std.proofs.Common.{◌≡◌, ◌≢◌, ◌⊎◌, inl, inr, ℕ, zero, suc, ◌+◌, ◌*◌, ◌<◌, ◌≤◌, cond, [], ◌∷◌, length, refl, sym, ◌∙◌, ap, subst, arith, ⊎_elim}
-use Rattle.std.specs.Prelude.{◌==◌, Bool, true, false, Option, Some, None, unwrap_or, is_some, IsSome}
+use Rattle.std.proofs.Common.{◌≡◌, ◌≢◌, inl, inr, ℕ, suc, ◌+◌, ◌*◌, ◌≤◌, cond, ◌∷◌, length, refl, sym, ◌∙◌, ap, subst, arith, ⊎_elim}
+use Rattle.std.specs.Prelude.{Bool, true, false, Option, Some, None, unwrap_or, is_some, IsSome}
 use Rattle.std.proofs.lemmas.Bool.{cases_eq, eq-eqb, ne_eqb}
-use Rattle.rt_ids.specs.declared.note.Note.TheVariants.{CoreClosed, Shut}
+use Rattle.rt_ids.specs.declared.note.Note.TheVariants.{Shut}
 use Rattle.rt_ids.specs.declared.order.Mode.{Mode}
 use Rattle.rt_ids.specs.declared.order.Mode.TheVariants.{Finish, Return}
 use Rattle.rt_ids.specs.Journal.{Journal, EachNote, or_else}
@@ -16,7 +16,7 @@ use Rattle.rt_journal.specs.Recorded.{RecordedView, IsRecorded, desk_of, sum_upt
 use Rattle.rt_journal.specs.Ends.{IsInOf, IsSameSeat, KeepsIn, KeepsOuts, name_of}
 use Rattle.rt_grid.specs.Ends.{EndsView, in_at}
 use Rattle.rt_ids.specs.Outcomes.{outcome_note}
-use Rattle.rt_journal.specs.Steps.{with_notes, ClosesItself}
+use Rattle.rt_journal.specs.Steps.{ClosesItself}
 use Rattle.rt_worker.specs.Linked.{LinkedView, IsLinked, StaysLinked}
 use Rattle.rt_worker.specs.Steps.{ShutsGate}
 use Rattle.rt_worker.specs.Gates.{WritesShut, WritesReturn, IsShutWithin, LeavesShut, LeavesReturning, ShutsFirst}
@@ -177,7 +177,7 @@ module _ {J T : Type 0} where
   shut_now sender old new did = (
     inr (did.count, did.tells.journal),
     ap (λ journal. is_some (final_count sender journal.notes)) did.tells.journal
-    ∙ ap (λ test. is_some (or_else (cond test (Some did.count) None) (final_count sender old.recorded.journal.notes))) (eq-eqb sender sender refl),
+        ∙ ap (λ test. is_some (or_else (cond test (Some did.count) None) (final_count sender old.recorded.journal.notes))) (eq-eqb sender sender refl),
   )
 
   -- the gate is shut, whether it was so before or not

@@ -7,4 +7,6 @@ pub mod Noted
 pub mod Spare
 pub mod Gated
 pub mod Serving
+pub mod Opened
+pub mod Creating
 pub mod Ending

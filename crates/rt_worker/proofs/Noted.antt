@@ -1,11 +1,10 @@
 -- What the notes of a delivery tell: a core doesn't close by itself by them, and in a core that hands back each delivery has its outcome.
-use Rattle.std.proofs.Common.{◌≡◌, inl, ℕ, ◌+◌, ◌≤◌, true, false, cond, List, [], ◌∷◌, ◌++◌, length, refl, sym, ◌∙◌, ap, subst, arith}
+use Rattle.std.proofs.Common.{◌≡◌, inl, ℕ, ◌+◌, ◌≤◌, true, false, cond, List, [], ◌∷◌, ◌++◌, length, refl, sym, subst, arith}
 use Rattle.std.specs.Prelude.{◌==◌, Bool, Option, Some, None}
 use Rattle.std.proofs.lemmas.List.{length-append}
 use Rattle.rt_ids.specs.declared.names.JobId.{JobId}
 use Rattle.rt_ids.specs.declared.note.Note.{Note}
 use Rattle.rt_ids.specs.declared.note.Note.TheVariants as writes
-use Rattle.rt_ids.specs.declared.note.OutcomeNote.{OutcomeNote}
 use Rattle.rt_ids.specs.declared.order.Order.{Order}
 use Rattle.rt_ids.specs.declared.order.Order.TheVariants.{Job, Create, SetShares, Close, CloseCore}
 use Rattle.rt_ids.specs.declared.order.Reason.{Reason}
@@ -18,10 +17,10 @@ use Rattle.rt_ids.specs.Work.{number_if}
 use Rattle.rt_ids.specs.Closing.{core_mode}
 use Rattle.rt_ids.specs.Commands.{refusal, effect_note}
 use Rattle.rt_ids.proofs.Returning.{nobody_enters}
-use Rattle.rt_journal.specs.Deliveries.{IsDelivery, IsAnswered, entry_note, with_effect}
+use Rattle.rt_journal.specs.Deliveries.{IsDelivery, entry_note, with_effect}
 use Rattle.rt_journal.specs.Recorded.{given_count}
 use Rattle.rt_worker.specs.Rooms.{ClosesRightly}
-use Rattle.std.proofs.Common.{◌⊎◌, inr}
+use Rattle.std.proofs.Common.{inr}
 
 -- one more where the name is of this sender
 pub more_from : {A : Type 0} (items : List A) (sender : ℕ) (name : JobId) (item : A) → length (with_last items (if_from sender name item)) ≡ length items + number_if (name.from == sender)

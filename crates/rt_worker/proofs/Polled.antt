@@ -5,7 +5,7 @@ use Rattle.rt_ring.specs.declared.ring_in.Receiving.{Receiving}
 use Rattle.rt_journal.specs.Recorded.{RecordedView, IsRecorded, desk_of}
 use Rattle.rt_journal.specs.Ends.{IsInOf, IsSameSeat, KeepsIn, KeepsOuts}
 use Rattle.rt_grid.specs.Ends.{EndsView}
-use Rattle.rt_worker.specs.Linked.{LinkedView, AreBeside, IsLinked, StaysLinked}
+use Rattle.rt_worker.specs.Linked.{AreBeside, IsLinked, StaysLinked}
 use Rattle.rt_worker.proofs.Stepping.{StepsOn, Opens, lent, lent_here, put_back, same_ends, put_beside}
 
 module _ {J T : Type 0} (sender : ℕ) (recorded now : RecordedView J T) (ends : EndsView J T) (at : ℕ) (inside : EndsView J T) (before after : Receiving J T) (opens : Opens sender ends at inside)

@@ -1,8 +1,7 @@
 -- Each step of a worker leaves it room for the next.
-use Rattle.std.proofs.Common.{◌≡◌, inr, ℕ, suc, ◌+◌, ◌*◌, ◌<◌, ◌≤◌, List, [], ◌∷◌, ◌++◌, length, refl, sym, ◌∙◌, ap, subst, arith}
-use Rattle.std.specs.Prelude.{◌==◌, Bool, true, false, Some, None, unwrap_or, IsSome}
+use Rattle.std.proofs.Common.{◌≡◌, inr, ℕ, suc, ◌+◌, ◌*◌, ◌≤◌, ◌∷◌, ◌++◌, length, sym, ◌∙◌, ap, subst, arith}
+use Rattle.std.specs.Prelude.{◌==◌, Bool, true, false, Some, unwrap_or, IsSome}
 use Rattle.std.proofs.lemmas.List.{length-append}
-use Rattle.rt_ids.specs.declared.note.Note.{Note}
 use Rattle.rt_ids.specs.declared.note.Note.TheVariants as writes
 use Rattle.rt_ids.specs.declared.order.Mode.TheVariants.{Return}
 use Rattle.rt_ids.specs.Filters.{given_outcomes}
@@ -16,15 +15,15 @@ use Rattle.rt_jobs.specs.declared.job.Step.TheVariants as step
 use Rattle.rt_jobs.specs.Steps.{Owed}
 use Rattle.rt_ids.specs.declared.names.JobId.{JobId}
 use Rattle.rt_journal.specs.Polls.{poll_note, settle_note}
-use Rattle.rt_journal.specs.Recorded.{RecordedView, IsRecorded, terms_at, sum_upto, given_count}
+use Rattle.rt_journal.specs.Recorded.{RecordedView, terms_at, sum_upto, given_count}
 use Rattle.rt_journal.specs.Ends.{IsSameSeat}
 use Rattle.rt_journal.specs.Steps.{Delivers, Receives}
 use Rattle.rt_journal.proofs.Sums.{sum_upto-same, sum_upto-one_more}
 use Rattle.rt_grid.specs.Ends.{in_at}
-use Rattle.rt_worker.specs.Linked.{LinkedView, IsLinked, StaysLinked}
+use Rattle.rt_worker.specs.Linked.{LinkedView, IsLinked}
 use Rattle.rt_worker.specs.Steps.{DeliversFrom, MakesTurn, PollsOne, HandsBack}
 use Rattle.rt_worker.specs.Gates.{ShutsFirst}
-use Rattle.rt_worker.specs.Ended.{ServedView, IsServed}
+use Rattle.rt_worker.specs.Ended.{IsServed}
 use Rattle.rt_worker.specs.Rooms.{least_free, last_through, ClosesRightly, ClosesOnlyShort, HasSpare, IsEnding, IsProvided, IsReady}
 use Rattle.rt_worker.specs.declared.turn.Made.{Made}
 use Rattle.rt_worker.specs.declared.turn.Made.TheVariants as came
@@ -76,9 +75,9 @@ module _ {J T : Type 0} where
     gates = λ sender known. subst (λ count. IsSome count) (sym (did.gates sender)) (ending.gates sender (omega (arith, known, did.seat.cores)));
     room =
         let given : sum_upto (given_count new.journal.notes) old.core.cores ≡ sum_upto (given_count old.journal.notes) old.core.cores + 1 =
-            sum_upto-one_more (given_count old.journal.notes) (given_count new.journal.notes) did.from did.gives old.core.cores did.known in
+        sum_upto-one_more (given_count old.journal.notes) (given_count new.journal.notes) did.from did.gives old.core.cores did.known in
         let through : sum_upto (last_through new.journal.notes) old.core.cores ≡ sum_upto (last_through old.journal.notes) old.core.cores =
-            sum_upto-same (last_through new.journal.notes) (last_through old.journal.notes) old.core.cores (λ sender. ap (λ count. unwrap_or count 0) (did.gates sender)) in
+        sum_upto-same (last_through new.journal.notes) (last_through old.journal.notes) old.core.cores (λ sender. ap (λ count. unwrap_or count 0) (did.gates sender)) in
         let given_here : sum_upto (given_count new.journal.notes) new.core.cores ≡ sum_upto (given_count new.journal.notes) old.core.cores = ap (sum_upto (given_count new.journal.notes)) did.seat.cores in
         let through_here : sum_upto (last_through new.journal.notes) new.core.cores ≡ sum_upto (last_through new.journal.notes) old.core.cores = ap (sum_upto (last_through new.journal.notes)) did.seat.cores in
         omega (arith, given, through, given_here, through_here, did.longer, did.seat.room, ending.room);

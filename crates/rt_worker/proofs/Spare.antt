@@ -1,8 +1,7 @@
 -- Sums over senders, and the room that a worker keeps.
-use Rattle.std.proofs.Common.{◌≡◌, ℕ, zero, suc, ◌+◌, ◌*◌, ◌<◌, ◌≤◌, List, [], ◌∷◌, ◌++◌, length, refl, sym, ◌∙◌, ap, subst, arith}
-use Rattle.std.specs.Prelude.{◌==◌, Some, None, unwrap_or, IsSome, Bool, true, false}
+use Rattle.std.proofs.Common.{◌≡◌, ℕ, zero, suc, ◌+◌, ◌*◌, ◌≤◌, [], ◌∷◌, ◌++◌, length, ap, subst, arith}
+use Rattle.std.specs.Prelude.{Some, unwrap_or, IsSome, Bool, true, false}
 use Rattle.rt_ids.specs.Terms.{Terms}
-use Rattle.rt_ids.specs.declared.note.Note.{Note}
 use Rattle.rt_ids.specs.declared.order.Mode.TheVariants.{Return}
 use Rattle.rt_ids.specs.Journal.{Journal, EachNote}
 use Rattle.rt_ids.specs.Closing.{core_mode, final_count}
@@ -11,7 +10,7 @@ use Rattle.rt_ids.proofs.Returning.{core_stays_returning}
 use Rattle.rt_link.specs.declared.ends.Inward.{Inward}
 use Rattle.rt_link.specs.Calls.{final_of}
 use Rattle.rt_jobs.specs.Steps.{Owed}
-use Rattle.rt_journal.specs.Recorded.{RecordedView, sum_upto, given_count, delivered_count}
+use Rattle.rt_journal.specs.Recorded.{sum_upto, given_count, delivered_count}
 use Rattle.rt_journal.specs.Ends.{IsInOf}
 use Rattle.rt_grid.specs.Ends.{in_at}
 use Rattle.rt_worker.specs.Linked.{LinkedView, IsLinked}
@@ -66,7 +65,7 @@ module _ {J T : Type 0} {same : J → J → Type 0} {made : J → ℕ} {polls : 
   pub given_through : IsEnding view.recorded → sum_upto (given_count view.recorded.journal.notes) view.recorded.core.cores ≤ sum_upto (last_through view.recorded.journal.notes) view.recorded.core.cores
   given_through ending =
       let through : sum_upto (delivered_count view.recorded.journal.notes) view.recorded.core.cores ≤ sum_upto (last_through view.recorded.journal.notes) view.recorded.core.cores =
-          sums_below (delivered_count view.recorded.journal.notes) (last_through view.recorded.journal.notes) view.recorded.core.cores (λ sender known. delivered_through sender known (ending.gates sender known)) in
+      sums_below (delivered_count view.recorded.journal.notes) (last_through view.recorded.journal.notes) view.recorded.core.cores (λ sender known. delivered_through sender known (ending.gates sender known)) in
       omega (arith, through, linked.recorded.held.inside)
 
   -- there is room for the next step

@@ -1,17 +1,16 @@
 -- A step on the end of one sender leaves a core linked as before.
-use Rattle.std.proofs.Common.{◌≡◌, ◌≢◌, ℕ, ◌+◌, ◌<◌, ◌≤◌, Some, None, get_or, length, set, get_or-set_same, get_or-set_other, length-set, refl, sym, ◌∙◌, ap, subst, arith, ⊎_elim}
+use Rattle.std.proofs.Common.{◌≡◌, ◌≢◌, ℕ, ◌+◌, ◌<◌, ◌≤◌, Some, get_or, length, set, get_or-set_same, get_or-set_other, length-set, sym, ◌∙◌, ap, subst, arith, ⊎_elim}
 use Rattle.std.proofs.lemmas.Bool.{cases_eq}
 use Rattle.std.proofs.lemmas.List.{get_or_default}
 use Rattle.rt_ids.specs.declared.names.JobId.{JobId}
 use Rattle.rt_ids.specs.declared.order.Reason.{Reason}
 use Rattle.rt_ids.specs.declared.note.OutcomeNote.TheVariants.{Returned}
-use Rattle.rt_jobs.specs.Steps.{Owed}
 use Rattle.rt_ring.specs.declared.ring_in.Receiving.{Receiving}
-use Rattle.rt_journal.specs.Recorded.{RecordedView, IsRecorded, desk_of}
+use Rattle.rt_journal.specs.Recorded.{RecordedView, desk_of}
 use Rattle.rt_journal.specs.Ends.{IsInOf, IsInOwing, IsSameSeat, KeepsIn, KeepsOuts}
 use Rattle.rt_grid.specs.Ends.{EndsView, in_at, no_in, SameEnds}
 use Rattle.rt_grid.proofs.Using.{in_used}
-use Rattle.rt_worker.specs.Linked.{LinkedView, AreBeside, AreOwing, IsLinked, StaysLinked}
+use Rattle.rt_worker.specs.Linked.{AreBeside, AreOwing}
 
 module _ {J T : Type 0} where
   -- the end in its place

@@ -1,5 +1,5 @@
 -- What a pick leaves for the poll, or for the outcome that is given.
-use Rattle.std.proofs.Common.{◌≡◌, ◌≢◌, ℕ, ◌+◌, ◌<◌, ◌≤◌, cond, refl, sym, ◌∙◌, ap, subst, arith}
+use Rattle.std.proofs.Common.{◌≡◌, ◌≢◌, ℕ, ◌+◌, ◌≤◌, cond, refl, sym, ◌∙◌, ap, subst, arith}
 use Rattle.std.specs.Prelude.{Bool, true, false, Some, None, Result, Ok, Err}
 use Rattle.std.proofs.lemmas.Bool.{eq-eqb, ne_eqb}
 use Rattle.rt_ids.specs.declared.names.JobId.{JobId}
@@ -15,14 +15,12 @@ use Rattle.rt_jobs.specs.Ready.{IsReady}
 use Rattle.rt_core.specs.Answers.{IsReadyTurn}
 use Rattle.rt_grid.specs.Ends.{EndsView, in_at}
 use Rattle.rt_journal.specs.Recorded.{RecordedView, IsRecorded, desk_of, order_taken}
-use Rattle.rt_journal.specs.Ends.{KeepsIn, KeepsOuts, IsSameSeat, LeavesOwed, IsInOf, IsInOwing}
+use Rattle.rt_journal.specs.Ends.{KeepsIn, KeepsOuts, IsSameSeat, LeavesOwed, IsInOwing}
 use Rattle.rt_journal.specs.Owed.{owed_back, IsSentUnder}
 use Rattle.rt_journal.specs.Turns.{Picks, IsPick, IsHandBack, IsOut, IsOutUnder}
 use Rattle.rt_worker.specs.Linked.{AreBeside, AreOwing}
 use Rattle.rt_worker.specs.Next.{TakesOut, HandsOut, FindsNothing}
-use Rattle.rt_worker.specs.Steps.{HandsBack}
 use Rattle.rt_worker.specs.declared.turn.Made.{Made}
-use Rattle.rt_worker.specs.declared.turn.Made.TheVariants as made
 
 module _ {J : Type 0} where
   -- it may be polled

@@ -4,4 +4,5 @@ pub mod Next
 pub mod Rooms
 pub mod Gates
 pub mod Ended
+pub mod Opening
 pub mod Together

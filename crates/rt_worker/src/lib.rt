@@ -7,6 +7,7 @@ pub mod laws;
 mod lent;
 pub mod linked;
 mod next;
+mod opening;
 pub mod served;
 pub mod turn;
 pub mod worker;

@@ -49,14 +49,14 @@ impl<J: Task<Out = u64>> Served<J> {
     }
 
     /// Whether every gate is shut, all behind it was delivered, and no queue has work.
-    pub fn is_drained(&self) -> bool
+    pub(crate) fn is_drained(&self) -> bool
         ensures { IsTrue result ↔ IsDrained self.now.linked.recorded.core.cores self.now.linked.recorded.journal.notes }
     {
         self.linked.is_drained()
     }
 
     /// What a drained core leaves.
-    pub fn into_ended(self) -> Ended<J>
+    pub(crate) fn into_ended(self) -> Ended<J>
         requires { IsDrained self.linked.recorded.core.cores self.linked.recorded.journal.notes }
         ensures { result ≡ self.linked }
     {
@@ -98,7 +98,7 @@ impl<J: Task<Out = u64>> Served<J> {
     }
 
     /// Delivers what shows of each sender. Whether there was anything.
-    pub fn deliver_all(&mut self) -> bool
+    pub(crate) fn deliver_all(&mut self) -> bool
         ensures { StaysLinked self.old.linked self.new.linked }
     {
         let mut some = false;
@@ -111,7 +111,7 @@ impl<J: Task<Out = u64>> Served<J> {
     }
 
     /// Shuts the open gates of a core that was closed. Whether there was one.
-    pub fn close_gates(&mut self) -> bool
+    pub(crate) fn close_gates(&mut self) -> bool
         ensures { StaysLinked self.old.linked self.new.linked }
     {
         self.look();
@@ -128,7 +128,7 @@ impl<J: Task<Out = u64>> Served<J> {
 
 impl<J: Job + Task<Out = u64>> Served<J> {
     /// Makes one turn. Whether there was work.
-    pub fn take_turn<C: Clock, G: Gate>(&mut self, clock: &mut C, gate: &mut G) -> bool
+    pub(crate) fn take_turn<C: Clock, G: Gate>(&mut self, clock: &mut C, gate: &mut G) -> bool
         ensures { StaysLinked self.old.linked self.new.linked }
     {
         self.look();

@@ -1,5 +1,5 @@
-use Rattle.std.proofs.Common.{◌∙◌, ap}
-use Rattle.rt_worker.proofs.Stepping.{StepsOn, lent_beside, lent_here, same_ends, put_beside}
+use Rattle.std.proofs.Common.{ap}
+use Rattle.rt_worker.proofs.Stepping.{lent_beside}
 use Rattle.rt_worker.proofs.Polled.{polls_linked, polls_stays}
 use Rattle.rt_worker.proofs.turn.poll_on.Goals as goal
 

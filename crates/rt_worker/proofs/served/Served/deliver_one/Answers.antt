@@ -1,4 +1,4 @@
-use Rattle.std.proofs.Common.{◌≤◌, sym, subst, ap, arith}
+use Rattle.std.proofs.Common.{sym, subst, ap, arith}
 use Rattle.rt_worker.specs.Rooms.{IsReady}
 use Rattle.rt_worker.proofs.Spare.{ready_room}
 use Rattle.rt_worker.proofs.Serving.{delivers_served}

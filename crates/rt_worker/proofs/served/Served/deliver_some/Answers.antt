@@ -1,5 +1,4 @@
 use Rattle.std.proofs.Common.{arith}
-use Rattle.rt_worker.proofs.Along.{stays_same, stays_along}
 use Rattle.rt_worker.proofs.served.Served.deliver_some.Goals as goal
 
 pub deliver_one-requires : goal.deliver_one-requires

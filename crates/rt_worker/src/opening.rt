@@ -1,0 +1,101 @@
+//! How a worker is opened over the ends of its actor.
+
+ghost use Rattle.std.specs.Prelude.{◌≡◌, ◌+◌, ◌<◌, ◌≤◌, IfOk, OnOk, length};
+ghost use Rattle.rt_ids.specs.Commands.{IsOpening};
+ghost use Rattle.rt_settings.specs.Configs.{least_room, queues_of};
+ghost use Rattle.rt_journal.specs.Steps.{opened_beside};
+ghost use Rattle.rt_worker.specs.Opening.{AreEndsOf, CreatesSince, IsOpenedOver};
+
+use crate::linked::Linked;
+use crate::served::Served;
+use crate::worker::{Bell, Worker};
+use rt_grid::Ends;
+use rt_ids::CoreNo;
+use rt_jobs::Task;
+use rt_journal::Recorded;
+use rt_settings::Config;
+use rt_shares::Shares;
+use std::alloc::{AllocError, Global};
+
+/// Makes the next queue, before anything else is done.
+fn create_one<J: Task<Out = u64>>(
+    recorded: &mut Recorded<J>,
+    shares: Shares,
+) -> Result<(), AllocError>
+    requires opening { IsOpening recorded.old.journal.notes }
+    requires room { length recorded.old.journal.notes < recorded.old.journal.room }
+    ensures { OnOk result (CreatesSince J.SameTask J.made J.Polls 1 recorded.old recorded.new) }
+{
+    match recorded.create(shares) {
+        Ok(_) => Ok(()),
+        Err(_) => Err(AllocError),
+    }
+}
+
+/// Opens a core with its queues.
+fn open_core<J: Task<Out = u64>>(
+    alloc: Global,
+    core: u8,
+    cores: u8,
+    cap: u16,
+    room: u32,
+    queues: &[(CoreNo, Shares)],
+) -> Result<Recorded<J>, AllocError>
+    requires known { core < cores }
+    requires room { queues_of core queues.now ≤ room }
+    ensures { IfOk result (λ recorded. CreatesSince J.SameTask J.made J.Polls (queues_of core queues.now) (opened_beside core cores cap room) recorded) }
+{
+    let mut recorded = Recorded::open(alloc, alloc, CoreNo(core), cores, cap, room)?;
+    for index in 0..queues.len() {
+        let of = queues[index].0;
+        if of.0 == core {
+            let shares = queues[index].1;
+            create_one(&mut recorded, shares)?;
+        }
+    }
+    Ok(recorded)
+}
+
+/// A core that was just opened, over its ends.
+fn serve_core<J: Task<Out = u64>>(
+    alloc: Global,
+    config: &Config,
+    ends: Ends<J>,
+) -> Result<Served<J>, AllocError>
+    requires ends { AreEndsOf config.now.cores config.now.cap ends }
+    requires room { least_room config.now.cores config.now.cap + queues_of ends.number config.now.queues.items ≤ config.now.room }
+    ensures { IfOk result (λ served. IsOpenedOver config.now.cores config.now.cap config.now.room ends served.linked) }
+{
+    let recorded = open_core(
+        alloc,
+        ends.number.0,
+        config.cores,
+        config.cap,
+        config.room,
+        &config.queues,
+    )?;
+    Ok(Served::of(Linked::of(config.cores, recorded, ends)))
+}
+
+impl<J: Task<Out = u64>, C: Drop, G: Drop> Worker<J, C, G> {
+    /// Opens the worker of the core that has these ends, with the queues that the configuration names for it.
+    ///
+    /// # Errors
+    ///
+    /// Where there is no memory.
+    pub fn open(
+        alloc: Global,
+        config: &Config,
+        ends: Ends<J>,
+        clock: C,
+        gate: G,
+        bell: Bell,
+    ) -> Result<Self, AllocError>
+        requires ends { AreEndsOf config.now.cores config.now.cap ends }
+        requires room { least_room config.now.cores config.now.cap + queues_of ends.number config.now.queues.items ≤ config.now.room }
+        ensures { IfOk result (λ worker. IsOpenedOver config.now.cores config.now.cap config.now.room ends worker) }
+    {
+        let served = serve_core(alloc, config, ends)?;
+        Ok(Worker::of(served, clock, gate, bell))
+    }
+}
