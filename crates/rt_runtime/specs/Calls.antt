@@ -19,6 +19,9 @@ use Rattle.rt_runtime.specs.declared.error.SubmitError.{SubmitError}
 use Rattle.rt_runtime.specs.declared.error.SubmitError.TheVariants.{JournalFull, Send}
 use Rattle.rt_runtime.specs.declared.error.FinishError.{FinishError}
 use Rattle.rt_runtime.specs.declared.error.FinishError.TheVariants.{NotClosed}
+use Rattle.rt_runtime.specs.declared.error.StartError.{StartError}
+use Rattle.rt_runtime.specs.declared.error.StartError.TheVariants.{BadConfig, Memory, Thread}
+use Rattle.rt_settings.specs.Configs.{Entry, IsGood}
 use Rattle.rt_runtime.specs.State.{RuntimeView, closing_at}
 
 -- how many submissions are outstanding on the links to the first cores
@@ -59,6 +62,7 @@ module _ {J T : Type 0} where
   -- The journals are joined, so they are sound, and they have a text. The outside journal is that of the caller's calls. Each core is drained,
   -- and closed by itself only where its journal was short.
   pub record HasFinished (view : RuntimeView J ℕ) (assembly : Assembly ℕ) : Type 0 where
+    pub closed : (core : ℕ) → core < view.desk.cores → closing_at core view ≡ true
     pub cores : assembly.cores ≡ view.desk.cores
     pub cap : assembly.cap ≡ view.desk.cap
     pub joined : AreJoined assembly
@@ -73,3 +77,15 @@ module _ {J T : Type 0} where
     pub known : core < view.desk.cores
     pub open : closing_at core view ≡ false
     pub before : (other : ℕ) → other < core → closing_at other view ≡ true
+
+  -- a finish: a core is still open and the runtime comes back, or all workers have ended
+  abbrev pub Finishes : RuntimeView J ℕ → Result (Assembly ℕ) (FinishError (RuntimeView J ℕ)) → Type 0
+  Finishes view (Ok assembly) = HasFinished view assembly
+  Finishes view (Err (NotClosed core same)) = IsFirstOpen core view × (same ≡ view)
+
+  -- a start: the configuration is not good, or there was no memory or no thread, or nothing has happened yet
+  abbrev pub Starts : ℕ → ℕ → ℕ → List Entry → ℕ → ℕ → Result (RuntimeView J T) StartError → Type 0
+  Starts cores cap room queues clocks gates (Ok view) = IsGood cores cap room queues clocks gates × IsStarted cores cap room view
+  Starts cores cap room queues clocks gates (Err BadConfig) = IsGood cores cap room queues clocks gates → ⊥
+  Starts cores cap room queues clocks gates (Err Memory) = IsGood cores cap room queues clocks gates
+  Starts cores cap room queues clocks gates (Err Thread) = IsGood cores cap room queues clocks gates

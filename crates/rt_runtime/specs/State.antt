@@ -1,12 +1,11 @@
 -- What a caller sees of a runtime, and what is true of it at any time.
 use Rattle.std.specs.Prelude.{◌≡◌, ℕ, ◌+◌, ◌<◌, ◌≤◌, Bool, false, List, length, slice_index_or}
 use Rattle.rt_ids.specs.Spelled.{IsWithinLimits}
-use Rattle.rt_jobs.specs.Steps.{Owed}
-use Rattle.rt_journal.specs.Submissions.{DeskView, terms_of_desk}
-use Rattle.rt_journal.specs.Recorded.{terms_at}
+use Rattle.rt_journal.specs.Submissions.{DeskView}
 use Rattle.rt_grid.specs.Ends.{EndsView}
 use Rattle.rt_grid.specs.Grid.{IsGrid}
 use Rattle.rt_worker.specs.Linked.{LinkedView}
+use Rattle.rt_worker.specs.Opening.{IsWorkerOf}
 use Rattle.rt_worker.specs.Together.{OutsideView, IsOutside, worker_at, all_ends}
 
 -- The outside actor's journal and ends, and for each core whether the caller closed it: an order to close it was accepted, or a send to it was
@@ -27,11 +26,6 @@ module _ {J T : Type 0} where
   abbrev pub closing_at : ℕ → RuntimeView J T → Bool
   closing_at core view = slice_index_or view.closing core false
 
-  -- a worker of this core, with room for so many notes
-  pub record IsWorkerOf (core cores cap room : ℕ) (worker : LinkedView J T) : Type 0 where
-    pub terms : terms_at worker.recorded ≡ record { actor = core; cores = cores; cap = cap }
-    pub room_is : worker.recorded.journal.room ≡ room
-
   -- each core has its worker, all links of the house are there, and the outside actor's journal is written by the rules
   pub record IsRuntime (view : RuntimeView J T) : Type 0 where
     pub count : length view.workers ≡ view.desk.cores
@@ -41,3 +35,11 @@ module _ {J T : Type 0} where
     pub grid : IsGrid view.desk.cores (all_ends view.workers (outside_of view))
     pub closings : length view.closing ≡ view.desk.cores
     pub limits : IsWithinLimits view.desk.cores view.desk.cap
+
+-- what stands in a runtime beside what a caller sees: its numbers, a bell for each worker, and room for what the workers give back
+pub record IsStored {J T : Type 0} (view : RuntimeView J T) (cores cap bells ends journals : ℕ) : Type 0 where
+  pub cores_are : cores ≡ view.desk.cores
+  pub cap_is : cap ≡ view.desk.cap
+  pub bells_are : bells ≡ cores
+  pub room_ends : cores + 1 ≤ ends
+  pub room_journals : cores + 1 ≤ journals

@@ -1,12 +1,9 @@
 //! The running threads: a worker for each core, and the outside actor whose calls the caller makes.
 #![tactic(auto)]
 
-mod calls;
 pub mod error;
 mod finishing;
-mod opening;
 pub mod runtime;
-mod starting;
 
 pub use error::{FinishError, StartError, SubmitError};
 pub use runtime::Runtime;
