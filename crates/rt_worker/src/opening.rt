@@ -66,9 +66,10 @@ fn serve_core<J: Task<Out = u64>>(
     requires room { least_room config.now.cores config.now.cap + queues_of ends.number config.now.queues.items ≤ config.now.room }
     ensures { IfOk result (λ served. IsOpenedOver config.now.cores config.now.cap config.now.room ends served.linked) }
 {
+    let number = ends.number;
     let recorded = open_core(
         alloc,
-        ends.number.0,
+        number.0,
         config.cores,
         config.cap,
         config.room,
