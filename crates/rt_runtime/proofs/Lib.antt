@@ -1,1 +1,3 @@
+pub mod Parted
 pub mod Finished
+pub mod Started

@@ -1,5 +1,5 @@
 -- What the calls of a runtime do.
-use Rattle.std.specs.Prelude.{◌≡◌, ◌≢◌, ℕ, zero, suc, ◌+◌, ◌*◌, ◌<◌, ◌≤◌, Bool, true, false, ◌||◌, List, [], length, Result, Ok, Err, slice_set}
+use Rattle.std.specs.Prelude.{◌≡◌, ◌≢◌, ℕ, zero, suc, ◌+◌, ◌*◌, ◌<◌, ◌≤◌, Bool, true, false, ◌||◌, List, length, replicate, Result, Ok, Err, slice_set}
 use Rattle.rt_ids.specs.declared.names.JobId.{JobId}
 use Rattle.rt_ids.specs.declared.order.Order.{Order}
 use Rattle.rt_ids.specs.declared.order.Order.TheVariants.{CloseCore}
@@ -34,17 +34,22 @@ module _ {J T : Type 0} where
   abbrev pub room_left : ℕ → RuntimeView J T → ℕ
   room_left each view = 3 * (outstanding_upto view.desk.journal.notes view.desk.cores + 1) + each * view.desk.cores
 
+  -- whether the order closes the core
+  abbrev pub is_closing : Order J → Bool
+  is_closing (CloseCore mode) = true
+  is_closing _ = false
+
   -- whether a send with this answer tells that the core is closed, or closes it
-  abbrev pub tells_closing : Order J → Result JobId (SendError J) → Bool
-  tells_closing (CloseCore mode) (Ok name) = true
-  tells_closing order (Err (Closed back final)) = true
-  tells_closing order _ = false
+  abbrev pub tells_closing : Bool → Result JobId (SendError J) → Bool
+  tells_closing closing (Ok name) = closing
+  tells_closing closing (Err (Closed back final)) = true
+  tells_closing closing (Err _) = false
 
   -- a send: there is no such core, or its link answers; what the caller knows of its closing goes on
   pub record Sends (core : ℕ) (order : Order J) (old : RuntimeView J T) (answer : Result JobId (SendError J)) (new : RuntimeView J T) : Type 0 where
     pub there : core < old.desk.cores → Submits core order old.desk answer new.desk
     pub missing : old.desk.cores ≤ core → (answer ≡ Err (NoCore order)) × (new.desk ≡ old.desk)
-    pub closing : new.closing ≡ slice_set old.closing core (closing_at core old || tells_closing order answer)
+    pub closing : new.closing ≡ slice_set old.closing core (closing_at core old || tells_closing (is_closing order) answer)
     pub rest : (new.workers ≡ old.workers) × (new.room ≡ old.room)
 
   -- a submission: the journal is full, else the send
@@ -56,7 +61,7 @@ module _ {J T : Type 0} where
   -- a runtime that was just started
   pub record IsStarted (cores cap room : ℕ) (view : RuntimeView J T) : Type 0 where
     pub desk : view.desk ≡ opened_desk cores cores cap room
-    pub open : (core : ℕ) → closing_at core view ≡ false
+    pub closing : view.closing ≡ replicate cores false
     pub room_is : view.room ≡ room
 
   -- The journals are joined, so they are sound, and they have a text. The outside journal is that of the caller's calls. Each core is drained,
@@ -82,6 +87,12 @@ module _ {J T : Type 0} where
   abbrev pub Finishes : RuntimeView J ℕ → Result (Assembly ℕ) (FinishError (RuntimeView J ℕ)) → Type 0
   Finishes view (Ok assembly) = HasFinished view assembly
   Finishes view (Err (NotClosed core same)) = IsFirstOpen core view × (same ≡ view)
+
+  -- a start with a good configuration
+  abbrev pub Begins : ℕ → ℕ → ℕ → Result (RuntimeView J T) StartError → Type 0
+  Begins cores cap room (Ok view) = IsStarted cores cap room view
+  Begins cores cap room (Err BadConfig) = ⊥
+  Begins cores cap room (Err _) = Unit {0}
 
   -- a start: the configuration is not good, or there was no memory or no thread, or nothing has happened yet
   abbrev pub Starts : ℕ → ℕ → ℕ → List Entry → ℕ → ℕ → Result (RuntimeView J T) StartError → Type 0

@@ -42,17 +42,18 @@ fn part_all<J: Task<Out = u64>>(
     requires no_journals { journals.items ≡ [] }
     requires room_ends { length all.items ≤ vec_capacity ends }
     requires room_journals { length all.items ≤ vec_capacity journals }
-    ensures { Parts J.SameTask J.made J.Polls all.items result.0.items result.1.items }
+    ensures parts { Parts J.SameTask J.made J.Polls all.items result.0.items result.1.items }
     ensures room_ends { vec_capacity result.0 ≡ vec_capacity ends }
     ensures room_journals { vec_capacity result.1 ≡ vec_capacity journals }
 {
-    let (mut ends, mut journals) = (ends, journals);
+    let mut all_ends = ends;
+    let mut all_journals = journals;
     for one in all {
         let (its_ends, journal) = part(one);
-        ends.push_reserved(its_ends);
-        journals.push_reserved(journal);
+        all_ends.push_reserved(its_ends);
+        all_journals.push_reserved(journal);
     }
-    (ends, journals)
+    (all_ends, all_journals)
 }
 
 /// The first core that the caller didn't close.
@@ -77,7 +78,7 @@ fn assemble<J: Task<Out = u64>>(
 ) -> Assembly
     requires grid { IsGrid cores ends.items }
     requires count { length journals.items ≡ cores + 1 }
-    ensures { result ≡ record { cores = cores; cap = cap; journals = map (λ journal. journal.notes) journals.items } }
+    ensures assembly { result ≡ record { cores = cores; cap = cap; journals = map (λ journal. journal.notes) journals.items } }
     ensures reunited { AreReunited (Fits J.SameTask J.Answers) cores ends.items }
 {
     reunite_all(ends, cores);

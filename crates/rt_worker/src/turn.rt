@@ -19,7 +19,7 @@ use rt_ring::RingIn;
 use rt_settings::{Clock, Gate, spent_between};
 
 /// What a turn came to.
-#[derive(Clone, Copy, PartialEq, Eq, Debug, Drop)]
+#[derive(Clone, Copy)]
 pub enum Made {
     /// A job was polled.
     Polled,
