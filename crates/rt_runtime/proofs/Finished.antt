@@ -32,11 +32,6 @@ together_at related (a ∷ xs) [] x y i both low = absurd both
 together_at related (a ∷ xs) (b ∷ ys) x y zero both low = both.0
 together_at related (a ∷ xs) (b ∷ ys) x y (suc i) both low = together_at related xs ys x y i both.1 (omega (arith, low))
 
-all_at : {A : Type 0} (P : A → Type 0) (xs : List A) (x : A) (i : ℕ) → All P xs → i < length xs → P (get_or xs i x)
-all_at P [] x i each low = absurd (omega (arith, low))
-all_at P (a ∷ xs) x zero each low = each.0
-all_at P (a ∷ xs) x (suc i) each low = all_at P xs x i each.1 (omega (arith, low))
-
 module _ {J T : Type 0} (outside : JournalView T) where
   abbrev told : List (LinkedView J T) → List (Journal T)
   told ended = map (λ (journal : JournalView T). journal.notes) (map (λ (worker : LinkedView J T). worker.recorded.journal) ended ++ outside ∷ [])
@@ -50,7 +45,7 @@ module _ {J T : Type 0} (outside : JournalView T) where
   read_last [] = refl
   read_last (worker ∷ ended) = read_last ended
 
-module _ {J : Type 0} {same : J → J → Type 0} {made : J → ℕ} {polls : Owed J ℕ} (view : RuntimeView J ℕ) (is : IsRuntime view) (ended : List (LinkedView J ℕ))
+module _ {J : Type 0} (view : RuntimeView J ℕ) (is : IsRuntime view) (ended : List (LinkedView J ℕ))
     (kept : Together StaysLinked view.workers ended) where
   pub count : length ended ≡ view.desk.cores
   count = sym (together_length StaysLinked view.workers ended kept) ∙ is.count
@@ -88,45 +83,35 @@ module _ {J : Type 0} {same : J → J → Type 0} {made : J → ℕ} {polls : Ow
       ∙ (ap (λ cores. record { actor = (worker_at core view.workers).recorded.core.core; cores = cores; cap = (worker_at core ended).recorded.cap }) seat.cores
       ∙ (ap (λ cap. record { actor = (worker_at core view.workers).recorded.core.core; cores = (worker_at core view.workers).recorded.core.cores; cap = cap }) seat.cap ∙ (is.each core low).terms))
 
-  module _ {fits : Order J → Outcome J ℕ → Type 0} (each : All (HasEnded same made polls) ended) (reunited : AreReunited fits view.desk.cores (all_ends ended (outside_of view))) where
-    have_ended : HaveEnded same made polls fits view.desk.cores view.desk.cap ended (outside_of view)
-    have_ended = record {
-      count = count;
-      seats = terms_now;
-      ended = λ core low. all_at (HasEnded same made polls) ended no_linked core each (omega (arith, low, count));
-      outside_terms = ap (λ actor. record { actor = actor; cores = view.desk.cores; cap = view.desk.cap }) is.actor;
-      outside_is = is.outside;
-      reunited = reunited;
-    }
+  abbrev assembly : Assembly ℕ
+  assembly = record { cores = view.desk.cores; cap = view.desk.cap; journals = told view.desk.journal ended }
 
-    abbrev assembly : Assembly ℕ
-    assembly = record { cores = view.desk.cores; cap = view.desk.cap; journals = told view.desk.journal ended }
+  here : (core : ℕ) → core < view.desk.cores → journal_of core assembly ≡ (worker_at core ended).recorded.journal.notes
+  here core low = read_before view.desk.journal ended core (omega (arith, low, count))
 
-    here : (core : ℕ) → core < view.desk.cores → journal_of core assembly ≡ (worker_at core ended).recorded.journal.notes
-    here core low = read_before view.desk.journal ended core (omega (arith, low, count))
+  outside_here : journal_of view.desk.cores assembly ≡ view.desk.journal.notes
+  outside_here = ap (λ core. unwrap_or (slice_get (told view.desk.journal ended) core) []) (sym count) ∙ read_last view.desk.journal ended
 
-    outside_here : journal_of view.desk.cores assembly ≡ view.desk.journal.notes
-    outside_here = ap (λ core. unwrap_or (slice_get (told view.desk.journal ended) core) []) (sym count) ∙ read_last view.desk.journal ended
+  is_assembly : IsAssemblyOf view.desk.cores view.desk.cap (desk_among ended (outside_of view)) assembly
+  is_assembly = record {
+    cores_are = refl;
+    cap_is = refl;
+    count =
+        length-map (map (λ (worker : LinkedView J ℕ). worker.recorded.journal) ended ++ view.desk.journal ∷ []) (λ (journal : JournalView ℕ). journal.notes)
+        ∙ omega (arith, length-append (map (λ (worker : LinkedView J ℕ). worker.recorded.journal) ended) (view.desk.journal ∷ []), length-map ended (λ (worker : LinkedView J ℕ). worker.recorded.journal), count);
+    each = λ actor known. ⊎_elim
+        (λ (last : actor ≡ view.desk.cores).
+        rw last (outside_here ∙ ap (λ desk. desk.journal.notes) (sym (at_last (λ (worker : LinkedView J ℕ). desk_of worker.recorded) ended view.desk view.desk no_linked view.desk.cores count))))
+        (λ (away : actor ≢ view.desk.cores).
+        let low : actor < view.desk.cores = omega (arith, known, away) in
+        here actor low ∙ ap (λ desk. desk.journal.notes) (sym (before_last (λ (worker : LinkedView J ℕ). desk_of worker.recorded) ended view.desk view.desk no_linked actor (omega (arith, low, count)))))
+        (cases_eq actor view.desk.cores);
+  }
 
-    is_assembly : IsAssemblyOf view.desk.cores view.desk.cap (desk_among ended (outside_of view)) assembly
-    is_assembly = record {
-      cores_are = refl;
-      cap_is = refl;
-      count =
-          length-map (map (λ (worker : LinkedView J ℕ). worker.recorded.journal) ended ++ view.desk.journal ∷ []) (λ (journal : JournalView ℕ). journal.notes)
-          ∙ omega (arith, length-append (map (λ (worker : LinkedView J ℕ). worker.recorded.journal) ended) (view.desk.journal ∷ []), length-map ended (λ (worker : LinkedView J ℕ). worker.recorded.journal), count);
-      each = λ actor known. ⊎_elim
-          (λ (last : actor ≡ view.desk.cores).
-          rw last (outside_here ∙ ap (λ desk. desk.journal.notes) (sym (at_last (λ (worker : LinkedView J ℕ). desk_of worker.recorded) ended view.desk view.desk no_linked view.desk.cores count))))
-          (λ (away : actor ≢ view.desk.cores).
-          let low : actor < view.desk.cores = omega (arith, known, away) in
-          here actor low ∙ ap (λ desk. desk.journal.notes) (sym (before_last (λ (worker : LinkedView J ℕ). desk_of worker.recorded) ended view.desk view.desk no_linked actor (omega (arith, low, count)))))
-          (cases_eq actor view.desk.cores);
-    }
-
+  module _ {same : J → J → Type 0} {made : J → ℕ} {polls : Owed J ℕ} (each : All (HasEnded same made polls) ended) where
     closes_here : (core : ℕ) → core < view.desk.cores → EachNote (ClosesRightly (least_free view.desk.cores view.desk.cap) view.room) (journal_of core assembly)
     closes_here core low =
-        let end = all_at (HasEnded same made polls) ended no_linked core each (omega (arith, low, count)) in
+        let end = each core no_linked (omega (arith, low, count)) in
         let cores : (worker_at core ended).recorded.core.cores ≡ view.desk.cores = ap (λ terms. terms.cores) (terms_now core low) in
         let cap : (worker_at core ended).recorded.cap ≡ view.desk.cap = ap (λ terms. terms.cap) (terms_now core low) in
         let room : (worker_at core ended).recorded.journal.room ≡ view.room = (stays core low).seat.room ∙ (is.each core low).room_is in
@@ -135,9 +120,19 @@ module _ {J : Type 0} {same : J → J → Type 0} {made : J → ℕ} {polls : Ow
         (subst (λ least. EachNote (ClosesRightly least (worker_at core ended).recorded.journal.room) (worker_at core ended).recorded.journal.notes)
         (ap (λ cores. least_free cores (worker_at core ended).recorded.cap) cores ∙ ap (λ cap. least_free view.desk.cores cap) cap) end.closes))
 
-    pub finished : EndedAreJoined same made polls fits → JoiningIsSound → JoinedAreSpelled → ((core : ℕ) → core < length view.closing → closing_at core view ≡ true) → HasFinished view assembly
-    finished joined_law sound_law spelled_law closed =
-        let law = joined_law view.desk.cores view.desk.cap ended (outside_of view) assembly have_ended is_assembly in
+    have_ended : {fits : Order J → Outcome J ℕ → Type 0} → AreReunited fits view.desk.cores (all_ends ended (outside_of view)) → HaveEnded same made polls fits view.desk.cores view.desk.cap ended (outside_of view)
+    have_ended reunited = record {
+      count = count;
+      seats = terms_now;
+      ended = λ core low. each core no_linked (omega (arith, low, count));
+      outside_terms = ap (λ actor. record { actor = actor; cores = view.desk.cores; cap = view.desk.cap }) is.actor;
+      outside_is = is.outside;
+      reunited = reunited;
+    }
+
+    pub finished : {fits : Order J → Outcome J ℕ → Type 0} → AreReunited fits view.desk.cores (all_ends ended (outside_of view)) → EndedAreJoined same made polls fits → JoiningIsSound → JoinedAreSpelled → ((core : ℕ) → core < length view.closing → closing_at core view ≡ true) → HasFinished view assembly
+    finished reunited joined_law sound_law spelled_law closed =
+        let law = joined_law view.desk.cores view.desk.cap ended (outside_of view) assembly (have_ended reunited) is_assembly in
         record {
           closed = λ core low. closed core (omega (arith, low, is.closings));
           cores = refl;

@@ -1,3 +1,4 @@
 pub mod Parted
 pub mod Finished
 pub mod Started
+pub mod Sent

@@ -1,7 +1,9 @@
 -- A loop over workers that have ended, which takes each apart.
-use Rattle.std.proofs.Common.{◌≡◌, ℕ, ◌+◌, List, [], ◌∷◌, ◌++◌, length, map, refl, sym, ◌∙◌, ap, subst, arith, append_assoc, length-append}
+use Rattle.std.proofs.Common.{◌≡◌, ℕ, ◌+◌, ◌<◌, ◌≤◌, List, [], ◌∷◌, ◌++◌, length, map, refl, sym, ◌∙◌, ap, subst, arith, ⊎_elim, append_assoc, length-append}
 use Rattle.std.specs.Prelude.{All}
-use Rattle.std.proofs.lemmas.List.{append-nil, map-append}
+use Rattle.std.proofs.lemmas.List.{append-nil, map-append, get_or_append_left}
+use Rattle.std.proofs.lemmas.Bool.{cases_lt}
+use Rattle.rt_grid.proofs.Parts.{at_end}
 use Rattle.rt_jobs.specs.Steps.{Owed}
 use Rattle.rt_notes.specs.Journals.{JournalView}
 use Rattle.rt_grid.specs.Ends.{EndsView}
@@ -10,8 +12,11 @@ use Rattle.rt_worker.specs.Ended.{HasEnded}
 use Rattle.rt_runtime.specs.Finishing.{Parts}
 
 all_more : {A : Type 0} (P : A → Type 0) (xs : List A) (x : A) → All P xs → P x → All P (xs ++ x ∷ [])
-all_more P [] x each one = (one, tt)
-all_more P (a ∷ xs) x each one = (each.0, all_more P xs x each.1 one)
+all_more P xs x each one place d low =
+    ⊎_elim
+    (λ (before : place < length xs). subst P (sym (get_or_append_left xs (x ∷ []) d place before)) (each place d before))
+    (λ (behind : length xs ≤ place). subst P (sym (at_end xs x d place (omega (arith, low, behind, length-append xs (x ∷ []))))) one)
+    (cases_lt place (length xs))
 
 no_rest : {A : Type 0} (rest : List A) → length rest ≡ 0 → rest ≡ []
 no_rest [] none = refl
@@ -33,7 +38,7 @@ module _ {J T : Type 0} {same : J → J → Type 0} {made : J → ℕ} {polls : 
       IsParted same made polls all rest left ends journals
   parted_first all rest left ends journals is count no_ends no_journals =
       rw (no_ends, no_journals)
-      (record { done = []; split = sym is; ended = tt; ends_are = refl; journals_are = refl; ends_count = count; journals_count = count })
+      (record { done = []; split = sym is; ended = λ place d low. absurd (omega (arith, low)); ends_are = refl; journals_are = refl; ends_count = omega (arith, count); journals_count = omega (arith, count) })
 
   pub parted_more : (all rest rest' : List (LinkedView J T)) (left left' : ℕ) (ends : List (EndsView J T)) (journals : List (JournalView T)) (x : LinkedView J T) → IsParted same made polls all rest left ends journals →
       rest ≡ x ∷ rest' → left' + 1 ≡ left → HasEnded same made polls x → IsParted same made polls all rest' left' (ends ++ x.ends ∷ []) (journals ++ x.recorded.journal ∷ [])

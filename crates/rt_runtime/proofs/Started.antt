@@ -1,7 +1,8 @@
 -- A house that was just opened, and a runtime over it.
 use Rattle.std.proofs.Common.{◌≡◌, ℕ, zero, suc, ◌+◌, ◌<◌, ◌≤◌, List, [], ◌∷◌, ◌++◌, length, map, replicate, get_or, refl, sym, ◌∙◌, ap, subst, arith, length-append}
 use Rattle.std.specs.Prelude.{All, Bool, false}
-use Rattle.std.proofs.lemmas.List.{get_or_append_left, length-map, length-replicate}
+use Rattle.std.proofs.lemmas.List.{get_or_append_left, get_or_default, length-map, length-replicate}
+use Rattle.std.proofs.Math.Seq.{get_or-append_seam}
 use Rattle.rt_ids.specs.Spelled.{IsWithinLimits}
 use Rattle.rt_link.specs.Whole.{fresh, out_of}
 use Rattle.rt_settings.specs.Configs.{Entry, IsGood}
@@ -21,8 +22,7 @@ use Rattle.rt_runtime.specs.Starting.{AreOpening, IsHouse}
 use Rattle.rt_runtime.proofs.Finished.{together_at}
 
 all_from : {A : Type 0} (P : A → Type 0) (xs : List A) (d : A) → ((i : ℕ) → i < length xs → P (get_or xs i d)) → All P xs
-all_from P [] d each = tt
-all_from P (x ∷ xs) d each = (each 0 (omega arith), all_from P xs d (λ i low. each (suc i) (omega (arith, low))))
+all_from P xs d each place other low = subst P (sym (get_or_default xs place other d low)) (each place low)
 
 module _ {J T : Type 0} (cores cap room : ℕ) where
   -- the workers have the ends over which they were opened
@@ -98,3 +98,11 @@ module _ {J T : Type 0} (cores cap room : ℕ) where
       closings = ap length none ∙ (length-replicate cores false ∙ ap (λ desk. desk.cores) (sym opened));
       limits = subst (λ (desk : DeskView J T). IsWithinLimits desk.cores desk.cap) (sym opened) limits;
     }
+
+-- what holds of all holds of the next one
+pub holds_next : {A : Type 0} (P : A → Type 0) (all done rest rest' : List A) (x : A) → All P all → all ≡ done ++ rest → rest ≡ x ∷ rest' → P x
+holds_next P all done rest rest' x each split is =
+    let here : all ≡ done ++ x ∷ rest' = split ∙ ap (λ rest. done ++ rest) is in
+    let at : get_or all (length done) x ≡ x = ap (λ all. get_or all (length done) x) here ∙ get_or-append_seam done x rest' x in
+    let low : length done < length all = omega (arith, ap length here, length-append done (x ∷ rest')) in
+    subst P at (each (length done) x low)

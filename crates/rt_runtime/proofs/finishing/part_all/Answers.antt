@@ -18,9 +18,12 @@ loop-one-preserved g c =
     let loop = c.loop-one in let steps = c.in-Some.ensures.steps in
     record {
       room_ends = c.push_reserved.ensures.capacity ∙ loop.invariant.room_ends;
-      room_journals = c.push_reserved-2.ensures.capacity ∙ loop.invariant.room_journals;
-      parted = rw (c.push_reserved.ensures.items, c.push_reserved-2.ensures.items)
+      room_journals = c.push_reserved-in-loop-one.ensures.capacity ∙ loop.invariant.room_journals;
+      parted = rw (c.push_reserved.ensures.items, c.push_reserved-in-loop-one.ensures.items)
           (rw (c.part.ensures.ends, c.part.ensures.journal)
           (parted_more c.args.all.items (into_iter_items loop.one-iterator) (into_iter_items c.next.new.self) (into_iter_len loop.one-iterator) (into_iter_len c.next.new.self) loop.all_ends.items loop.all_journals.items
           c.in-Some.one loop.invariant.parted steps.0 steps.1 c.part.ensures.ended));
     }
+
+pub returns-clause-parts : goal.returns-clause-parts
+returns-clause-parts g c = ?

@@ -15,19 +15,19 @@ pub create_one-requires-clause-room : goal.create_one-requires-clause-room
 create_one-requires-clause-room g c =
     let was = c.loop-index.invariant in
     let left =
-        creating_left c.args.core c.args.queues.now c.loop-index.index (c.loop-index.index + 1) (omega arith) c.loop-index-test.true c.index-queues-index.result _ _ was
-        (sym c.of.view_is ∙ c.if-of-core.true) in
+    creating_left c.args.core c.args.queues.now c.loop-index.index (c.loop-index.index + 1) (omega arith) c.loop-index-test.true c.index-queues-index.result _ _ was
+    (sym c.of.view_is ∙ c.if-of-core.true) in
     omega (arith, left, was.created.few, was.created.seat.room, c.requires.room)
 
 pub loop-index-preserved : goal.loop-index-preserved
 loop-index-preserved g c =
     elim c.if-of-core.branch [
-    | then-of-core+in_ok-create_one w ↦
-        subst (λ view. IsCreating g.J.Task.SameTask g.J.Task.made g.J.Task.Polls c.args.core c.args.queues.now (c.loop-index.index + 1) (opened_beside c.args.core c.args.cores c.args.cap c.args.room) view) (sym w.recorded-is)
-        (creating_more c.args.core c.args.queues.now c.loop-index.index (c.loop-index.index + 1) (omega arith) c.loop-index-test.true c.index-queues-index.result _ c.loop-index.recorded c.loop-index.invariant
-        (sym c.of.view_is ∙ w.if-of-core.true) w.create_one.new.recorded w.in_ok-create_one.ensures)
-    | else-of-core w ↦
-        subst (λ view. IsCreating g.J.Task.SameTask g.J.Task.made g.J.Task.Polls c.args.core c.args.queues.now (c.loop-index.index + 1) (opened_beside c.args.core c.args.cores c.args.cap c.args.room) view) (sym w.recorded-is)
-        (creating_on c.args.core c.args.queues.now c.loop-index.index (c.loop-index.index + 1) (omega arith) c.loop-index-test.true c.index-queues-index.result _ c.loop-index.recorded c.loop-index.invariant
-        (λ one. w.if-of-core.false (c.of.view_is ∙ one)))
+      | then-of-core+in_ok-create_one w ↦
+          subst (λ view. IsCreating g.J.Task.SameTask g.J.Task.made g.J.Task.Polls c.args.core c.args.queues.now (c.loop-index.index + 1) (opened_beside c.args.core c.args.cores c.args.cap c.args.room) view) (sym w.recorded-is)
+          (creating_more c.args.core c.args.queues.now c.loop-index.index (c.loop-index.index + 1) (omega arith) c.loop-index-test.true c.index-queues-index.result _ c.loop-index.recorded c.loop-index.invariant
+          (sym c.of.view_is ∙ w.if-of-core.true) w.create_one.new.recorded w.in_ok-create_one.ensures)
+      | else-of-core w ↦
+          subst (λ view. IsCreating g.J.Task.SameTask g.J.Task.made g.J.Task.Polls c.args.core c.args.queues.now (c.loop-index.index + 1) (opened_beside c.args.core c.args.cores c.args.cap c.args.room) view) (sym w.recorded-is)
+          (creating_on c.args.core c.args.queues.now c.loop-index.index (c.loop-index.index + 1) (omega arith) c.loop-index-test.true c.index-queues-index.result _ c.loop-index.recorded c.loop-index.invariant
+          (λ one. w.if-of-core.false (c.of.view_is ∙ one)))
     ]
