@@ -28,18 +28,53 @@ enum Note {
     Done(JobId, u64, u64),
 }
 
+enum Step {
+    Yield,
+    Done(u64),
+}
+
+trait Job {
+    fn fresh() -> Self;
+
+    fn poll(&mut self) -> Step;
+}
+
+/// A job of 24 bytes.
 struct Small {
     left: u64,
     sum: u64,
     done: bool,
 }
 
-enum Step {
-    Yield,
-    Done(u64),
+/// A job of 536 bytes.
+struct Large {
+    left: u64,
+    sum: u64,
+    done: bool,
+    words: [u64; 64],
 }
 
-impl Small {
+impl Job for Large {
+    fn fresh() -> Large {
+        Large { left: u64::MAX, sum: 0, done: false, words: [3; 64] }
+    }
+
+    fn poll(&mut self) -> Step {
+        if self.left > 0 {
+            self.left -= 1;
+            self.sum = self.sum.wrapping_add(self.words[(self.left % 64) as usize]);
+            return Step::Yield;
+        }
+        self.done = true;
+        Step::Done(self.sum)
+    }
+}
+
+impl Job for Small {
+    fn fresh() -> Small {
+        Small { left: u64::MAX, sum: 0, done: false }
+    }
+
     fn poll(&mut self) -> Step {
         if self.left > 0 {
             self.left -= 1;
@@ -51,8 +86,8 @@ impl Small {
     }
 }
 
-struct Queue {
-    line: VecDeque<(JobId, bool, Small)>,
+struct Queue<J> {
+    line: VecDeque<(JobId, bool, J)>,
     shares: u64,
     runtime: u128,
     selected: u64,
@@ -60,8 +95,8 @@ struct Queue {
     finished: u64,
 }
 
-struct Core {
-    queues: Vec<Queue>,
+struct Core<J> {
+    queues: Vec<Queue<J>>,
     ready: BTreeSet<(u128, u8)>,
     delivered: [u64; 2],
     floor: u128,
@@ -72,8 +107,8 @@ struct Core {
     dice: u64,
 }
 
-impl Core {
-    fn open(queues: u64) -> Core {
+impl<J: Job> Core<J> {
+    fn open(queues: u64) -> Core<J> {
         let queue = |_| Queue { line: VecDeque::with_capacity(ROOM), shares: 1000, runtime: 0, selected: 0, time: 0, finished: 0 };
         Core {
             queues: (0..queues).map(queue).collect(),
@@ -100,7 +135,7 @@ impl Core {
         self.journal.push(note);
     }
 
-    fn deliver(&mut self, name: JobId, queue: u8, job: Small) {
+    fn deliver(&mut self, name: JobId, queue: u8, job: J) {
         self.delivered[name.from as usize] = name.number;
         if queue as usize >= self.queues.len() {
             self.note(Note::Back(name, queue));
@@ -121,7 +156,7 @@ impl Core {
     fn send(&mut self, queue: u64) {
         let name = JobId { from: 0, to: 0, number: self.delivered[0] + 1 };
         if self.inside < ROOM {
-            self.deliver(name, queue as u8, Small { left: u64::MAX, sum: 0, done: false });
+            self.deliver(name, queue as u8, J::fresh());
         }
     }
 
@@ -178,23 +213,29 @@ impl Core {
     }
 }
 
+fn measure<J: Job>(what: &str, queues: u64, jobs: u64) {
+    let mut core: Core<J> = Core::open(queues);
+    for job in 0..jobs {
+        core.send(job % queues);
+    }
+    let start = Instant::now();
+    let count = if what == "deliveries" {
+        core.deliveries(queues);
+        DELIVERIES
+    } else {
+        core.turns();
+        TURNS
+    };
+    println!("{} {}", start.elapsed().as_nanos() / u128::from(count / 10), core.floor);
+}
+
 fn main() {
     let words: Vec<String> = std::env::args().collect();
     let number = |place: usize| words.get(place).and_then(|word| word.parse::<u64>().ok()).unwrap_or(1);
-    let (queues, jobs, rounds) = (number(2).max(1), number(3), number(4));
-    for _ in 0..rounds {
-        let mut core = Core::open(queues);
-        for job in 0..jobs {
-            core.send(job % queues);
+    for _ in 0..number(4) {
+        match words[5].as_str() {
+            "large" => measure::<Large>(&words[1], number(2).max(1), number(3)),
+            _ => measure::<Small>(&words[1], number(2).max(1), number(3)),
         }
-        let start = Instant::now();
-        let count = if words[1] == "turns" {
-            core.turns();
-            TURNS
-        } else {
-            core.deliveries(queues);
-            DELIVERIES
-        };
-        println!("{} {}", start.elapsed().as_nanos() / u128::from(count / 10), core.floor);
     }
 }

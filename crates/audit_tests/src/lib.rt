@@ -1,23 +1,7 @@
-//! Tests of the audit and its tables over their public calls.
+//! Tests of the audit over its public call: journals in their text, and what it finds in them.
 #![tactic(auto)]
 
 #[cfg(test)]
-mod accounts;
+mod rows;
 #[cfg(test)]
-mod bad_closes;
-#[cfg(test)]
-mod bad_order;
-#[cfg(test)]
-mod bad_outcomes;
-#[cfg(test)]
-mod bad_picks;
-#[cfg(test)]
-mod bad_starts;
-#[cfg(test)]
-mod journals;
-#[cfg(test)]
-mod picks;
-#[cfg(test)]
-mod sound;
-#[cfg(test)]
-mod tables;
+mod verdicts;

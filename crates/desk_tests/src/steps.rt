@@ -71,6 +71,15 @@ pub fn ticket(from: u8, to: u8, number: u64) -> Ticket {
     })
 }
 
+fn came_of_refusal<J: Drop>(error: &SendError<J>) -> Came {
+    match error {
+        SendError::NoCore(_) => Came::NoCore,
+        SendError::Closed(_, last) => Came::Closed(*last),
+        SendError::Full(_) => Came::Full,
+        SendError::Spent(_) => Came::Spent,
+    }
+}
+
 pub fn submit<J: Task<Out = u64>, O: OutEnd<J>>(
     desk: &mut Desk<J>,
     ends: &mut [O; 1],
@@ -83,10 +92,7 @@ pub fn submit<J: Task<Out = u64>, O: OutEnd<J>>(
 {
     match desk.submit(ends, CoreNo(to), order) {
         Ok(ticket) => Came::Sent(ticket.name().number),
-        Err(SendError::NoCore(_)) => Came::NoCore,
-        Err(SendError::Closed(_, last)) => Came::Closed(last),
-        Err(SendError::Full(_)) => Came::Full,
-        Err(SendError::Spent(_)) => Came::Spent,
+        Err(error) => came_of_refusal(&error),
     }
 }
 

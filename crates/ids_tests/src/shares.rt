@@ -37,29 +37,32 @@ fn is_taken(weight: u32, taken: bool) -> bool {
 
 #[test]
 fn a_poll_costs_its_time_by_its_shares(rt: HostRuntime) {
-    for (time, weight, cost) in COSTS {
-        assert!(rt; costs(time, weight, cost), "{time} ns at {weight} shares");
+    for (time, weight, cost) in COSTS.iter() {
+        assert!(rt;
+            costs(*time, *weight, *cost),
+            "{time} ns at {weight} shares"
+        );
     }
 }
 
 #[test]
 fn shares_have_a_range(rt: HostRuntime) {
-    for (weight, taken) in SHARES {
-        assert!(rt; is_taken(weight, taken), "{weight} shares");
+    for (weight, taken) in SHARES.iter() {
+        assert!(rt; is_taken(*weight, *taken), "{weight} shares");
     }
     assert!(rt; Shares::default().get() == 1000);
 }
 
 #[test]
 fn a_queue_starts_no_earlier_than_the_floor(rt: HostRuntime) {
-    for (runtime, floor, place) in PLACES {
-        assert!(rt; placed(runtime, floor) == place, "{runtime} at {floor}");
+    for (runtime, floor, place) in PLACES.iter() {
+        assert!(rt; placed(*runtime, *floor) == *place, "{runtime} at {floor}");
     }
 }
 
 #[test]
 fn a_poll_counts_within_its_limits(rt: HostRuntime) {
-    for (time, counted) in TIMES {
-        assert!(rt; clamped(time) == counted, "{time} ns");
+    for (time, counted) in TIMES.iter() {
+        assert!(rt; clamped(*time) == *counted, "{time} ns");
     }
 }

@@ -106,9 +106,9 @@ fn an_outcome_is_told_without_its_job(rt: HostRuntime) {
 
 #[test]
 fn keys_go_by_virtual_runtime_and_then_by_queue(rt: HostRuntime) {
-    for (first, second, before) in PAIRS {
-        let found = key(first).is_before(&key(second));
-        assert!(rt; found == before);
+    for (first, second, before) in PAIRS.iter() {
+        let found = key(*first).is_before(&key(*second));
+        assert!(rt; found == *before);
     }
 }
 

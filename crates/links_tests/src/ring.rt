@@ -1,10 +1,10 @@
 //! Rings, with both ends on one thread, where each end sees at once what the other did. No clause says so.
 
-ghost use Rattle.std.specs.Prelude.{◌≡◌, ◌^◌, ◌<◌, IfSome};
+ghost use Rattle.std.specs.Prelude.{◌≡◌, ◌^◌, ◌<◌};
 
 use crate::life::{
-    COMMANDS, LAST_NUMBERS, Link, NO_PLACE, ONE_PLACE, Ring, Step, WHOLE_LIFE, first_wrong,
-    runs_laps, sees_at_once,
+    COMMANDS, LAST_NUMBERS, Link, NO_PLACE, ONE_PLACE, Ring, SEEN, Step, WHOLE_LIFE, first_wrong,
+    runs_laps,
 };
 use crate::numbers::{FROM, Number, TO, Told};
 use rt_ids::{Order, QueueNo};
@@ -15,35 +15,33 @@ use std::alloc::{AllocError, Global};
 use std::sync::Arc;
 use std::test::Fail;
 
-fn opened(alloc: Global, capacity: u16, accepted: u64) -> Result<Ring, OpenError>
+fn opened(alloc: Global, capacity: u16, accepted: u64) -> Option<Ring>
     requires { accepted < 2 ^ 63 }
 {
-    let (out, inward) = RingLink::open_after::<Number>(alloc, FROM, TO, capacity, accepted)?;
-    Ok(Ring { out, inward })
+    match RingLink::open_after::<Number>(alloc, FROM, TO, capacity, accepted) {
+        Ok((out, inward)) => Some(Ring { out, inward }),
+        Err(_) => None,
+    }
 }
 
-fn ended(ring: Ring) -> Accounts {
+/// Ends a ring. Whether it counted this.
+fn ended(ring: Ring, counts: Accounts) -> bool {
     let Ring { out, inward } = ring;
-    reunite(out, inward)
+    reunite(out, inward) == counts
 }
 
-/// How many rows of a new ring come to what they should.
-fn rows_right(
-    alloc: Global,
-    capacity: u16,
-    accepted: u64,
-    rows: &[(Step, Told)],
-) -> Result<usize, OpenError>
+/// Whether a new ring opens, and each row of it comes to what it should.
+fn rows_right(alloc: Global, capacity: u16, accepted: u64, rows: &[(Step, Told)]) -> bool
     requires { accepted < 2 ^ 63 }
 {
-    let mut ring = opened(alloc, capacity, accepted)?;
-    Ok(first_wrong(&mut ring, rows))
+    match opened(alloc, capacity, accepted) {
+        Some(mut ring) => first_wrong(&mut ring, rows) == rows.len(),
+        None => false,
+    }
 }
 
-#[test]
-fn the_whole_life_of_a_ring(rt: HostRuntime) -> Result<(), Fail> {
-    let mut ring = opened(rt.alloc(), 2, 0)?;
-    assert_eq!(rt; first_wrong(&mut ring, &WHOLE_LIFE), 17);
+/// Whether the whole life of a ring comes to what it should, and to these counts.
+fn whole_life_right(alloc: Global) -> bool {
     let counts = Accounts {
         accepted: 3,
         taken: 3,
@@ -51,31 +49,37 @@ fn the_whole_life_of_a_ring(rt: HostRuntime) -> Result<(), Fail> {
         collected: 1,
         shut: Some(3),
     };
-    assert_eq!(rt; ended(ring), counts);
-    Ok(())
-}
-
-#[test]
-fn lives_of_rings(rt: HostRuntime) -> Result<(), Fail> {
-    assert_eq!(rt; rows_right(rt.alloc(), 1, 0, &ONE_PLACE)?, 8);
-    assert_eq!(rt; rows_right(rt.alloc(), 3, 7, &COMMANDS)?, 9);
-    assert_eq!(rt;
-        rows_right(rt.alloc(), 4, LAST_NUMBER - 1, &LAST_NUMBERS)?,
-        7
-    );
-    assert_eq!(rt; rows_right(rt.alloc(), 0, 0, &NO_PLACE)?, 4);
-    Ok(())
-}
-
-#[test]
-fn many_laps_of_a_ring(rt: HostRuntime) -> Result<(), Fail> {
-    let mut ring = opened(rt.alloc(), 3, 7)?;
-    assert!(rt; runs_laps(&mut ring));
-    for capacity in 1..4u16 {
-        let mut ring = opened(rt.alloc(), capacity, 0)?;
-        assert!(rt; sees_at_once(&mut ring));
+    match opened(alloc, 2, 0) {
+        Some(mut ring) => first_wrong(&mut ring, &WHOLE_LIFE) == 17 && ended(ring, counts),
+        None => false,
     }
-    Ok(())
+}
+
+fn lives_right(alloc: Global) -> bool {
+    rows_right(alloc, 1, 0, &ONE_PLACE)
+        && rows_right(alloc, 3, 7, &COMMANDS)
+        && rows_right(alloc, 4, LAST_NUMBER - 1, &LAST_NUMBERS)
+        && rows_right(alloc, 0, 0, &NO_PLACE)
+}
+
+#[test]
+fn lives_of_rings(rt: HostRuntime) {
+    assert!(rt; whole_life_right(rt.alloc()) && lives_right(rt.alloc()));
+}
+
+fn laps_right(alloc: Global) -> bool {
+    match opened(alloc, 3, 7) {
+        Some(mut ring) => runs_laps(&mut ring),
+        None => false,
+    }
+}
+
+#[test]
+fn many_laps_of_a_ring(rt: HostRuntime) {
+    assert!(rt; laps_right(rt.alloc()));
+    for capacity in 1..4u16 {
+        assert!(rt; rows_right(rt.alloc(), capacity, 0, &SEEN));
+    }
 }
 
 /// Sends a job that holds something. Whether it was accepted.
@@ -94,24 +98,28 @@ fn holds(ring: &mut Ring, held: &Arc<u64, Global>) -> bool {
         && Arc::strong_count(held) == 3
 }
 
+/// Sends three jobs that hold something. Whether they are held, and two of them taken.
+fn holds_three(mut ring: Ring, held: &Arc<u64, Global>) -> Result<bool, AllocError> {
+    for _ in 0..3 {
+        if !send_held(&mut ring, held)? {
+            return Ok(false);
+        }
+    }
+    Ok(holds(&mut ring, held))
+}
+
 #[test]
 fn what_is_left_in_the_slots_is_dropped(rt: HostRuntime) -> Result<(), Fail> {
     let held = Arc::new(rt.alloc(), 0u64)?;
-    let mut ring = opened(rt.alloc(), 4, 0)?;
-    for _ in 0..3 {
-        assert!(rt; send_held(&mut ring, &held)?);
-    }
-    assert!(rt; holds(&mut ring, &held));
-    assert_eq!(rt; ended(ring).taken, 2);
-    assert_eq!(rt; Arc::strong_count(&held), 1);
+    let ring = opened(rt.alloc(), 4, 0).ok_or("no ring")?;
+    assert!(rt; holds_three(ring, &held)? && Arc::strong_count(&held) == 1);
     Ok(())
 }
 
 /// A slot is a job, and 40 bytes for all else.
 #[test]
 fn a_slot_is_a_label_and_a_job(rt: HostRuntime) {
-    assert_eq!(rt; size_of::<Slot<u64, u64>>(), 48);
-    assert_eq!(rt; size_of::<Slot<[u64; 66], u64>>(), 568);
+    assert!(rt; size_of::<Slot<u64, u64>>() == 48 && size_of::<Slot<[u64; 66], u64>>() == 568);
 }
 
 #[test]

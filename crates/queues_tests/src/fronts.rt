@@ -1,76 +1,71 @@
 //! The head of a line: it is told, polled where it stands, and goes to the tail or leaves.
-ghost use Rattle.std.specs.Prelude.{◌<◌, IfOk};
+ghost use Rattle.std.specs.Prelude.{◌<◌, IfSome};
 ghost use Rattle.rt_taskqueue.specs.Slips.{queue_count, waiting_of};
 ghost use Rattle.rt_taskqueue.specs.Fronts.{IsFrontReady};
 
+use crate::lines::Lines;
 use crate::one_core::{FIRST, name};
 use crate::steps::Steps;
+use linked_list_allocator::LocalHeap;
 use rt_jobs::{NoPost, Step, Task};
-use rt_taskqueue::Queues;
-use std::alloc::{AllocError, Global};
 use std::test::Fail;
 
-/// Two jobs wait in queue 0. The first yields so many times.
-fn two_wait(alloc: Global, yields: u8) -> Result<Queues<Steps, Global>, AllocError>
-    ensures exists { IfOk result (λ queues. 0 < queue_count queues) }
-    ensures ready { IfOk result (λ queues. IsFrontReady ⟦<Steps as Task>⟧.done ⟦<Steps as Task>⟧.CanPoll (waiting_of 0 queues)) }
+/// A job waits in queue 0. It yields so many times.
+fn one_waits(heap: &LocalHeap, left: u8) -> Option<Lines<'_>>
+    ensures exists { IfSome result (λ queues. 0 < queue_count queues) }
+    ensures ready { IfSome result (λ queues. IsFrontReady ⟦<Steps as Task>⟧.done ⟦<Steps as Task>⟧.CanPoll (waiting_of 0 queues)) }
 {
-    let mut queues = Queues::open(alloc, 2)?;
-    let first = Steps {
-        left: yields,
+    let mut queues = Lines::open(heap, 1).ok()?;
+    let job = Steps {
+        left,
+        time: 30,
         done: false,
     };
-    let second = Steps {
-        left: 0,
-        done: false,
-    };
-    queues.admit(FIRST, name(1), first);
-    queues.admit(FIRST, name(2), second);
-    Ok(queues)
+    queues.admit(FIRST, name(1), job);
+    Some(queues)
 }
 
-/// The head of queue 0 is the job of this number, or there is none where that is 0.
-fn is_first(queues: &Queues<Steps, Global>, number: u64, started: bool) -> bool {
+/// The head of queue 0, if there is one: whether it was started.
+fn head(queues: &Lines<'_>) -> Option<bool> {
     if queues.queue_count() == 0 {
-        return false;
+        return None;
     }
     match queues.front(FIRST) {
-        Some(front) => front == (name(number), started),
-        None => number == 0,
+        Some((_, started)) => Some(started),
+        None => None,
     }
 }
 
-/// The head of queue 0 leaves.
-fn drops_first(queues: &mut Queues<Steps, Global>) -> bool {
-    queues.queue_count() > 0 && queues.pop_front(FIRST).is_some()
+/// The answer of a job that is done.
+fn answer_of(step: Step<u64>) -> Option<u64> {
+    match step {
+        Step::Yield => None,
+        Step::Done(answer) => Some(answer),
+    }
 }
 
-#[test]
-fn a_job_that_yields_goes_to_the_tail(rt: HostRuntime) -> Result<(), Fail> {
-    let mut queues = two_wait(rt.alloc(), 1)?;
-    let before = is_first(&queues, 1, false);
+/// A turn of a line whose job yields so many times comes to this answer, and leaves this head.
+fn turns(heap: &LocalHeap, yields: u8, answer: Option<u64>, left: Option<bool>) -> bool {
+    let Some(mut queues) = one_waits(heap, yields) else {
+        return false;
+    };
     let (step, told) = queues.turn_front(FIRST, &mut NoPost);
-    let yielded = matches!(step, Step::Yield) && told.is_none() && is_first(&queues, 2, false);
-    let again = drops_first(&mut queues) && is_first(&queues, 1, true);
-    assert!(rt; before && yielded && again);
-    Ok(())
+    answer_of(step) == answer && told == Some(30) && head(&queues) == left
+}
+
+/// A polled head stays as it is.
+fn stays(heap: &LocalHeap) -> bool {
+    let Some(mut queues) = one_waits(heap, 1) else {
+        return false;
+    };
+    let (step, told) = queues.poll_front(FIRST, &mut NoPost);
+    answer_of(step).is_none() && told == Some(30) && head(&queues) == Some(false)
 }
 
 #[test]
-fn a_job_that_is_done_leaves(rt: HostRuntime) -> Result<(), Fail> {
-    let mut queues = two_wait(rt.alloc(), 0)?;
-    let (step, _told) = queues.turn_front(FIRST, &mut NoPost);
-    let done = matches!(step, Step::Done(0)) && is_first(&queues, 2, false);
-    let empty = drops_first(&mut queues) && is_first(&queues, 0, false);
-    assert!(rt; done && empty && queues.has_room());
-    Ok(())
-}
-
-#[test]
-fn a_polled_head_stays_until_it_goes_behind(rt: HostRuntime) -> Result<(), Fail> {
-    let mut queues = two_wait(rt.alloc(), 1)?;
-    let (step, _told) = queues.poll_front(FIRST, &mut NoPost);
-    let stays = matches!(step, Step::Yield) && is_first(&queues, 1, false);
-    assert!(rt; stays);
+fn a_head_is_polled_where_it_stands(rt: HostRuntime) -> Result<(), Fail> {
+    let heap = LocalHeap::new(rt.alloc(), 1 << 15)?;
+    let went = turns(&heap, 1, None, Some(true)) && turns(&heap, 0, Some(30), None) && stays(&heap);
+    assert!(rt; went && heap.used() == 0);
     Ok(())
 }

@@ -4,9 +4,7 @@
 #[cfg(test)]
 mod closings;
 #[cfg(test)]
-mod commands;
-#[cfg(test)]
-mod delivered_closings;
+mod deliveries;
 #[cfg(test)]
 mod fronts;
 #[cfg(test)]
@@ -20,10 +18,10 @@ mod one_core;
 #[cfg(test)]
 mod rounds;
 #[cfg(test)]
-mod slips;
-#[cfg(test)]
-mod sorted_list;
+mod scenes;
 #[cfg(test)]
 mod steps;
 #[cfg(test)]
 mod turns;
+#[cfg(test)]
+mod whole;

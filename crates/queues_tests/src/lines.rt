@@ -1,63 +1,63 @@
 //! The task queues of a core, step by step: each step tells whether it came out as wanted.
 
-use crate::one_core::{FIRST, SECOND, name, shares};
+use crate::one_core::{FIRST, SECOND, THIRD, name, shares};
+use crate::steps::Steps;
+use linked_list_allocator::LocalHeap;
 use rt_ids::{JobId, Mode, QueueNo};
-use rt_shares::Shares;
 use rt_taskqueue::{CreateError, Queues};
-use std::alloc::{Allocator, Global};
 use std::test::Fail;
 
-const THIRD: QueueNo = QueueNo(2);
+/// Task queues in a heap.
+pub(crate) type Lines<'a> = Queues<Steps, &'a LocalHeap>;
 
-/// A job that is its own number joins, if its queue is there and open and there is room.
-pub(crate) fn joins<A: Allocator + Clone>(
-    queues: &mut Queues<u64, A>,
-    queue: QueueNo,
-    number: u64,
-) -> bool {
+/// A job that tells this number.
+fn job(number: u64) -> Steps {
+    Steps {
+        left: 0,
+        time: number,
+        done: false,
+    }
+}
+
+/// A job that tells its number joins, if its queue is there and open and there is room.
+pub(crate) fn joins(queues: &mut Lines<'_>, queue: QueueNo, number: u64) -> bool {
     if u16::from(queue.0) >= queues.queue_count() || !queues.has_room() {
         return false;
     }
     match queues.mode(queue) {
         Some(_) => false,
         None => {
-            queues.admit(queue, name(number), number);
+            queues.admit(queue, name(number), job(number));
             true
         }
     }
 }
 
 /// A job that was started joins again, if its queue is there and there is room.
-pub(crate) fn joins_again<A: Allocator + Clone>(
-    queues: &mut Queues<u64, A>,
+pub(crate) fn joins_again(
+    queues: &mut Lines<'_>,
     queue: QueueNo,
     name: JobId,
-    job: u64,
+    number: u64,
 ) -> bool {
     let fits = u16::from(queue.0) < queues.queue_count() && queues.has_room();
     if fits {
-        queues.push_back(queue, name, job);
+        queues.push_back(queue, name, job(number));
     }
     fits
 }
 
-/// The job at the head of a queue, if there is one.
-pub(crate) fn leaves<A: Allocator + Clone>(
-    queues: &mut Queues<u64, A>,
-    queue: QueueNo,
-) -> Option<(JobId, bool, u64)> {
-    if u16::from(queue.0) < queues.queue_count() {
-        queues.pop_front(queue)
-    } else {
-        None
+/// The job at the head of a queue leaves, if there is one: its name, whether it was started, and its number.
+pub(crate) fn leaves(queues: &mut Lines<'_>, queue: QueueNo) -> Option<(JobId, bool, u64)> {
+    if u16::from(queue.0) >= queues.queue_count() {
+        return None;
     }
+    let (name, started, job) = queues.pop_front(queue)?;
+    Some((name, started, job.time))
 }
 
-/// How many jobs wait in a queue, where both calls on it agree.
-pub(crate) fn waiting<A: Allocator + Clone>(
-    queues: &Queues<u64, A>,
-    queue: QueueNo,
-) -> Option<usize> {
+/// How many jobs wait in a queue, if both calls on it agree.
+pub(crate) fn waiting(queues: &Lines<'_>, queue: QueueNo) -> Option<usize> {
     if u16::from(queue.0) >= queues.queue_count() {
         return None;
     }
@@ -69,25 +69,8 @@ pub(crate) fn waiting<A: Allocator + Clone>(
     }
 }
 
-pub(crate) fn creates<A: Allocator + Clone>(
-    queues: &mut Queues<u64, A>,
-    weight: u32,
-    want: Result<QueueNo, CreateError>,
-) -> bool {
-    queues.try_create(shares(weight)) == want
-}
-
-fn weighs(queues: &Queues<u64, Global>, queue: QueueNo, weight: u32) -> bool {
-    u16::from(queue.0) < queues.queue_count() && queues.shares(queue).get() == weight
-}
-
 /// The head of a queue is the job of this number, or none where that is 0. It leaves.
-pub(crate) fn gives<A: Allocator + Clone>(
-    queues: &mut Queues<u64, A>,
-    queue: QueueNo,
-    number: u64,
-    started: bool,
-) -> bool {
+fn gives(queues: &mut Lines<'_>, queue: QueueNo, number: u64, started: bool) -> bool {
     match leaves(queues, queue) {
         Some(front) => front == (name(number), started, number),
         None => number == 0,
@@ -95,7 +78,7 @@ pub(crate) fn gives<A: Allocator + Clone>(
 }
 
 /// Jobs join in this order, each by its number.
-fn join_in_turn(queues: &mut Queues<u64, Global>, rows: &[(QueueNo, u64)]) -> bool {
+fn join_in_turn(queues: &mut Lines<'_>, rows: &[(QueueNo, u64)]) -> bool {
     let mut all = true;
     for (queue, number) in rows {
         all = joins(queues, *queue, *number) && all;
@@ -104,7 +87,7 @@ fn join_in_turn(queues: &mut Queues<u64, Global>, rows: &[(QueueNo, u64)]) -> bo
 }
 
 /// Jobs leave in this order, each by its number and whether it was started.
-fn leave_in_turn(queues: &mut Queues<u64, Global>, rows: &[(QueueNo, u64, bool)]) -> bool {
+fn leave_in_turn(queues: &mut Lines<'_>, rows: &[(QueueNo, u64, bool)]) -> bool {
     let mut all = true;
     for (queue, number, started) in rows {
         all = gives(queues, *queue, *number, *started) && all;
@@ -112,31 +95,22 @@ fn leave_in_turn(queues: &mut Queues<u64, Global>, rows: &[(QueueNo, u64, bool)]
     all
 }
 
+fn creates(queues: &mut Lines<'_>, weight: u32, want: Result<QueueNo, CreateError>) -> bool {
+    queues.try_create(shares(weight)) == want
+}
+
 /// Each number is given once, and then none.
-fn numbers_are_given(queues: &mut Queues<u64, Global>) -> bool {
-    let mut all = true;
+fn numbers_end_at_255(queues: &mut Lines<'_>) -> bool {
+    let mut all = queues.queue_count() == 1;
     for number in 1..=255u8 {
         all = creates(queues, u32::from(number), Ok(QueueNo(number))) && all;
     }
-    all && creates(queues, 1000, Err(CreateError::TooMany))
+    all && queues.queue_count() == 256 && creates(queues, 1000, Err(CreateError::TooMany))
 }
 
-#[test]
-fn numbers_end_at_255(rt: HostRuntime) -> Result<(), Fail> {
-    let mut queues = Queues::open(rt.alloc(), 4)?;
-    let last = QueueNo(255);
-    let told = CreateError::TooMany.to_string(rt.alloc())?;
-    let given = queues.queue_count() == 1 && numbers_are_given(&mut queues);
-    let weighed = weighs(&queues, FIRST, 1000) && weighs(&queues, last, 255);
-    let serves = joins(&mut queues, last, 7) && gives(&mut queues, last, 7, false);
-    assert!(rt; given && weighed && serves && queues.queue_count() == 256);
-    assert!(rt; told.as_str() == "256 queues exist already");
-    Ok(())
-}
-
-/// Six jobs fill three queues.
-fn is_filled(queues: &mut Queues<u64, Global>) -> bool {
-    let rows = [
+/// Six jobs in three queues, which leave in the order of their own queue, the first of them twice.
+fn lines_stand_apart(queues: &mut Lines<'_>) -> bool {
+    let come = [
         (FIRST, 1),
         (SECOND, 2),
         (FIRST, 3),
@@ -144,17 +118,7 @@ fn is_filled(queues: &mut Queues<u64, Global>) -> bool {
         (SECOND, 5),
         (FIRST, 6),
     ];
-    creates(queues, 500, Ok(SECOND))
-        && creates(queues, 250, Ok(THIRD))
-        && join_in_turn(queues, &rows)
-        && !queues.has_room()
-        && waiting(queues, FIRST) == Some(3)
-}
-
-#[test]
-fn lines_stand_apart(rt: HostRuntime) -> Result<(), Fail> {
-    let mut queues = Queues::open(rt.alloc(), 6)?;
-    let rows = [
+    let go = [
         (SECOND, 2, false),
         (FIRST, 3, false),
         (FIRST, 6, false),
@@ -162,54 +126,74 @@ fn lines_stand_apart(rt: HostRuntime) -> Result<(), Fail> {
         (FIRST, 0, false),
         (THIRD, 4, false),
         (SECOND, 5, false),
-        (SECOND, 0, false),
     ];
-    let went = is_filled(&mut queues)
-        && gives(&mut queues, FIRST, 1, false)
-        && joins_again(&mut queues, FIRST, name(1), 1)
-        && leave_in_turn(&mut queues, &rows);
-    assert!(rt; went && queues.has_room() && waiting(&queues, FIRST) == Some(0));
-    Ok(())
+    join_in_turn(queues, &come)
+        && !queues.has_room()
+        && waiting(queues, FIRST) == Some(3)
+        && gives(queues, FIRST, 1, false)
+        && joins_again(queues, FIRST, name(1), 1)
+        && leave_in_turn(queues, &go)
+        && queues.has_room()
+        && waiting(queues, FIRST) == Some(0)
+}
+
+fn weighs(queues: &Lines<'_>, queue: QueueNo, weight: u32) -> bool {
+    u16::from(queue.0) < queues.queue_count() && queues.shares(queue).get() == weight
+}
+
+/// A queue that exists gets shares, and no other does.
+fn shares_change(queues: &mut Lines<'_>) -> bool {
+    if queues.queue_count() < 2 {
+        return false;
+    }
+    queues.set_shares(SECOND, shares(10000));
+    weighs(queues, FIRST, 1000) && weighs(queues, SECOND, 10000)
+}
+
+/// The slip of a queue goes out once, is of that queue, and comes back.
+fn slip_goes_and_comes(queues: &mut Lines<'_>) -> bool {
+    if queues.queue_count() < 2 {
+        return false;
+    }
+    let Some(slip) = queues.take_slip(SECOND) else {
+        return false;
+    };
+    let own = slip.queue() == SECOND && queues.take_slip(SECOND).is_none();
+    queues.put_slip(slip);
+    own && queues.take_slip(SECOND).is_some()
 }
 
 /// A queue that exists is closed, or isn't.
-fn closes(queues: &mut Queues<u64, Global>, queue: QueueNo, mode: Mode, want: bool) -> bool {
-    u16::from(queue.0) < queues.queue_count() && queues.close(queue, mode) == want
+fn closes(queues: &mut Lines<'_>, mode: Mode, want: bool) -> bool {
+    queues.queue_count() > 1 && queues.close(SECOND, mode) == want
+}
+
+/// A closed line takes no new job, and gives those out that it has.
+fn a_closed_line_takes_no_more(queues: &mut Lines<'_>) -> bool {
+    joins(queues, SECOND, 1)
+        && closes(queues, Mode::Finish, true)
+        && closes(queues, Mode::Finish, false)
+        && closes(queues, Mode::Return, true)
+        && !joins(queues, SECOND, 2)
+        && gives(queues, SECOND, 1, false)
+        && joins_again(queues, SECOND, name(1), 1)
+}
+
+/// Queues of six jobs in this heap, if they fit: whether each call on them comes out.
+fn serve(heap: &LocalHeap) -> Option<bool> {
+    let mut queues = Lines::open(heap, 6).ok()?;
+    Some(
+        numbers_end_at_255(&mut queues)
+            && lines_stand_apart(&mut queues)
+            && shares_change(&mut queues)
+            && slip_goes_and_comes(&mut queues)
+            && a_closed_line_takes_no_more(&mut queues),
+    )
 }
 
 #[test]
-fn a_closed_line_takes_no_more(rt: HostRuntime) -> Result<(), Fail> {
-    let mut queues = Queues::open(rt.alloc(), 4)?;
-    let closed = creates(&mut queues, 500, Ok(SECOND))
-        && joins(&mut queues, SECOND, 1)
-        && closes(&mut queues, SECOND, Mode::Finish, true)
-        && closes(&mut queues, SECOND, Mode::Finish, false)
-        && closes(&mut queues, SECOND, Mode::Return, true)
-        && closes(&mut queues, SECOND, Mode::Finish, false);
-    let went = !joins(&mut queues, SECOND, 2)
-        && joins(&mut queues, FIRST, 3)
-        && gives(&mut queues, SECOND, 1, false)
-        && joins_again(&mut queues, SECOND, name(1), 1);
-    assert!(rt; closed && went);
-    Ok(())
-}
-
-/// A queue that exists gets shares.
-fn gets_shares(queues: &mut Queues<u64, Global>, queue: QueueNo, shares: Shares) -> bool {
-    let there = u16::from(queue.0) < queues.queue_count();
-    if there {
-        queues.set_shares(queue, shares);
-    }
-    there
-}
-
-#[test]
-fn shares_of_one_queue_change(rt: HostRuntime) -> Result<(), Fail> {
-    let mut queues = Queues::open(rt.alloc(), 1)?;
-    let changed = creates(&mut queues, 500, Ok(SECOND))
-        && gets_shares(&mut queues, SECOND, shares(10000))
-        && weighs(&queues, FIRST, 1000)
-        && weighs(&queues, SECOND, 10000);
-    assert!(rt; changed);
+fn lines_serve_and_give_their_memory_back(rt: HostRuntime) -> Result<(), Fail> {
+    let heap = LocalHeap::new(rt.alloc(), 1 << 17)?;
+    assert!(rt; serve(&heap) == Some(true) && heap.used() == 0);
     Ok(())
 }

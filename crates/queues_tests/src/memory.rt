@@ -1,48 +1,36 @@
 //! A core in heaps that are just too small, and in the least one that serves.
 
-use crate::one_core::{FIRST, SECOND, answers, creates, makes, picks, shares, takes};
+use crate::one_core::{FIRST, OneCore, SECOND, THIRD, answers, creates, picks, shares, takes};
 use linked_list_allocator::LocalHeap;
-use rt_core::Core;
-use rt_ids::{Answer, CoreNo, Order, QueueNo};
-use rt_jobs::{Poll, ScriptJob};
+use rt_ids::{Answer, CoreNo, Order};
 use rt_taskqueue::CreateError;
 use std::test::Fail;
 
-const THIRD: QueueNo = QueueNo(2);
-
-/// A core and two more queues in this heap, if they fit.
-fn three_queues(heap: &LocalHeap) -> Option<Core<ScriptJob, &LocalHeap>> {
-    let mut core = Core::open(heap, CoreNo(0), 1, 4).ok()?;
-    let first = makes(&mut core, shares(1000))?.0.is_ok();
-    if first && makes(&mut core, shares(1000))?.0.is_ok() {
-        Some(core)
-    } else {
-        None
-    }
-}
-
 /// A third creation is refused, also as an order.
-fn no_queue_fits(core: &mut Core<ScriptJob, &LocalHeap>) -> bool {
+fn no_queue_fits(core: &mut OneCore<'_>) -> bool {
     creates(core, 1000, Err(CreateError::Memory))
         && answers(core, 1, Order::Create(shares(1000)), Answer::NoMemory, None)
-        && core.stats().1.len() == 3
 }
 
 /// The three queues go on.
-fn each_serves(core: &mut Core<ScriptJob, &LocalHeap>) -> bool {
-    let polls = [Poll::Yield(5), Poll::Done(5, 0)];
-    takes(core, 2, THIRD, &polls)
-        && takes(core, 3, SECOND, &polls)
-        && takes(core, 4, FIRST, &polls)
+fn each_serves(core: &mut OneCore<'_>) -> bool {
+    takes(core, 2, THIRD, 1, 5)
+        && takes(core, 3, SECOND, 1, 5)
+        && takes(core, 4, FIRST, 1, 5)
         && picks(core, &[(FIRST, 0), (SECOND, 0), (THIRD, 0)])
         && picks(core, &[(FIRST, 5), (SECOND, 5), (THIRD, 5)])
 }
 
-/// None if the core doesn't open in this heap. If it does: whether it serves and needs no more memory.
+/// None if the core and two more queues don't fit in this heap. If they do: whether it serves and needs no more memory.
 fn serves_in(heap: &LocalHeap) -> Option<bool> {
-    let mut core = three_queues(heap)?;
+    let mut core = OneCore::open(heap, CoreNo(0), 1, 4).ok()?;
+    let made = creates(&mut core, 1000, Ok(SECOND)) && creates(&mut core, 1000, Ok(THIRD));
     let used = heap.used();
-    Some(no_queue_fits(&mut core) && each_serves(&mut core) && heap.used() == used)
+    if made {
+        Some(no_queue_fits(&mut core) && each_serves(&mut core) && heap.used() == used)
+    } else {
+        None
+    }
 }
 
 /// In heaps that grow by 16 bytes, each growth of the opening and of two creations is the one that is refused, in turn.

@@ -1,17 +1,22 @@
-//! A core of scripted jobs, step by step: each step tells whether it came out as wanted.
-ghost use Rattle.std.specs.Prelude.{◌≡◌, false, IfSome};
+//! A core, step by step: each step tells whether it came out as wanted.
 ghost use Rattle.rt_jobs.specs.Ready.{HasReadyJob};
 
-use rt_core::{Core, Delivered, Notes, Settled, Turn};
+use crate::steps::Steps;
+use linked_list_allocator::LocalHeap;
+use rt_core::{Core, Delivered, Notes, Turn};
 use rt_ids::{ActorNo, Answer, CoreNo, Envelope, JobId, Note, Order, QueueNo};
-use rt_jobs::{NoPost, Poll, Ran, ScriptJob, Task};
+use rt_jobs::{NoPost, Ran, Task};
 use rt_shares::Shares;
 use rt_taskqueue::CreateError;
-use std::alloc::Allocator;
 
 pub(crate) const FIRST: QueueNo = QueueNo(0);
 
 pub(crate) const SECOND: QueueNo = QueueNo(1);
+
+pub(crate) const THIRD: QueueNo = QueueNo(2);
+
+/// A core in a heap.
+pub(crate) type OneCore<'a> = Core<Steps, &'a LocalHeap>;
 
 /// The name of a submission of actor 0.
 pub(crate) fn name(number: u64) -> JobId {
@@ -27,23 +32,13 @@ pub(crate) fn shares(weight: u32) -> Shares {
     Shares::try_new(weight).unwrap_or_default()
 }
 
-/// A job of these polls, if they make one that is not done.
-pub(crate) fn script(polls: &[Poll]) -> Option<ScriptJob>
-    ensures { IfSome result (λ job. ⟦<ScriptJob as Task>⟧.done job ≡ false) }
-{
-    let job = ScriptJob::try_new(polls)?;
-    if job.is_done() { None } else { Some(job) }
-}
-
 /// Delivers the next submission of actor 0, if the core has room and it is the next.
-pub(crate) fn submit<J: Task, A: Allocator + Clone>(
-    core: &mut Core<J, A>,
+pub(crate) fn submit(
+    core: &mut OneCore<'_>,
     number: u64,
-    order: Order<J>,
-) -> Option<(Delivered<J>, Notes<J::Out>)>
-where
-    J::Out: Copy,
-    requires { HasReadyJob J.done J.CanPoll order }
+    order: Order<Steps>,
+) -> Option<(Delivered<Steps>, Notes<u64>)>
+    requires { HasReadyJob ⟦<Steps as Task>⟧.done ⟦<Steps as Task>⟧.CanPoll order }
 {
     let name = name(number);
     if !core.has_room() || !core.is_next(&name) {
@@ -52,15 +47,18 @@ where
     Some(core.deliver(Envelope { name, order }))
 }
 
-/// The core takes a job of these polls.
-pub(crate) fn takes<A: Allocator + Clone>(
-    core: &mut Core<ScriptJob, A>,
+/// The core takes a job that yields so many times, with this time for each poll.
+pub(crate) fn takes(
+    core: &mut OneCore<'_>,
     number: u64,
     queue: QueueNo,
-    polls: &[Poll],
+    left: u8,
+    time: u64,
 ) -> bool {
-    let Some(job) = script(polls) else {
-        return false;
+    let job = Steps {
+        left,
+        time,
+        done: false,
     };
     let Some((delivered, notes)) = submit(core, number, Order::Job(queue, job)) else {
         return false;
@@ -69,10 +67,10 @@ pub(crate) fn takes<A: Allocator + Clone>(
 }
 
 /// The core answers a command so, with these notes.
-pub(crate) fn answers<A: Allocator + Clone>(
-    core: &mut Core<ScriptJob, A>,
+pub(crate) fn answers(
+    core: &mut OneCore<'_>,
     number: u64,
-    command: Order<ScriptJob>,
+    command: Order<Steps>,
     want: Answer,
     then: Option<Note<u64>>,
 ) -> bool {
@@ -97,26 +95,16 @@ pub(crate) fn is_one(notes: &Notes<u64>, want: Note<u64>) -> bool {
     notes.as_slice() == [want].as_slice()
 }
 
-/// What a creation comes to, if the core is open.
-pub(crate) fn makes<A: Allocator + Clone>(
-    core: &mut Core<ScriptJob, A>,
-    shares: Shares,
-) -> Option<(Result<QueueNo, CreateError>, Notes<u64>)> {
-    match core.mode() {
-        Some(_) => None,
-        None => Some(core.create(shares)),
-    }
-}
-
-/// A creation comes to this, with one note where a queue was made.
-pub(crate) fn creates<A: Allocator + Clone>(
-    core: &mut Core<ScriptJob, A>,
+/// A creation in an open core comes to this, with one note if a queue was made.
+pub(crate) fn creates(
+    core: &mut OneCore<'_>,
     weight: u32,
     want: Result<QueueNo, CreateError>,
 ) -> bool {
     let shares = shares(weight);
-    let Some((made, notes)) = makes(core, shares) else {
-        return false;
+    let (made, notes) = match core.mode() {
+        Some(_) => return false,
+        None => core.create(shares),
     };
     made == want
         && match want {
@@ -126,9 +114,7 @@ pub(crate) fn creates<A: Allocator + Clone>(
 }
 
 /// One whole turn: the notes of the pick, and those of the settled poll.
-pub(crate) fn one_turn<A: Allocator + Clone>(
-    core: &mut Core<ScriptJob, A>,
-) -> (Notes<u64>, Notes<u64>) {
+pub(crate) fn one_turn(core: &mut OneCore<'_>) -> (Notes<u64>, Notes<u64>) {
     let (picked, notes) = core.pick();
     let (Ok(Turn::Start(_, _, job)) | Ok(Turn::Resume(_, _, job))) = picked else {
         return (notes, Notes::new());
@@ -138,32 +124,11 @@ pub(crate) fn one_turn<A: Allocator + Clone>(
 }
 
 /// The next turns pick these queues at these virtual runtimes.
-pub(crate) fn picks<A: Allocator + Clone>(
-    core: &mut Core<ScriptJob, A>,
-    rows: &[(QueueNo, u128)],
-) -> bool {
+pub(crate) fn picks(core: &mut OneCore<'_>, rows: &[(QueueNo, u128)]) -> bool {
     let mut same = true;
     for (queue, at) in rows {
         let (notes, _) = one_turn(core);
         same = notes.as_slice().first() == Some(&Note::Pick(*queue, *at)) && same;
     }
     same
-}
-
-/// The virtual runtime of a queue.
-pub(crate) fn stands_at<A: Allocator + Clone>(
-    core: &Core<ScriptJob, A>,
-    queue: usize,
-    vr: u128,
-) -> bool {
-    let (_, queues) = core.stats();
-    match queues.as_slice().get(queue) {
-        Some(stats) => stats.virtual_runtime == vr,
-        None => false,
-    }
-}
-
-/// A settled job yielded.
-pub(crate) fn is_yielded<T>(settled: &Settled<T>) -> bool {
-    matches!(settled, Settled::Yielded)
 }

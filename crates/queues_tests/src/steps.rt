@@ -1,16 +1,19 @@
-//! A job that tells no time.
+//! The job of these tests.
 
 use rt_jobs::{Job, Post, Step, Task};
 
-/// A job that yields so many times, then answers 0, and tells no time.
-#[derive(Drop)]
+/// A job that yields so many times and is then done. Each poll tells the same time, which is its answer too.
+///
+/// It is copied, so nothing has to be dropped, and a test has less to prove.
+#[derive(Clone, Copy, PartialEq)]
 pub(crate) struct Steps {
     pub(crate) left: u8,
+    pub(crate) time: u64,
     pub(crate) done: bool,
 }
 
 impl Task for Steps {
-    ghost use Rattle.std.specs.Prelude.{None};
+    ghost use Rattle.std.specs.Prelude.{Some};
 
     type Out = u64;
 
@@ -20,7 +23,7 @@ impl Task for Steps {
 
     ghost made = { λ _. 0 };
 
-    ghost says = { λ _. None };
+    ghost says = { λ steps. Some steps.time };
 
     ghost Polls = { λ _ _ _ _ _ _. Unit {0} };
 
@@ -39,7 +42,7 @@ impl Task for Steps {
     }
 
     fn told(&self) -> Option<u64> {
-        None
+        Some(self.time)
     }
 }
 
@@ -50,6 +53,6 @@ impl Job for Steps {
             return Step::Yield;
         }
         self.done = true;
-        Step::Done(0)
+        Step::Done(self.time)
     }
 }

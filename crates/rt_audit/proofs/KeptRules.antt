@@ -1,5 +1,5 @@
 -- Which rules are kept before the one that is named.
-use Rattle.std.proofs.Common.{◌≡◌, ℕ, ◌<◌, Bool, true, false, refl, arith}
+use Rattle.std.proofs.Common.{◌≡◌, ℕ, Bool, true, false, refl, arith}
 use Rattle.rt_ids.specs.Assembly.{Assembly}
 use Rattle.rt_ids.specs.Sound.{StartsAreSound, OrderIsSound, ClosesAreSound, OutcomesAreSound, PicksAreSound}
 use Rattle.rt_audit.specs.Verdicts.{KeepsRulesBefore}

@@ -1,2 +1,4 @@
 pub mod AllEnded
 pub mod KeptRules
+pub mod NoFaults
+pub mod BrokenRules

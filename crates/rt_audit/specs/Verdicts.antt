@@ -1,5 +1,5 @@
 -- What a verdict says of the rules.
-use Rattle.std.specs.Prelude.{ℕ, ◌<◌}
+use Rattle.std.specs.Prelude.{◌≡◌, ℕ, ◌<◌}
 use Rattle.rt_ids.specs.Assembly.{Assembly}
 use Rattle.rt_ids.specs.Sound.{StartsAreSound, OrderIsSound, ClosesAreSound, OutcomesAreSound, PicksAreSound}
 use Rattle.rt_audit.specs.declared.judge.Verdict.{Verdict}
@@ -17,3 +17,11 @@ pub record KeepsRulesBefore (assembly : Assembly ℕ) (rule : ℕ) : Type 0 wher
   pub closes : 3 < rule → ClosesAreSound assembly
   pub outcomes : 4 < rule → OutcomesAreSound assembly
   pub picks : 5 < rule → PicksAreSound assembly
+
+-- the rule of this number is broken
+pub record BreaksRule (assembly : Assembly ℕ) (rule : ℕ) : Type 0 where
+  pub starts : rule ≡ 1 → StartsAreSound assembly → ⊥
+  pub order : rule ≡ 2 → OrderIsSound assembly → ⊥
+  pub closes : rule ≡ 3 → ClosesAreSound assembly → ⊥
+  pub outcomes : rule ≡ 4 → OutcomesAreSound assembly → ⊥
+  pub picks : rule ≡ 5 → PicksAreSound assembly → ⊥

@@ -1,11 +1,11 @@
 //! The audit of the journals of all actors.
 
-ghost use Rattle.std.specs.Prelude.{◌≡◌, ◌≤◌, IfOk, Ok, None, is_some, true};
+ghost use Rattle.std.specs.Prelude.{◌≡◌, ◌≤◌, IfOk, Ok, None, is_some, true, false};
 ghost use Rattle.rt_ids.specs.Limits.{most_cores};
 ghost use Rattle.rt_ids.specs.Sound.{IsSound, OutcomesAreSound};
 ghost use Rattle.rt_ids.specs.Spelled.{IsSpelled};
 ghost use Rattle.rt_audit.specs.declared.judge.Verdict.TheVariants.{Sound, Fault};
-ghost use Rattle.rt_audit.specs.Verdicts.{KeepsRulesBefore, rule_named};
+ghost use Rattle.rt_audit.specs.Verdicts.{KeepsRulesBefore, BreaksRule, rule_named};
 ghost use Rattle.rt_rules.specs.Links.{KnowsOrders};
 
 use crate::places::{Place, closes_place, order_place, outcomes_place, picks_place, starts_place};
@@ -44,6 +44,8 @@ pub enum AuditError {
 pub fn audit(alloc: Global, assembly: &Assembly) -> Result<Verdict, AuditError>
     ensures sound { IfOk result (λ verdict. verdict ≡ Sound → IsSpelled assembly.now × IsSound assembly.now) }
     ensures first { IfOk result (λ verdict. KeepsRulesBefore assembly.now (rule_named verdict)) }
+    ensures broken { IfOk result (λ verdict. IsSpelled assembly.now → BreaksRule assembly.now (rule_named verdict)) }
+    ensures only { IfOk result (λ verdict. IsSpelled assembly.now → IsSound assembly.now → verdict ≡ Sound) }
     ensures unspelled { (IsSpelled assembly.now → ⊥) → result ≡ Ok (Fault 0 0 1) }
 {
     if !is_spelled(assembly) {
@@ -63,6 +65,8 @@ pub fn audit(alloc: Global, assembly: &Assembly) -> Result<Verdict, AuditError>
 fn told(place: Option<Place>, rule: u8) -> Verdict
     ensures sound { result ≡ Sound → place ≡ None }
     ensures fault { is_some place ≡ true → rule_named result ≡ rule }
+    ensures none { is_some place ≡ false → rule_named result ≡ 6 }
+    ensures only { place ≡ None → result ≡ Sound }
 {
     match place {
         Some(place) => Verdict::Fault {
@@ -79,6 +83,8 @@ fn verdict_of(alloc: Global, assembly: &Assembly) -> Result<Verdict, AllocError>
     requires { assembly.now.cores ≤ most_cores }
     ensures sound { IfOk result (λ verdict. verdict ≡ Sound → IsSound assembly.now) }
     ensures first { IfOk result (λ verdict. KeepsRulesBefore assembly.now (rule_named verdict)) }
+    ensures broken { IfOk result (λ verdict. IsSpelled assembly.now → BreaksRule assembly.now (rule_named verdict)) }
+    ensures only { IfOk result (λ verdict. IsSpelled assembly.now → IsSound assembly.now → verdict ≡ Sound) }
 {
     let orders = orders_sent(alloc, assembly)?;
     let sent = orders.as_slice();
@@ -107,14 +113,15 @@ fn verdict_of(alloc: Global, assembly: &Assembly) -> Result<Verdict, AllocError>
     Ok(fifth)
 }
 
-/// Where the fourth rule is broken first.
+/// The first place at which the fourth rule is broken.
 fn ends_place(
     alloc: Global,
     sent: &[NameTable<Order<()>>],
     assembly: &Assembly,
 ) -> Result<Option<Place>, AllocError>
     requires { assembly.now.cores ≤ most_cores }
-    ensures { IfOk result (λ place. place ≡ None → KnowsOrders sent.now assembly.now → OutcomesAreSound assembly.now) }
+    ensures kept { IfOk result (λ place. place ≡ None → KnowsOrders sent.now assembly.now → OutcomesAreSound assembly.now) }
+    ensures only { IfOk result (λ place. KnowsOrders sent.now assembly.now → OutcomesAreSound assembly.now → place ≡ None) }
 {
     let outcomes = outcomes_given(alloc, assembly)?;
     let given = outcomes.as_slice();

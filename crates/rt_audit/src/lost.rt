@@ -1,20 +1,23 @@
 //! Rule 4, of a drained core: all that was accepted for it has ended.
 
 ghost use Rattle.std.specs.Prelude.{◌≡◌, ◌↔◌, ◌∷◌, ◌+◌, ◌<◌, ◌≤◌, ℕ, IfOk, OnOk, IsTrue, None, Some, [], false, length, get_or};
-ghost use Rattle.rt_ids.specs.Assembly.{journal_of};
+ghost use Rattle.rt_ids.specs.Assembly.{Assembly as AllJournals, journal_of, order_of};
 ghost use Rattle.rt_ids.specs.Closing.{IsDrained, final_count};
 ghost use Rattle.rt_ids.specs.Filters.{delivered_names};
 ghost use Rattle.rt_ids.specs.Journal.{Journal as Notes, EachNote};
 ghost use Rattle.rt_ids.specs.Sound.{AllEnded};
 ghost use Rattle.rt_ids.specs.Work.{number_if, has_work};
 ghost use Rattle.rt_accounts.specs.Accounts.{has_jobs, fresh_account, greatest_count};
-ghost use Rattle.rt_audit.specs.Held.{KnowsHeld, HasEnded, EndedIfSent};
+ghost use Rattle.rt_ids.specs.declared.note.Note.{Note};
+ghost use Rattle.rt_rules.specs.Links.{KnowsOrders};
+ghost use Rattle.rt_audit.specs.Held.{KnowsHeld, HasEnded, EndedUnder, EndedIfSent};
 
 use rt_accounts::{Account, Accounts, queue_touched};
 use rt_ids::{ActorNo, CoreNo, JobId, Note, Order};
 use rt_notes::{Assembly, Journal};
+use rt_rules::links::order_under;
 use rt_tables::told::name_answered;
-use rt_tables::{Jobs, NameSet, note_at};
+use rt_tables::{Jobs, NameSet, NameTable, note_at};
 use std::alloc::{AllocError, Global};
 
 /// Which jobs ended, which commands were answered, and which queues have work.
@@ -59,7 +62,8 @@ impl Held {
 
     /// Whether no queue has work.
     fn is_idle(&self) -> bool
-        ensures { (before : Notes ℕ) → KnowsHeld self.now before → ((queue : ℕ) → IsTrue (has_work queue before) → ⊥) → IsTrue result }
+        ensures right { (before : Notes ℕ) → KnowsHeld self.now before → IsTrue result → (queue : ℕ) → IsTrue (has_work queue before) → ⊥ }
+        ensures only { (before : Notes ℕ) → KnowsHeld self.now before → ((queue : ℕ) → IsTrue (has_work queue before) → ⊥) → IsTrue result }
     {
         are_idle(&self.accounts.queues)
     }
@@ -67,9 +71,11 @@ impl Held {
 
 /// Whether none of the queues has work.
 fn are_idle(accounts: &[Account]) -> bool
-    ensures { ((queue : ℕ) → IsTrue (has_jobs (get_or accounts.now queue fresh_account)) → ⊥) → IsTrue result }
+    ensures right { IsTrue result → (queue : ℕ) → has_jobs (get_or accounts.now queue fresh_account) ≡ false }
+    ensures only { ((queue : ℕ) → IsTrue (has_jobs (get_or accounts.now queue fresh_account)) → ⊥) → IsTrue result }
 {
-    for (_queue, account) in accounts.iter().enumerate() {
+    for queue in 0..accounts.len() {
+        let account = accounts[queue];
         if account.has_jobs() {
             return false;
         }
@@ -139,7 +145,8 @@ fn final_count(sender: ActorNo, journal: &Journal<u64>) -> Option<u64>
 
 /// Whether the gate of this sender is shut and all behind it delivered.
 fn is_emptied(sender: ActorNo, journal: &Journal<u64>) -> bool
-    ensures { final_count sender journal.now.notes ≡ Some (length (delivered_names sender journal.now.notes)) → IsTrue result }
+    ensures right { IsTrue result → final_count sender journal.now.notes ≡ Some (length (delivered_names sender journal.now.notes)) }
+    ensures only { final_count sender journal.now.notes ≡ Some (length (delivered_names sender journal.now.notes)) → IsTrue result }
 {
     match final_count(sender, journal) {
         Some(count) => count == delivered_count(sender, journal) as u64,
@@ -149,7 +156,8 @@ fn is_emptied(sender: ActorNo, journal: &Journal<u64>) -> bool
 
 /// Whether each gate is shut and all behind it delivered.
 fn are_emptied(cores: u8, journal: &Journal<u64>) -> bool
-    ensures { ((sender : ℕ) → sender ≤ cores → final_count sender journal.now.notes ≡ Some (length (delivered_names sender journal.now.notes))) → IsTrue result }
+    ensures right { IsTrue result → (sender : ℕ) → sender ≤ cores → final_count sender journal.now.notes ≡ Some (length (delivered_names sender journal.now.notes)) }
+    ensures only { ((sender : ℕ) → sender ≤ cores → final_count sender journal.now.notes ≡ Some (length (delivered_names sender journal.now.notes))) → IsTrue result }
 {
     let outside = is_emptied(ActorNo(cores), journal);
     for sender in 0..cores {
@@ -160,23 +168,44 @@ fn are_emptied(cores: u8, journal: &Journal<u64>) -> bool
     outside
 }
 
-/// Whether what a note sends to this core has ended.
-fn ended_if_sent(held: &Held, core: CoreNo, note: &Note<u64>) -> bool
-    ensures { (before : Notes ℕ) → IsTrue result → EndedIfSent held.now core note.now before }
+/// Whether what was accepted under this name has ended, if anything was.
+fn has_ended_under(held: &Held, orders: &[NameTable<Order<()>>], name: &JobId) -> bool
+    ensures { (assembly : AllJournals ℕ) → KnowsOrders orders.now assembly → (IsTrue result ↔ EndedUnder held.now name.now (order_of name.now assembly)) }
+{
+    match order_under(orders, name) {
+        Some(order) => held.has_ended(name, &order),
+        None => true,
+    }
+}
+
+/// Whether what was accepted under the name that a note sends to this core has ended.
+fn ended_if_sent(
+    held: &Held,
+    orders: &[NameTable<Order<()>>],
+    core: CoreNo,
+    note: &Note<u64>,
+) -> bool
+    ensures { (assembly : AllJournals ℕ) (before : Notes ℕ) → KnowsOrders orders.now assembly → (IsTrue result ↔ EndedIfSent held.now assembly core note.now before) }
 {
     match *note {
-        Note::Sent(name, order) => name.to.0 != core.0 || held.has_ended(&name, &order),
+        Note::Sent(name, _) => name.to.0 != core.0 || has_ended_under(held, orders, &name),
         _ => true,
     }
 }
 
 /// Whether all that was sent to this core has ended.
-fn all_ended(held: &Held, core: CoreNo, journal: &Journal<u64>) -> bool
-    ensures { IsTrue result → EachNote (EndedIfSent held.now core) journal.now.notes }
+fn all_ended(
+    held: &Held,
+    orders: &[NameTable<Order<()>>],
+    core: CoreNo,
+    journal: &Journal<u64>,
+) -> bool
+    ensures right { (assembly : AllJournals ℕ) → KnowsOrders orders.now assembly → IsTrue result → EachNote (EndedIfSent held.now assembly core) journal.now.notes }
+    ensures only { (assembly : AllJournals ℕ) → KnowsOrders orders.now assembly → ((note : Note ℕ) (before : Notes ℕ) → EndedIfSent held.now assembly core note before) → IsTrue result }
 {
     for place in 0..journal.len() {
         let note = note_at(journal, place);
-        if !ended_if_sent(held, core, &note) {
+        if !ended_if_sent(held, orders, core, &note) {
             return false;
         }
     }
@@ -184,22 +213,34 @@ fn all_ended(held: &Held, core: CoreNo, journal: &Journal<u64>) -> bool
 }
 
 /// Whether all that any actor sent to this core has ended.
-fn ended_of_all(held: &Held, core: CoreNo, assembly: &Assembly) -> bool
-    ensures { IsTrue result → (sender : ℕ) → sender ≤ assembly.now.cores → EachNote (EndedIfSent held.now core) (journal_of sender assembly.now) }
+fn ended_of_all(
+    held: &Held,
+    orders: &[NameTable<Order<()>>],
+    core: CoreNo,
+    assembly: &Assembly,
+) -> bool
+    ensures right { KnowsOrders orders.now assembly.now → IsTrue result → (sender : ℕ) → sender ≤ assembly.now.cores → EachNote (EndedIfSent held.now assembly.now core) (journal_of sender assembly.now) }
+    ensures only { KnowsOrders orders.now assembly.now → ((note : Note ℕ) (before : Notes ℕ) → EndedIfSent held.now assembly.now core note before) → IsTrue result }
 {
     let outside = assembly.cores();
     for sender in 0..outside {
-        if !all_ended(held, core, assembly.journal(ActorNo(sender))) {
+        if !all_ended(held, orders, core, assembly.journal(ActorNo(sender))) {
             return false;
         }
     }
-    all_ended(held, core, assembly.journal(ActorNo(outside)))
+    all_ended(held, orders, core, assembly.journal(ActorNo(outside)))
 }
 
 /// Whether the core is drained and has lost something that was accepted for it.
-pub(crate) fn has_lost(alloc: Global, assembly: &Assembly, core: CoreNo) -> Result<bool, AllocError>
+pub(crate) fn has_lost(
+    alloc: Global,
+    orders: &[NameTable<Order<()>>],
+    assembly: &Assembly,
+    core: CoreNo,
+) -> Result<bool, AllocError>
     requires { core < assembly.now.cores }
-    ensures { IfOk result (λ lost. lost ≡ false → IsDrained assembly.now.cores (journal_of core assembly.now) → AllEnded assembly.now core) }
+    ensures kept { IfOk result (λ lost. lost ≡ false → KnowsOrders orders.now assembly.now → IsDrained assembly.now.cores (journal_of core assembly.now) → AllEnded assembly.now core) }
+    ensures only { IfOk result (λ lost. KnowsOrders orders.now assembly.now → (IsDrained assembly.now.cores (journal_of core assembly.now) → AllEnded assembly.now core) → lost ≡ false) }
 {
     let journal = assembly.journal(ActorNo(core.0));
     let count = assembly.cores();
@@ -210,5 +251,5 @@ pub(crate) fn has_lost(alloc: Global, assembly: &Assembly, core: CoreNo) -> Resu
     if !held.is_idle() {
         return Ok(false);
     }
-    Ok(!ended_of_all(&held, core, assembly))
+    Ok(!ended_of_all(&held, orders, core, assembly))
 }

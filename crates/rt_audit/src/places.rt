@@ -1,10 +1,11 @@
-//! Where a rule is broken first: the least actor, and of that the least line.
+//! The first place at which a rule is broken: the least actor, and of that the least line.
 
 ghost use Rattle.std.specs.Prelude.{◌≡◌, ◌<◌, ◌≤◌, IfOk, None, false};
 ghost use Rattle.rt_ids.specs.Assembly.{journal_of};
 ghost use Rattle.rt_ids.specs.Closing.{IsDrained};
 ghost use Rattle.rt_ids.specs.Limits.{most_cores};
 ghost use Rattle.rt_ids.specs.Sound.{AllEnded, StartsAreSound, OrderIsSound, ClosesAreSound, OutcomesAreSound, PicksAreSound};
+ghost use Rattle.rt_ids.specs.Spelled.{IsSpelled};
 ghost use Rattle.rt_audit.specs.Places.{DeliveriesOf, CollectionsOf, IsInOrder, OutcomesOf};
 ghost use Rattle.rt_rules.specs.Links.{KnowsOrders, KnowsOutcomes};
 
@@ -42,7 +43,8 @@ fn place_at(actor: u8, line: Option<usize>) -> Option<Place>
 
 /// The lesser of two lines.
 fn first_line(one: Option<usize>, other: Option<usize>) -> Option<usize>
-    ensures { result ≡ None → (one ≡ None) × (other ≡ None) }
+    ensures kept { result ≡ None → (one ≡ None) × (other ≡ None) }
+    ensures only { one ≡ None → other ≡ None → result ≡ None }
 {
     let Some(line) = one else {
         return other;
@@ -53,14 +55,15 @@ fn first_line(one: Option<usize>, other: Option<usize>) -> Option<usize>
     }
 }
 
-/// Where the first rule is broken first.
+/// The first place at which the first rule is broken.
 pub(crate) fn starts_place(
     alloc: Global,
     orders: &[NameTable<Order<()>>],
     assembly: &Assembly,
 ) -> Result<Option<Place>, AllocError>
     requires { assembly.now.cores ≤ most_cores }
-    ensures { IfOk result (λ place. place ≡ None → KnowsOrders orders.now assembly.now → StartsAreSound assembly.now) }
+    ensures kept { IfOk result (λ place. place ≡ None → KnowsOrders orders.now assembly.now → StartsAreSound assembly.now) }
+    ensures only { IfOk result (λ place. KnowsOrders orders.now assembly.now → StartsAreSound assembly.now → place ≡ None) }
 {
     for actor in 0..assembly.cores() + 1 {
         let line = starts_fault(alloc, orders, assembly.journal(ActorNo(actor)))?;
@@ -75,7 +78,8 @@ pub(crate) fn starts_place(
 fn deliveries_line(assembly: &Assembly, core: CoreNo) -> Option<usize>
     requires few { assembly.now.cores ≤ most_cores }
     requires here { core < assembly.now.cores }
-    ensures { result ≡ None → DeliveriesOf assembly.now core }
+    ensures kept { result ≡ None → DeliveriesOf assembly.now core }
+    ensures only { DeliveriesOf assembly.now core → result ≡ None }
 {
     let mut line = None;
     let delivered = assembly.journal(ActorNo(core.0));
@@ -90,7 +94,8 @@ fn deliveries_line(assembly: &Assembly, core: CoreNo) -> Option<usize>
 /// The line of the first note of an actor that collects what isn't the next outcome of a core.
 fn collections_line(assembly: &Assembly, sender: ActorNo) -> Option<usize>
     requires { sender ≤ assembly.now.cores }
-    ensures { result ≡ None → CollectionsOf assembly.now sender }
+    ensures kept { result ≡ None → CollectionsOf assembly.now sender }
+    ensures only { CollectionsOf assembly.now sender → result ≡ None }
 {
     let mut line = None;
     let collected = assembly.journal(sender);
@@ -106,7 +111,8 @@ fn collections_line(assembly: &Assembly, sender: ActorNo) -> Option<usize>
 fn links_line(assembly: &Assembly, actor: u8) -> Option<usize>
     requires few { assembly.now.cores ≤ most_cores }
     requires here { actor ≤ assembly.now.cores }
-    ensures { result ≡ None → (actor < assembly.now.cores → DeliveriesOf assembly.now actor) × CollectionsOf assembly.now actor }
+    ensures kept { result ≡ None → (actor < assembly.now.cores → DeliveriesOf assembly.now actor) × CollectionsOf assembly.now actor }
+    ensures only { (actor < assembly.now.cores → DeliveriesOf assembly.now actor) → CollectionsOf assembly.now actor → result ≡ None }
 {
     let collections = collections_line(assembly, ActorNo(actor));
     if actor < assembly.cores() {
@@ -125,21 +131,23 @@ fn order_line(
 ) -> Result<Option<usize>, AllocError>
     requires few { assembly.now.cores ≤ most_cores }
     requires here { actor ≤ assembly.now.cores }
-    ensures { IfOk result (λ line. line ≡ None → KnowsOrders orders.now assembly.now → StartsAreSound assembly.now → IsInOrder assembly.now actor) }
+    ensures kept { IfOk result (λ line. line ≡ None → KnowsOrders orders.now assembly.now → StartsAreSound assembly.now → IsInOrder assembly.now actor) }
+    ensures only { IfOk result (λ line. KnowsOrders orders.now assembly.now → IsSpelled assembly.now → StartsAreSound assembly.now → IsInOrder assembly.now actor → line ≡ None) }
 {
     let journal = assembly.journal(ActorNo(actor));
     let notes = order_fault(alloc, assembly.cores(), orders, journal)?;
     Ok(first_line(notes, links_line(assembly, actor)))
 }
 
-/// Where the second rule is broken first.
+/// The first place at which the second rule is broken.
 pub(crate) fn order_place(
     alloc: Global,
     orders: &[NameTable<Order<()>>],
     assembly: &Assembly,
 ) -> Result<Option<Place>, AllocError>
     requires { assembly.now.cores ≤ most_cores }
-    ensures { IfOk result (λ place. place ≡ None → KnowsOrders orders.now assembly.now → StartsAreSound assembly.now → OrderIsSound assembly.now) }
+    ensures kept { IfOk result (λ place. place ≡ None → KnowsOrders orders.now assembly.now → StartsAreSound assembly.now → OrderIsSound assembly.now) }
+    ensures only { IfOk result (λ place. KnowsOrders orders.now assembly.now → IsSpelled assembly.now → StartsAreSound assembly.now → OrderIsSound assembly.now → place ≡ None) }
 {
     for actor in 0..assembly.cores() + 1 {
         let line = order_line(alloc, orders, assembly, actor)?;
@@ -150,9 +158,10 @@ pub(crate) fn order_place(
     Ok(None)
 }
 
-/// Where the third rule is broken first.
+/// The first place at which the third rule is broken.
 pub(crate) fn closes_place(assembly: &Assembly) -> Option<Place>
-    ensures { result ≡ None → ClosesAreSound assembly.now }
+    ensures kept { result ≡ None → ClosesAreSound assembly.now }
+    ensures only { ClosesAreSound assembly.now → result ≡ None }
 {
     for core in 0..assembly.cores() {
         let line = closes_fault(assembly, CoreNo(core));
@@ -164,11 +173,17 @@ pub(crate) fn closes_place(assembly: &Assembly) -> Option<Place>
 }
 
 /// Whether the actor is a drained core that has lost something.
-fn is_lost(alloc: Global, assembly: &Assembly, actor: u8) -> Result<bool, AllocError>
-    ensures { IfOk result (λ lost. lost ≡ false → actor < assembly.now.cores → IsDrained assembly.now.cores (journal_of actor assembly.now) → AllEnded assembly.now actor) }
+fn is_lost(
+    alloc: Global,
+    orders: &[NameTable<Order<()>>],
+    assembly: &Assembly,
+    actor: u8,
+) -> Result<bool, AllocError>
+    ensures kept { IfOk result (λ lost. lost ≡ false → KnowsOrders orders.now assembly.now → actor < assembly.now.cores → IsDrained assembly.now.cores (journal_of actor assembly.now) → AllEnded assembly.now actor) }
+    ensures only { IfOk result (λ lost. KnowsOrders orders.now assembly.now → (actor < assembly.now.cores → IsDrained assembly.now.cores (journal_of actor assembly.now) → AllEnded assembly.now actor) → lost ≡ false) }
 {
     if actor < assembly.cores() {
-        let lost = has_lost(alloc, assembly, CoreNo(actor))?;
+        let lost = has_lost(alloc, orders, assembly, CoreNo(actor))?;
         return Ok(lost);
     }
     Ok(false)
@@ -183,9 +198,10 @@ fn outcomes_line(
     actor: u8,
 ) -> Result<Option<usize>, AllocError>
     requires { actor ≤ assembly.now.cores }
-    ensures { IfOk result (λ line. line ≡ None → KnowsOrders orders.now assembly.now → KnowsOutcomes outcomes.now assembly.now → OutcomesOf assembly.now actor) }
+    ensures kept { IfOk result (λ line. line ≡ None → KnowsOrders orders.now assembly.now → KnowsOutcomes outcomes.now assembly.now → OutcomesOf assembly.now actor) }
+    ensures only { IfOk result (λ line. KnowsOrders orders.now assembly.now → KnowsOutcomes outcomes.now assembly.now → OutcomesOf assembly.now actor → line ≡ None) }
 {
-    if is_lost(alloc, assembly, actor)? {
+    if is_lost(alloc, orders, assembly, actor)? {
         return Ok(Some(0));
     }
     let journal = assembly.journal(ActorNo(actor));
@@ -193,7 +209,7 @@ fn outcomes_line(
     Ok(line)
 }
 
-/// Where the fourth rule is broken first.
+/// The first place at which the fourth rule is broken.
 pub(crate) fn outcomes_place(
     alloc: Global,
     orders: &[NameTable<Order<()>>],
@@ -201,7 +217,8 @@ pub(crate) fn outcomes_place(
     assembly: &Assembly,
 ) -> Result<Option<Place>, AllocError>
     requires { assembly.now.cores ≤ most_cores }
-    ensures { IfOk result (λ place. place ≡ None → KnowsOrders orders.now assembly.now → KnowsOutcomes outcomes.now assembly.now → OutcomesAreSound assembly.now) }
+    ensures kept { IfOk result (λ place. place ≡ None → KnowsOrders orders.now assembly.now → KnowsOutcomes outcomes.now assembly.now → OutcomesAreSound assembly.now) }
+    ensures only { IfOk result (λ place. KnowsOrders orders.now assembly.now → KnowsOutcomes outcomes.now assembly.now → OutcomesAreSound assembly.now → place ≡ None) }
 {
     for actor in 0..assembly.cores() + 1 {
         let line = outcomes_line(alloc, orders, outcomes, assembly, actor)?;
@@ -212,9 +229,10 @@ pub(crate) fn outcomes_place(
     Ok(None)
 }
 
-/// Where the fifth rule is broken first.
+/// The first place at which the fifth rule is broken.
 pub(crate) fn picks_place(alloc: Global, assembly: &Assembly) -> Result<Option<Place>, AllocError>
-    ensures { IfOk result (λ place. place ≡ None → PicksAreSound assembly.now) }
+    ensures kept { IfOk result (λ place. place ≡ None → PicksAreSound assembly.now) }
+    ensures only { IfOk result (λ place. IsSpelled assembly.now → PicksAreSound assembly.now → place ≡ None) }
 {
     for core in 0..assembly.cores() {
         let line = picks_fault(alloc, assembly.journal(ActorNo(core)))?;

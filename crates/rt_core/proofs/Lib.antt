@@ -12,3 +12,5 @@ pub mod SlipsKept
 pub mod Opening
 pub mod Awaited
 pub mod Closings
+pub mod Whole
+pub mod Turned

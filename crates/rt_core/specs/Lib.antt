@@ -7,3 +7,4 @@ pub mod Answers
 pub mod Inside
 pub mod Steps
 pub mod Figures
+pub mod Whole

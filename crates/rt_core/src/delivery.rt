@@ -3,7 +3,7 @@
 use rt_ids::{Answer, Order, Reason};
 
 /// What became of a delivered submission.
-#[derive(PartialEq, Eq, Debug, Drop)]
+#[derive(Drop)]
 pub enum Delivered<J> {
     /// The job entered its queue.
     Took,

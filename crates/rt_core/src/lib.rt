@@ -17,4 +17,4 @@ pub mod turn;
 pub use delivery::Delivered;
 pub use notes::Notes;
 pub use one_core::Core;
-pub use turn::{PickError, Settled, Turn};
+pub use turn::{Ahead, Next, PickError, Settled, Turn};

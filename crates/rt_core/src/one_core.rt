@@ -30,6 +30,7 @@ mod deliveries;
 mod figures;
 mod picks;
 mod polls;
+mod whole;
 
 /// One core: its task queues, what each has used of the core, and the job that is being polled.
 #[derive(Drop)]

@@ -9,7 +9,7 @@ use rt_shares::{Shares, charge, clamped};
 pub(crate) const MOST_QUEUES: usize = 256;
 
 /// What is counted of a queue. Times are nanoseconds.
-#[derive(Clone, Copy, PartialEq, Eq, Debug)]
+#[derive(Clone, Copy)]
 pub struct Tally {
     /// Its virtual runtime.
     pub runtime: u128,
@@ -32,6 +32,16 @@ impl Tally {
         finished: 0,
         returned: 0,
     };
+
+    /// After one more pick.
+    pub(crate) fn picked(self) -> Tally
+        requires { self.selected + 1 < 2 ^ 64 }
+        ensures { result ≡ record self { selected = self.selected + 1 } }
+    {
+        let mut tally = self;
+        tally.selected += 1;
+        tally
+    }
 
     /// After a poll of this time under these shares, with so many more jobs done.
     pub(crate) fn charged(self, time: u64, shares: &Shares, done: u64) -> Tally

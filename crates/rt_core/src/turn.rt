@@ -3,7 +3,7 @@
 use rt_ids::{JobId, Order, QueueNo, Reason};
 
 /// What a pick came to.
-#[derive(PartialEq, Eq, Debug, Drop)]
+#[derive(Drop)]
 pub enum Turn<J> {
     /// The job is out for its first poll.
     Start(JobId, QueueNo, J),
@@ -27,10 +27,32 @@ pub enum PickError {
 }
 
 /// What became of a job that was out.
-#[derive(PartialEq, Eq, Debug, Drop)]
+#[derive(Drop)]
 pub enum Settled<T> {
     /// It waits at the tail of its queue.
     Yielded,
     /// It is done, with the answer.
     Finished(T),
+}
+
+/// The job that the next pick takes out.
+#[derive(Clone, Copy)]
+pub struct Next {
+    pub queue: QueueNo,
+    /// The virtual runtime of its queue.
+    pub vr: u128,
+    pub name: JobId,
+    /// Whether it was polled before.
+    pub started: bool,
+}
+
+/// What the next pick would come to.
+#[derive(Clone, Copy)]
+pub enum Ahead {
+    /// This job goes out.
+    Job(Next),
+    /// A job is handed back. A pick does that.
+    Back,
+    /// No queue has work.
+    Idle,
 }

@@ -1,9 +1,9 @@
 -- The top of a tree of winners is the least key, also after a change.
-use Rattle.std.proofs.Common.{◌≡◌, ◌≢◌, ℕ, zero, suc, ◌+◌, ◌*◌, ◌/◌, ◌<◌, ◌≤◌, ◌⊎◌, inl, inr, length, refl, sym, ◌∙◌, ap, subst, arith, set, replicate, get_or, get_or-set_other, get_or-set_same}
-use Rattle.std.proofs.lemmas.Bool.{cases_eq}
+use Rattle.std.proofs.Common.{◌≡◌, ◌≢◌, ℕ, zero, suc, ◌+◌, ◌*◌, ◌/◌, ◌-◌, ◌<◌, ◌≤◌, ◌⊎◌, inl, inr, refl, sym, ◌∙◌, ap, subst, arith}
+use Rattle.std.proofs.lemmas.Bool.{cases_eq, cases_lt}
 use Rattle.rt_ids.specs.declared.names.Key.{Key}
 use Rattle.rt_least.specs.declared.least.Least.{Least}
-use Rattle.rt_least.specs.Winners.{AtMost, Wins, WinsExcept, IsTree, IsOnTheWay, node_of, key_of, no_key}
+use Rattle.rt_least.specs.Winners.{AtMost, Wins, IsTree, IsAmong, IsOnTheWay, node_of}
 
 pub at_most_itself : (one : Key) → AtMost one one
 at_most_itself one = inr (refl, omega arith)
@@ -20,12 +20,36 @@ all_even key least even node some inner =
     let top = even node (omega arith) in
     let left = even (2 * node) (omega arith) in
     let right = even (2 * node + 1) (omega arith) in
-    record { left = rw (top, left) (at_most_itself key); right = rw (top, right) (at_most_itself key) }
+    record { either = inl (top ∙ sym left); left = rw (top, left) (at_most_itself key); right = rw (top, right) (at_most_itself key) }
 
 -- nodes that keep their keys win as before
 pub still_wins : (old new : Least) (node : ℕ) → node_of new node ≡ node_of old node → node_of new (2 * node) ≡ node_of old (2 * node) →
     node_of new (2 * node + 1) ≡ node_of old (2 * node + 1) → Wins old node → Wins new node
-still_wins old new node top left right wins = record { left = rw (top, left) wins.left; right = rw (top, right) wins.right }
+still_wins old new node top left right wins = record { either = by_side wins.either; left = rw (top, left) wins.left; right = rw (top, right) wins.right }
+  where
+    by_side : (node_of old node ≡ node_of old (2 * node)) ⊎ (node_of old node ≡ node_of old (2 * node + 1)) →
+        (node_of new node ≡ node_of new (2 * node)) ⊎ (node_of new node ≡ node_of new (2 * node + 1))
+    by_side (inl same) = inl (top ∙ (same ∙ sym left))
+    by_side (inr same) = inr (top ∙ (same ∙ sym right))
+
+-- each node has the key of a queue
+pub among_queues : (least : Least) → IsTree least → (bound node : ℕ) → 512 ≤ node + bound → 1 ≤ node → node < 512 → IsAmong least (node_of least node)
+among_queues least tree zero node low some within = absurd (omega arith)
+among_queues least tree (suc bound) node low some within =
+    by_level (cases_lt node 256) (λ inner. among_queues least tree bound (2 * node) (omega arith) (omega arith) (omega arith))
+    (λ inner. among_queues least tree bound (2 * node + 1) (omega arith) (omega arith) (omega arith))
+  where
+    by_side : (inner : node < 256) → IsAmong least (node_of least (2 * node)) → IsAmong least (node_of least (2 * node + 1)) →
+        (node_of least node ≡ node_of least (2 * node)) ⊎ (node_of least node ≡ node_of least (2 * node + 1)) → IsAmong least (node_of least node)
+    by_side inner left right (inl same) = record { queue = left.queue; few = left.few; is = same ∙ left.is }
+    by_side inner left right (inr same) = record { queue = right.queue; few = right.few; is = same ∙ right.is }
+
+    by_level : (node < 256) ⊎ (256 ≤ node) → (node < 256 → IsAmong least (node_of least (2 * node))) →
+        (node < 256 → IsAmong least (node_of least (2 * node + 1))) → IsAmong least (node_of least node)
+    by_level (inl inner) left right = by_side inner (left inner) (right inner) (tree node some inner).either
+    by_level (inr leaf) left right =
+        let there : node ≡ 256 + (node - 256) = omega arith in
+        record { queue = node - 256; few = omega arith; is = ap (node_of least) there }
 
 -- the top is at most each node
 pub top_wins : (least : Least) → IsTree least → (bound place : ℕ) → place ≤ bound → 1 ≤ place → place < 512 → AtMost (node_of least 1) (node_of least place)

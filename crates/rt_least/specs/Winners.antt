@@ -1,5 +1,5 @@
 -- A tree of winners: each node has the lesser key of the two nodes below it.
-use Rattle.std.specs.Prelude.{◌≡◌, ℕ, ◌+◌, ◌*◌, ◌/◌, ◌-◌, ◌^◌, ◌<◌, ◌≤◌, ◌≢◌, get_or}
+use Rattle.std.specs.Prelude.{◌≡◌, ℕ, ◌+◌, ◌*◌, ◌/◌, ◌-◌, ◌^◌, ◌<◌, ◌≤◌, ◌≢◌, ◌⊎◌, get_or}
 use Rattle.rt_ids.specs.declared.names.Key.{Key}
 use Rattle.rt_ids.specs.Keys.{KeyAtMost}
 use Rattle.rt_least.specs.declared.least.Least.{Least}
@@ -26,6 +26,7 @@ key_of least queue = node_of least (256 + queue)
 
 -- a node has the lesser key of the two below it
 pub record Wins (least : Least) (node : ℕ) : Type 0 where
+  pub either : (node_of least node ≡ node_of least (2 * node)) ⊎ (node_of least node ≡ node_of least (2 * node + 1))
   pub left : AtMost (node_of least node) (node_of least (2 * node))
   pub right : AtMost (node_of least node) (node_of least (2 * node + 1))
 
@@ -36,6 +37,12 @@ WinsExcept least loser = (node : ℕ) → 1 ≤ node → node < 256 → node ≢
 -- each inner node wins
 abbrev pub IsTree : Least → Type 0
 IsTree least = (node : ℕ) → 1 ≤ node → node < 256 → Wins least node
+
+-- a key is that of a queue
+pub record IsAmong (least : Least) (key : Key) : Type 0 where
+  pub queue : ℕ
+  pub few : queue < 256
+  pub is : key ≡ key_of least queue
 
 -- on the way up from a changed queue each node wins, except the one above; the queue has its new key and the others have their old ones
 pub record IsOnTheWay (old least : Least) (queue : ℕ) (key : Key) (node : ℕ) : Type 0 where

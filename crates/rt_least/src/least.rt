@@ -1,7 +1,7 @@
 //! A tree of winners over the keys of all queues.
 
-ghost use Rattle.std.specs.Prelude.{◌≡◌, ◌≢◌, ℕ, ◌+◌, ◌<◌, ◌≤◌};
-ghost use Rattle.rt_least.specs.Winners.{AtMost, Wins, IsTree, node_of, key_of};
+ghost use Rattle.std.specs.Prelude.{◌≡◌, ◌≢◌, ◌⊎◌, ℕ, ◌+◌, ◌<◌, ◌≤◌};
+ghost use Rattle.rt_least.specs.Winners.{AtMost, Wins, IsTree, IsAmong, node_of, key_of, last_key};
 
 use rt_ids::{Key, QueueNo};
 
@@ -16,6 +16,7 @@ pub struct Least {
 fn winner(one: &Key, other: &Key) -> Key
     ensures first { AtMost result one.now }
     ensures second { AtMost result other.now }
+    ensures either { (result ≡ one.now) ⊎ (result ≡ other.now) }
 {
     if other.is_before(one) { *other } else { *one }
 }
@@ -31,7 +32,8 @@ fn place_of(queue: QueueNo) -> usize
 impl Least {
     /// Each queue has a key above all others.
     pub fn new() -> Self
-        ensures { IsTree result }
+        ensures tree { IsTree result }
+        ensures last { (queue : ℕ) → queue < 256 → key_of result queue ≡ last_key }
     {
         let last = Key {
             vr: u128::MAX,
@@ -69,7 +71,8 @@ impl Least {
 
     /// The least key.
     pub fn least(&self) -> Key
-        ensures { IsTree self.now → (queue : ℕ) → queue < 256 → AtMost result (key_of self.now queue) }
+        ensures least { IsTree self.now → (queue : ℕ) → queue < 256 → AtMost result (key_of self.now queue) }
+        ensures among { IsTree self.now → IsAmong self.now result }
     {
         self.nodes[1]
     }

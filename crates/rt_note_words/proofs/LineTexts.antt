@@ -1,9 +1,7 @@
 -- A line and the note that it tells are one.
-use Rattle.std.proofs.Common.{◌≡◌, ℕ, ◌≤◌, ◌==◌, List, [], ◌∷◌, refl, sym, ap, ◌∙◌, arith, decimal}
+use Rattle.std.proofs.Common.{◌≡◌, ℕ, ◌==◌, List, [], ◌∷◌, refl, sym, ap, ◌∙◌, arith, decimal}
 use Rattle.std.proofs.lemmas.List.Splits.{slice_split_none, slice_split_at, join_with_byte-slice_split}
 use Rattle.rt_ids.specs.declared.note.Note.{Note}
-use Rattle.rt_ids.specs.Limits.{most_cores}
-use Rattle.rt_ids.specs.Terms.{Terms}
 use Rattle.rt_words.specs.Words.{words}
 use Rattle.rt_note_words.specs.Laws.{LineTellsNote, NoteHasOneLine}
 use Rattle.rt_note_words.proofs.NoteReads.{note_read}

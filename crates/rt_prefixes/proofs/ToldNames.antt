@@ -1,6 +1,6 @@
 -- The lists of a link as names, and the beginnings of lists that are told.
-use Rattle.std.proofs.Common.{◌≡◌, ℕ, zero, suc, ◌-◌, Bool, true, false, List, [], ◌∷◌, ◌++◌, length, drop, refl, sym, ◌∙◌, ap, cond, arith}
-use Rattle.std.specs.Prelude.{Option, Some, None, map, ◌==◌}
+use Rattle.std.proofs.Common.{◌≡◌, ℕ, zero, suc, ◌-◌, Bool, true, false, List, [], ◌∷◌, ◌++◌, length, drop, refl, sym, ◌∙◌, ap, subst, cond}
+use Rattle.std.specs.Prelude.{Option, Some, None, IfSome, ◌==◌}
 use Rattle.std.proofs.lemmas.List.{map-append, append_assoc, append-nil}
 use Rattle.rt_ids.specs.declared.names.JobId.{JobId}
 use Rattle.rt_ids.specs.declared.note.Note.{Note}
@@ -8,7 +8,7 @@ use Rattle.rt_ids.specs.declared.note.Note.TheVariants.{Sent, Back, Answered, Do
 use Rattle.rt_ids.specs.Assembly.{IsPrefix, names_of}
 use Rattle.rt_ids.specs.Filters.{order_sent, outcome_given, outcome_collected, accepted_orders, given_outcomes, collected_outcomes}
 use Rattle.rt_ids.specs.Journal.{Journal, list_told, with_last, at_place}
-use Rattle.rt_prefixes.specs.Sides.{name_sent, name_given, name_collected}
+use Rattle.rt_prefixes.specs.Sides.{name_sent, name_given, name_collected, TurnsOff}
 
 -- the name of an entry, if there is one
 abbrev name_in : {A : Type 0} → Option (JobId × A) → Option JobId
@@ -22,6 +22,17 @@ names_of-with_last {A} entries (Some entry) = map-append (λ (one : JobId × A).
 name_in-if : {A : Type 0} (test : Bool) (name : JobId) (item : A) → name_in (cond test (Some (name, item)) None) ≡ cond test (Some name) None
 name_in-if true name item = refl
 name_in-if false name item = refl
+
+-- a list with one more item isn't the beginning of that list
+pub no_more : {A : Type 0} (items : List A) (item : A) (rest : List A) → (items ++ item ∷ []) ++ rest ≡ items → ⊥
+no_more [] item rest same = cc
+no_more (first ∷ items) item rest same = let fewer : (items ++ item ∷ []) ++ rest ≡ items = cc in no_more items item rest fewer
+
+-- behind the same beginning stands the same item
+pub same_next : {A : Type 0} (items : List A) (item other : A) (rest more : List A) → (items ++ item ∷ []) ++ rest ≡ (items ++ other ∷ []) ++ more → item ≡ other
+same_next [] item other rest more same = cc
+same_next (first ∷ items) item other rest more same =
+    let fewer : (items ++ item ∷ []) ++ rest ≡ (items ++ other ∷ []) ++ more = cc in same_next items item other rest more fewer
 
 one_longer : {A : Type 0} (front whole : List A) (more : Option A) → IsPrefix front whole → IsPrefix front (with_last whole more)
 one_longer front whole None begins = begins
@@ -71,3 +82,34 @@ module _ {T : Type 0} where
   pub told_at_place : {A : Type 0} (says : Note T → Option A) (place : ℕ) (journal : Journal T) →
       IsPrefix (list_told says (at_place place journal)) (list_told says journal)
   told_at_place says place journal = dropped says (length journal - place) journal
+
+-- a list goes off where the same list goes off
+pub off_same : (told other : Journal ℕ → List JobId) → ((journal : Journal ℕ) → told journal ≡ other journal) → (journal : Journal ℕ) (whole : List JobId) (line : Option ℕ) →
+    IfSome line (TurnsOff told journal whole) → IfSome line (TurnsOff other journal whole)
+off_same told other same journal whole None off = tt
+off_same told other same journal whole (Some line) off = record {
+  place = off.place;
+  counted = off.counted;
+  within = off.within;
+  kept = subst (λ names. IsPrefix names whole) (same (at_place off.place journal)) off.kept;
+  broken = λ begins. off.broken (subst (λ names. IsPrefix names whole) (sym (same (at_place line journal))) begins);
+}
+
+-- where a list is the beginning of another, it goes off nowhere
+pub none_off : (told : Journal ℕ → List JobId) → ((place : ℕ) (journal : Journal ℕ) → IsPrefix (told (at_place place journal)) (told journal)) →
+    (journal : Journal ℕ) (whole : List JobId) (line : Option ℕ) → IfSome line (TurnsOff told journal whole) → IsPrefix (told journal) whole → line ≡ None
+none_off told part journal whole None off begins = refl
+none_off told part journal whole (Some line) off begins =
+    let front = part line journal in
+    absurd
+    (
+    off.broken (
+      front.0 ++ begins.0,
+      sym (append_assoc (told (at_place line journal)) front.0 begins.0) ∙ (ap (λ items. items ++ begins.0) front.1 ∙ begins.1),
+    )
+    )
+
+-- what was collected at a place is the beginning of what is collected
+pub collected_at_place : (core place : ℕ) (journal : Journal ℕ) → IsPrefix (names_of (collected_outcomes core (at_place place journal))) (names_of (collected_outcomes core journal))
+collected_at_place core place journal =
+    rw (names_collected core (at_place place journal), names_collected core journal) (told_at_place (name_collected core) place journal)

@@ -1,8 +1,9 @@
 -- The four lists of a link, as names.
-use Rattle.std.specs.Prelude.{◌≡◌, ℕ, ◌+◌, ◌≤◌, ◌++◌, [], ◌∷◌, length, Option, Some, None}
+use Rattle.std.specs.Prelude.{◌≡◌, ℕ, ◌+◌, ◌≤◌, ◌++◌, List, [], ◌∷◌, length, Option, None}
 use Rattle.rt_ids.specs.declared.names.JobId.{JobId}
 use Rattle.rt_ids.specs.declared.note.Note.{Note}
 use Rattle.rt_ids.specs.declared.note.Note.TheVariants.{Sent, Back, Answered, Done, Returned, Collected}
+use Rattle.rt_ids.specs.Assembly.{IsPrefix}
 use Rattle.rt_ids.specs.Filters.{if_to, if_from, name_delivered}
 use Rattle.rt_ids.specs.Journal.{Journal, list_told, with_last, at_place}
 use Rattle.rt_prefixes.specs.declared.sides.Side.{Side}
@@ -48,3 +49,11 @@ pub record Advances (front : Side) (note : Note ℕ) (whole : Side) (other : Jou
 pub record AreEven (front : Side) (front_journal : Journal ℕ) (place : ℕ) (whole : Side) (whole_journal : Journal ℕ) (behind : ℕ) : Type 0 where
   pub within : behind ≤ length whole_journal
   pub even : list_told (name_told front) (at_place place front_journal) ≡ list_told (name_told whole) (at_place behind whole_journal)
+
+-- up to this line, counted from 1, a journal tells what isn't the beginning of the whole list, and before it what is
+pub record TurnsOff (told : Journal ℕ → List JobId) (journal : Journal ℕ) (whole : List JobId) (line : ℕ) : Type 0 where
+  pub place : ℕ
+  pub counted : line ≡ place + 1
+  pub within : line ≤ length journal
+  pub kept : IsPrefix (told (at_place place journal)) whole
+  pub broken : IsPrefix (told (at_place line journal)) whole → ⊥

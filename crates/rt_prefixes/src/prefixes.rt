@@ -3,8 +3,8 @@
 ghost use Rattle.std.specs.Prelude.{◌≡◌, ◌≤◌, None, IfSome, IsTrue, length};
 ghost use Rattle.rt_ids.specs.Assembly.{IsPrefix, names_of};
 ghost use Rattle.rt_ids.specs.Filters.{accepted_orders, delivered_names, given_outcomes, collected_outcomes};
-ghost use Rattle.rt_ids.specs.Journal.{list_told};
-ghost use Rattle.rt_prefixes.specs.Sides.{name_told, IsNext, Advances};
+ghost use Rattle.rt_ids.specs.Journal.{list_told, with_last, at_place};
+ghost use Rattle.rt_prefixes.specs.Sides.{name_told, IsNext, Advances, TurnsOff};
 
 use crate::sides::{Side, name_told};
 use rt_ids::{ActorNo, CoreNo, JobId, Note};
@@ -12,7 +12,8 @@ use rt_notes::Journal;
 use rt_tables::note_at;
 
 fn is_same(one: &JobId, other: &JobId) -> bool
-    ensures { IsTrue result → one.now ≡ other.now }
+    ensures right { IsTrue result → one.now ≡ other.now }
+    ensures only { one.now ≡ other.now → IsTrue result }
 {
     one.from.0 == other.from.0 && one.to.0 == other.to.0 && one.number == other.number
 }
@@ -20,7 +21,8 @@ fn is_same(one: &JobId, other: &JobId) -> bool
 /// The next name of a list at this place or behind it, and the place behind its note.
 fn next_told(side: &Side, journal: &Journal<u64>, from: usize) -> Option<(JobId, usize)>
     requires { from ≤ length journal.now.notes }
-    ensures { IfSome result (λ found. IsNext side.now journal.now.notes from found.0 found.1) }
+    ensures next { IfSome result (λ found. IsNext side.now journal.now.notes from found.0 found.1) }
+    ensures last { result ≡ None → list_told (name_told side.now) journal.now.notes ≡ list_told (name_told side.now) (at_place from journal.now.notes) }
 {
     for place in from..journal.len() {
         let note = note_at(journal, place);
@@ -40,7 +42,8 @@ fn advance(
     behind: usize,
 ) -> Option<usize>
     requires { behind ≤ length other.now.notes }
-    ensures { IfSome result (Advances front.now note.now whole.now other.now.notes behind) }
+    ensures right { IfSome result (Advances front.now note.now whole.now other.now.notes behind) }
+    ensures only { result ≡ None → IsPrefix (with_last (list_told (name_told whole.now) (at_place behind other.now.notes)) (name_told front.now note.now)) (list_told (name_told whole.now) other.now.notes) → ⊥ }
 {
     let Some(name) = name_told(front, note) else {
         return Some(behind);
@@ -62,7 +65,8 @@ fn prefix_fault(
     whole: &Side,
     other: &Journal<u64>,
 ) -> Option<usize>
-    ensures { result ≡ None → IsPrefix (list_told (name_told front.now) journal.now.notes) (list_told (name_told whole.now) other.now.notes) }
+    ensures kept { result ≡ None → IsPrefix (list_told (name_told front.now) journal.now.notes) (list_told (name_told whole.now) other.now.notes) }
+    ensures named { IfSome result (TurnsOff (list_told (name_told front.now)) journal.now.notes (list_told (name_told whole.now) other.now.notes)) }
 {
     let mut behind = 0;
     for place in 0..journal.len() {
@@ -82,7 +86,8 @@ pub fn deliveries_fault(
     sent: &Journal<u64>,
     delivered: &Journal<u64>,
 ) -> Option<usize>
-    ensures { result ≡ None → IsPrefix (delivered_names sender delivered.now.notes) (names_of (accepted_orders core sent.now.notes)) }
+    ensures kept { result ≡ None → IsPrefix (delivered_names sender delivered.now.notes) (names_of (accepted_orders core sent.now.notes)) }
+    ensures named { IfSome result (TurnsOff (delivered_names sender) delivered.now.notes (names_of (accepted_orders core sent.now.notes))) }
 {
     prefix_fault(&Side::Delivered(sender), delivered, &Side::Sent(core), sent)
 }
@@ -94,7 +99,8 @@ pub fn collections_fault(
     collected: &Journal<u64>,
     given: &Journal<u64>,
 ) -> Option<usize>
-    ensures { result ≡ None → IsPrefix (names_of (collected_outcomes core collected.now.notes)) (names_of (given_outcomes sender given.now.notes)) }
+    ensures kept { result ≡ None → IsPrefix (names_of (collected_outcomes core collected.now.notes)) (names_of (given_outcomes sender given.now.notes)) }
+    ensures named { IfSome result (TurnsOff (λ notes. names_of (collected_outcomes core notes)) collected.now.notes (names_of (given_outcomes sender given.now.notes))) }
 {
     prefix_fault(
         &Side::Collected(core),

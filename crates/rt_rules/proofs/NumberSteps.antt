@@ -1,16 +1,15 @@
 -- What the walk of the second rule knows after one more note, and when a start stands in order.
-use Rattle.std.proofs.Common.{◌≡◌, ℕ, zero, suc, ◌-◌, ◌<◌, ◌≤◌, ◌⊎◌, inl, inr, Bool, true, false, [], ◌∷◌, length, drop, refl, sym, ◌∙◌, ap, subst, cond, arith, get_or, replicate}
+use Rattle.std.proofs.Common.{◌≡◌, ℕ, zero, suc, ◌<◌, ◌≤◌, ◌⊎◌, inl, inr, Bool, true, false, [], ◌∷◌, refl, sym, ◌∙◌, ap, subst, cond, arith, get_or, replicate}
 use Rattle.std.specs.Prelude.{Option, Some, None}
 use Rattle.std.proofs.lemmas.Bool.{or_cases, true≢false}
 use Rattle.rt_ids.specs.declared.names.JobId.{JobId}
-use Rattle.rt_ids.specs.declared.note.Note.{Note}
 use Rattle.rt_ids.specs.declared.note.Note.TheVariants.{Took, Start}
 use Rattle.rt_ids.specs.declared.order.Order.{Order}
 use Rattle.rt_ids.specs.declared.order.Order.TheVariants.{Job}
 use Rattle.rt_ids.specs.Assembly.{Assembly, order_of}
 use Rattle.rt_ids.specs.Clauses.{StandsInOrder, IsAcceptedInside}
 use Rattle.rt_ids.specs.Filters.{name_started}
-use Rattle.rt_ids.specs.Journal.{Journal, EachNote, at_place, is_told, or_else}
+use Rattle.rt_ids.specs.Journal.{Journal, EachNote, is_told, or_else}
 use Rattle.rt_ids.specs.Names.{same_name}
 use Rattle.rt_ids.specs.Work.{queue_of}
 use Rattle.rt_ids.proofs.NameLemmas.{one_name}
@@ -27,20 +26,11 @@ asked_job _ queue asked = cc
 pub same_asked : (order : Option (Order (Unit {0}))) (queue other : ℕ) → queue_asked order ≡ Some queue → queue_asked order ≡ Some other → queue ≡ other
 same_asked order queue other one another = cc
 
-each_dropped : {T : Type 0} (P : Note T → Journal T → Type 0) (count : ℕ) (journal : Journal T) → EachNote P journal → EachNote P (drop count journal)
-each_dropped P zero journal each = each
-each_dropped P (suc count) [] each = each
-each_dropped P (suc count) (note ∷ before) each = each_dropped P count before each.1
-
 -- nothing is counted at first
 pub zero_there : (count place : ℕ) → ◌≡◌ {A = ℕ} (get_or (replicate count 0) place 0) 0
 zero_there zero place = refl
 zero_there (suc count) zero = refl
 zero_there (suc count) (suc place) = zero_there count place
-
--- what holds of each note holds of each note before a place
-pub each_before : {T : Type 0} (P : Note T → Journal T → Type 0) (place : ℕ) (journal : Journal T) → EachNote P journal → EachNote P (at_place place journal)
-each_before P place journal each = each_dropped P (length journal - place) journal each
 
 module _ (assembly : Assembly ℕ) where
   -- where each note stands in order, each job is in the queue that it was sent to

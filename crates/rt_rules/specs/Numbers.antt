@@ -1,10 +1,10 @@
 -- What the walk of the second rule knows of the notes that it has read.
-use Rattle.std.specs.Prelude.{◌≡◌, ℕ, ◌+◌, ◌*◌, ◌-◌, ◌<◌, ◌≤◌, ◌^◌, true, Option, Some, None, length, get_or}
+use Rattle.std.specs.Prelude.{◌≡◌, ℕ, ◌+◌, ◌*◌, ◌-◌, ◌<◌, ◌≤◌, ◌^◌, ◌⊎◌, true, Option, Some, None, length, get_or}
 use Rattle.rt_ids.specs.declared.names.JobId.{JobId}
 use Rattle.rt_ids.specs.declared.order.Order.{Order}
 use Rattle.rt_ids.specs.declared.order.Order.TheVariants.{Job}
 use Rattle.rt_ids.specs.Assembly.{Assembly, order_of}
-use Rattle.rt_ids.specs.Clauses.{StandsInOrder}
+use Rattle.rt_ids.specs.Clauses.{StartsRight, StandsInOrder}
 use Rattle.rt_ids.specs.Filters.{accepted_orders, name_started}
 use Rattle.rt_ids.specs.Journal.{Journal, EachNote, is_told}
 use Rattle.rt_ids.specs.Work.{queue_of}
@@ -39,6 +39,26 @@ pub record KnowsNumbers (assembly : Assembly ℕ) (numbers : Numbers) (before : 
       name.number ≤ last_started numbers name.from queue
   pub sent : (core : ℕ) → get_or numbers.sent core 0 ≡ length (accepted_orders core before)
 
+-- a job with this number started of this sender and this queue
+pub record HasReached (assembly : Assembly ℕ) (sender queue number : ℕ) (before : Journal ℕ) : Type 0 where
+  pub name : JobId
+  pub started : is_told name_started name before ≡ true
+  pub from : name.from ≡ sender
+  pub asked : queue_asked (order_of name assembly) ≡ Some queue
+  pub at : name.number ≡ number
+
+-- each number that is kept, if it isn't 0, is that of a job that started
+abbrev pub AreReached : Assembly ℕ → Numbers → Journal ℕ → Type 0
+AreReached assembly numbers before =
+    (sender queue : ℕ) → queue < 256 → 0 < last_started numbers sender queue → slot sender queue < length numbers.started.items →
+    HasReached assembly sender queue (last_started numbers sender queue) before
+
+-- the numbers are kept as they were, or this one is kept for this sender and this queue
+abbrev pub Raises : Numbers → Numbers → ℕ → ℕ → ℕ → Type 0
+Raises old new from queue number =
+    (sender other : ℕ) → other < 256 →
+    (last_started new sender other ≡ last_started old sender other) ⊎ ((sender ≡ from) × (other ≡ queue) × (last_started new sender other ≡ number))
+
 -- each job is in the queue that it was sent to
 abbrev pub EnteredAsSent : Assembly ℕ → Journal ℕ → Type 0
 EnteredAsSent assembly before = (name : JobId) (queue : ℕ) → queue_of name before ≡ Some queue → order_of name assembly ≡ Some (Job queue tt)
@@ -47,3 +67,11 @@ EnteredAsSent assembly before = (name : JobId) (queue : ℕ) → queue_of name b
 pub record OrderSoFar (assembly : Assembly ℕ) (numbers : Numbers) (before : Journal ℕ) : Type 0 where
   pub known : KnowsNumbers assembly numbers before
   pub right : EachNote (StandsInOrder assembly) before
+
+-- all that tells whether a note stands in order: each sender has its numbers, each number is that of a start, and the starts are right
+pub record KnowsOrder (assembly : Assembly ℕ) (numbers : Numbers) (before : Journal ℕ) : Type 0 where
+  pub rows : length numbers.started.items ≡ (assembly.cores + 1) * 256
+  pub known : KnowsNumbers assembly numbers before
+  pub reached : AreReached assembly numbers before
+  pub entered : EnteredAsSent assembly before
+  pub starts : EachNote (StartsRight assembly) before

@@ -1,12 +1,13 @@
 //! Rule 3: nothing enters after a close, and each gate is shut once, at the count of what was accepted.
 
-ghost use Rattle.std.specs.Prelude.{◌≡◌, ◌+◌, ◌∷◌, ◌<◌, ℕ, IsTrue, None, [], length};
+ghost use Rattle.std.specs.Prelude.{◌≡◌, ◌+◌, ◌∷◌, ◌<◌, ℕ, IsTrue, IfSome, None, [], length};
 ghost use Rattle.rt_ids.specs.Assembly.{journal_of};
 ghost use Rattle.rt_ids.specs.Clauses.{RespectsCloses};
 ghost use Rattle.rt_ids.specs.Filters.{accepted_orders};
 ghost use Rattle.rt_ids.specs.Journal.{Journal as Notes, EachNote};
 ghost use Rattle.rt_ids.specs.Work.{number_if};
 ghost use Rattle.rt_rules.specs.Closes.{KnowsCloses};
+ghost use Rattle.rt_tables.specs.Faults.{IsFirstFault};
 
 use rt_ids::{ActorNo, CoreNo, Mode, Note};
 use rt_notes::{Assembly, Journal};
@@ -76,14 +77,19 @@ fn sent_count(core: CoreNo, journal: &Journal<u64>) -> usize
 
 /// Whether the gate of this sender is shut at the right count.
 fn is_final_count(assembly: &Assembly, core: CoreNo, sender: ActorNo, count: u64) -> bool
-    ensures { IsTrue result → count ≡ length (accepted_orders core (journal_of sender assembly.now)) }
+    ensures right { IsTrue result → count ≡ length (accepted_orders core (journal_of sender assembly.now)) }
+    ensures only { count ≡ length (accepted_orders core (journal_of sender assembly.now)) → IsTrue result }
 {
-    sender.0 <= assembly.cores() && count == sent_count(core, assembly.journal(sender)) as u64
+    if sender.0 > assembly.cores() {
+        return count == 0;
+    }
+    count == sent_count(core, assembly.journal(sender)) as u64
 }
 
 /// Whether a note keeps to what was closed before it.
 fn respects_closes(assembly: &Assembly, core: CoreNo, closes: &Closes, note: &Note<u64>) -> bool
-    ensures { (before : Notes ℕ) → KnowsCloses closes.now before → IsTrue result → RespectsCloses assembly.now core note.now before }
+    ensures right { (before : Notes ℕ) → KnowsCloses closes.now before → IsTrue result → RespectsCloses assembly.now core note.now before }
+    ensures only { (before : Notes ℕ) → KnowsCloses closes.now before → RespectsCloses assembly.now core note.now before → IsTrue result }
 {
     match *note {
         Note::Took(_, queue) => !closes.queues[queue.0 as usize] && !closes.returning,
@@ -100,7 +106,8 @@ fn respects_closes(assembly: &Assembly, core: CoreNo, closes: &Closes, note: &No
 /// The line of the first note that doesn't keep to what was closed before it.
 pub fn closes_fault(assembly: &Assembly, core: CoreNo) -> Option<usize>
     requires { core < assembly.now.cores }
-    ensures { result ≡ None → EachNote (RespectsCloses assembly.now core) (journal_of core assembly.now) }
+    ensures kept { result ≡ None → EachNote (RespectsCloses assembly.now core) (journal_of core assembly.now) }
+    ensures named { IfSome result (IsFirstFault (RespectsCloses assembly.now core) (journal_of core assembly.now)) }
 {
     let journal = assembly.journal(ActorNo(core.0));
     let mut closes = Closes::new();

@@ -94,7 +94,8 @@ pub fn outcome_under(
 
 /// Whether a job was sent under this name.
 pub fn is_accepted_job(orders: &[NameTable<Order<()>>], name: &JobId) -> bool
-    ensures { (assembly : AllJournals ℕ) → KnowsOrders orders.now assembly → IsTrue result → IsAcceptedJob name.now assembly }
+    ensures right { (assembly : AllJournals ℕ) → KnowsOrders orders.now assembly → IsTrue result → IsAcceptedJob name.now assembly }
+    ensures only { (assembly : AllJournals ℕ) → KnowsOrders orders.now assembly → IsAcceptedJob name.now assembly → IsTrue result }
 {
     match order_under(orders, name) {
         Some(Order::Job(_, _)) => true,
@@ -104,7 +105,8 @@ pub fn is_accepted_job(orders: &[NameTable<Order<()>>], name: &JobId) -> bool
 
 /// Whether a command was sent under this name.
 pub fn is_accepted_command(orders: &[NameTable<Order<()>>], name: &JobId) -> bool
-    ensures { (assembly : AllJournals ℕ) → KnowsOrders orders.now assembly → IsTrue result → IsAcceptedCommand name.now assembly }
+    ensures right { (assembly : AllJournals ℕ) → KnowsOrders orders.now assembly → IsTrue result → IsAcceptedCommand name.now assembly }
+    ensures only { (assembly : AllJournals ℕ) → KnowsOrders orders.now assembly → IsAcceptedCommand name.now assembly → IsTrue result }
 {
     match order_under(orders, name) {
         None | Some(Order::Job(_, _)) => false,

@@ -1,12 +1,15 @@
 //! Rule 2, note by note: one sender's jobs in one queue start by rising number, links are numbered 1, 2, 3, .., and a job enters the queue that it was sent to.
 
-ghost use Rattle.std.specs.Prelude.{◌≡◌, ◌∷◌, ◌+◌, ◌≤◌, ℕ, IfOk, IsTrue, None, Some, [], get_or};
+ghost use Rattle.std.specs.Prelude.{◌≡◌, ◌∷◌, ◌+◌, ◌*◌, ◌<◌, ◌≤◌, ℕ, IfOk, IfSome, IsTrue, None, Some, [], length, get_or};
 ghost use Rattle.rt_ids.specs.Assembly.{Assembly};
 ghost use Rattle.rt_ids.specs.Clauses.{StandsInOrder, StartsRight};
 ghost use Rattle.rt_ids.specs.Journal.{Journal as Notes, EachNote};
+ghost use Rattle.rt_ids.specs.Spelled.{IsSpelledNote, AreSpelledNotes};
+ghost use Rattle.rt_ids.specs.Terms.{Terms};
 ghost use Rattle.rt_rules.specs.Links.{KnowsOrders, under};
 ghost use Rattle.rt_rules.specs.Numbers as spec;
-ghost use Rattle.rt_rules.specs.Numbers.{KnowsNumbers, IsAbove, EnteredAsSent, last_started, queue_asked};
+ghost use Rattle.rt_rules.specs.Numbers.{KnowsNumbers, KnowsOrder, AreReached, Raises, IsAbove, EnteredAsSent, last_started, queue_asked};
+ghost use Rattle.rt_tables.specs.Faults.{IsFirstFault};
 
 use crate::links::order_under;
 use rt_ids::{ActorNo, JobId, Note, Order, QueueNo};
@@ -30,7 +33,9 @@ fn slot(sender: ActorNo, queue: QueueNo) -> usize
 
 impl Numbers {
     fn new(alloc: Global, cores: u8) -> Result<Self, AllocError>
-        ensures { IfOk result (λ numbers. (assembly : Assembly ℕ) → KnowsNumbers assembly numbers []) }
+        ensures known { IfOk result (λ numbers. (assembly : Assembly ℕ) → KnowsNumbers assembly numbers []) }
+        ensures reached { IfOk result (λ numbers. (assembly : Assembly ℕ) → AreReached assembly numbers []) }
+        ensures rows { IfOk result (λ numbers. length numbers.started.items ≡ (cores + 1) * 256) }
     {
         let started = vec![in alloc; 0; (cores as usize + 1) * 256]?;
         Ok(Numbers {
@@ -54,6 +59,8 @@ impl Numbers {
         ensures sent { self.new.sent ≡ self.old.sent }
         ensures others { (sender other : ℕ) → last_started self.old sender other ≤ last_started self.new sender other }
         ensures this { name.now.number ≤ last_started self.new name.now.from queue }
+        ensures raises { Raises self.old self.new name.now.from queue name.now.number }
+        ensures rows { length self.new.started.items ≡ length self.old.started.items }
     {
         let next = name.number;
         if let Some(number) = self.started.get_mut(slot(name.from, queue)) {
@@ -63,7 +70,9 @@ impl Numbers {
 
     /// Reads the next note, which stands in order.
     fn add(&mut self, orders: &[NameTable<Order<()>>], note: &Note<u64>)
-        ensures { (assembly : Assembly ℕ) (before : Notes ℕ) → KnowsOrders orders.now assembly → StandsInOrder assembly note.now before → KnowsNumbers assembly self.old before → KnowsNumbers assembly self.new (note.now ∷ before) }
+        ensures known { (assembly : Assembly ℕ) (before : Notes ℕ) → KnowsOrders orders.now assembly → StandsInOrder assembly note.now before → KnowsNumbers assembly self.old before → KnowsNumbers assembly self.new (note.now ∷ before) }
+        ensures reached { (assembly : Assembly ℕ) (before : Notes ℕ) → KnowsOrders orders.now assembly → AreReached assembly self.old before → AreReached assembly self.new (note.now ∷ before) }
+        ensures rows { length self.new.started.items ≡ length self.old.started.items }
     {
         match *note {
             Note::Start(name) => {
@@ -99,7 +108,8 @@ fn job_queue(order: &Order<()>) -> Option<QueueNo>
 
 /// Whether the name is above all that started of its sender in its queue.
 fn is_above(orders: &[NameTable<Order<()>>], numbers: &Numbers, name: &JobId) -> bool
-    ensures { IsTrue result → IsAbove numbers.now (under orders.now name.now.from name.now) name.now }
+    ensures right { IsTrue result → IsAbove numbers.now (under orders.now name.now.from name.now) name.now }
+    ensures only { (queue : ℕ) → queue_asked (under orders.now name.now.from name.now) ≡ Some queue → (queue < 256 → last_started numbers.now name.now.from queue < name.now.number) → IsTrue result }
 {
     match queue_asked(orders, name) {
         Some(queue) => numbers.last_started(name.from, queue) < name.number,
@@ -109,7 +119,8 @@ fn is_above(orders: &[NameTable<Order<()>>], numbers: &Numbers, name: &JobId) ->
 
 /// Whether the job of this name was sent to this queue.
 fn is_sent_into(orders: &[NameTable<Order<()>>], name: &JobId, queue: QueueNo) -> bool
-    ensures { IsTrue result → queue_asked (under orders.now name.now.from name.now) ≡ Some queue }
+    ensures right { IsTrue result → queue_asked (under orders.now name.now.from name.now) ≡ Some queue }
+    ensures only { queue_asked (under orders.now name.now.from name.now) ≡ Some queue → IsTrue result }
 {
     match queue_asked(orders, name) {
         Some(asked) => asked.0 == queue.0,
@@ -119,14 +130,16 @@ fn is_sent_into(orders: &[NameTable<Order<()>>], name: &JobId, queue: QueueNo) -
 
 /// Whether the name is the next one of its link.
 fn is_next_sent(numbers: &Numbers, name: &JobId) -> bool
-    ensures { IsTrue result → name.now.number ≡ get_or numbers.now.sent name.now.to 0 + 1 }
+    ensures right { IsTrue result → name.now.number ≡ get_or numbers.now.sent name.now.to 0 + 1 }
+    ensures only { name.now.number ≡ get_or numbers.now.sent name.now.to 0 + 1 → IsTrue result }
 {
     name.number >= 1 && name.number - 1 == numbers.sent[name.to.0 as usize]
 }
 
 /// Whether a note stands in order.
 fn stands_in_order(orders: &[NameTable<Order<()>>], numbers: &Numbers, note: &Note<u64>) -> bool
-    ensures { (assembly : Assembly ℕ) (before : Notes ℕ) → KnowsOrders orders.now assembly → KnowsNumbers assembly numbers.now before → EnteredAsSent assembly before → StartsRight assembly note.now before → IsTrue result → StandsInOrder assembly note.now before }
+    ensures right { (assembly : Assembly ℕ) (before : Notes ℕ) → KnowsOrders orders.now assembly → KnowsNumbers assembly numbers.now before → EnteredAsSent assembly before → StartsRight assembly note.now before → IsTrue result → StandsInOrder assembly note.now before }
+    ensures only { (assembly : Assembly ℕ) (before : Notes ℕ) (terms : Terms) → KnowsOrders orders.now assembly → KnowsOrder assembly numbers.now before → terms.cores ≡ assembly.cores → IsSpelledNote terms note.now → StartsRight assembly note.now before → StandsInOrder assembly note.now before → IsTrue result }
 {
     match *note {
         Note::Start(name) => is_above(orders, numbers, &name),
@@ -143,7 +156,8 @@ pub fn order_fault(
     orders: &[NameTable<Order<()>>],
     journal: &Journal<u64>,
 ) -> Result<Option<usize>, AllocError>
-    ensures { IfOk result (λ line. line ≡ None → (assembly : Assembly ℕ) → KnowsOrders orders.now assembly → EachNote (StartsRight assembly) journal.now.notes → EachNote (StandsInOrder assembly) journal.now.notes) }
+    ensures kept { IfOk result (λ line. line ≡ None → (assembly : Assembly ℕ) → KnowsOrders orders.now assembly → EachNote (StartsRight assembly) journal.now.notes → EachNote (StandsInOrder assembly) journal.now.notes) }
+    ensures named { IfOk result (λ line. IfSome line (λ at. (assembly : Assembly ℕ) (terms : Terms) → assembly.cores ≡ cores → terms.cores ≡ cores → KnowsOrders orders.now assembly → AreSpelledNotes terms journal.now.notes → EachNote (StartsRight assembly) journal.now.notes → IsFirstFault (StandsInOrder assembly) journal.now.notes at)) }
 {
     let mut numbers = Numbers::new(alloc, cores)?;
     for place in 0..journal.len() {

@@ -1,6 +1,6 @@
 //! Rule 4: nothing ends twice, what is collected and redeemed is what was given, and a drained core has ended all.
 
-ghost use Rattle.std.specs.Prelude.{◌≡◌, ◌∷◌, ℕ, IfOk, OnOk, IsTrue, None, Some, [], false};
+ghost use Rattle.std.specs.Prelude.{◌≡◌, ◌∷◌, ℕ, IfOk, IfSome, OnOk, IsTrue, None, Some, [], false};
 ghost use Rattle.rt_ids.specs.Assembly.{Assembly, outcome_of, first_under, IsAcceptedJob};
 ghost use Rattle.rt_ids.specs.Clauses.{OutcomesRight};
 ghost use Rattle.rt_ids.specs.Filters.{name_ended, collected_outcomes};
@@ -8,6 +8,7 @@ ghost use Rattle.rt_ids.specs.Journal.{Journal as Notes, EachNote, is_told};
 ghost use Rattle.rt_ids.specs.Outstanding.{name_redeemed as told_redeemed};
 ghost use Rattle.rt_rules.specs.Links.{KnowsOrders, KnowsOutcomes};
 ghost use Rattle.rt_rules.specs.Outcomes.{KnowsEnds};
+ghost use Rattle.rt_tables.specs.Faults.{IsFirstFault};
 
 use crate::links::{is_accepted_command, is_accepted_job, outcome_under};
 use rt_ids::{Answer, JobId, Note, Order, OutcomeNote};
@@ -50,7 +51,8 @@ impl Ends {
 }
 
 fn same_answer(one: &Answer, other: &Answer) -> bool
-    ensures { IsTrue result → one.now ≡ other.now }
+    ensures right { IsTrue result → one.now ≡ other.now }
+    ensures only { one.now ≡ other.now → IsTrue result }
 {
     match *one {
         Answer::Created(queue) => match *other {
@@ -68,7 +70,8 @@ fn same_answer(one: &Answer, other: &Answer) -> bool
 }
 
 fn same_outcome(one: &OutcomeNote<u64>, other: &OutcomeNote<u64>) -> bool
-    ensures { IsTrue result → one.now ≡ other.now }
+    ensures right { IsTrue result → one.now ≡ other.now }
+    ensures only { one.now ≡ other.now → IsTrue result }
 {
     match *one {
         OutcomeNote::Finished(value) => match *other {
@@ -88,7 +91,8 @@ fn same_outcome(one: &OutcomeNote<u64>, other: &OutcomeNote<u64>) -> bool
 
 /// Whether this is an accepted job that hasn't ended.
 fn may_end(orders: &[NameTable<Order<()>>], ends: &Ends, name: &JobId) -> bool
-    ensures { (assembly : Assembly ℕ) (before : Notes ℕ) → KnowsOrders orders.now assembly → KnowsEnds ends.now before → IsTrue result → IsAcceptedJob name.now assembly × (is_told name_ended name.now before ≡ false) }
+    ensures right { (assembly : Assembly ℕ) (before : Notes ℕ) → KnowsOrders orders.now assembly → KnowsEnds ends.now before → IsTrue result → IsAcceptedJob name.now assembly × (is_told name_ended name.now before ≡ false) }
+    ensures only { (assembly : Assembly ℕ) (before : Notes ℕ) → KnowsOrders orders.now assembly → KnowsEnds ends.now before → (IsAcceptedJob name.now assembly × (is_told name_ended name.now before ≡ false)) → IsTrue result }
 {
     is_accepted_job(orders, name) && !ends.jobs.has_ended(name)
 }
@@ -99,7 +103,8 @@ fn is_given(
     name: &JobId,
     outcome: &OutcomeNote<u64>,
 ) -> bool
-    ensures { (assembly : Assembly ℕ) → KnowsOutcomes outcomes.now assembly → IsTrue result → outcome_of name.now assembly ≡ Some outcome.now }
+    ensures right { (assembly : Assembly ℕ) → KnowsOutcomes outcomes.now assembly → IsTrue result → outcome_of name.now assembly ≡ Some outcome.now }
+    ensures only { (assembly : Assembly ℕ) → KnowsOutcomes outcomes.now assembly → outcome_of name.now assembly ≡ Some outcome.now → IsTrue result }
 {
     match outcome_under(outcomes, name) {
         Some(given) => same_outcome(&given, outcome),
@@ -109,7 +114,8 @@ fn is_given(
 
 /// Whether this is the outcome that was collected under the name.
 fn is_collected(ends: &Ends, name: &JobId, outcome: &OutcomeNote<u64>) -> bool
-    ensures { (before : Notes ℕ) → KnowsEnds ends.now before → IsTrue result → first_under name.now (collected_outcomes name.now.to before) ≡ Some outcome.now }
+    ensures right { (before : Notes ℕ) → KnowsEnds ends.now before → IsTrue result → first_under name.now (collected_outcomes name.now.to before) ≡ Some outcome.now }
+    ensures only { (before : Notes ℕ) → KnowsEnds ends.now before → first_under name.now (collected_outcomes name.now.to before) ≡ Some outcome.now → IsTrue result }
 {
     match ends.collected.get(name) {
         Some(collected) => same_outcome(&collected, outcome),
@@ -119,7 +125,8 @@ fn is_collected(ends: &Ends, name: &JobId, outcome: &OutcomeNote<u64>) -> bool
 
 /// Whether this is the outcome that was collected under the name and isn't redeemed yet.
 fn may_redeem(ends: &Ends, name: &JobId, outcome: &OutcomeNote<u64>) -> bool
-    ensures { (before : Notes ℕ) → KnowsEnds ends.now before → IsTrue result → (first_under name.now (collected_outcomes name.now.to before) ≡ Some outcome.now) × (is_told told_redeemed name.now before ≡ false) }
+    ensures right { (before : Notes ℕ) → KnowsEnds ends.now before → IsTrue result → (first_under name.now (collected_outcomes name.now.to before) ≡ Some outcome.now) × (is_told told_redeemed name.now before ≡ false) }
+    ensures only { (before : Notes ℕ) → KnowsEnds ends.now before → ((first_under name.now (collected_outcomes name.now.to before) ≡ Some outcome.now) × (is_told told_redeemed name.now before ≡ false)) → IsTrue result }
 {
     is_collected(ends, name, outcome) && !ends.redeemed.has(name)
 }
@@ -131,7 +138,8 @@ fn outcomes_right(
     ends: &Ends,
     note: &Note<u64>,
 ) -> bool
-    ensures { (assembly : Assembly ℕ) (before : Notes ℕ) → KnowsOrders orders.now assembly → KnowsOutcomes outcomes.now assembly → KnowsEnds ends.now before → IsTrue result → OutcomesRight assembly note.now before }
+    ensures right { (assembly : Assembly ℕ) (before : Notes ℕ) → KnowsOrders orders.now assembly → KnowsOutcomes outcomes.now assembly → KnowsEnds ends.now before → IsTrue result → OutcomesRight assembly note.now before }
+    ensures only { (assembly : Assembly ℕ) (before : Notes ℕ) → KnowsOrders orders.now assembly → KnowsOutcomes outcomes.now assembly → KnowsEnds ends.now before → OutcomesRight assembly note.now before → IsTrue result }
 {
     match *note {
         Note::Done(name, _, _) => may_end(orders, ends, &name) && ends.jobs.has_started(&name),
@@ -155,7 +163,8 @@ pub fn outcomes_fault(
     outcomes: &[NameTable<OutcomeNote<u64>>],
     journal: &Journal<u64>,
 ) -> Result<Option<usize>, AllocError>
-    ensures { IfOk result (λ line. line ≡ None → (assembly : Assembly ℕ) → KnowsOrders orders.now assembly → KnowsOutcomes outcomes.now assembly → EachNote (OutcomesRight assembly) journal.now.notes) }
+    ensures kept { IfOk result (λ line. line ≡ None → (assembly : Assembly ℕ) → KnowsOrders orders.now assembly → KnowsOutcomes outcomes.now assembly → EachNote (OutcomesRight assembly) journal.now.notes) }
+    ensures named { IfOk result (λ line. IfSome line (λ at. (assembly : Assembly ℕ) → KnowsOrders orders.now assembly → KnowsOutcomes outcomes.now assembly → IsFirstFault (OutcomesRight assembly) journal.now.notes at)) }
 {
     let mut ends = Ends::new(alloc);
     for place in 0..journal.len() {

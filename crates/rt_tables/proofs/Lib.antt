@@ -1,3 +1,4 @@
+pub mod FirstFaults
 pub mod NameLookups
 pub mod ReadJobs
 pub mod Walks

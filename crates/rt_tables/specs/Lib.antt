@@ -1,3 +1,4 @@
 pub mod Names
 pub mod Told
 pub mod Jobs
+pub mod Faults

@@ -2,3 +2,4 @@ pub mod Rising
 pub mod Tree
 pub mod Nodes
 pub mod Sides
+pub mod Middle

@@ -146,11 +146,13 @@ impl<A: Allocator> Node<A> {
     fn first(&self, vr: u128) -> Key
         ensures { first_key (keys_of vr self.now) ≡ Some result }
     {
-        let left = &self.left;
-        match &left.root {
-            Link::Empty => self.key(vr),
-            Link::Top(next, vr) => next.first(*vr),
+        let mut node = self;
+        let mut at = vr;
+        while let Link::Top(next, vr) = &node.left.root {
+            node = next;
+            at = *vr;
         }
+        node.key(at)
     }
 }
 

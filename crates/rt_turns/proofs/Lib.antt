@@ -1,1 +1,4 @@
+pub mod Bounds
+pub mod IdleSteps
 pub mod PickSteps
+pub mod RightPicks

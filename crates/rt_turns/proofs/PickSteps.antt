@@ -1,6 +1,6 @@
 -- What the walk over picks knows after one more note, and when a pick is right.
-use Rattle.std.proofs.Common.{◌≡◌, ℕ, ◌<◌, ◌≤◌, ◌⊎◌, inl, inr, min, Bool, true, false, List, [], ◌∷◌, refl, sym, ◌∙◌, ap, subst, cond, get_or, length, arith, zero, suc}
-use Rattle.std.specs.Prelude.{Option, Some, None, IsTrue, is_some, not}
+use Rattle.std.proofs.Common.{◌≡◌, ℕ, ◌<◌, ◌≤◌, ◌⊎◌, inl, inr, min, true, false, List, [], ◌∷◌, refl, sym, ◌∙◌, ap, subst, cond, get_or, length, arith, zero, suc}
+use Rattle.std.specs.Prelude.{Option, Some, None, is_some, not}
 use Rattle.std.proofs.lemmas.Bool.{cases_lt, cases_eq, ne_eqb, true≢false}
 use Rattle.std.proofs.lemmas.List.{length-drop}
 use Rattle.rt_ids.specs.declared.names.JobId.{JobId}

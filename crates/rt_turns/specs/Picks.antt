@@ -1,5 +1,5 @@
 -- What the walk of the fifth rule knows of the notes that it has read.
-use Rattle.std.specs.Prelude.{◌≡◌, ◌≢◌, ℕ, ◌<◌, min, if◌then◌else◌, get_or, true, IsTrue, List, [], ◌∷◌, Option, Some, None, is_some}
+use Rattle.std.specs.Prelude.{◌≡◌, ◌≢◌, ℕ, ◌<◌, min, if◌then◌else◌, get_or, true, false, IsTrue, List, [], ◌∷◌, Option, Some, None, is_some}
 use Rattle.rt_ids.specs.declared.names.JobId.{JobId}
 use Rattle.rt_ids.specs.declared.names.Key.{Key}
 use Rattle.rt_ids.specs.declared.note.Note.{Note}
@@ -69,6 +69,14 @@ abbrev pub KnowsLeast : Least → Journal ℕ → Type 0
 KnowsLeast least before =
     (queue : ℕ) → IsTrue (has_work queue before) → key_of least queue ≡ record { vr = min (virtual_runtime queue before) greatest_runtime; queue = queue }
 
+-- each queue without work waits behind all others
+abbrev pub KnowsIdle : Least → Journal ℕ → Type 0
+KnowsIdle least before = (queue : ℕ) → queue < 256 → has_work queue before ≡ false → (key_of least queue).vr ≡ greatest_runtime
+
+-- each virtual runtime is below this
+abbrev pub AreBelow : ℕ → Journal ℕ → Type 0
+AreBelow bound before = (queue : ℕ) → virtual_runtime queue before < bound
+
 -- a queue that has work stands at this virtual runtime, which its type doesn't cut off
 pub record IsAt (account : Account) (runtime : ℕ) : Type 0 where
   pub jobs : has_jobs account ≡ true
@@ -81,6 +89,7 @@ pub record KnowsTurns (turns : Turns) (before : Journal ℕ) : Type 0 where
   pub accounts : KnowsAccounts turns.accounts before
   pub tree : IsTree turns.least
   pub least : KnowsLeast turns.least before
+  pub idle : KnowsIdle turns.least before
   pub out : jobs_out before ≡ out_list turns.out
   pub picked : queue_just_picked before ≡ turns.picked
 

@@ -5,10 +5,12 @@ ghost use Rattle.rt_ids.specs.Clauses.{PicksRight, IsRightIfPick};
 ghost use Rattle.rt_ids.specs.Journal.{Journal as Notes, EachNote};
 ghost use Rattle.rt_ids.specs.Keys.{KeyAtMost};
 ghost use Rattle.rt_ids.specs.Picks as spec;
-ghost use Rattle.rt_accounts.specs.Accounts.{fresh_account, has_jobs, greatest_count};
+ghost use Rattle.rt_ids.specs.Spelled.{AreSpelledNotes};
+ghost use Rattle.rt_ids.specs.Terms.{Terms};
+ghost use Rattle.rt_accounts.specs.Accounts.{fresh_account, has_jobs, greatest_count, greatest_runtime};
 ghost use Rattle.rt_tables.specs.Names.{known};
 ghost use Rattle.rt_least.specs.Winners.{IsTree};
-ghost use Rattle.rt_turns.specs.Picks.{KnowsTurns, FitsOut, Follows, out_after, IsAt, IsBelowAll, IsPlaced, runtime_waiting, key_waiting};
+ghost use Rattle.rt_turns.specs.Picks.{KnowsTurns, FitsOut, Follows, out_after, IsAt, IsBelowAll, IsPlaced, AreBelow, runtime_waiting, key_waiting};
 
 use rt_accounts::{Account, Accounts, queue_touched};
 use rt_ids::{JobId, Key, Note, QueueNo};
@@ -28,21 +30,24 @@ struct Turns {
 }
 
 fn is_same(one: &JobId, other: &JobId) -> bool
-    ensures { IsTrue result → one.now ≡ other.now }
+    ensures right { IsTrue result → one.now ≡ other.now }
+    ensures only { one.now ≡ other.now → IsTrue result }
 {
     one.from.0 == other.from.0 && one.to.0 == other.to.0 && one.number == other.number
 }
 
 /// Whether the first pair of virtual runtime and number stands before the second one, or is it.
 fn is_at_most(runtime: u128, queue: QueueNo, other_runtime: u128, other: QueueNo) -> bool
-    ensures { IsTrue result → KeyAtMost runtime queue other_runtime other }
+    ensures right { IsTrue result → KeyAtMost runtime queue other_runtime other }
+    ensures only { KeyAtMost runtime queue other_runtime other → IsTrue result }
 {
     runtime < other_runtime || runtime == other_runtime && queue.0 <= other.0
 }
 
 /// Whether no queue has a lesser pair.
 fn is_least(least: &Least, runtime: u128, queue: QueueNo) -> bool
-    ensures { IsTree least.now → IsTrue result → IsBelowAll runtime queue least.now }
+    ensures right { IsTree least.now → IsTrue result → IsBelowAll runtime queue least.now }
+    ensures only { IsTree least.now → IsBelowAll runtime queue least.now → IsTrue result }
 {
     let top = least.least();
     is_at_most(runtime, queue, top.vr, top.queue)
@@ -86,7 +91,8 @@ fn place(least: &mut Least, key: Option<Key>)
 
 /// Whether a note may change which job is out.
 fn fits_out(out: Option<JobId>, note: &Note<u64>) -> bool
-    ensures { IsTrue result → FitsOut out note.now }
+    ensures right { IsTrue result → FitsOut out note.now }
+    ensures only { FitsOut out note.now → IsTrue result }
 {
     match *note {
         Note::Start(_) => out.is_none(),
@@ -98,7 +104,8 @@ fn fits_out(out: Option<JobId>, note: &Note<u64>) -> bool
 }
 
 fn is_out(out: Option<JobId>, name: &JobId) -> bool
-    ensures { IsTrue result → out ≡ Some name.now }
+    ensures right { IsTrue result → out ≡ Some name.now }
+    ensures only { out ≡ Some name.now → IsTrue result }
 {
     match out {
         Some(out) => is_same(&out, name),
@@ -164,7 +171,8 @@ fn queue_picked(note: &Note<u64>) -> Option<QueueNo>
 
 /// Whether the job is of the queue that was just picked.
 fn is_of_pick(turns: &Turns, name: &JobId) -> bool
-    ensures { IsTrue result → (is_some turns.now.picked ≡ true) × (turns.now.picked ≡ known turns.now.jobs.queues name.now) }
+    ensures right { IsTrue result → (is_some turns.now.picked ≡ true) × (turns.now.picked ≡ known turns.now.jobs.queues name.now) }
+    ensures only { is_some turns.now.picked ≡ true → turns.now.picked ≡ known turns.now.jobs.queues name.now → IsTrue result }
 {
     let Some(picked) = turns.picked else {
         return false;
@@ -177,7 +185,8 @@ fn is_of_pick(turns: &Turns, name: &JobId) -> bool
 
 /// Whether a pick is followed by a turn of its queue, and nothing else is.
 fn is_followed(turns: &Turns, note: &Note<u64>) -> bool
-    ensures { (before : Notes ℕ) → KnowsTurns turns.now before → IsTrue result → Follows note.now before }
+    ensures right { (before : Notes ℕ) → KnowsTurns turns.now before → IsTrue result → Follows note.now before }
+    ensures only { (before : Notes ℕ) → KnowsTurns turns.now before → Follows note.now before → IsTrue result }
 {
     match *note {
         Note::Start(name) => is_of_pick(turns, &name),
@@ -196,38 +205,44 @@ fn account_of(accounts: &Accounts, queue: QueueNo) -> Account
 
 /// Whether the queue of this account may be picked at this virtual runtime.
 fn is_at(account: &Account, runtime: u128) -> bool
-    ensures { IsTrue result → IsAt account.now runtime }
+    ensures right { IsTrue result → IsAt account.now runtime }
+    ensures only { IsAt account.now runtime → IsTrue result }
 {
     account.has_jobs() && account.virtual_runtime == runtime && runtime < u128::MAX
 }
 
 /// Whether no job is out, and the queue may be picked at this virtual runtime.
 fn may_pick(turns: &Turns, queue: QueueNo, runtime: u128) -> bool
-    ensures { IsTrue result → (turns.now.out ≡ None) × IsAt (get_or turns.now.accounts.queues queue fresh_account) runtime }
+    ensures right { IsTrue result → (turns.now.out ≡ None) × IsAt (get_or turns.now.accounts.queues queue fresh_account) runtime }
+    ensures only { turns.now.out ≡ None → IsAt (get_or turns.now.accounts.queues queue fresh_account) runtime → IsTrue result }
 {
     let account = account_of(&turns.accounts, queue);
     turns.out.is_none() && is_at(&account, runtime)
 }
 
 /// Whether there are no more accounts than queues. There never are more.
-fn has_few(accounts: &[Account]) -> bool
-    ensures { IsTrue result → length accounts.now ≤ 256 }
+fn has_few(accounts: &Accounts) -> bool
+    ensures few { length accounts.now.queues ≤ 256 }
+    ensures always { IsTrue result }
 {
-    accounts.len() <= 256
+    let queues: &[Account] = &accounts.queues;
+    queues.len() <= 256
 }
 
 /// Whether a pick takes the least pair, at the virtual runtime of its queue.
 fn is_right_pick(turns: &Turns, queue: QueueNo, runtime: u128) -> bool
-    ensures { (before : Notes ℕ) → KnowsTurns turns.now before → IsTrue result → spec.IsRightPick queue runtime before }
+    ensures right { (before : Notes ℕ) → KnowsTurns turns.now before → IsTrue result → spec.IsRightPick queue runtime before }
+    ensures only { (before : Notes ℕ) → KnowsTurns turns.now before → AreBelow greatest_runtime before → spec.IsRightPick queue runtime before → IsTrue result }
 {
-    if !has_few(&turns.accounts.queues) {
+    if !has_few(&turns.accounts) {
         return false;
     }
     may_pick(turns, queue, runtime) && is_least(&turns.least, runtime, queue)
 }
 
 fn right_if_pick(turns: &Turns, note: &Note<u64>) -> bool
-    ensures { (before : Notes ℕ) → KnowsTurns turns.now before → IsTrue result → IsRightIfPick note.now before }
+    ensures right { (before : Notes ℕ) → KnowsTurns turns.now before → IsTrue result → IsRightIfPick note.now before }
+    ensures only { (before : Notes ℕ) → KnowsTurns turns.now before → AreBelow greatest_runtime before → IsRightIfPick note.now before → IsTrue result }
 {
     match *note {
         Note::Pick(queue, runtime) => is_right_pick(turns, queue, runtime),
@@ -237,14 +252,16 @@ fn right_if_pick(turns: &Turns, note: &Note<u64>) -> bool
 
 /// Whether a pick is right, and a pick is followed by a turn of its queue.
 fn is_in_turn(turns: &Turns, note: &Note<u64>) -> bool
-    ensures { (before : Notes ℕ) → KnowsTurns turns.now before → IsTrue result → IsRightIfPick note.now before × Follows note.now before }
+    ensures right { (before : Notes ℕ) → KnowsTurns turns.now before → IsTrue result → IsRightIfPick note.now before × Follows note.now before }
+    ensures only { (before : Notes ℕ) → KnowsTurns turns.now before → AreBelow greatest_runtime before → IsRightIfPick note.now before → Follows note.now before → IsTrue result }
 {
     right_if_pick(turns, note) && is_followed(turns, note)
 }
 
 /// Whether a note picks, follows a pick and settles as it may.
 fn picks_right(turns: &Turns, note: &Note<u64>) -> bool
-    ensures { (before : Notes ℕ) → KnowsTurns turns.now before → IsTrue result → PicksRight note.now before × FitsOut turns.now.out note.now }
+    ensures right { (before : Notes ℕ) → KnowsTurns turns.now before → IsTrue result → PicksRight note.now before × FitsOut turns.now.out note.now }
+    ensures only { (before : Notes ℕ) → KnowsTurns turns.now before → AreBelow greatest_runtime before → EachNote PicksRight before → PicksRight note.now before → IsTrue result }
 {
     is_in_turn(turns, note) && fits_out(turns.out, note)
 }
@@ -262,7 +279,8 @@ fn line_at(turns: &Turns, note: &Note<u64>, place: usize) -> usize
 
 /// The line of the first note that picks, follows a pick or settles as it may not. A pick that isn't followed as it should be is named itself.
 pub fn picks_fault(alloc: Global, journal: &Journal<u64>) -> Result<Option<usize>, AllocError>
-    ensures { IfOk result (λ line. line ≡ None → EachNote PicksRight journal.now.notes × (spec.queue_just_picked journal.now.notes ≡ None)) }
+    ensures kept { IfOk result (λ line. line ≡ None → EachNote PicksRight journal.now.notes × (spec.queue_just_picked journal.now.notes ≡ None)) }
+    ensures only { IfOk result (λ line. (terms : Terms) → AreSpelledNotes terms journal.now.notes → EachNote PicksRight journal.now.notes → spec.queue_just_picked journal.now.notes ≡ None → line ≡ None) }
 {
     let mut turns = Turns::new(alloc);
     for place in 0..journal.len() {

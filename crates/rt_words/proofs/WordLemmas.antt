@@ -1,5 +1,5 @@
 -- How a line falls into words.
-use Rattle.std.proofs.Common.{true, false, not, IsTrue, sym, ◌∙◌, refl, rules, ap, Option, Some, None, unwrap_or, ◌≡◌, ℕ, ◌+◌, ◌-◌, ◌<◌, ◌≤◌, ◌==◌, Bool, List, [], ◌∷◌, length, take, drop, arith}
+use Rattle.std.proofs.Common.{true, false, not, IsTrue, sym, ◌∙◌, rules, ap, Option, Some, None, unwrap_or, ◌≡◌, ℕ, ◌+◌, ◌-◌, ◌<◌, ◌≤◌, ◌==◌, Bool, List, [], ◌∷◌, length, take, drop, arith}
 use Rattle.std.proofs.lemmas.Grind.{common_steps}
 use Rattle.std.specs.List.{position_or_len}
 use Rattle.std.specs.Option.{option_map, is_some}

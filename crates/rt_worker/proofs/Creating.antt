@@ -1,5 +1,5 @@
 -- A loop over the queues of a configuration, which creates those of one core.
-use Rattle.std.proofs.Common.{◌≡◌, ◌≢◌, ℕ, suc, ◌+◌, ◌<◌, ◌≤◌, List, drop, get_or, length, refl, sym, ◌∙◌, ap, subst, arith}
+use Rattle.std.proofs.Common.{◌≡◌, ◌≢◌, ℕ, suc, ◌+◌, ◌<◌, ◌≤◌, List, drop, get_or, length, sym, subst, arith}
 use Rattle.rt_ids.specs.Commands.{IsOpening}
 use Rattle.rt_jobs.specs.Steps.{Owed}
 use Rattle.rt_settings.specs.Configs.{Entry, queues_of}

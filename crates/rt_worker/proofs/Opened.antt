@@ -1,23 +1,21 @@
 -- A core that was just opened, over ends of links that were just opened.
-use Rattle.std.proofs.Common.{◌≡◌, ℕ, ◌+◌, ◌*◌, ◌<◌, ◌≤◌, Some, None, [], ◌∷◌, length, refl, sym, ◌∙◌, ap, subst, arith}
-use Rattle.std.specs.Prelude.{Result, Ok, Err}
+use Rattle.std.proofs.Common.{◌≡◌, ℕ, ◌+◌, ◌*◌, ◌<◌, ◌≤◌, [], ◌∷◌, length, refl, sym, ◌∙◌, ap, subst, arith}
+use Rattle.std.specs.Prelude.{Ok}
 use Rattle.rt_ids.specs.declared.note.Note.TheVariants.{Created}
 use Rattle.rt_ids.specs.Commands.{IsOpening}
 use Rattle.rt_ids.specs.Journal.{Journal, EachNote}
 use Rattle.rt_jobs.specs.Steps.{Owed}
 use Rattle.rt_link.specs.Whole.{fresh, out_of, inward_of}
-use Rattle.rt_taskqueue.specs.declared.queues.CreateError.{CreateError}
 use Rattle.rt_journal.specs.Recorded.{RecordedView, IsRecorded, desk_of, terms_at}
 use Rattle.rt_journal.specs.Ends.{IsInOf, IsOutOf, IsSameSeat, KeepsIn, KeepsOuts}
 use Rattle.rt_journal.specs.Steps.{opened_beside, CreatesQueue}
 use Rattle.rt_journal.specs.Submissions.{opened_desk}
-use Rattle.rt_grid.specs.Ends.{EndsView, out_at, in_at, AreFresh}
+use Rattle.rt_grid.specs.Ends.{EndsView, out_at, in_at}
 use Rattle.rt_settings.specs.Configs.{least_room}
-use Rattle.rt_worker.specs.Linked.{LinkedView, AreBeside, IsLinked}
-use Rattle.rt_worker.specs.Opening.{AreEndsOf, IsWorkerOf, IsOpenedOver, CreatesSince}
+use Rattle.rt_worker.specs.Linked.{IsLinked}
+use Rattle.rt_worker.specs.Opening.{AreEndsOf, IsOpenedOver, CreatesSince}
 use Rattle.rt_worker.specs.Rooms.{least_free, ClosesRightly, ClosesOnlyShort, HasSpare}
 use Rattle.rt_worker.proofs.Along.{ins_along, outs_along, seat_along, seat_same}
-use Rattle.rt_worker.proofs.Spare.{places_some}
 
 module _ {T : Type 0} where
   -- a creation closes nothing

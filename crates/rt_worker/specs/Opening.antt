@@ -1,10 +1,9 @@
 -- How a worker is opened over the ends of its actor.
-use Rattle.std.specs.Prelude.{◌≡◌, ℕ, ◌+◌, ◌<◌, ◌≤◌, None, length}
+use Rattle.std.specs.Prelude.{◌≡◌, ℕ, ◌+◌, ◌<◌, ◌≤◌, length}
 use Rattle.rt_ids.specs.Commands.{IsOpening}
 use Rattle.rt_jobs.specs.Steps.{Owed}
 use Rattle.rt_journal.specs.Recorded.{RecordedView, IsRecorded, desk_of, terms_at}
 use Rattle.rt_journal.specs.Ends.{IsSameSeat, KeepsIn, KeepsOuts}
-use Rattle.rt_journal.specs.Steps.{opened_beside}
 use Rattle.rt_grid.specs.Ends.{EndsView, AreFresh}
 use Rattle.rt_worker.specs.Linked.{LinkedView}
 

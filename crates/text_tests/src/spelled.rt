@@ -120,8 +120,8 @@ fn are_writers(note: &Note<u64>, first: bool, second: bool, outside: bool) -> bo
 
 #[test]
 fn each_actor_writes_its_own_notes(rt: HostRuntime) {
-    for (note, first, second, outside) in NOTES {
-        assert!(rt; are_writers(&note, first, second, outside));
+    for (note, first, second, outside) in NOTES.iter() {
+        assert!(rt; are_writers(note, *first, *second, *outside));
     }
 }
 
@@ -138,17 +138,17 @@ fn are_both_spelled(
 
 #[test]
 fn a_name_is_one_of_a_link(rt: HostRuntime) -> Result<(), Fail> {
-    for name in STRANGERS {
-        assert!(rt; !are_both_spelled(rt.alloc(), 4, name, LAST)?);
+    for name in STRANGERS.iter() {
+        assert!(rt; !are_both_spelled(rt.alloc(), 4, *name, LAST)?);
     }
     Ok(())
 }
 
 #[test]
 fn each_actor_and_the_size_are_looked_at(rt: HostRuntime) -> Result<(), Fail> {
-    for (cap, outside, wanted) in SIZES {
+    for (cap, outside, wanted) in SIZES.iter() {
         assert!(rt;
-            are_both_spelled(rt.alloc(), cap, FIRST, outside)? == wanted,
+            are_both_spelled(rt.alloc(), *cap, FIRST, *outside)? == *wanted,
             "{cap}"
         );
     }

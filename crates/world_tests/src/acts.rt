@@ -18,8 +18,6 @@ pub enum Act {
     Work(u8, u8, u8, u64, u64),
     /// The order to make a queue of these shares.
     Create(u8, u8, Shares),
-    /// The order to close this queue.
-    Close(u8, u8, u8, Mode),
     /// The order to close the core.
     CloseCore(u8, u8, Mode),
     Deliver(u8, u8),
@@ -33,11 +31,14 @@ pub enum Became {
     Sent,
     /// The gate is shut, at this count.
     Closed(u64),
+    Full,
     Noted,
     Empty,
     Idle,
     NotClosed,
     AlreadyShut,
+    NoActor,
+    NoRoom,
     Other,
 }
 
@@ -65,7 +66,7 @@ fn two_polls(time: u64, answer: u64) -> ScriptJob {
 }
 
 /// The event of the model.
-fn event_of(rt: &impl Abort, act: &Act) -> Event<ScriptJob>
+pub fn event_of(rt: &impl Abort, act: &Act) -> Event<ScriptJob>
     ensures { HasReadyEvent (HasReadyJob ⟦<ScriptJob as Task>⟧.done ⟦<ScriptJob as Task>⟧.CanPoll) result }
 {
     match act {
@@ -76,9 +77,6 @@ fn event_of(rt: &impl Abort, act: &Act) -> Event<ScriptJob>
             send_job(rt, *from, *to, *queue, two_polls(*time, *answer))
         }
         Act::Create(from, to, shares) => send(*from, *to, Order::Create(*shares)),
-        Act::Close(from, to, queue, mode) => {
-            send(*from, *to, Order::Close(QueueNo(*queue), *mode))
-        }
         Act::CloseCore(from, to, mode) => send(*from, *to, Order::CloseCore(*mode)),
         Act::Deliver(core, from) => Event::Deliver(CoreNo(*core), ActorNo(*from)),
         Act::Turn(core) => Event::Turn(CoreNo(*core), 0),
@@ -90,11 +88,14 @@ fn told_by(reply: Reply<ScriptJob>) -> Became {
     match reply {
         Reply::Sent(_) => Became::Sent,
         Reply::NotSent(SendError::Closed(_, count)) => Became::Closed(count),
+        Reply::NotSent(SendError::Full(_)) => Became::Full,
         Reply::Noted => Became::Noted,
         Reply::Empty => Became::Empty,
         Reply::Idle => Became::Idle,
         Reply::NotClosed => Became::NotClosed,
         Reply::AlreadyShut => Became::AlreadyShut,
+        Reply::NoActor(_) => Became::NoActor,
+        Reply::NoRoom(_) => Became::NoRoom,
         _ => Became::Other,
     }
 }

@@ -12,80 +12,6 @@ const SELF: ActorNo = ActorNo(0);
 
 const Q0: QueueNo = QueueNo(0);
 
-const Q1: QueueNo = QueueNo(1);
-
-#[test]
-fn a_queue_closes_and_finishes(rt: HostRuntime) -> Result<(), Fail> {
-    let mut world: World<ScriptJob> = World::try_new(rt.alloc(), rt.alloc(), 1, 4, 100)?;
-    let shares = Shares::try_new(1000)?;
-    assert!(rt; matches!(world.create(CoreNo(0), shares), Ok(QueueNo(1))));
-    let row = [
-        (Act::Job(0, 0, 1, 5, 1), Became::Sent),
-        (Act::Deliver(0, 0), Became::Noted),
-        (Act::Close(0, 0, 1, Mode::Finish), Became::Sent),
-        (Act::Job(0, 0, 1, 5, 2), Became::Sent),
-        (Act::Deliver(0, 0), Became::Noted),
-        (Act::Deliver(0, 0), Became::Noted),
-        (Act::Turn(0), Became::Noted),
-        (Act::Turn(0), Became::Idle),
-    ];
-    assert!(rt; run(&rt, &mut world, &row));
-    let notes = [
-        Note::Created(Q1, shares),
-        Note::Sent(name(0, 0, 1), Order::Job(Q1, ())),
-        Note::Took(name(0, 0, 1), Q1),
-        Note::Sent(name(0, 0, 2), Order::Close(Q1, Mode::Finish)),
-        Note::Sent(name(0, 0, 3), Order::Job(Q1, ())),
-        Note::Answered(name(0, 0, 2), Answer::Closed),
-        Note::QueueClosed(Q1, Mode::Finish),
-        Note::Back(name(0, 0, 3), Reason::QueueClosed),
-        Note::Pick(Q1, 0),
-        Note::Start(name(0, 0, 1)),
-        Note::Done(name(0, 0, 1), 5, 1),
-    ];
-    assert!(rt; tells(&world, SELF, &notes));
-    Ok(())
-}
-
-#[test]
-fn a_queue_closes_and_returns(rt: HostRuntime) -> Result<(), Fail> {
-    let mut world: World<ScriptJob> = World::try_new(rt.alloc(), rt.alloc(), 1, 4, 100)?;
-    let shares = Shares::try_new(1000)?;
-    assert!(rt; matches!(world.create(CoreNo(0), shares), Ok(QueueNo(1))));
-    let row = [
-        (Act::Work(0, 0, 1, 20, 1), Became::Sent),
-        (Act::Job(0, 0, 1, 1, 2), Became::Sent),
-        (Act::Deliver(0, 0), Became::Noted),
-        (Act::Deliver(0, 0), Became::Noted),
-        (Act::Turn(0), Became::Noted),
-        (Act::Close(0, 0, 1, Mode::Return), Became::Sent),
-        (Act::Deliver(0, 0), Became::Noted),
-        (Act::Turn(0), Became::Noted),
-        (Act::Turn(0), Became::Noted),
-        (Act::Turn(0), Became::Idle),
-    ];
-    assert!(rt; run(&rt, &mut world, &row));
-    let notes = [
-        Note::Created(Q1, shares),
-        Note::Sent(name(0, 0, 1), Order::Job(Q1, ())),
-        Note::Sent(name(0, 0, 2), Order::Job(Q1, ())),
-        Note::Took(name(0, 0, 1), Q1),
-        Note::Took(name(0, 0, 2), Q1),
-        Note::Pick(Q1, 0),
-        Note::Start(name(0, 0, 1)),
-        Note::Yield(name(0, 0, 1), 20),
-        Note::Sent(name(0, 0, 3), Order::Close(Q1, Mode::Return)),
-        Note::Answered(name(0, 0, 3), Answer::Closed),
-        Note::QueueClosed(Q1, Mode::Return),
-        Note::Pick(Q1, 20),
-        Note::Returned(name(0, 0, 2), Reason::QueueReturned),
-        Note::Pick(Q1, 20),
-        Note::Returned(name(0, 0, 1), Reason::QueueReturned),
-    ];
-    assert!(rt; tells(&world, SELF, &notes));
-    Ok(())
-}
-
 #[test]
 fn a_core_finishes_what_its_shut_links_hold(rt: HostRuntime) -> Result<(), Fail> {
     let mut world: World<ScriptJob> = World::try_new(rt.alloc(), rt.alloc(), 2, 4, 100)?;
@@ -127,75 +53,13 @@ fn a_core_finishes_what_its_shut_links_hold(rt: HostRuntime) -> Result<(), Fail>
 }
 
 #[test]
-fn each_gate_is_shut_by_itself(rt: HostRuntime) -> Result<(), Fail> {
-    let mut world: World<ScriptJob> = World::try_new(rt.alloc(), rt.alloc(), 2, 4, 100)?;
-    let row = [
-        (Act::CloseCore(0, 1, Mode::Finish), Became::Sent),
-        (Act::Deliver(1, 0), Became::Noted),
-        (Act::Shut(1, 0), Became::Noted),
-        // The gate of the outside actor is open still.
-        (Act::Job(2, 1, 0, 5, 9), Became::Sent),
-        (Act::Shut(1, 2), Became::Noted),
-        (Act::Shut(1, 1), Became::Noted),
-        (Act::Deliver(1, 2), Became::Noted),
-        (Act::Turn(1), Became::Noted),
-    ];
-    assert!(rt; run(&rt, &mut world, &row));
-    let notes = [
-        Note::Answered(name(0, 1, 1), Answer::Closed),
-        Note::CoreClosed(Mode::Finish),
-        Note::Shut(ActorNo(0), 1),
-        Note::Shut(ActorNo(2), 1),
-        Note::Shut(ActorNo(1), 0),
-        Note::Took(name(2, 1, 1), Q0),
-        Note::Pick(Q0, 0),
-        Note::Start(name(2, 1, 1)),
-        Note::Done(name(2, 1, 1), 5, 9),
-    ];
-    assert!(rt;
-        tells(&world, ActorNo(1), &notes) && has_shut(&world, 1, 2) && is_drained(&world, 1)
-    );
-    Ok(())
-}
-
-#[test]
-fn a_second_closing_says_so(rt: HostRuntime) -> Result<(), Fail> {
-    let mut world: World<ScriptJob> = World::try_new(rt.alloc(), rt.alloc(), 1, 4, 100)?;
-    let row = [
-        (Act::Close(0, 0, 0, Mode::Finish), Became::Sent),
-        (Act::Close(0, 0, 0, Mode::Finish), Became::Sent),
-        (Act::Close(0, 0, 0, Mode::Return), Became::Sent),
-        (Act::Close(0, 0, 0, Mode::Finish), Became::Sent),
-        (Act::Deliver(0, 0), Became::Noted),
-        (Act::Deliver(0, 0), Became::Noted),
-        (Act::Deliver(0, 0), Became::Noted),
-        (Act::Deliver(0, 0), Became::Noted),
-    ];
-    assert!(rt; run(&rt, &mut world, &row));
-    let notes = [
-        Note::Sent(name(0, 0, 1), Order::Close(Q0, Mode::Finish)),
-        Note::Sent(name(0, 0, 2), Order::Close(Q0, Mode::Finish)),
-        Note::Sent(name(0, 0, 3), Order::Close(Q0, Mode::Return)),
-        Note::Sent(name(0, 0, 4), Order::Close(Q0, Mode::Finish)),
-        Note::Answered(name(0, 0, 1), Answer::Closed),
-        Note::QueueClosed(Q0, Mode::Finish),
-        Note::Answered(name(0, 0, 2), Answer::AlreadyClosed),
-        Note::Answered(name(0, 0, 3), Answer::Closed),
-        Note::QueueClosed(Q0, Mode::Return),
-        Note::Answered(name(0, 0, 4), Answer::AlreadyClosed),
-    ];
-    assert!(rt; tells(&world, SELF, &notes));
-    Ok(())
-}
-
-#[test]
 fn an_open_core_shuts_no_gate(rt: HostRuntime) -> Result<(), Fail> {
     let mut world: World<ScriptJob> = World::try_new(rt.alloc(), rt.alloc(), 1, 1, 100)?;
     let row = [
         (Act::Shut(0, 0), Became::NotClosed),
         (Act::Deliver(0, 0), Became::Empty),
         (Act::Shut(0, 1), Became::NotClosed),
-        (Act::Shut(0, 2), Became::Other),
+        (Act::Shut(0, 2), Became::NoActor),
     ];
     assert!(rt; run(&rt, &mut world, &row) && tells(&world, SELF, &[]));
     assert!(rt; !has_shut(&world, 0, 0) && !is_drained(&world, 0));
@@ -242,40 +106,5 @@ fn a_core_returns_what_it_holds(rt: HostRuntime) -> Result<(), Fail> {
         Note::Returned(name(0, 0, 1), Reason::CoreReturned),
     ];
     assert!(rt; tells(&world, SELF, &notes) && is_drained(&world, 0));
-    Ok(())
-}
-
-#[test]
-fn two_cores_close_each_other(rt: HostRuntime) -> Result<(), Fail> {
-    let mut world: World<ScriptJob> = World::try_new(rt.alloc(), rt.alloc(), 2, 4, 100)?;
-    let row = [
-        (Act::CloseCore(0, 1, Mode::Finish), Became::Sent),
-        (Act::CloseCore(1, 0, Mode::Finish), Became::Sent),
-        (Act::Job(0, 1, 0, 1, 1), Became::Sent),
-        (Act::Job(1, 0, 0, 1, 2), Became::Sent),
-        (Act::Deliver(0, 1), Became::Noted),
-        (Act::Deliver(1, 0), Became::Noted),
-        (Act::Shut(0, 1), Became::Noted),
-        (Act::Shut(1, 0), Became::Noted),
-        (Act::Job(0, 1, 0, 1, 3), Became::Closed(2)),
-        (Act::Job(1, 0, 0, 1, 4), Became::Closed(2)),
-        (Act::Deliver(0, 1), Became::Noted),
-        (Act::Deliver(1, 0), Became::Noted),
-        (Act::Turn(0), Became::Noted),
-        (Act::Turn(1), Became::Noted),
-    ];
-    assert!(rt; run(&rt, &mut world, &row));
-    let notes = [
-        Note::Sent(name(0, 1, 1), Order::CloseCore(Mode::Finish)),
-        Note::Sent(name(0, 1, 2), Order::Job(Q0, ())),
-        Note::Answered(name(1, 0, 1), Answer::Closed),
-        Note::CoreClosed(Mode::Finish),
-        Note::Shut(ActorNo(1), 2),
-        Note::Took(name(1, 0, 2), Q0),
-        Note::Pick(Q0, 0),
-        Note::Start(name(1, 0, 2)),
-        Note::Done(name(1, 0, 2), 1, 2),
-    ];
-    assert!(rt; tells(&world, SELF, &notes) && has_shut(&world, 1, 0));
     Ok(())
 }

@@ -1,9 +1,10 @@
 //! Nodes whose sides change: what lifts a side, and what parts a node from both.
-ghost use Rattle.std.specs.Prelude.{◌≡◌, ◌+◌, ◌∷◌, ◌++◌, true, false, max};
-ghost use Rattle.rt_timeline.specs.Tree.{empty_tree};
+ghost use Rattle.std.specs.Prelude.{◌≡◌, ◌+◌, ◌<◌, ◌∷◌, ◌++◌, true, false, max, length};
+ghost use Rattle.rt_timeline.specs.Tree.{empty_tree, IsFilled};
 ghost use Rattle.rt_timeline.specs.Nodes.{seen, key_of, keys_of, IsInBalance, IsBalanced, IsLoose, HasOnlyRight, Tilts, IsTwoHigherOnLeft, IsTwoHigherOnRight, IsUprightLeft, IsUprightRight, IsUpright};
+ghost use Rattle.rt_timeline.specs.Middle.{HasSides, lean_on_left, lean_on_right};
 ghost use Rattle.rt_timeline.specs.declared.tree.Link.TheVariants.{Empty, Top};
-ghost use Rattle.rt_timeline.specs.declared.tree.Lean.TheVariants.{Left, Right};
+ghost use Rattle.rt_timeline.specs.declared.tree.Lean.TheVariants.{Left, Even, Right};
 
 use super::{Lean, Link, Node, Tree};
 use std::alloc::Allocator;
@@ -33,6 +34,56 @@ pub(super) fn put<A: Allocator>(root: &mut Link<A>, node: Box<Node<A>, A>, vr: u
     mem::forget(mem::replace(root, Link::Top(node, vr)));
 }
 
+/// Gives both sides of a middle node away, to the two nodes that go on its sides. Each of these leans as it has to then.
+#[inline(always)]
+fn hand_sides_out<A: Allocator>(middle: &mut Node<A>, left: &mut Node<A>, right: &mut Node<A>)
+    requires left_free { left.old.right ≡ empty_tree }
+    requires right_free { right.old.left ≡ empty_tree }
+    ensures left { HasSides left.new left.old.left middle.old.left left.old.queue (lean_on_left middle.old.lean) }
+    ensures right { HasSides right.new middle.old.right right.old.right right.old.queue (lean_on_right middle.old.lean) }
+    ensures middle { HasSides middle.new empty_tree empty_tree middle.old.queue Even }
+{
+    (left.lean, right.lean) = match middle.lean {
+        Lean::Left => (Lean::Even, Lean::Right),
+        Lean::Even => (Lean::Even, Lean::Even),
+        Lean::Right => (Lean::Left, Lean::Even),
+    };
+    middle.lean = Lean::Even;
+    fill(&mut left.right, take(&mut middle.left));
+    fill(&mut right.left, take(&mut middle.right));
+}
+
+/// Puts a node above two others, which get its sides, each on the side where it has none.
+#[inline(always)]
+fn middle_lifted<A: Allocator>(
+    mut middle: Box<Node<A>, A>,
+    middle_vr: u128,
+    mut left: Box<Node<A>, A>,
+    left_vr: u128,
+    mut right: Box<Node<A>, A>,
+    right_vr: u128,
+) -> Link<A>
+    requires balanced { IsInBalance middle.value.left middle.value.right middle.value.lean }
+    requires left_free { left.value.right ≡ empty_tree }
+    requires right_free { right.value.left ≡ empty_tree }
+    requires left_filled { IsFilled left.value.left }
+    requires right_filled { IsFilled right.value.right }
+    requires left_high { left.value.left.height ≡ max middle.value.left.height middle.value.right.height }
+    requires right_high { right.value.right.height ≡ max middle.value.left.height middle.value.right.height }
+    ensures balanced { IsBalanced result }
+    ensures keys { (seen result).keys ≡ (left.value.left.keys ++ key_of left_vr left.value ∷ middle.value.left.keys) ++ key_of middle_vr middle.value ∷ (middle.value.right.keys ++ key_of right_vr right.value ∷ right.value.right.keys) }
+    ensures height { (seen result).height ≡ max middle.value.left.height middle.value.right.height + 2 }
+{
+    hand_sides_out(&mut middle, &mut left, &mut right);
+    let left = Tree::close(Link::Top(left, left_vr));
+    let right = Tree::close(Link::Top(right, right_vr));
+    left.know_filled();
+    right.know_filled();
+    fill(&mut middle.left, left);
+    fill(&mut middle.right, right);
+    Link::Top(middle, middle_vr)
+}
+
 /// Joins a node and its left side, which leans right: what hangs on that side's right, in the middle, is lifted above both.
 #[inline(always)]
 fn left_middle_lifted<A: Allocator>(
@@ -50,22 +101,10 @@ fn left_middle_lifted<A: Allocator>(
     ensures height { (seen result).height ≡ top.value.right.height + 2 }
 {
     top.right.know_filled();
-    let Link::Top(mut middle, middle_vr) = take(&mut left.right).open() else {
+    let Link::Top(middle, middle_vr) = take(&mut left.right).open() else {
         unreachable!()
     };
-    (left.lean, top.lean) = match middle.lean {
-        Lean::Left => (Lean::Even, Lean::Right),
-        Lean::Even => (Lean::Even, Lean::Even),
-        Lean::Right => (Lean::Left, Lean::Even),
-    };
-    fill(&mut left.right, take(&mut middle.left));
-    fill(&mut top.left, take(&mut middle.right));
-    fill(&mut middle.left, Tree::close(Link::Top(left, left_vr)));
-    fill(&mut middle.right, Tree::close(Link::Top(top, top_vr)));
-    middle.left.know_filled();
-    middle.right.know_filled();
-    middle.lean = Lean::Even;
-    Link::Top(middle, middle_vr)
+    middle_lifted(middle, middle_vr, left, left_vr, top, top_vr)
 }
 
 /// Lifts the left side, which is two levels higher. Tells whether the sides are even then.
@@ -118,22 +157,10 @@ fn right_middle_lifted<A: Allocator>(
     ensures height { (seen result).height ≡ top.value.left.height + 2 }
 {
     top.left.know_filled();
-    let Link::Top(mut middle, middle_vr) = take(&mut right.left).open() else {
+    let Link::Top(middle, middle_vr) = take(&mut right.left).open() else {
         unreachable!()
     };
-    (top.lean, right.lean) = match middle.lean {
-        Lean::Left => (Lean::Even, Lean::Right),
-        Lean::Even => (Lean::Even, Lean::Even),
-        Lean::Right => (Lean::Left, Lean::Even),
-    };
-    fill(&mut right.left, take(&mut middle.right));
-    fill(&mut top.right, take(&mut middle.left));
-    fill(&mut middle.right, Tree::close(Link::Top(right, right_vr)));
-    fill(&mut middle.left, Tree::close(Link::Top(top, top_vr)));
-    middle.left.know_filled();
-    middle.right.know_filled();
-    middle.lean = Lean::Even;
-    Link::Top(middle, middle_vr)
+    middle_lifted(middle, middle_vr, top, top_vr, right, right_vr)
 }
 
 /// Lifts the right side, which is two levels higher. Tells whether the sides are even then. By itself as `lift_left` is.
@@ -216,6 +243,30 @@ pub(super) fn without_left<A: Allocator>(root: &mut Link<A>, vr: &mut u128) -> B
     }
 }
 
+/// Joins two trees to one, of which the right one isn't empty: its first node goes on top. The two stood under a node that leaned so. Tells
+/// whether the joined tree is as high as the higher one of the two.
+fn joined<A: Allocator>(lean: Lean, left: Tree<A>, mut right: Tree<A>) -> (Tree<A>, bool)
+    requires balanced { IsInBalance left right lean }
+    requires some { 0 < length right.keys }
+    ensures keys { result.0.keys ≡ left.keys ++ right.keys }
+    ensures lower { result.1 ≡ true → max left.height right.height + 1 ≡ result.0.height + 1 }
+    ensures as_high { result.1 ≡ false → max left.height right.height + 1 ≡ result.0.height }
+{
+    let mut vr = 0;
+    let (mut next, lower) = right.take_first(&mut vr);
+    right.know_filled();
+    let top: &mut Node<A> = &mut next;
+    top.lean = lean;
+    fill(&mut top.left, left);
+    fill(&mut top.right, right);
+    let mut rest = Link::Top(next, vr);
+    if !lower {
+        return (Tree::close(rest), false);
+    }
+    let lower = tilt(&mut rest, false);
+    (Tree::close(rest), lower)
+}
+
 /// Parts a node from its sides, and joins these to one tree. The last tells whether it is one level lower.
 pub(super) fn parted<A: Allocator>(mut top: Box<Node<A>, A>) -> (Box<Node<A>, A>, Tree<A>, bool)
     requires { IsInBalance top.value.left top.value.right top.value.lean }
@@ -226,20 +277,10 @@ pub(super) fn parted<A: Allocator>(mut top: Box<Node<A>, A>) -> (Box<Node<A>, A>
     ensures as_high { result.2 ≡ false → max top.value.left.height top.value.right.height + 1 ≡ result.1.height }
 {
     let left = take(&mut top.left);
-    let mut right = take(&mut top.right);
+    let right = take(&mut top.right);
     if right.is_empty() {
         return (top, left, true);
     }
-    let mut vr = 0;
-    let (mut next, lower) = right.take_first(&mut vr);
-    right.know_filled();
-    next.lean = top.lean;
-    fill(&mut next.left, left);
-    fill(&mut next.right, right);
-    let mut rest = Link::Top(next, vr);
-    if !lower {
-        return (top, Tree::close(rest), false);
-    }
-    let lower = tilt(&mut rest, false);
-    (top, Tree::close(rest), lower)
+    let (rest, lower) = joined(top.lean, left, right);
+    (top, rest, lower)
 }

@@ -1,5 +1,5 @@
 use Rattle.std.proofs.Common.{refl}
-use Rattle.rt_audit.specs.Verdicts.{rule_named}
+use Rattle.std.proofs.lemmas.Bool.{both_ways}
 use Rattle.rt_audit.proofs.KeptRules.{none_before}
 use Rattle.rt_audit.proofs.judge.audit.Goals as goal
 
@@ -13,5 +13,13 @@ pub returns-in-Ok : goal.returns-in-Ok
 returns-in-Ok c = record {
   sound = λ sound. (c.is_spelled.ensures.0 c.if-not-is_spelled.false, c.in-Ok.ensures.sound sound);
   first = c.in-Ok.ensures.first;
+  broken = c.in-Ok.ensures.broken;
+  only = c.in-Ok.ensures.only;
   unspelled = λ no. absurd (no (c.is_spelled.ensures.0 c.if-not-is_spelled.false));
 }
+
+pub returns-then-not-is_spelled-clause-broken : goal.returns-then-not-is_spelled-clause-broken
+returns-then-not-is_spelled-clause-broken c = λ spelled. absurd (both_ways c.is_spelled.result c.if-not-is_spelled.true (c.is_spelled.ensures.1 spelled))
+
+pub returns-then-not-is_spelled-clause-only : goal.returns-then-not-is_spelled-clause-only
+returns-then-not-is_spelled-clause-only c = λ spelled sound. absurd (both_ways c.is_spelled.result c.if-not-is_spelled.true (c.is_spelled.ensures.1 spelled))

@@ -1,9 +1,7 @@
-use Rattle.std.proofs.Common.{subst, sym}
-use Rattle.rt_rules.specs.Links.{KnowsOutcomes}
 use Rattle.rt_audit.proofs.judge.ends_place.Goals as goal
 
 pub returns : goal.returns
-returns c =
-    λ none knows.
-    c.in_ok-place.ensures none knows
-    (rw c.as_slice-given.ensures.value c.in_ok-outcomes.ensures)
+returns c = record {
+  kept = λ none knows. c.in_ok-place.ensures.kept none knows (rw c.as_slice-given.ensures.value c.in_ok-outcomes.ensures);
+  only = λ knows sound. c.in_ok-place.ensures.only knows (rw c.as_slice-given.ensures.value c.in_ok-outcomes.ensures) sound;
+}

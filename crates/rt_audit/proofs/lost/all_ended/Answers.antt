@@ -1,4 +1,5 @@
 use Rattle.std.proofs.Common.{ℕ, sym, subst, arith}
+use Rattle.std.proofs.lemmas.Bool.{both_ways}
 use Rattle.rt_ids.specs.Journal.{Journal, EachNote, at_place}
 use Rattle.rt_tables.proofs.Walks.{at_start, whole_walk}
 use Rattle.rt_audit.specs.Held.{EndedIfSent}
@@ -6,17 +7,29 @@ use Rattle.rt_audit.proofs.lost.all_ended.Goals as goal
 
 pub loop-place-init : goal.loop-place-init
 loop-place-init c =
-    subst (λ (journal : Journal ℕ). EachNote (EndedIfSent c.args.held.now c.args.core) journal) (sym (at_start c.args.journal.now.notes)) tt
+    λ assembly orders.
+    subst (λ (journal : Journal ℕ). EachNote (EndedIfSent c.args.held.now assembly c.args.core) journal) (sym (at_start c.args.journal.now.notes)) tt
 
 pub loop-place-preserved : goal.loop-place-preserved
 loop-place-preserved c =
-    subst (λ (journal : Journal ℕ). EachNote (EndedIfSent c.args.held.now c.args.core) journal) (sym c.note_at-note.ensures) (
-      c.ended_if_sent.ensures (at_place c.loop-place.place c.args.journal.now.notes) c.if-not-ended_if_sent.false,
-      c.loop-place.invariant,
+    λ assembly orders.
+    subst (λ (journal : Journal ℕ). EachNote (EndedIfSent c.args.held.now assembly c.args.core) journal) (sym c.note_at-note.ensures) (
+      (c.ended_if_sent.ensures assembly (at_place c.loop-place.place c.args.journal.now.notes) orders).0 c.if-not-ended_if_sent.false,
+      c.loop-place.invariant assembly orders,
     )
 
-pub returns : goal.returns
-returns c =
-    λ yes.
-    whole_walk (λ journal. EachNote (EndedIfSent c.args.held.now c.args.core) journal) c.args.journal.now.notes c.loop-place.place (omega arith)
-    c.loop-place.invariant
+pub returns-then-not-ended_if_sent-clause-only : goal.returns-then-not-ended_if_sent-clause-only
+returns-then-not-ended_if_sent-clause-only c =
+    λ assembly orders each.
+    let before = at_place c.loop-place.place c.args.journal.now.notes in
+    absurd
+    (
+    both_ways c.ended_if_sent.result c.if-not-ended_if_sent.true
+    ((c.ended_if_sent.ensures assembly before orders).1 (each c.note_at-note.result before))
+    )
+
+pub returns-clause-right : goal.returns-clause-right
+returns-clause-right c =
+    λ assembly orders yes.
+    whole_walk (λ journal. EachNote (EndedIfSent c.args.held.now assembly c.args.core) journal) c.args.journal.now.notes c.loop-place.place (omega arith)
+    (c.loop-place.invariant assembly orders)

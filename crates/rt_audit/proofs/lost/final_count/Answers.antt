@@ -1,4 +1,4 @@
-use Rattle.std.proofs.Common.{◌≡◌, ℕ, sym, ap, subst, ◌∙◌, arith}
+use Rattle.std.proofs.Common.{◌≡◌, ℕ, sym, ap, ◌∙◌, arith}
 use Rattle.rt_ids.specs.Closing.{final_count}
 use Rattle.rt_ids.specs.Journal.{Journal, at_place}
 use Rattle.rt_tables.proofs.Walks.{at_start, whole_walk}

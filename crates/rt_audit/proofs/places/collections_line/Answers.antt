@@ -1,20 +1,33 @@
 use Rattle.std.proofs.Common.{ℕ, arith, below_more}
 use Rattle.rt_ids.specs.Assembly.{journal_of, IsPrefix, names_of}
 use Rattle.rt_ids.specs.Filters.{given_outcomes, collected_outcomes}
+use Rattle.rt_ids.specs.Journal.{Journal}
+use Rattle.rt_prefixes.proofs.ToldNames.{none_off, collected_at_place}
 use Rattle.rt_audit.proofs.places.collections_line.Goals as goal
 
 pub loop-core-preserved : goal.loop-core-preserved
-loop-core-preserved c =
-    λ none.
-    let both = c.first_line-line.ensures none in
-    below_more
-    (
-    λ (core : ℕ).
-    IsPrefix (names_of (collected_outcomes core (journal_of c.args.sender c.args.assembly.now)))
-    (names_of (given_outcomes c.args.sender (journal_of core c.args.assembly.now)))
-    )
-    c.loop-core.core (c.loop-core.invariant both.0)
-    (rw (c.journal-collected.ensures, c.journal-given.ensures) at (c.collections_fault-fault.ensures both.1))
+loop-core-preserved c = record {
+  kept =
+      λ none.
+      let both = c.first_line-line.ensures.kept none in
+      below_more
+      (
+      λ (core : ℕ).
+      IsPrefix (names_of (collected_outcomes core (journal_of c.args.sender c.args.assembly.now)))
+      (names_of (given_outcomes c.args.sender (journal_of core c.args.assembly.now)))
+      )
+      c.loop-core.core (c.loop-core.invariant.kept both.0)
+      (rw (c.journal-collected.ensures, c.journal-given.ensures) at (c.collections_fault-fault.ensures.kept both.1));
+  only =
+      λ whole.
+      c.first_line-line.ensures.only (c.loop-core.invariant.only whole)
+      (
+      none_off (λ (notes : Journal ℕ). names_of (collected_outcomes c.loop-core.core notes)) (collected_at_place c.loop-core.core)
+      (journal_of c.args.sender c.args.assembly.now) _ c.collections_fault-fault.result
+      (rw (c.journal-collected.ensures, c.journal-given.ensures) at c.collections_fault-fault.ensures.named)
+      (whole c.loop-core.core (omega arith))
+      );
+}
 
 pub returns : goal.returns
-returns c = λ none core within. c.loop-core.invariant none core (omega arith)
+returns c = record { kept = λ none core within. c.loop-core.invariant.kept none core (omega arith); only = c.loop-core.invariant.only }

@@ -2,10 +2,19 @@ use Rattle.std.proofs.Common.{arith}
 use Rattle.rt_audit.proofs.places.links_line.Goals as goal
 
 pub returns-then-actor-cores : goal.returns-then-actor-cores
-returns-then-actor-cores c =
-    λ none.
-    let both = c.first_line.ensures none in (λ within. c.deliveries_line.ensures both.0, c.collections_line-collections.ensures both.1)
+returns-then-actor-cores c = record {
+  kept =
+      λ none.
+      let both = c.first_line.ensures.kept none in (λ within. c.deliveries_line.ensures.kept both.0, c.collections_line-collections.ensures.kept both.1);
+  only =
+      λ deliveries collections.
+      c.first_line.ensures.only (c.deliveries_line.ensures.only (deliveries (omega (arith, c.if-actor-cores.true, c.cores.ensures.value))))
+      (c.collections_line-collections.ensures.only collections);
+}
 
 pub returns-else-actor-cores : goal.returns-else-actor-cores
-returns-else-actor-cores c =
-    λ none. (λ within. absurd (omega (arith, within, c.if-actor-cores.false, c.cores.ensures.value)), c.collections_line-collections.ensures none)
+returns-else-actor-cores c = record {
+  kept =
+      λ none. (λ within. absurd (omega (arith, within, c.if-actor-cores.false, c.cores.ensures.value)), c.collections_line-collections.ensures.kept none);
+  only = λ deliveries collections. c.collections_line-collections.ensures.only collections;
+}

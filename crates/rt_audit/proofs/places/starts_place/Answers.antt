@@ -4,6 +4,7 @@ use Rattle.rt_ids.specs.Clauses.{StartsRight}
 use Rattle.rt_ids.specs.Journal.{Journal, EachNote}
 use Rattle.rt_rules.specs.Links.{KnowsOrders}
 use Rattle.rt_turns.proofs.PickSteps.{none_left}
+use Rattle.rt_audit.proofs.NoFaults.{no_fault, if_found}
 use Rattle.rt_audit.proofs.places.starts_place.Goals as goal
 
 pub loop-actor-preserved : goal.loop-actor-preserved
@@ -14,8 +15,18 @@ loop-actor-preserved c =
     (
     λ knows.
     subst (λ (journal : Journal ℕ). EachNote (StartsRight c.args.assembly.now) journal) c.journal.ensures
-    (c.in_ok-line.ensures (none_left c.in_ok-line.line (sym c.is_some.ensures ∙ c.if-is_some.false)) c.args.assembly.now knows)
+    (c.in_ok-line.ensures.kept (none_left c.in_ok-line.line (sym c.is_some.ensures ∙ c.if-is_some.false)) c.args.assembly.now knows)
     )
 
-pub returns : goal.returns
-returns c = λ none knows. record { notes = λ actor within. c.loop-actor.invariant actor (omega arith) knows }
+pub returns-then-is_some-clause-only : goal.returns-then-is_some-clause-only
+returns-then-is_some-clause-only c =
+    λ knows sound.
+    absurd
+    (
+    no_fault (StartsRight c.args.assembly.now) c.journal.result.now.notes c.in_ok-line.line (sym c.is_some.ensures ∙ c.if-is_some.true)
+    (if_found c.in_ok-line.line _ _ (λ at found. found c.args.assembly.now knows) c.in_ok-line.ensures.named)
+    (rw c.journal.ensures (sound.notes c.loop-actor.actor (omega arith)))
+    )
+
+pub returns-clause-kept : goal.returns-clause-kept
+returns-clause-kept c = λ none knows. record { notes = λ actor within. c.loop-actor.invariant actor (omega arith) knows }

@@ -1,8 +1,8 @@
-use Rattle.std.proofs.Common.{◌≡◌, ℕ, sym, ap, subst, ◌∙◌, arith}
+use Rattle.std.proofs.Common.{refl, sym, ap, subst, ◌∙◌, arith}
 use Rattle.rt_ids.specs.Assembly.{IsPrefix}
-use Rattle.rt_ids.specs.Journal.{Journal, list_told, with_last, at_place}
+use Rattle.rt_ids.specs.Journal.{list_told, with_last}
 use Rattle.rt_tables.proofs.Walks.{at_start, whole_walk}
-use Rattle.rt_prefixes.specs.Sides.{name_told, AreEven}
+use Rattle.rt_prefixes.specs.Sides.{name_told}
 use Rattle.rt_prefixes.proofs.ToldNames.{told_at_place}
 use Rattle.rt_prefixes.proofs.prefixes.prefix_fault.Goals as goal
 
@@ -16,17 +16,31 @@ loop-place-init c = record {
 
 pub loop-place-preserved : goal.loop-place-preserved
 loop-place-preserved c = record {
-  within = c.in-Some.ensures.within;
+  within = c.in-Some.ensures.right.within;
   even =
       ap (list_told (name_told c.args.front.now)) c.note_at-note.ensures ∙
-      (ap (λ told. with_last told (name_told c.args.front.now c.note_at-note.result)) c.loop-place.invariant.even ∙ c.in-Some.ensures.even);
+      (ap (λ told. with_last told (name_told c.args.front.now c.note_at-note.result)) c.loop-place.invariant.even ∙ c.in-Some.ensures.right.even);
 }
 
-pub returns : goal.returns
-returns c =
+pub returns-clause-kept : goal.returns-clause-kept
+returns-clause-kept c =
     λ none.
     whole_walk (λ journal. IsPrefix (list_told (name_told c.args.front.now) journal) (list_told (name_told c.args.whole.now) c.args.other.now.notes))
     c.args.journal.now.notes c.loop-place.place (omega arith)
     (
     rw c.loop-place.invariant.even (told_at_place (name_told c.args.whole.now) c.loop-place.behind c.args.other.now.notes)
     )
+
+pub returns-in_default-clause-named : goal.returns-in_default-clause-named
+returns-in_default-clause-named c =
+    let all = list_told (name_told c.args.whole.now) c.args.other.now.notes in
+    let told =
+    ap (list_told (name_told c.args.front.now)) c.note_at-note.ensures ∙
+    ap (λ names. with_last names (name_told c.args.front.now c.note_at-note.result)) c.loop-place.invariant.even in
+    record {
+      place = c.loop-place.place;
+      counted = refl;
+      within = omega arith;
+      kept = rw c.loop-place.invariant.even (told_at_place (name_told c.args.whole.now) c.loop-place.behind c.args.other.now.notes);
+      broken = λ begins. c.in_default.ensures.only refl (subst (λ names. IsPrefix names all) told begins);
+    }

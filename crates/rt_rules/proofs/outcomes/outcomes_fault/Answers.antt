@@ -1,6 +1,7 @@
 use Rattle.std.proofs.Common.{ℕ, sym, subst, arith}
+use Rattle.std.proofs.lemmas.Bool.{both_ways}
 use Rattle.rt_ids.specs.Clauses.{OutcomesRight}
-use Rattle.rt_ids.specs.Journal.{Journal, EachNote}
+use Rattle.rt_ids.specs.Journal.{Journal, EachNote, at_place}
 use Rattle.rt_tables.proofs.Walks.{at_start, whole_walk}
 use Rattle.rt_rules.specs.Outcomes.{OutcomesSoFar}
 use Rattle.rt_rules.proofs.outcomes.outcomes_fault.Goals as goal
@@ -18,14 +19,29 @@ loop-place-preserved c =
       known = c.in_ok-add.ensures _ c.loop-place.invariant.known;
       right =
           λ assembly orders outcomes. (
-            c.outcomes_right.ensures assembly _ orders outcomes c.loop-place.invariant.known c.if-not-outcomes_right.false,
+            c.outcomes_right.ensures.right assembly _ orders outcomes c.loop-place.invariant.known c.if-not-outcomes_right.false,
             c.loop-place.invariant.right assembly orders outcomes,
           );
     }
     )
 
-pub returns : goal.returns
-returns c =
+pub returns-clause-kept : goal.returns-clause-kept
+returns-clause-kept c =
     λ none assembly orders outcomes.
     whole_walk (λ journal. EachNote (OutcomesRight assembly) journal) c.args.journal.now.notes c.loop-place.place (omega arith)
     (c.loop-place.invariant.right assembly orders outcomes)
+
+pub returns-then-not-outcomes_right-clause-named : goal.returns-then-not-outcomes_right-clause-named
+returns-then-not-outcomes_right-clause-named c =
+    λ assembly orders outcomes.
+    record {
+      note = c.note_at-note.result;
+      before = at_place c.loop-place.place c.args.journal.now.notes;
+      within = omega arith;
+      there = c.note_at-note.ensures;
+      kept = c.loop-place.invariant.right assembly orders outcomes;
+      broken =
+          λ right.
+          both_ways c.outcomes_right.result c.if-not-outcomes_right.true
+          (c.outcomes_right.ensures.only assembly _ orders outcomes c.loop-place.invariant.known right);
+    }

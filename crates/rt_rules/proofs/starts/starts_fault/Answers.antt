@@ -1,6 +1,7 @@
 use Rattle.std.proofs.Common.{ℕ, sym, subst, arith}
+use Rattle.std.proofs.lemmas.Bool.{both_ways}
 use Rattle.rt_ids.specs.Clauses.{StartsRight}
-use Rattle.rt_ids.specs.Journal.{Journal, EachNote}
+use Rattle.rt_ids.specs.Journal.{Journal, EachNote, at_place}
 use Rattle.rt_tables.proofs.Walks.{at_start, whole_walk}
 use Rattle.rt_rules.specs.Starts.{StartsSoFar}
 use Rattle.rt_rules.proofs.starts.starts_fault.Goals as goal
@@ -18,14 +19,29 @@ loop-place-preserved c =
       jobs = c.in_ok-add.ensures _ c.loop-place.invariant.jobs;
       right =
           λ assembly orders. (
-            c.starts_right.ensures assembly _ orders c.loop-place.invariant.jobs c.if-not-starts_right.false,
+            c.starts_right.ensures.right assembly _ orders c.loop-place.invariant.jobs c.if-not-starts_right.false,
             c.loop-place.invariant.right assembly orders,
           );
     }
     )
 
-pub returns : goal.returns
-returns c =
+pub returns-clause-kept : goal.returns-clause-kept
+returns-clause-kept c =
     λ none assembly orders.
     whole_walk (λ journal. EachNote (StartsRight assembly) journal) c.args.journal.now.notes c.loop-place.place (omega arith)
     (c.loop-place.invariant.right assembly orders)
+
+pub returns-then-not-starts_right-clause-named : goal.returns-then-not-starts_right-clause-named
+returns-then-not-starts_right-clause-named c =
+    λ assembly orders.
+    record {
+      note = c.note_at-note.result;
+      before = at_place c.loop-place.place c.args.journal.now.notes;
+      within = omega arith;
+      there = c.note_at-note.ensures;
+      kept = c.loop-place.invariant.right assembly orders;
+      broken =
+          λ right.
+          both_ways c.starts_right.result c.if-not-starts_right.true
+          (c.starts_right.ensures.only assembly _ orders c.loop-place.invariant.jobs right);
+    }

@@ -1,9 +1,15 @@
-use Rattle.std.proofs.Common.{ℕ, ◌<◌, length, sym, subst, ◌∙◌, arith}
-use Rattle.rt_ids.specs.Journal.{Journal, at_place}
+use Rattle.std.proofs.Common.{ℕ, ◌+◌, ◌<◌, length, sym, ap, subst, ◌∙◌, arith}
+use Rattle.std.specs.Prelude.{is_some}
+use Rattle.std.proofs.lemmas.Bool.{both_ways, true≢false}
+use Rattle.rt_ids.specs.Clauses.{PicksRight}
+use Rattle.rt_ids.specs.Journal.{Journal, EachNote, at_place}
+use Rattle.rt_ids.specs.Spelled.{IsSpelledNote}
 use Rattle.rt_accounts.specs.Accounts.{greatest_count}
+use Rattle.rt_tables.proofs.FirstFaults.{each_before}
 use Rattle.rt_tables.proofs.Walks.{at_start, whole_walk}
 use Rattle.rt_turns.specs.Picks.{PicksSoFar}
 use Rattle.rt_turns.proofs.PickSteps.{length-at_place, none_left}
+use Rattle.rt_turns.proofs.Bounds.{are_below}
 use Rattle.rt_turns.proofs.picks.picks_fault.Goals as goal
 
 pub loop-place-init : goal.loop-place-init
@@ -15,7 +21,7 @@ pub loop-place-preserved : goal.loop-place-preserved
 loop-place-preserved c =
     let read : length (at_place c.loop-place.place c.args.journal.now.notes) < greatest_count =
     omega (arith, length-at_place c.loop-place.place c.args.journal.now.notes, c.loop-place-test.true, c.len-place-end.type_inv) in
-    let right = c.picks_right.ensures _ c.loop-place.invariant.known c.if-not-picks_right.false in
+    let right = c.picks_right.ensures.right _ c.loop-place.invariant.known c.if-not-picks_right.false in
     subst (λ (before : Journal ℕ). PicksSoFar c.add.new.self before) (sym c.note_at-note.ensures)
     (
     record {
@@ -24,9 +30,32 @@ loop-place-preserved c =
     }
     )
 
-pub returns : goal.returns
-returns c =
+pub returns-clause-kept : goal.returns-clause-kept
+returns-clause-kept c =
     λ none.
     let whole =
     whole_walk (λ journal. PicksSoFar c.loop-place.turns journal) c.args.journal.now.notes c.loop-place.place (omega arith) c.loop-place.invariant in
     (whole.right, whole.known.picked ∙ none_left c.loop-place.turns.picked (sym c.is_some.ensures ∙ c.if-is_some.false))
+
+pub returns-then-not-picks_right-clause-only : goal.returns-then-not-picks_right-clause-only
+returns-then-not-picks_right-clause-only c =
+    λ terms spelled each last.
+    let read = at_place c.loop-place.place c.args.journal.now.notes in
+    let short : length read < greatest_count =
+    omega (arith, length-at_place c.loop-place.place c.args.journal.now.notes, c.loop-place-test.true, c.len-place-end.type_inv) in
+    let right =
+    subst (λ (journal : Journal ℕ). EachNote PicksRight journal) c.note_at-note.ensures
+    (each_before PicksRight (c.loop-place.place + 1) c.args.journal.now.notes each) in
+    let written = each_before (λ note before. IsSpelledNote terms note) c.loop-place.place c.args.journal.now.notes spelled in
+    absurd
+    (
+    both_ways c.picks_right.result c.if-not-picks_right.true
+    (c.picks_right.ensures.only read c.loop-place.invariant.known (are_below terms read written right.1 short) right.1 right.0)
+    )
+
+pub returns-then-is_some-clause-only : goal.returns-then-is_some-clause-only
+returns-then-is_some-clause-only c =
+    λ terms spelled each last.
+    let whole =
+    whole_walk (λ journal. PicksSoFar c.loop-place.turns journal) c.args.journal.now.notes c.loop-place.place (omega arith) c.loop-place.invariant in
+    absurd (true≢false (sym (sym c.is_some.ensures ∙ c.if-is_some.true) ∙ ap is_some (sym whole.known.picked ∙ last)))

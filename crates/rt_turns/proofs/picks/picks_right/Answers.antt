@@ -1,11 +1,13 @@
+use Rattle.std.proofs.lemmas.Bool.{both_ways}
 use Rattle.rt_turns.proofs.PickSteps.{settles}
+use Rattle.rt_turns.proofs.RightPicks.{fits}
 use Rattle.rt_turns.proofs.picks.picks_right.Goals as goal
 
-pub returns-then-is_in_turn : goal.returns-then-is_in_turn
-returns-then-is_in_turn c =
+pub returns-then-is_in_turn-clause-right : goal.returns-then-is_in_turn-clause-right
+returns-then-is_in_turn-clause-right c =
     λ before knows yes.
-    let turn = c.is_in_turn.ensures before knows c.if-is_in_turn.true in
-    let fits = c.fits_out.ensures yes in (
+    let turn = c.is_in_turn.ensures.right before knows c.if-is_in_turn.true in
+    let fits = c.fits_out.ensures.right yes in (
       record {
         right = turn.0;
         turn = turn.1.turn;
@@ -13,4 +15,17 @@ returns-then-is_in_turn c =
         settles = settles c.args.turns.now.out before knows.out c.args.note.now fits;
       },
       fits,
+    )
+
+pub returns-then-is_in_turn-clause-only : goal.returns-then-is_in_turn-clause-only
+returns-then-is_in_turn-clause-only c =
+    λ before knows below each right. c.fits_out.ensures.only (fits c.args.turns.now.out before knows.out each c.args.note.now right)
+
+pub returns-else-is_in_turn-clause-only : goal.returns-else-is_in_turn-clause-only
+returns-else-is_in_turn-clause-only c =
+    λ before knows below each right.
+    absurd
+    (
+    both_ways c.is_in_turn.result c.if-is_in_turn.false
+    (c.is_in_turn.ensures.only before knows below right.right (record { turn = right.turn; followed = right.followed }))
     )

@@ -1,6 +1,5 @@
-use Rattle.std.proofs.Common.{◌≡◌, ◌+◌, ◌*◌, ◌∙◌, arith, sym, length}
+use Rattle.std.proofs.Common.{◌+◌, ◌∙◌, arith, sym}
 use Rattle.std.proofs.lemmas.Str.Parse.{digits_value-take-le}
-use Rattle.std.proofs.lemmas.List.{take_all}
 use Rattle.rt_words.specs.Numbers.{value_of}
 use Rattle.rt_words.proofs.NumberLemmas.{value_more, digit_in_number, kept_past, kept_within, value_of-all}
 use Rattle.rt_words.proofs.number.wide_value.Goals as goal

@@ -1,6 +1,5 @@
-use Rattle.std.proofs.Common.{◌≡◌, ◌+◌, ◌∙◌, sym, subst, ap, arith}
+use Rattle.std.proofs.Common.{◌+◌, ◌∙◌, sym, subst, arith}
 use Rattle.rt_ids.specs.Commands.{IsOpening}
-use Rattle.rt_jobs.specs.Steps.{Owed}
 use Rattle.rt_journal.specs.Steps.{opened_beside}
 use Rattle.rt_worker.proofs.Creating.{IsCreating, creating_first, creating_left, creating_more, creating_on}
 use Rattle.rt_worker.proofs.opening.open_core.Goals.{then-of-core+in_ok-create_one, else-of-core}

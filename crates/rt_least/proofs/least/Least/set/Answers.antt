@@ -1,4 +1,4 @@
-use Rattle.std.proofs.Common.{◌<◌, ℕ, length, arith, get_or-set_same, get_or-set_other}
+use Rattle.std.proofs.Common.{◌<◌, length, arith, get_or-set_same, get_or-set_other}
 use Rattle.rt_least.specs.Winners.{no_key}
 use Rattle.rt_least.proofs.Winners.{at_leaf, one_up, whole_tree}
 use Rattle.rt_least.proofs.least.Least.set.Goals as goal

@@ -2,10 +2,11 @@ use Rattle.std.proofs.Common.{ℕ, ◌≤◌, refl, sym, ap, ◌∙◌, subst, a
 use Rattle.rt_ids.specs.Assembly.{order_of}
 use Rattle.rt_rules.specs.Numbers.{queue_asked, last_started}
 use Rattle.rt_rules.proofs.NumberSteps.{next_start, same_asked}
+use Rattle.rt_rules.proofs.Reached.{reached_more, next_reached}
 use Rattle.rt_rules.proofs.order.Numbers.add.Goals as goal
 
-pub returns-in-Some : goal.returns-in-Some
-returns-in-Some c =
+pub returns-in-Some-clause-known : goal.returns-in-Some-clause-known
+returns-in-Some-clause-known c =
     λ assembly before orders stands knows.
     rw c.in-Start.is
     (
@@ -22,8 +23,8 @@ returns-in-Some c =
     c.start.ensures.sent
     )
 
-pub returns-in_default-queue_asked : goal.returns-in_default-queue_asked
-returns-in_default-queue_asked c =
+pub returns-in_default-queue_asked-clause-known : goal.returns-in_default-queue_asked-clause-known
+returns-in_default-queue_asked-clause-known c =
     λ assembly before orders stands knows.
     rw c.in-Start.is
     (
@@ -34,3 +35,24 @@ returns-in_default-queue_asked c =
     )
     refl
     )
+
+pub returns-in-Some-clause-reached : goal.returns-in-Some-clause-reached
+returns-in-Some-clause-reached c =
+    λ assembly before orders reached.
+    rw c.in-Start.is
+    (
+    next_reached assembly c.args.self.now c.start.new.self before c.in-Start.name c.in-Some.queue reached c.start.ensures.raises c.start.ensures.rows
+    (sym (ap queue_asked (orders c.in-Start.name)) ∙ (sym c.queue_asked.ensures ∙ c.in-Some.is))
+    )
+
+pub returns-in_default-queue_asked-clause-reached : goal.returns-in_default-queue_asked-clause-reached
+returns-in_default-queue_asked-clause-reached c =
+    λ assembly before orders reached sender queue small more within. reached_more assembly sender queue _ c.args.note.now before (reached sender queue small more within)
+
+pub returns-in-Sent-clause-reached : goal.returns-in-Sent-clause-reached
+returns-in-Sent-clause-reached c =
+    λ assembly before orders reached sender queue small more within. reached_more assembly sender queue _ c.args.note.now before (reached sender queue small more within)
+
+pub returns-in_default-clause-reached : goal.returns-in_default-clause-reached
+returns-in_default-clause-reached c =
+    λ assembly before orders reached sender queue small more within. reached_more assembly sender queue _ c.args.note.now before (reached sender queue small more within)

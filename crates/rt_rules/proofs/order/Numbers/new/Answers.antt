@@ -1,7 +1,16 @@
-use Rattle.std.proofs.Common.{sym}
+use Rattle.std.proofs.Common.{sym, arith}
 use Rattle.std.proofs.lemmas.Bool.{true≢false}
+use Rattle.rt_rules.specs.Numbers.{slot, greatest_word}
 use Rattle.rt_rules.proofs.NumberSteps.{zero_there}
+use Rattle.rt_rules.proofs.Reached.{zeros_of}
 use Rattle.rt_rules.proofs.order.Numbers.new.Goals as goal
 
-pub returns : goal.returns
-returns c = λ assembly. record { started = λ name queue told asked. absurd (true≢false (sym told)); sent = λ core. zero_there 256 core }
+pub returns-clause-known : goal.returns-clause-known
+returns-clause-known c = λ assembly. record { started = λ name queue told asked. absurd (true≢false (sym told)); sent = λ core. zero_there 256 core }
+
+pub returns-clause-reached : goal.returns-clause-reached
+returns-clause-reached c =
+    λ assembly sender queue small more within.
+    let none =
+    zeros_of c.in_ok-started.started.items _ (c.in_ok-started.ensures.items_if_clones_equal (λ other is. is)) (slot sender queue) greatest_word within in
+    absurd (omega (arith, more, none))

@@ -1,23 +1,24 @@
-use Rattle.std.proofs.Common.{ℕ, sym, ◌∙◌, ap, subst}
-use Rattle.std.specs.Prelude.{Option}
-use Rattle.rt_turns.specs.Picks.{out_list, IsPlaced, key_waiting}
+use Rattle.std.proofs.Common.{sym, ◌∙◌, ap}
+use Rattle.rt_turns.specs.Picks.{out_list}
 use Rattle.rt_turns.proofs.PickSteps.{out_next, next_least}
+use Rattle.rt_turns.proofs.IdleSteps.{next_idle}
 use Rattle.rt_turns.proofs.picks.Turns.add.Goals as goal
 
 pub returns : goal.returns
 returns c =
     λ before short fits knows.
     let accounts = c.add.ensures before (c.queue_touched-queue.ensures before knows.jobs) short knows.accounts in
+    let placed = rw (c.key_waiting-key.ensures, c.queue_touched-changed.ensures before knows.jobs) at c.place.ensures.placed in
     record {
       jobs = c.in_ok-add.ensures before knows.jobs;
       accounts = accounts;
       tree = c.place.ensures.tree;
       least =
           next_least before c.args.note.now c.args.self.now.accounts c.add.new.self c.args.self.now.least c.place.new.least knows.accounts accounts
-          knows.least
-          (
-          rw (c.key_waiting-key.ensures, c.queue_touched-changed.ensures before knows.jobs) at c.place.ensures.placed
-          );
+          knows.least placed;
+      idle =
+          next_idle before c.args.note.now c.args.self.now.accounts c.add.new.self c.args.self.now.least c.place.new.least knows.accounts accounts
+          knows.idle placed;
       out = out_next c.args.self.now.out before knows.out c.args.note.now fits ∙ ap out_list (sym c.out_after-self.ensures);
       picked = sym (c.queue_picked-self.ensures before);
     }

@@ -1,5 +1,0 @@
-//! Tests of boxed jobs that go through links.
-#![tactic(auto)]
-
-#[cfg(test)]
-mod boxed;

@@ -1,0 +1,43 @@
+//! Scenes of a core, each on one of its own.
+
+use crate::closings::{a_core_finishes, a_core_hands_back, a_queue_finishes, a_queue_hands_back};
+use crate::deliveries::{all_queues, commands, eight_jobs};
+use crate::one_core::OneCore;
+use crate::turns::{a_core_is_busy, a_job_waits_behind};
+use crate::whole::{a_hand_back_is_told, turns_come_as_they_are_told};
+use linked_list_allocator::LocalHeap;
+use rt_ids::CoreNo;
+use std::test::Fail;
+
+/// Whether each step of this scene comes out.
+fn plays(core: &mut OneCore<'_>, scene: u8) -> bool {
+    match scene {
+        0 => a_job_waits_behind(core),
+        1 => commands(core),
+        2 => eight_jobs(core),
+        3 => all_queues(core),
+        4 => a_queue_finishes(core),
+        5 => a_queue_hands_back(core),
+        6 => a_core_finishes(core),
+        7 => a_core_hands_back(core),
+        8 => turns_come_as_they_are_told(core),
+        9 => a_hand_back_is_told(core),
+        _ => a_core_is_busy(core),
+    }
+}
+
+/// The scene on a new core, if it opens in this heap.
+fn plays_in(heap: &LocalHeap, scene: u8) -> Option<bool> {
+    let mut core = OneCore::open(heap, CoreNo(0), 1, 4).ok()?;
+    Some(plays(&mut core, scene))
+}
+
+#[test]
+fn each_scene_comes_out(rt: HostRuntime) -> Result<(), Fail> {
+    let heap = LocalHeap::new(rt.alloc(), 1 << 18)?;
+    for scene in 0..11 {
+        let went = plays_in(&heap, scene);
+        assert!(rt; went == Some(true) && heap.used() == 0, "scene {scene}");
+    }
+    Ok(())
+}

@@ -1,0 +1,75 @@
+-- A whole turn is that of the job that was told ahead.
+use Rattle.std.proofs.Common.{◌≡◌, ℕ, Bool, true, false, List, [], ◌∷◌, inl, inr, Some, None, Ok, refl, sym, ap, ◌∙◌, subst, arith}
+use Rattle.rt_ids.specs.declared.names.JobId.{JobId}
+use Rattle.rt_ids.specs.declared.names.Key.{Key}
+use Rattle.rt_ids.specs.declared.note.Note.TheVariants as notes
+use Rattle.rt_ids.specs.Journal.{Journal}
+use Rattle.rt_ids.specs.Keys.{KeyAtMost}
+use Rattle.rt_jobs.specs.declared.job.Step.{Step}
+use Rattle.rt_jobs.specs.declared.job.Step.TheVariants as steps
+use Rattle.rt_jobs.specs.Steps.{Owed}
+use Rattle.rt_timeline.specs.Rising.{first_key}
+use Rattle.rt_taskqueue.specs.Queues.{waiting_of}
+use Rattle.rt_core.specs.State.{CoreView, runtime_of}
+use Rattle.rt_core.specs.Closing.{return_reason}
+use Rattle.rt_core.specs.Turns.{IsNext, TakesOut, Picks, SettlesOut}
+use Rattle.rt_core.specs.Whole.{IsAhead, TurnsFirst, TurnsWhole, SettlesStep, goes_out, pick_notes, settled_of, settle_notes}
+use Rattle.rt_core.proofs.PollsSettled.{settles_yield, settles_done}
+
+-- the first of a list of keys
+pub first_of : (keys : List Key) (key : Key) → Some key ≡ first_key keys → (later : List Key) × (keys ≡ key ∷ later)
+first_of [] key is = cc
+first_of (first ∷ later) key is =
+    let same : first ≡ key = cc in
+    (later, ap (λ (one : Key). one ∷ later) same)
+
+pub some_front : {X : Type 0} (line : List X) (first : X) (others : List X) → line ≡ first ∷ others → line ≡ [] → ⊥
+some_front line first others is none = cc
+
+head_same : {X : Type 0} {one other : X} {first last : List X} → one ∷ first ≡ other ∷ last → one ≡ other
+head_same same = cc
+
+least_same : (one_runtime one other_runtime other : ℕ) → KeyAtMost one_runtime one other_runtime other → KeyAtMost other_runtime other one_runtime one → one ≡ other
+least_same one_runtime one other_runtime other (inl below) (inl above) = absurd (omega (arith, below, above))
+least_same one_runtime one other_runtime other (inl below) (inr same) = absurd (omega (arith, below, same.0))
+least_same one_runtime one other_runtime other (inr same) (inl above) = absurd (omega (arith, same.0, above))
+least_same one_runtime one other_runtime other (inr below) (inr above) = omega (arith, below.1, above.1)
+
+module _ {J : Type 0} where
+  -- only one queue is next
+  next_same : (view : CoreView J) (one other : ℕ) → IsNext view one → IsNext view other → (waiting_of one view.queues ≡ [] → ⊥) → (waiting_of other view.queues ≡ [] → ⊥) → one ≡ other
+  next_same view one other first second some any = least_same (runtime_of one view) one (runtime_of other view) other (first.least other any) (second.least one some)
+
+module _ {J T : Type 0} (same : J → J → Type 0) (done : J → Bool) (can_poll : J → Type 0) (made : J → ℕ) (polls : Owed J T) (answers : J → T → Type 0) where
+  picks_ahead : (old mid : CoreView J) (queue vr : ℕ) (name : JobId) (started : Bool) (job : J) → TakesOut old name queue started job mid → return_reason queue old ≡ None → vr ≡ runtime_of queue old →
+      Picks {T = T} old (Ok (goes_out name queue started job)) mid (pick_notes queue vr name started)
+  picks_ahead old mid queue vr name false job takes kept stands = (takes, kept, ap (λ at. notes.Pick queue at ∷ notes.Start name ∷ []) stands)
+  picks_ahead old mid queue vr name true job takes kept stands = (takes, kept, ap (λ at. notes.Pick queue at ∷ notes.Resume name ∷ []) stands)
+
+  pub TurnsWhole-first : (old new : CoreView J) (spent : ℕ) (before after : Journal T) (step : Step T) (time queue vr : ℕ) (name : JobId) (started : Bool) → IsAhead old queue vr name started →
+      TurnsFirst same done can_poll made polls answers old spent before after step time new →
+      TurnsWhole same done can_poll made polls answers old spent before after name queue started (pick_notes queue vr name started) (settled_of step) (settle_notes name time step) new
+  TurnsWhole-first old new spent before after step time queue vr name started is_ahead turns =
+      let front = is_ahead.front in
+      let there = some_front (waiting_of turns.queue old.queues) (turns.name, turns.started, turns.ran.before) turns.takes.others turns.takes.first in
+      let here = some_front (waiting_of queue old.queues) (name, started, front.0) front.1 front.2 in
+      let at : turns.queue ≡ queue = next_same old turns.queue queue turns.takes.next is_ahead.next there here in
+      let both : (turns.name, turns.started, turns.ran.before) ∷ turns.takes.others ≡ (name, started, front.0) ∷ front.1 = sym turns.takes.first ∙ ap (λ (q : ℕ). waiting_of q old.queues) at ∙ front.2 in
+      let head = head_same both in
+      let named : turns.name ≡ name = ap (λ (one : JobId × Bool × J). one.0) head in
+      let marked : turns.started ≡ started = ap (λ (one : JobId × Bool × J). one.1) head in
+      let takes : TakesOut old name queue started turns.ran.before turns.mid =
+      subst (λ (one : JobId). TakesOut old one queue started turns.ran.before turns.mid) named
+      (subst (λ (one : ℕ). TakesOut old turns.name one started turns.ran.before turns.mid) at
+      (subst (λ (one : Bool). TakesOut old turns.name turns.queue one turns.ran.before turns.mid) marked turns.takes)) in
+      record {
+        mid = turns.mid;
+        ran = turns.ran;
+        picks = picks_ahead old turns.mid queue vr name started turns.ran.before takes is_ahead.kept is_ahead.stands;
+        polled = turns.polled;
+        settles = by_step step turns.stepped (subst (λ (one : JobId). SettlesStep step turns.mid one turns.ran.job time new) named turns.settles);
+      }
+    where
+      by_step : (one : Step T) → turns.ran.step ≡ one → SettlesStep one turns.mid name turns.ran.job time new → SettlesOut turns.mid turns.ran spent (settled_of one) new (settle_notes name time one)
+      by_step steps.Yield is settles = settles_yield turns.mid turns.ran spent name time new (settle_notes name time steps.Yield) turns.counts turns.ran.job is refl settles refl
+      by_step (steps.Done answer) is settles = settles_done turns.mid turns.ran spent name time new (settle_notes name time (steps.Done answer)) turns.counts answer is settles refl

@@ -1,0 +1,172 @@
+-- What holds inside a core as its next job goes out and comes back, from one view to the next.
+use Rattle.std.proofs.Common.{◌≡◌, ℕ, ◌+◌, ◌*◌, ◌^◌, ◌<◌, ◌≤◌, Bool, true, false, List, [], ◌∷◌, ◌++◌, length, max, Option, Some, None, refl, sym, ap, ◌∙◌, subst, arith, length-set}
+use Rattle.std.specs.Prelude.{◌-◌, All, is_some, slice_set, slice_index_or}
+use Rattle.std.proofs.lemmas.Bool.{true≢false}
+use Rattle.std.proofs.lemmas.List.{set-set, set-get_or, get_or-set_same}
+use Rattle.std.proofs.lemmas.List.Elements.{All-head, All-tail}
+use Rattle.rt_ids.specs.declared.names.JobId.{JobId}
+use Rattle.rt_ids.specs.declared.names.Key.{Key}
+use Rattle.rt_ids.specs.Work.{number_if}
+use Rattle.rt_jobs.specs.declared.job.Step.{Step}
+use Rattle.rt_jobs.specs.declared.job.Step.TheVariants as steps
+use Rattle.rt_jobs.specs.Ready.{IsReady}
+use Rattle.rt_jobs.specs.Steps.{OnYield, is_done_step}
+use Rattle.rt_timeline.specs.Rising.{LacksQueue, inserted}
+use Rattle.rt_taskqueue.specs.Queues.{QueuesView, queue_count, waiting_of, shares_of, ChangesLine, IsWithinLimits}
+use Rattle.rt_taskqueue.specs.Fronts.{IsFrontReady, JoinsAgain}
+use Rattle.rt_core.specs.declared.tally.Tally.{Tally}
+use Rattle.rt_core.specs.State.{CoreView, JobOut, no_tally, tally_of, runtime_of, is_any}
+use Rattle.rt_core.specs.Turns.{TakesOut, settled_view}
+use Rattle.rt_core.specs.Whole.{SettlesStep}
+use Rattle.rt_core.specs.Inside.{IsCore, KeepsSlips, unsettled_count, FitsTurns}
+use Rattle.rt_core.proofs.Charging.{after_poll}
+use Rattle.rt_core.proofs.Counting.{IsCounted-picks, IsCounted-yields, IsCounted-finishes, some_inside}
+use Rattle.rt_core.proofs.Entries.{is_any-push}
+use Rattle.rt_core.proofs.Fits.{picked_fits, tally_fits}
+use Rattle.rt_core.proofs.Listed.{LacksQueue-from_none}
+use Rattle.rt_core.proofs.Parts.{IsPollable-changed, IsPollable-pushed, IsPollable-same}
+use Rattle.rt_core.proofs.Picking.{exists_if_waiting, first_waits, IsListed-picks, IsWithinTurns-picks}
+use Rattle.rt_core.proofs.Settling.{out_entry, IsListed-again, IsListed-no_more, IsWithinTurns-settles}
+use Rattle.rt_core.proofs.SlipsKept.{KeepsSlips-same, KeepsSlips-taken, KeepsSlips-inserted}
+
+module _ {J : Type 0} (done : J → Bool) (can_poll : J → Type 0) where
+  -- the next job goes out
+  pub IsCore-taken : (old mid : CoreView J) (slips : List Bool) (keys later : List Key) (key : Key) (inside room places : ℕ) (name : JobId) (started : Bool) (job : J) →
+      IsCore done can_poll old slips keys inside room places → keys ≡ key ∷ later → LacksQueue key.queue later → TakesOut old name key.queue started job mid → IsWithinLimits mid.queues →
+      IsCore done can_poll mid (slice_set slips key.queue true) later inside room places
+  IsCore-taken old mid slips keys later key inside room places name started job core are absent takes limits =
+      let out : JobOut J = record { name = name; queue = key.queue; job = job } in
+      let tally : Tally = record (tally_of key.queue old) { selected = (tally_of key.queue old).selected + 1 } in
+      let tallies : mid.tallies ≡ slice_set old.tallies key.queue tally = ap (λ (view : CoreView J). view.tallies) takes.rest in
+      let is_out : mid.out ≡ Some out = ap (λ (view : CoreView J). view.out) takes.rest in
+      let floor : mid.floor ≡ max old.floor (runtime_of key.queue old) = ap (λ (view : CoreView J). view.floor) takes.rest in
+      let turns : mid.turns ≡ old.turns + 1 = ap (λ (view : CoreView J). view.turns) takes.rest in
+      let exists = exists_if_waiting old.queues key.queue (first_waits old keys key later are core.listed takes.next.free) in
+      let none : unsettled_count old ≡ 0 = ap (λ (held : Option (JobOut J)). number_if (is_some held)) takes.next.free in
+      let before : FitsTurns old.turns 0 (tally_of key.queue old) = subst (λ unsettled. FitsTurns old.turns unsettled (tally_of key.queue old)) none (tally_fits old key.queue core.turns) in
+      let low : runtime_of key.queue old ≤ old.turns * 2 ^ 50 = let fits = before.runtime in omega arith in
+      let all : All (λ waiting. IsReady done can_poll waiting.2) ((name, started, job) ∷ takes.others) =
+      subst (λ (line : List (JobId × Bool × J)). All (λ waiting. IsReady done can_poll waiting.2) line) takes.first (core.pollable.at key.queue) in
+      record {
+        counted = IsCounted-picks old mid inside room places out (name, started, job) takes.others takes.first takes.line limits exists (ap (λ (view : CoreView J). view.cores) takes.rest) takes.next.free is_out
+            (ap length tallies ∙ length-set old.tallies key.queue tally) (ap (λ (view : CoreView J). view.delivered) takes.rest) core.counted;
+        listed = IsListed-picks old mid keys key later out tally are absent takes.next.free is_out refl takes.line.others tallies core.listed;
+        slipped = KeepsSlips-taken (queue_count mid.queues) slips key later (omega (arith, exists, takes.line.same_count)) absent
+            (KeepsSlips-same (queue_count old.queues) (queue_count mid.queues) slips slips (key ∷ later) takes.line.same_count refl (subst (KeepsSlips (queue_count old.queues) slips) are core.slipped));
+        pollable = IsPollable-changed done can_poll old mid key.queue takes.others takes.line (All-tail (λ waiting. IsReady done can_poll waiting.2) (name, started, job) takes.others all) core.pollable;
+        turns = IsWithinTurns-picks old mid out key.queue (runtime_of key.queue old) tally takes.next.free is_out turns floor low tallies (picked_fits old.turns (tally_of key.queue old) before) core.turns;
+      }
+
+  -- the job that is out goes to the tail of its queue, with what is counted of the queue from then on
+  pub IsCore-yielded : (mid new : CoreView J) (slips : List Bool) (keys : List Key) (inside room places : ℕ) (out : JobOut J) (job : J) (tally : Tally) →
+      IsCore done can_poll mid slips keys inside room places → mid.out ≡ Some out → new.out ≡ None → ChangesLine mid.queues new.queues out.queue (waiting_of out.queue mid.queues ++ (out.name, true, job) ∷ []) →
+      IsWithinLimits new.queues → new.tallies ≡ slice_set mid.tallies out.queue tally → FitsTurns mid.turns 0 tally → new.cores ≡ mid.cores → new.delivered ≡ mid.delivered → new.turns ≡ mid.turns → new.floor ≡ mid.floor →
+      IsReady done can_poll job → IsCore done can_poll new (slice_set slips out.queue false) (inserted (record { vr = tally.runtime; queue = out.queue }) keys) inside room places
+  IsCore-yielded mid new slips keys inside room places out job tally core was_out free joins limits tallies fits cores delivered turns floor ready =
+      let exists = some_inside mid inside room places out was_out core.counted in
+      let within : out.queue < length mid.tallies = omega (arith, core.counted.tallies, exists.1) in
+      let lacks = LacksQueue-from_none out.queue keys (core.listed.at out.queue ∙ out_entry mid out was_out) in
+      let any : is_any (waiting_of out.queue new.queues) ≡ true = ap is_any joins.changed ∙ is_any-push (waiting_of out.queue mid.queues) (out.name, true, job) in
+      record {
+        counted = IsCounted-yields mid new inside room places out out.name job joins limits cores was_out free (ap length tallies ∙ length-set mid.tallies out.queue tally) delivered core.counted;
+        listed = IsListed-again mid new keys out tally was_out free joins.others tallies core.listed within any;
+        slipped = KeepsSlips-inserted (queue_count new.queues) slips keys (record { vr = tally.runtime; queue = out.queue }) (omega (arith, exists.1, joins.same_count)) lacks
+            (KeepsSlips-same (queue_count mid.queues) (queue_count new.queues) slips slips keys joins.same_count refl core.slipped);
+        pollable = IsPollable-pushed done can_poll mid new out.queue out.name true job joins ready core.pollable;
+        turns = IsWithinTurns-settles mid new out out.queue tally was_out free turns floor tallies fits core.turns;
+      }
+
+  -- the slips and the keys after a settled poll: a queue in which a job waits is listed again, by its slip
+  abbrev pub slips_after : Bool → List Bool → ℕ → List Bool
+  slips_after true slips queue = slice_set slips queue false
+  slips_after false slips queue = slips
+
+  abbrev pub keys_after : Bool → Tally → ℕ → List Key → List Key
+  keys_after true tally queue keys = inserted (record { vr = tally.runtime; queue = queue }) keys
+  keys_after false tally queue keys = keys
+
+  -- the job that is out is done
+  pub IsCore-ended : (mid new : CoreView J) (slips : List Bool) (keys : List Key) (inside room places : ℕ) (out : JobOut J) (tally : Tally) (any : Bool) →
+      IsCore done can_poll mid slips keys inside room places → mid.out ≡ Some out → new.out ≡ None → new.queues ≡ mid.queues →
+      new.tallies ≡ slice_set mid.tallies out.queue tally → FitsTurns mid.turns 0 tally → new.cores ≡ mid.cores → new.delivered ≡ mid.delivered → new.turns ≡ mid.turns → new.floor ≡ mid.floor →
+      is_any (waiting_of out.queue new.queues) ≡ any → IsCore done can_poll new (slips_after any slips out.queue) (keys_after any tally out.queue keys) (inside - 1) room places
+  IsCore-ended mid new slips keys inside room places out tally any core was_out free queues tallies fits cores delivered turns floor some = by_any any some
+    where
+      lines : (other : ℕ) → waiting_of other new.queues ≡ waiting_of other mid.queues
+      lines other = ap (waiting_of other) queues
+
+      kept : KeepsSlips (queue_count new.queues) slips keys
+      kept = KeepsSlips-same (queue_count mid.queues) (queue_count new.queues) slips slips keys (ap queue_count queues) refl core.slipped
+
+      by_any : (any : Bool) → is_any (waiting_of out.queue new.queues) ≡ any → IsCore done can_poll new (slips_after any slips out.queue) (keys_after any tally out.queue keys) (inside - 1) room places
+      by_any true some =
+          let exists = some_inside mid inside room places out was_out core.counted in
+          let within : out.queue < length mid.tallies = omega (arith, core.counted.tallies, exists.1) in
+          let lacks = LacksQueue-from_none out.queue keys (core.listed.at out.queue ∙ out_entry mid out was_out) in
+          record {
+            counted = IsCounted-finishes mid new inside room places out queues cores was_out free (ap length tallies ∙ length-set mid.tallies out.queue tally) delivered core.counted;
+            listed = IsListed-again mid new keys out tally was_out free (λ other apart. lines other) tallies core.listed within some;
+            slipped = KeepsSlips-inserted (queue_count new.queues) slips keys (record { vr = tally.runtime; queue = out.queue }) (omega (arith, exists.1, ap queue_count queues)) lacks kept;
+            pollable = IsPollable-same done can_poll mid new lines core.pollable;
+            turns = IsWithinTurns-settles mid new out out.queue tally was_out free turns floor tallies fits core.turns;
+          }
+      by_any false none = record {
+        counted = IsCounted-finishes mid new inside room places out queues cores was_out free (ap length tallies ∙ length-set mid.tallies out.queue tally) delivered core.counted;
+        listed = IsListed-no_more mid new keys out tally was_out free (λ other apart. lines other) tallies core.listed none;
+        slipped = kept;
+        pollable = IsPollable-same done can_poll mid new lines core.pollable;
+        turns = IsWithinTurns-settles mid new out out.queue tally was_out free turns floor tallies fits core.turns;
+      }
+
+  -- the job that was out was polled where it stands, and its poll is settled
+  pub IsCore-settled : {T : Type 0} (mid new : CoreView J) (slips : List Bool) (keys : List Key) (inside room places : ℕ) (out : JobOut J) (job : J) (tally : Tally) (any : Bool) (step : Step T) →
+      IsCore done can_poll mid slips keys inside room places → mid.out ≡ Some out → new.out ≡ None → JoinsAgain step mid.queues out.queue out.name job new.queues → IsWithinLimits new.queues →
+      new.tallies ≡ slice_set mid.tallies out.queue tally → FitsTurns mid.turns 0 tally → new.cores ≡ mid.cores → new.delivered ≡ mid.delivered → new.turns ≡ mid.turns → new.floor ≡ mid.floor →
+      done job ≡ is_done_step step → OnYield step (can_poll job) → is_any (waiting_of out.queue new.queues) ≡ any →
+      IsCore done can_poll new (slips_after any slips out.queue) (keys_after any tally out.queue keys) (inside - number_if (is_done_step step)) room places
+  IsCore-settled mid new slips keys inside room places out job tally true steps.Yield core was_out free joins limits tallies fits cores delivered turns floor still ready some =
+      let all : inside ≡ inside - 0 = omega arith in
+      subst (λ count. IsCore done can_poll new (slice_set slips out.queue false) (inserted (record { vr = tally.runtime; queue = out.queue }) keys) count room places) all
+      (IsCore-yielded mid new slips keys inside room places out job tally core was_out free joins limits tallies fits cores delivered turns floor (still, ready))
+  IsCore-settled mid new slips keys inside room places out job tally false steps.Yield core was_out free joins limits tallies fits cores delivered turns floor still ready none =
+      absurd (true≢false (sym (ap is_any joins.changed ∙ is_any-push (waiting_of out.queue mid.queues) (out.name, true, job)) ∙ none))
+  IsCore-settled mid new slips keys inside room places out job tally any (steps.Done answer) core was_out free joins limits tallies fits cores delivered turns floor ended ready some =
+      IsCore-ended mid new slips keys inside room places out tally any core was_out free joins tallies fits cores delivered turns floor some
+
+  -- the head of a line that isn't empty may be polled
+  pub front_ready : (line : List (JobId × Bool × J)) → is_any line ≡ true → All (λ waiting. IsReady done can_poll waiting.2) line → IsFrontReady done can_poll line
+  front_ready [] some all = absurd (true≢false (sym some))
+  front_ready (waiting ∷ others) some all = All-head (λ one. IsReady done can_poll one.2) waiting others all
+
+module _ {J T : Type 0} where
+  -- what a turn of a line leaves as it was
+  pub turned_count : (step : Step T) (between new : QueuesView J) (queue : ℕ) (name : JobId) (job : J) → JoinsAgain step between queue name job new → queue_count new ≡ queue_count between
+  turned_count steps.Yield between new queue name job joins = joins.same_count
+  turned_count (steps.Done out) between new queue name job joins = ap queue_count joins
+
+  pub turned_shares : (step : Step T) (between new : QueuesView J) (queue : ℕ) (name : JobId) (job : J) → JoinsAgain step between queue name job new → shares_of queue new ≡ shares_of queue between
+  turned_shares steps.Yield between new queue name job joins = joins.same_shares queue
+  turned_shares (steps.Done out) between new queue name job joins = ap (shares_of queue) joins
+
+  -- a poll in place is settled by its step
+  pub settles_step : (mid new : CoreView J) (out : JobOut J) (job : J) (time : ℕ) (step : Step T) → mid.out ≡ Some out → JoinsAgain step mid.queues out.queue out.name job new.queues →
+      new ≡ settled_view mid out time (number_if (is_done_step step)) new.queues → SettlesStep step mid out.name job time new
+  settles_step mid new out job time steps.Yield was_out joins rest = record { out = out; was_out = was_out; named = refl; line = joins; rest = rest }
+  settles_step mid new out job time (steps.Done answer) was_out joins rest = record { out = out; was_out = was_out; named = refl; rest = rest ∙ ap (settled_view mid out time 1) joins }
+
+pub one_at_most : (test : Bool) → number_if test ≤ 1
+one_at_most true = omega arith
+one_at_most false = omega arith
+
+-- the tally of a turn, written at once, is that of its pick and then of its poll
+pub written_at_once : (tallies : List Tally) (written queue : ℕ) (picked charged : Tally) → written ≡ queue → slice_set tallies written charged ≡ slice_set (slice_set tallies queue picked) queue charged
+written_at_once tallies written queue picked charged same = ap (λ at. slice_set tallies at charged) same ∙ sym (set-set tallies queue picked charged)
+
+pub charged_at_once : (tallies : List Tally) (queue : ℕ) (picked charged : Tally) (time weight done : ℕ) → queue < length tallies → charged ≡ after_poll picked time weight done →
+    charged ≡ after_poll (slice_index_or (slice_set tallies queue picked) queue no_tally) time weight done
+charged_at_once tallies queue picked charged time weight done within value =
+    value ∙ ap (λ (tally : Tally). after_poll tally time weight done) (sym (get_or-set_same tallies queue picked no_tally within))
+
+-- the slip of a queue that is listed again never comes back to its queue
+pub slip_stays : (slips : List Bool) (queue : ℕ) → slice_index_or slips queue false ≡ false → slice_set (slice_set slips queue true) queue false ≡ slips
+slip_stays slips queue out = set-set slips queue true false ∙ ap (slice_set slips queue) (sym out) ∙ set-get_or slips queue false

@@ -1,0 +1,135 @@
+//! A whole turn with the job in its place.
+ghost use Rattle.std.specs.Prelude.{◌≡◌, ℕ, ◌-◌, ◌^◌, ◌<◌, [], Ok, None};
+ghost use Rattle.rt_ids.specs.Work.{number_if};
+ghost use Rattle.rt_jobs.specs.Steps.{is_done_step};
+ghost use Rattle.rt_taskqueue.specs.Queues.{waiting_of};
+ghost use Rattle.rt_core.specs.State.{IsBounded};
+ghost use Rattle.rt_core.specs.Whole.{IsAhead, TellsAhead, TurnsFirst, TurnsWhole, pick_notes, settled_of, settle_notes};
+
+use super::Core;
+use crate::tally::place;
+use crate::turn::{Ahead, Next, PickError};
+use rt_jobs::{Job, Post, Step, Task};
+use std::alloc::Allocator;
+
+/// How many more jobs are done after this step.
+fn ended<T>(step: &Step<T>) -> u64
+    ensures { result ≡ number_if (is_done_step step.now) }
+{
+    match step {
+        Step::Done(_) => 1,
+        Step::Yield => 0,
+    }
+}
+
+impl<J: Task, A: Allocator + Clone> Core<J, A> {
+    /// What the next pick would come to. Nothing changes.
+    ///
+    /// # Errors
+    ///
+    /// Those of `pick`: `Busy` where a job is out, else `Spent` where a queue has work and no turn is left.
+    pub fn ahead(&self) -> Result<Ahead, PickError>
+        ensures { TellsAhead self.now result }
+    {
+        if self.out.is_some() {
+            return Err(PickError::Busy);
+        }
+        if self.ready.is_empty() {
+            return Ok(Ahead::Idle);
+        }
+        if self.turns_made() == u64::MAX {
+            return Err(PickError::Spent);
+        }
+        Ok(self.first_ahead())
+    }
+
+    /// How many turns were made.
+    fn turns_made(&self) -> u64
+        ensures { result ≡ self.now.turns }
+    {
+        self.turns
+    }
+
+    /// The same where a job waits, none is out, and a turn is left.
+    fn first_ahead(&self) -> Ahead
+        requires free { self.now.out ≡ None }
+        requires turns { self.now.turns < 2 ^ 64 - 1 }
+        requires work { (queue : ℕ) × (waiting_of queue self.now.queues ≡ [] → ⊥) }
+        ensures { TellsAhead self.now (Ok result) }
+    {
+        // That the keys rise is known of a timeline whose length was asked for.
+        let _count = self.ready.len();
+        let Some(key) = self.ready.least() else {
+            unreachable!()
+        };
+        let queue = key.queue;
+        if self.return_reason(queue).is_some() {
+            return Ahead::Back;
+        }
+        let Some((name, started)) = self.queues.front(queue) else {
+            unreachable!()
+        };
+        Ahead::Job(Next {
+            queue,
+            vr: key.vr,
+            name,
+            started,
+        })
+    }
+}
+
+impl<J: Job, A: Allocator + Clone> Core<J, A> {
+    /// Makes the turn of the job that `ahead` told, with the job in its place: it is polled once with this post, and settled. The
+    /// answer: what the poll came to, and the time that counts, which is the told one or else `spent`.
+    ///
+    /// The state is that of `pick`, `Ran::poll` and `settle` together. The caller notes the pick before it calls, and the settling
+    /// behind what the poll noted at its post.
+    pub fn turn<P: Post<J, J::Out>>(
+        &mut self,
+        next: &Next,
+        post: &mut P,
+        spent: u64,
+    ) -> (Step<J::Out>, u64)
+        requires ahead { IsAhead self.old next.now.queue next.now.vr next.now.name next.now.started }
+        ensures whole { TurnsWhole J.SameTask J.done J.CanPoll J.made J.Polls J.Answers self.old spent (P.notes post.old) (P.notes post.new) next.now.name next.now.queue next.now.started (pick_notes next.now.queue next.now.vr next.now.name next.now.started) (settled_of result.0) (settle_notes next.now.name result.1 result.0) self.new }
+        ensures bounded { IsBounded self.new }
+    {
+        let _named = next;
+        self.turn_first(post, spent)
+    }
+
+    /// Polls the next job where it stands, and settles the poll. The answer: what the poll came to, and the time that counts.
+    pub(super) fn turn_first<P: Post<J, J::Out>>(
+        &mut self,
+        post: &mut P,
+        spent: u64,
+    ) -> (Step<J::Out>, u64)
+        requires free { self.old.out ≡ None }
+        requires turns { self.old.turns < 2 ^ 64 - 1 }
+        requires work { (queue : ℕ) × (waiting_of queue self.old.queues ≡ [] → ⊥) }
+        ensures turns { TurnsFirst J.SameTask J.done J.CanPoll J.made J.Polls J.Answers self.old spent (P.notes post.old) (P.notes post.new) result.0 result.1 self.new }
+        ensures bounded { IsBounded self.new }
+    {
+        let Some((key, slip)) = self.ready.take_least() else {
+            unreachable!()
+        };
+        let queue = key.queue;
+        let (step, told) = self.queues.turn_front(queue, post);
+        let time = told.unwrap_or(spent);
+        let shares = self.queues.shares(queue);
+        let done = ended(&step);
+        let tally = self.tallies[place(queue)]
+            .picked()
+            .charged(time, &shares, done);
+        self.tallies[place(queue)] = tally;
+        self.floor = self.floor.max(key.vr);
+        self.turns += 1;
+        self.inside -= done as usize;
+        if self.queues.is_empty(queue) {
+            self.queues.put_slip(slip);
+        } else {
+            self.ready.insert(slip, tally.runtime);
+        }
+        (step, time)
+    }
+}

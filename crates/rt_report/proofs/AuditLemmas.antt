@@ -1,0 +1,56 @@
+-- What is written of a verdict, and what stops a reader, told as a fault of the audit.
+use Rattle.std.proofs.Common.{◌≡◌, Result, Ok, Err, OnOk, ℕ, List, [], Option, Some, None, true, refl, append-nil}
+use Rattle.std.specs.Option.{IfSome}
+use Rattle.std.specs.Io.KnownBytes.{Appends}
+use Rattle.rt_ids.specs.Assembly.{Assembly}
+use Rattle.rt_ids.specs.Sound.{IsSound}
+use Rattle.rt_ids.specs.Spelled.{IsSpelled}
+use Rattle.rt_audit.specs.declared.judge.Verdict.{Verdict}
+use Rattle.rt_audit.specs.declared.judge.Verdict.TheVariants.{Sound, Fault}
+use Rattle.rt_audit.specs.Verdicts.{KeepsRulesBefore, rule_named}
+use Rattle.rt_reading.specs.declared.fault.JournalCause.{JournalCause}
+use Rattle.rt_reading.specs.declared.fault.ReadError.{ReadError}
+use Rattle.rt_reading.specs.declared.fault.ReadError.TheVariants as read
+use Rattle.rt_reading.specs.Faults.{IfText as IfTextRead}
+use Rattle.rt_report.specs.Audits.{JudgesText, TellsSound}
+use Rattle.rt_report.specs.Faults.{IfText}
+use Rattle.rt_report.specs.Reasons.{fault_of}
+use Rattle.rt_spelling.specs.Pages.{AppendsFront}
+use Rattle.rt_report.specs.VerdictTexts.{is_sound}
+use Rattle.rt_spelling.specs.Texts.{journal_text}
+pub use Rattle.rt_spelling.proofs.PageLemmas.{front_of_count}
+
+pub OnOk-any : {T E P : Type 0} (result : Result T E) → P → OnOk result P
+OnOk-any (Ok value) p = p
+OnOk-any (Err error) p = tt
+
+-- all is written
+pub front_of_all : (old new : Option (List ℕ)) (text : List ℕ) → Appends old new text → AppendsFront old new text
+front_of_all old new text out = record { written = text; rest = []; appends = out; whole = append-nil text }
+
+-- a faulty line of the text
+pub told_of : (fact : ℕ × JournalCause → Type 0) (error : ReadError) → IfTextRead fact error → IfText fact (fault_of error)
+told_of fact (read.Text line cause) known = known
+told_of fact read.Read known = tt
+told_of fact read.Memory known = tt
+
+sound_only : (verdict : Verdict) → is_sound verdict ≡ true → verdict ≡ Sound
+sound_only Sound is = refl
+sound_only (Fault actor line rule) is = cc
+
+module _ (source : Option (List ℕ)) (assembly : Assembly ℕ) (verdict : Verdict) (told : IfSome source (λ text. IsSpelled assembly × (text ≡ journal_text assembly))) (sound : verdict ≡ Sound → IsSpelled assembly × IsSound assembly) where
+  -- the verdict is one of the journals that the source tells
+  pub judged : KeepsRulesBefore assembly (rule_named verdict) → IfSome source (JudgesText verdict)
+  judged first = from source told
+    where
+      from : (all : Option (List ℕ)) → IfSome all (λ text. IsSpelled assembly × (text ≡ journal_text assembly)) → IfSome all (JudgesText verdict)
+      from None is = tt
+      from (Some text) (spelled, same) = (assembly, same, record { spelled = spelled; sound = λ found. (sound found).1; first = first })
+
+  -- and they are sound if it says so
+  pub tells_sound : is_sound verdict ≡ true → TellsSound source
+  tells_sound holds = from source told
+    where
+      from : (all : Option (List ℕ)) → IfSome all (λ text. IsSpelled assembly × (text ≡ journal_text assembly)) → TellsSound all
+      from None is = tt
+      from (Some text) (spelled, same) = (assembly, same, spelled, (sound (sound_only verdict holds)).1)

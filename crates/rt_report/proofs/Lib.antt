@@ -1,0 +1,2 @@
+pub mod StatLemmas
+pub mod AuditLemmas
