@@ -14,6 +14,7 @@ use Rattle.rt_journal.specs.Recorded.{terms_at, desk_of}
 use Rattle.rt_journal.specs.Together.{IsAssemblyOf}
 use Rattle.rt_grid.specs.Ends.{EndsView, SameEnds}
 use Rattle.rt_grid.specs.Grid.{IsGrid, AreSameEnds, AreReunited, ends_at, no_ends}
+use Rattle.rt_grid.specs.Laws.{GridIsKept}
 use Rattle.rt_grid.proofs.Using.{ends_same}
 use Rattle.rt_workers.specs.Works.{Together}
 use Rattle.rt_workers.proofs.Lists.{together_length}
@@ -24,6 +25,7 @@ use Rattle.rt_worker.specs.Together.{HaveEnded, EndedAreJoined, no_linked, worke
 use Rattle.rt_worker.proofs.Ending.{before_last, at_last}
 use Rattle.rt_runtime.specs.State.{RuntimeView, IsRuntime, outside_of, closing_at}
 use Rattle.rt_runtime.specs.Calls.{HasFinished}
+use Rattle.rt_runtime.specs.Finishing.{Parts}
 
 -- two lists that belong together, at each place
 pub together_at : {A B : Type 0} (related : A → B → Type 0) (xs : List A) (ys : List B) (x : A) (y : B) (i : ℕ) → Together related xs ys → i < length xs → related (get_or xs i x) (get_or ys i y)
@@ -108,6 +110,9 @@ module _ {J : Type 0} (view : RuntimeView J ℕ) (is : IsRuntime view) (ended : 
         (cases_eq actor view.desk.cores);
   }
 
+  pub finished_grid : GridIsKept J ℕ → IsGrid view.desk.cores (all_ends ended (outside_of view))
+  finished_grid law = law view.desk.cores (all_ends view.workers (outside_of view)) (all_ends ended (outside_of view)) same_ends is.grid
+
   module _ {same : J → J → Type 0} {made : J → ℕ} {polls : Owed J ℕ} (each : All (HasEnded same made polls) ended) where
     closes_here : (core : ℕ) → core < view.desk.cores → EachNote (ClosesRightly (least_free view.desk.cores view.desk.cap) view.room) (journal_of core assembly)
     closes_here core low =
@@ -144,3 +149,22 @@ module _ {J : Type 0} (view : RuntimeView J ℕ) (is : IsRuntime view) (ended : 
           drained = law.1;
           closes = closes_here;
         }
+
+    -- the same of the assembly as the code has it
+    pub finished_as : {fits : Order J → Outcome J ℕ → Type 0} (cores cap : ℕ) (ends : List (EndsView J ℕ)) (journals : List (JournalView ℕ)) → cores ≡ view.desk.cores → cap ≡ view.desk.cap →
+        ends ≡ all_ends ended (outside_of view) → journals ≡ map (λ worker. worker.recorded.journal) ended ++ view.desk.journal ∷ [] → AreReunited fits cores ends → EndedAreJoined same made polls fits →
+        JoiningIsSound → JoinedAreSpelled → ((core : ℕ) → core < length view.closing → closing_at core view ≡ true) →
+        HasFinished view (record { cores = cores; cap = cap; journals = map (λ journal. journal.notes) journals })
+    finished_as {fits} cores cap ends journals same_cores same_cap ends_are journals_are reunited joined_law sound_law spelled_law closed =
+        subst (λ cores. HasFinished view (record { cores = cores; cap = cap; journals = map (λ (journal : JournalView ℕ). journal.notes) journals })) (sym same_cores)
+        (subst (λ cap. HasFinished view (record { cores = view.desk.cores; cap = cap; journals = map (λ (journal : JournalView ℕ). journal.notes) journals })) (sym same_cap)
+        (subst (λ journals. HasFinished view (record { cores = view.desk.cores; cap = view.desk.cap; journals = map (λ (journal : JournalView ℕ). journal.notes) journals })) (sym journals_are)
+        (finished (subst (λ cores. AreReunited fits cores (all_ends ended (outside_of view))) same_cores (subst (AreReunited fits cores) ends_are reunited)) joined_law sound_law spelled_law closed)))
+
+-- how many ends and journals there are
+pub part_counts : {J T : Type 0} {same : J → J → Type 0} {made : J → ℕ} {polls : Owed J T} (all : List (LinkedView J T)) (ends : List (EndsView J T)) (journals : List (JournalView T)) →
+    Parts same made polls all ends journals → (length ends ≡ length all) × (length journals ≡ length all)
+part_counts {J} {T} all ends journals parts = (
+  ap length parts.ends_are ∙ length-map all (λ (worker : LinkedView J T). worker.ends),
+  ap length parts.journals_are ∙ length-map all (λ (worker : LinkedView J T). worker.recorded.journal),
+)

@@ -1,7 +1,7 @@
 -- A loop over workers that have ended, which takes each apart.
 use Rattle.std.proofs.Common.{◌≡◌, ℕ, ◌+◌, ◌<◌, ◌≤◌, List, [], ◌∷◌, ◌++◌, length, map, refl, sym, ◌∙◌, ap, subst, arith, ⊎_elim, append_assoc, length-append}
 use Rattle.std.specs.Prelude.{All}
-use Rattle.std.proofs.lemmas.List.{append-nil, map-append, get_or_append_left}
+use Rattle.std.proofs.lemmas.List.{append-nil, length-map, map-append, get_or_append_left}
 use Rattle.std.proofs.lemmas.Bool.{cases_lt}
 use Rattle.rt_grid.proofs.Parts.{at_end}
 use Rattle.rt_jobs.specs.Steps.{Owed}
@@ -33,6 +33,10 @@ module _ {J T : Type 0} (same : J → J → Type 0) (made : J → ℕ) (polls : 
     pub ends_count : length ends + left ≡ length all
     pub journals_count : length journals + left ≡ length all
 
+split_count : {J T : Type 0} (all done rest : List (LinkedView J T)) (ends : List (EndsView J T)) → all ≡ done ++ rest → ends ≡ map (λ worker. worker.ends) done → length ends + 0 ≡ length all → length rest ≡ 0
+split_count {J} {T} all done rest ends split are count =
+    omega (arith, ap length split, length-append done rest, ap length are, length-map done (λ (worker : LinkedView J T). worker.ends), count)
+
 module _ {J T : Type 0} {same : J → J → Type 0} {made : J → ℕ} {polls : Owed J T} where
   pub parted_first : (all rest : List (LinkedView J T)) (left : ℕ) (ends : List (EndsView J T)) (journals : List (JournalView T)) → rest ≡ all → left ≡ length all → ends ≡ [] → journals ≡ [] →
       IsParted same made polls all rest left ends journals
@@ -52,9 +56,10 @@ module _ {J T : Type 0} {same : J → J → Type 0} {made : J → ℕ} {polls : 
     journals_count = omega (arith, was.journals_count, fewer, length-append journals (x.recorded.journal ∷ []));
   }
 
-  pub parted_all : (all rest : List (LinkedView J T)) (ends : List (EndsView J T)) (journals : List (JournalView T)) → length rest ≡ 0 → IsParted same made polls all rest 0 ends journals → Parts same made polls all ends journals
-  parted_all all rest ends journals none was =
-      let whole : all ≡ was.done = was.split ∙ (ap (λ rest. was.done ++ rest) (no_rest rest none) ∙ append-nil was.done) in
+  pub parted_all : (all rest : List (LinkedView J T)) (left : ℕ) (ends : List (EndsView J T)) (journals : List (JournalView T)) → left ≡ 0 → IsParted same made polls all rest left ends journals → Parts same made polls all ends journals
+  parted_all all rest left ends journals none was =
+      let count : length ends + 0 ≡ length all = omega (arith, was.ends_count, none) in
+      let whole : all ≡ was.done = was.split ∙ (ap (λ rest. was.done ++ rest) (no_rest rest (split_count all was.done rest ends was.split was.ends_are count)) ∙ append-nil was.done) in
       record {
         ended = subst (All (HasEnded same made polls)) (sym whole) was.ended;
         ends_are = was.ends_are ∙ ap (map (λ (worker : LinkedView J T). worker.ends)) (sym whole);

@@ -1,6 +1,6 @@
-use Rattle.std.proofs.Common.{◌∙◌, refl}
+use Rattle.std.proofs.Common.{◌∙◌, refl, sym, ap, subst}
 use Rattle.std.specs.Vec.Iter.{into_iter_items, into_iter_len}
-use Rattle.rt_runtime.proofs.Parted.{parted_first, parted_more, parted_all}
+use Rattle.rt_runtime.proofs.Parted.{IsParted, parted_first, parted_more, parted_all}
 use Rattle.rt_runtime.proofs.finishing.part_all.Goals as goal
 
 pub loop-one-init : goal.loop-one-init
@@ -20,10 +20,11 @@ loop-one-preserved g c =
       room_ends = c.push_reserved.ensures.capacity ∙ loop.invariant.room_ends;
       room_journals = c.push_reserved-in-loop-one.ensures.capacity ∙ loop.invariant.room_journals;
       parted = rw (c.push_reserved.ensures.items, c.push_reserved-in-loop-one.ensures.items)
-          (rw (c.part.ensures.ends, c.part.ensures.journal)
+          (rw (c.part-its_ends.ensures.ends, c.part-its_ends.ensures.journal)
           (parted_more c.args.all.items (into_iter_items loop.one-iterator) (into_iter_items c.next.new.self) (into_iter_len loop.one-iterator) (into_iter_len c.next.new.self) loop.all_ends.items loop.all_journals.items
-          c.in-Some.one loop.invariant.parted steps.0 steps.1 c.part.ensures.ended));
+          c.in-Some.one loop.invariant.parted steps.0 steps.1 c.part-its_ends.ensures.ended));
     }
 
 pub returns-clause-parts : goal.returns-clause-parts
-returns-clause-parts g c = ?
+returns-clause-parts g c =
+    parted_all c.args.all.items (into_iter_items c.loop-one.one-iterator) (into_iter_len c.loop-one.one-iterator) c.loop-one.all_ends.items c.loop-one.all_journals.items c.in-None.ensures.steps.0 c.loop-one.invariant.parted
