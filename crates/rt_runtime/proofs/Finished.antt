@@ -1,6 +1,6 @@
 -- Workers that have ended, and the outside actor, are a house whose links are reunited.
 use Rattle.std.proofs.Common.{◌≡◌, ◌≢◌, ℕ, zero, suc, ◌+◌, ◌<◌, ◌≤◌, List, [], ◌∷◌, ◌++◌, length, map, get_or, refl, sym, ◌∙◌, ap, subst, arith, ⊎_elim, length-append}
-use Rattle.std.specs.Prelude.{All, unwrap_or, slice_get, true}
+use Rattle.std.specs.Prelude.{All, Some, unwrap_or, slice_get, true}
 use Rattle.std.proofs.lemmas.Bool.{cases_eq}
 use Rattle.std.proofs.lemmas.List.{length-map}
 use Rattle.rt_ids.specs.declared.order.Order.{Order}
@@ -24,8 +24,8 @@ use Rattle.rt_worker.specs.Rooms.{ClosesRightly, least_free}
 use Rattle.rt_worker.specs.Together.{HaveEnded, EndedAreJoined, no_linked, worker_at, desk_among, all_ends}
 use Rattle.rt_worker.proofs.Ending.{before_last, at_last}
 use Rattle.rt_runtime.specs.State.{RuntimeView, IsRuntime, outside_of, closing_at}
-use Rattle.rt_runtime.specs.Calls.{HasFinished}
-use Rattle.rt_runtime.specs.Finishing.{Parts}
+use Rattle.rt_runtime.specs.Calls.{HasFinished, IsFirstOpen}
+use Rattle.rt_runtime.specs.Finishing.{IsFirstOpenOf, Parts}
 
 -- two lists that belong together, at each place
 pub together_at : {A B : Type 0} (related : A → B → Type 0) (xs : List A) (ys : List B) (x : A) (y : B) (i : ℕ) → Together related xs ys → i < length xs → related (get_or xs i x) (get_or ys i y)
@@ -168,3 +168,13 @@ part_counts {J} {T} all ends journals parts = (
   ap length parts.ends_are ∙ length-map all (λ (worker : LinkedView J T). worker.ends),
   ap length parts.journals_are ∙ length-map all (λ (worker : LinkedView J T). worker.recorded.journal),
 )
+
+-- the first core that is told as open is the first that the caller didn't close
+pub first_open_of : {J T : Type 0} (inside view : RuntimeView J T) (core : ℕ) → inside ≡ view → IsRuntime inside → IsFirstOpenOf inside.closing (Some core) → IsFirstOpen core view
+first_open_of inside view core seen is found =
+    subst (IsFirstOpen core) seen
+    (record {
+      known = omega (arith, found.0, is.closings);
+      not_closed = found.1;
+      before = found.2;
+    })

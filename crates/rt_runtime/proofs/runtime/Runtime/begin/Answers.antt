@@ -1,13 +1,14 @@
 use Rattle.std.proofs.Common.{◌≡◌, ◌+◌, ◌≤◌, ◌∙◌, ap, sym, subst, arith}
+use denote.Param.Send.{sendable}
 use Rattle.rt_runtime.specs.Starting.{IsHouse}
 use Rattle.rt_runtime.proofs.Started.{started}
 use Rattle.rt_runtime.proofs.runtime.Runtime.begin.Goals as goal
 
 pub start-requires-send-W : goal.start-requires-send-W
-start-requires-send-W g c κs within = ?
+start-requires-send-W g c κs within = search sendable depth 40
 
 pub start-requires-send-W-Ended : goal.start-requires-send-W-Ended
-start-requires-send-W-Ended g c κs within = ?
+start-requires-send-W-Ended g c κs within = search sendable depth 40
 
 pub invariant_of-result : goal.invariant_of-result
 invariant_of-result g c =
@@ -28,5 +29,7 @@ invariant_of-result g c =
         bells_are = c.in-Ok.ensures.bells;
         room_ends = omega (arith, c.in-Ok-with_capacity.ensures.capacity);
         room_journals = omega (arith, c.in-Ok-with_capacity-2.ensures.capacity);
-      }, (c.in-Ok-with_capacity.ensures.items, c.in-Ok-with_capacity-2.ensures.items)),
+      }),
+      c.in-Ok-with_capacity.ensures.items,
+      c.in-Ok-with_capacity-2.ensures.items,
     )
