@@ -2,3 +2,4 @@ pub mod Parted
 pub mod Finished
 pub mod Started
 pub mod Sent
+pub mod Crosses
