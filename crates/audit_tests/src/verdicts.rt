@@ -27,14 +27,14 @@ fn breaks(alloc: Global, text: &str, rule: u8, actor: u8, line: usize) -> bool {
 
 #[test]
 fn sound_journals_are_found_sound(rt: HostRuntime) {
-    for text in SOUND {
-        assert!(rt; verdict_on(rt.alloc(), text) == Some(Verdict::Sound));
+    for text in SOUND.iter() {
+        assert!(rt; verdict_on(rt.alloc(), *text) == Some(Verdict::Sound));
     }
 }
 
 #[test]
 fn each_fault_is_named(rt: HostRuntime) {
-    for (rule, actor, line, what, text) in FAULTS {
-        assert!(rt; breaks(rt.alloc(), text, rule, actor, line), "{what}");
+    for (rule, actor, line, what, text) in FAULTS.iter() {
+        assert!(rt; breaks(rt.alloc(), *text, *rule, *actor, *line), "{what}");
     }
 }

@@ -1,23 +1,47 @@
 //! The command line. Nothing here reads, prints or runs anything.
 
 ghost use Rattle.std.specs.Prelude.{◌≡◌, ◌∷◌, [], false, IfOk, codes};
-ghost use Rattle.clap.specs.Words.{is_broken, subcommand_names};
+ghost use Rattle.clap.specs.Words.{app_of, is_broken, subcommand_names};
 
-use clap::{Arg, Command};
+use clap::{Arg, ArgAction, Command};
 use std::alloc::{AllocError, Global};
+
+/// The subcommand that judges the text of journals. The other one, `run`, runs a script.
+pub const AUDIT: &str = "audit";
 
 /// The argument that names the file to read.
 pub const FILE: &str = "FILE";
 
+/// The flag by which a run prints its journals.
+pub const JOURNAL: &str = "journal";
+
+/// The flag by which a run prints its statistics.
+pub const STATS: &str = "stats";
+
 /// The version of the program, and behind it the toolchain that proved it.
 const VERSION: &str = "\
-0.2.0
+0.3.0
 proved with rattle-kit-13b logic dac8208d650f15bf";
 
-/// What follows the options in each help.
+/// What follows the options in the help of the program.
 const AFTER_HELP: &str = "\
 Example:
   fairexec run examples/fair_shares.script
+
+Each line of a script, each line that is printed, and each cause of a refusal:
+  docs/SCRIPTS.md
+
+Exit status:
+  0  all is done
+  1  the audit found a fault
+  2  the script, the journal text or the command line was refused
+  3  a read or a write failed
+  4  there was no memory";
+
+/// What follows the options in the help of `run`.
+const AFTER_RUN: &str = "\
+Example:
+  fairexec run --stats examples/fair_shares.script
 
 Each line of a script, each line that is printed, and each cause of a refusal:
   docs/SCRIPTS.md
@@ -28,21 +52,79 @@ Exit status:
   3  a read or a write failed
   4  there was no memory";
 
+/// What follows the options in the help of `audit`.
+const AFTER_AUDIT: &str = "\
+Example:
+  fairexec run --journal examples/fair_shares.script | fairexec audit
+
+The statistics of --stats behind a journal are no part of its text: audit refuses them.
+
+Exit status:
+  0  the journals are sound
+  1  the audit found a fault
+  2  the journal text or the command line was refused
+  3  a read or a write failed
+  4  there was no memory";
+
 /// The commands and arguments of the program, with their help.
 pub fn command<'a>(alloc: Global) -> Result<Command<'a>, AllocError>
-    ensures names { IfOk result (λ command. subcommand_names command ≡ codes "run" ∷ []) }
+    ensures names { IfOk result (λ command. subcommand_names command ≡ codes "run" ∷ codes "audit" ∷ []) }
     ensures whole { IfOk result (λ command. is_broken command ≡ false) }
 {
-    let file = Arg::new(alloc, FILE).help("The script; without it, standard input is read");
-    let run = Command::new(alloc, "run")
-        .about("Runs a script, and prints what happens as notes, one a line")
-        .arg(file)?
-        .after_help(AFTER_HELP);
     Command::new(alloc, "fairexec")
         .bin_name("fairexec")?
         .about("Runs scripts on the model of a thread-per-core executor with fair task queues")
         .version(VERSION)
         .subcommand_required(true)
         .after_help(AFTER_HELP)
-        .subcommand(run)
+        .subcommand(run_command(alloc)?)?
+        .subcommand(audit_command(alloc)?)
+}
+
+/// `run [--journal] [--stats] [FILE]`
+fn run_command<'a>(alloc: Global) -> Result<Command<'a>, AllocError>
+    ensures name { IfOk result (λ command. (app_of command).top.name ≡ codes "run") }
+    ensures whole { IfOk result (λ command. is_broken command ≡ false) }
+{
+    let journal = flag(
+        alloc,
+        JOURNAL,
+        "Prints the journals at the end, in place of what happens",
+    );
+    let stats = flag(
+        alloc,
+        STATS,
+        "Prints the statistics of each core and queue at the end",
+    );
+    let file = Arg::new(alloc, FILE).help("The script; without it, standard input is read");
+    Ok(
+        Command::new(alloc, "run")
+            .about("Runs a script, and prints what happens as notes, one a line")
+            .arg(journal)?
+            .arg(stats)?
+            .arg(file)?
+            .after_help(AFTER_RUN),
+    )
+}
+
+/// `audit [FILE]`
+fn audit_command<'a>(alloc: Global) -> Result<Command<'a>, AllocError>
+    ensures name { IfOk result (λ command. (app_of command).top.name ≡ codes "audit") }
+    ensures whole { IfOk result (λ command. is_broken command ≡ false) }
+{
+    let file = Arg::new(alloc, FILE).help("The journal text; without it, standard input is read");
+    Ok(
+        Command::new(alloc, AUDIT)
+            .about("Judges journals, and prints whether they are sound or their first fault")
+            .arg(file)?
+            .after_help(AFTER_AUDIT),
+    )
+}
+
+/// A flag of this name. Without it, what it names isn't wanted.
+fn flag<'a>(alloc: Global, name: &'a str, help: &'a str) -> Arg<'a> {
+    Arg::new(alloc, name)
+        .long(name)
+        .action(ArgAction::SetTrue)
+        .help(help)
 }

@@ -1,16 +1,21 @@
-//! Runs scripts on the model of a thread-per-core executor with fair task queues.
+//! Runs scripts on the model of a thread-per-core executor with fair task queues, and judges journals.
 #![tactic(auto)]
 
-ghost use Rattle.std.specs.Prelude.{◌≡◌, ◌≢◌, true, IfOk};
+ghost use Rattle.std.specs.Prelude.{◌≡◌, ◌≢◌, true, IfOk, codes};
 ghost use Rattle.std.specs.declared.io.ErrorKind.TheVariants as kinds;
 ghost use Rattle.clap.specs.Words.{kind_of};
 ghost use Rattle.clap.specs.declared.error.kind.ErrorKind.TheVariants as command_kinds;
+ghost use Rattle.rt_report.specs.Faults.{status_of as audit_status};
+ghost use Rattle.rt_report.specs.declared.fault.AuditFault.TheVariants as audit_faults;
 ghost use Rattle.rt_text.specs.Statuses.{status_of};
 ghost use Rattle.rt_text.specs.declared.status.Status.TheVariants as status;
 ghost use Rattle.rt_text.specs.declared.fault.EngineFault.TheVariants as faults;
 
+use clap::ArgMatches;
 use clap::error::ErrorKind as CommandErrorKind;
 use rt_engine::run_script;
+use rt_report::fault::status_of;
+use rt_report::{AuditFault, audit_text};
 use rt_text::{EngineFault, Status};
 use std::io::ErrorKind;
 use std::process::ExitCode;
@@ -23,10 +28,8 @@ fn main(rt: HostRuntime) -> ExitCode {
     ExitCode::from(program(&rt).code())
 }
 
-/// Does what the command line asks for, and answers how it ended. A run judges nothing, so no fault is found.
-fn program<R: Files + Input + Print + Eprint + Env + AllocGlobal>(rt: &R) -> Status
-    ensures { result ≢ status.FaultFound }
-{
+/// Does what the command line asks for, and answers how it ended.
+fn program<R: Files + Input + Print + Eprint + Env + AllocGlobal>(rt: &R) -> Status {
     let args = match env::args(rt) {
         Ok(args) => args,
         Err(error) => return words_refused(rt, error.kind()),
@@ -39,26 +42,62 @@ fn program<R: Files + Input + Print + Eprint + Env + AllocGlobal>(rt: &R) -> Sta
     };
     match command.try_get_matches_from(words.as_slice()) {
         Ok(matches) => match matches.subcommand() {
-            Some((_, found)) => ended(rt, run(rt, found.get_str(command::FILE))),
+            Some((name, found)) => done(rt, name, found),
             None => Status::Refused,
         },
         Err(error) => command_refused(rt, &error),
     }
 }
 
+/// Does what the subcommand of this name and its arguments ask for.
+fn done<R: Files + Input + Print + Eprint + AllocGlobal>(
+    rt: &R,
+    name: &str,
+    found: &ArgMatches<'_>,
+) -> Status
+    ensures { name.now ≢ codes "audit" → result ≢ status.FaultFound }
+{
+    let file = found.get_str(command::FILE);
+    if name == command::AUDIT {
+        return judged(rt, audit(rt, file));
+    }
+    let journal = found.get_flag(command::JOURNAL);
+    let stats = found.get_flag(command::STATS);
+    ended(rt, run(rt, journal, stats, file))
+}
+
 /// Runs the script of the file, or of standard input.
 fn run<R: Files + Input + Print + AllocGlobal>(
     rt: &R,
+    journal: bool,
+    stats: bool,
     file: Option<&str>,
 ) -> Result<bool, EngineFault>
     ensures { IfOk result (λ done. done ≡ true) }
 {
+    let alloc = rt.alloc();
     let mut sink = io::writer(rt);
     match file {
-        None => run_script(rt.alloc(), &mut rt.reader(), &mut sink),
+        None => run_script(alloc, journal, stats, &mut rt.reader(), &mut sink),
         Some(path) => match fs::open(rt, path) {
-            Ok(mut source) => run_script(rt.alloc(), &mut source, &mut sink),
+            Ok(mut source) => run_script(alloc, journal, stats, &mut source, &mut sink),
             Err(error) => Err(opening_fault(error.kind())),
+        },
+    }
+}
+
+/// Judges the journal text of the file, or of standard input.
+fn audit<R: Files + Input + Print + AllocGlobal>(
+    rt: &R,
+    file: Option<&str>,
+) -> Result<bool, AuditFault> {
+    let alloc = rt.alloc();
+    let mut sink = io::writer(rt);
+    match file {
+        None => audit_text(alloc, &mut rt.reader(), &mut sink),
+        Some(path) => match fs::open(rt, path) {
+            Ok(mut source) => audit_text(alloc, &mut source, &mut sink),
+            Err(error) => Err(unopened(error.kind())),
         },
     }
 }
@@ -72,6 +111,27 @@ fn opening_fault(kind: ErrorKind) -> EngineFault
         ErrorKind::OutOfMemory => EngineFault::Memory,
         _ => EngineFault::Read,
     }
+}
+
+/// Why a journal text can't be opened.
+fn unopened(kind: ErrorKind) -> AuditFault
+    ensures memory { kind ≡ kinds.OutOfMemory → result ≡ audit_faults.Memory }
+    ensures other { kind ≢ kinds.OutOfMemory → result ≡ audit_faults.Read }
+{
+    match kind {
+        ErrorKind::OutOfMemory => AuditFault::Memory,
+        _ => AuditFault::Read,
+    }
+}
+
+/// Says on standard error why there is no verdict, if there is none. Where even that can't be said, the status is the same.
+fn judged<R: Eprint>(rt: &R, answer: Result<bool, AuditFault>) -> Status
+    ensures { result ≡ audit_status answer }
+{
+    if let Err(fault) = &answer {
+        let _ = eprintln!(rt; "{fault}");
+    }
+    status_of(&answer)
 }
 
 /// Says on standard error what went wrong, if anything did. Where even that can't be said, the status is the same.

@@ -1,12 +1,13 @@
-//! Actors with one end of one link each, whatever kind of link it is.
+//! Actors with the ends of their links, whatever kind of links these are.
 
 ghost use Rattle.std.specs.Prelude.{◌≡◌};
 ghost use Rattle.rt_jobs.specs.Ready.{HasReadyJob};
 ghost use Rattle.rt_journal.specs.Ends.{IsInOf, IsOutOf};
-ghost use Rattle.rt_journal.specs.Recorded.{desk_of};
+ghost use Rattle.rt_link.specs.Fits.{Fits};
+ghost use Rattle.rt_journal.specs.Tickets.{HasLane};
 
 use rt_core::Turn;
-use rt_ids::{ActorNo, CoreNo, Note, Order, QueueNo, Reason};
+use rt_ids::{ActorNo, CoreNo, JobId, Note, Order, Outcome, Ticket, TicketError};
 use rt_jobs::{NoPost, Ran, ScriptJob, Task};
 use rt_journal::{Journal, Recorded, RecordedDesk};
 use rt_link::{InEnd, OutEnd};
@@ -15,35 +16,47 @@ use std::marker::Model;
 /// The core that all orders here are for.
 pub const CORE: CoreNo = CoreNo(0);
 
+/// The same core, as it sends to itself.
+pub const OWN: ActorNo = ActorNo(0);
+
 /// The outside actor of one core.
 pub const OUTSIDE: ActorNo = ActorNo(1);
 
 /// Whether these are the notes, the oldest first.
 pub fn tells(journal: &Journal<u64>, notes: &[Note<u64>]) -> bool {
-    if journal.len() != notes.len() {
-        return false;
-    }
-    for (i, note) in notes.iter().enumerate() {
-        if journal.get(i) != Some(*note) {
-            return false;
-        }
-    }
-    true
+    journal.as_slice() == notes
 }
 
-/// Whether this is a job for this queue.
-fn is_for(order: &Order<ScriptJob>, want: QueueNo) -> bool {
-    match order {
-        Order::Job(queue, _) => *queue == want,
-        _ => false,
+/// The name of the submission of this number from the actor to core 0.
+pub fn name(from: ActorNo, number: u64) -> JobId
+    ensures { result ≡ record { from = from; to = 0; number = number } }
+{
+    JobId {
+        from,
+        to: CORE,
+        number,
     }
 }
 
-/// Core 0 of one core, with the end of its link from the outside actor.
+/// What a core is to do.
+#[derive(Clone, Copy)]
+pub enum Act {
+    /// An order comes from the outside actor.
+    Deliver,
+    /// No order comes from it.
+    Nothing,
+    /// A job is polled for the first time, or handed back.
+    Turn,
+    /// The gate of this sender is shut.
+    Shut(ActorNo),
+}
+
+/// Core 0 of one core, with the ends of its links from itself and from the outside actor.
 #[derive(Drop)]
 pub struct Receiver<I: InEnd<ScriptJob> + Drop> {
     core: Recorded<ScriptJob>,
-    end: I,
+    own: I,
+    outside: I,
 }
 
 impl<I: InEnd<ScriptJob> + Drop> Model for Receiver<I> {
@@ -54,23 +67,22 @@ impl<I: InEnd<ScriptJob> + Drop> Model for Receiver<I> {
 
     ghost view = { λ _. 0 };
 
-    ghost invariant = { λ r. IsInOf 1 r.core (I.inward r.end) };
+    ghost invariant = { λ r. IsInOf 0 r.core (I.inward r.own) × IsInOf 1 r.core (I.inward r.outside) };
 }
 
 impl<I: InEnd<ScriptJob> + Drop> Receiver<I> {
-    pub fn new(core: Recorded<ScriptJob>, end: I) -> Self
-        requires { IsInOf 1 core (I.inward end) }
+    pub fn new(core: Recorded<ScriptJob>, own: I, outside: I) -> Self
+        requires own { IsInOf 0 core (I.inward own) }
+        requires outside { IsInOf 1 core (I.inward outside) }
     {
-        Receiver { core, end }
+        Receiver { core, own, outside }
     }
 
-    /// Whether an order came.
-    pub fn deliver(&mut self) -> bool {
-        self.core.journal().free() >= 2 && self.core.deliver(&mut self.end)
+    fn deliver(&mut self) -> bool {
+        self.core.journal().free() >= 2 && self.core.deliver(&mut self.outside)
     }
 
-    /// Whether a job was polled once, and is done or waits again.
-    pub fn turn(&mut self, spent: u64) -> bool {
+    fn turn(&mut self) -> bool {
         if self.core.journal().free() < 3 {
             return false;
         }
@@ -80,97 +92,53 @@ impl<I: InEnd<ScriptJob> + Drop> Receiver<I> {
                     return false;
                 }
                 let ran = Ran::poll(job, &mut NoPost);
-                drop(self.core.settle(&mut self.end, name, ran, spent));
+                drop(self.core.settle(&mut self.outside, name, ran, 5));
                 true
             }
-            Ok(Turn::Resume(name, _, job)) => {
-                if name.from != OUTSIDE {
-                    return false;
+            Ok(Turn::Back(name, reason, order)) => {
+                if name.from == OUTSIDE {
+                    self.core.give_back(&mut self.outside, name, reason, order);
+                } else if name.from == OWN {
+                    self.core.give_back(&mut self.own, name, reason, order);
                 }
-                let ran = Ran::poll(job, &mut NoPost);
-                drop(self.core.settle(&mut self.end, name, ran, spent));
                 true
             }
-            _ => false,
+            Ok(Turn::Resume(_, _, job)) => {
+                drop(job);
+                false
+            }
+            Ok(Turn::Idle) => false,
+            Err(_) => false,
         }
     }
 
-    /// Whether a job was handed back, for this reason and in an order for this queue.
-    pub fn hands_back(&mut self, reason: Reason, queue: QueueNo) -> bool {
-        if self.core.journal().free() < 2 {
+    fn shut(&mut self, from: ActorNo) -> bool {
+        let closed = self.core.journal().free() >= 1 && self.core.is_closed();
+        if !closed || from.0 > 1 || self.core.gate(from).is_some() {
             return false;
         }
-        match self.core.pick() {
-            Ok(Turn::Back(_, why, order)) => why == reason && is_for(&order, queue),
-            _ => false,
+        if from == OUTSIDE {
+            let _count = self.core.shut(&mut self.outside, from);
+        } else {
+            let _count = self.core.shut(&mut self.own, from);
         }
+        true
     }
 
-    pub fn tells(&self, notes: &[Note<u64>]) -> bool {
-        tells(self.core.journal(), notes)
-    }
-
-    /// How many jobs are inside.
-    pub fn held(&self) -> u64 {
-        let (core, _) = self.core.core().stats();
-        core.held
-    }
-}
-
-/// Core 0 of one core, with the ends of its links from itself and from the outside actor.
-#[derive(Drop)]
-pub struct Closing<K: InEnd<ScriptJob> + Drop, I: InEnd<ScriptJob> + Drop> {
-    core: Recorded<ScriptJob>,
-    own: K,
-    outside: I,
-}
-
-impl<K: InEnd<ScriptJob> + Drop, I: InEnd<ScriptJob> + Drop> Model for Closing<K, I> {
-    ghost use Rattle.std.specs.Prelude.{ℕ};
-    ghost use Rattle.rt_journal.specs.Ends.{IsInOf};
-
-    ghost Value = { ℕ };
-
-    ghost view = { λ _. 0 };
-
-    ghost invariant = { λ c. IsInOf 0 c.core (K.inward c.own) × IsInOf 1 c.core (I.inward c.outside) };
-}
-
-impl<K: InEnd<ScriptJob> + Drop, I: InEnd<ScriptJob> + Drop> Closing<K, I> {
-    pub fn new(core: Recorded<ScriptJob>, own: K, outside: I) -> Self
-        requires own { IsInOf 0 core (K.inward own) }
-        requires outside { IsInOf 1 core (I.inward outside) }
-    {
-        Closing { core, own, outside }
-    }
-
-    /// Whether an order came from the outside actor.
-    pub fn deliver(&mut self) -> bool {
-        self.core.journal().free() >= 2 && self.core.deliver(&mut self.outside)
-    }
-
-    /// The final count of the core's own gate, if it was shut by this call.
-    pub fn shut_own(&mut self) -> Option<u64> {
-        let own = ActorNo(0);
-        if self.core.journal().free() < 1
-            || !self.core.is_closed()
-            || self.core.gate(own).is_some()
-        {
-            return None;
+    /// Whether all of this could be done, in this order.
+    pub fn does(&mut self, acts: &[Act]) -> bool {
+        for act in acts {
+            let done = match act {
+                Act::Deliver => self.deliver(),
+                Act::Nothing => !self.deliver(),
+                Act::Turn => self.turn(),
+                Act::Shut(from) => self.shut(*from),
+            };
+            if !done {
+                return false;
+            }
         }
-        Some(self.core.shut(&mut self.own, own))
-    }
-
-    /// The final count of the outside actor's gate, if it was shut by this call.
-    pub fn shut_outside(&mut self) -> Option<u64> {
-        let outside = ActorNo(1);
-        if self.core.journal().free() < 1
-            || !self.core.is_closed()
-            || self.core.gate(outside).is_some()
-        {
-            return None;
-        }
-        Some(self.core.shut(&mut self.outside, outside))
+        true
     }
 
     pub fn is_drained(&self) -> bool {
@@ -191,18 +159,22 @@ pub struct Sender<O: OutEnd<ScriptJob> + Drop> {
 
 impl<O: OutEnd<ScriptJob> + Drop> Model for Sender<O> {
     ghost use Rattle.std.specs.Prelude.{ℕ};
+    ghost use Rattle.rt_link.specs.Fits.{Fits};
     ghost use Rattle.rt_journal.specs.Ends.{IsOutOf};
+    ghost use Rattle.rt_journal.specs.Tickets.{HasLane};
 
     ghost Value = { ℕ };
 
     ghost view = { λ _. 0 };
 
-    ghost invariant = { λ s. IsOutOf 0 s.desk (O.out s.end) (O.credited s.end) };
+    ghost invariant = { λ s. IsOutOf 0 s.desk (O.out s.end) (O.credited s.end)
+        × HasLane (Fits ⟦<ScriptJob as Task>⟧.SameTask ⟦<ScriptJob as Task>⟧.Answers) 0 s.desk (O.out s.end) (O.credited s.end) };
 }
 
 impl<O: OutEnd<ScriptJob> + Drop> Sender<O> {
     pub fn new(desk: RecordedDesk<ScriptJob>, end: O) -> Self
-        requires { IsOutOf 0 desk (O.out end) (O.credited end) }
+        requires beside { IsOutOf 0 desk (O.out end) (O.credited end) }
+        requires lane { HasLane (Fits ⟦<ScriptJob as Task>⟧.SameTask ⟦<ScriptJob as Task>⟧.Answers) 0 desk (O.out end) (O.credited end) }
     {
         Sender { desk, end }
     }
@@ -214,48 +186,37 @@ impl<O: OutEnd<ScriptJob> + Drop> Sender<O> {
         self.desk.journal().free() >= 1 && self.desk.submit(&mut self.end, CORE, order).is_ok()
     }
 
+    /// How many outcomes were collected.
+    pub fn collect(&mut self) -> usize {
+        if self.desk.journal().free() < self.desk.cap() as u32 {
+            return 0;
+        }
+        self.desk.collect_from(&mut self.end, CORE)
+    }
+
+    /// The answer of the submission of this number, or why there is none.
+    pub fn redeem(&mut self, number: u64) -> Result<Option<u64>, TicketError> {
+        let ticket = Ticket::named(name(OUTSIDE, number));
+        if self.desk.journal().free() < 1 || !self.desk.knows(ticket) {
+            return Ok(None);
+        }
+        match self.desk.redeem(&mut self.end, ticket)? {
+            Outcome::Finished(answer) => Ok(Some(answer)),
+            _ => Ok(None),
+        }
+    }
+
+    /// Whether the submission of this number was detached.
+    pub fn detach(&mut self, number: u64) -> bool {
+        let ticket = Ticket::named(name(OUTSIDE, number));
+        self.desk.journal().free() >= 1 && self.desk.detach(&mut self.end, ticket).is_ok()
+    }
+
+    pub fn outstanding(&self) -> u64 {
+        self.desk.outstanding(&self.end, CORE)
+    }
+
     pub fn tells(&self, notes: &[Note<u64>]) -> bool {
         tells(self.desk.journal(), notes)
-    }
-}
-
-/// Core 0 of one core, with the end of its link to itself.
-#[derive(Drop)]
-pub struct Caller<O: OutEnd<ScriptJob> + Drop> {
-    core: Recorded<ScriptJob>,
-    end: O,
-}
-
-impl<O: OutEnd<ScriptJob> + Drop> Model for Caller<O> {
-    ghost use Rattle.std.specs.Prelude.{ℕ};
-    ghost use Rattle.rt_journal.specs.Ends.{IsOutOf};
-    ghost use Rattle.rt_journal.specs.Recorded.{desk_of};
-
-    ghost Value = { ℕ };
-
-    ghost view = { λ _. 0 };
-
-    ghost invariant = { λ s. IsOutOf 0 (desk_of s.core) (O.out s.end) (O.credited s.end) };
-}
-
-impl<O: OutEnd<ScriptJob> + Drop> Caller<O> {
-    pub fn new(core: Recorded<ScriptJob>, end: O) -> Self
-        requires { IsOutOf 0 (desk_of core) (O.out end) (O.credited end) }
-    {
-        Caller { core, end }
-    }
-
-    /// Whether the order was accepted.
-    pub fn submit(&mut self, order: Order<ScriptJob>) -> bool
-        requires { HasReadyJob ⟦<ScriptJob as Task>⟧.done ⟦<ScriptJob as Task>⟧.CanPoll order }
-    {
-        self.core.journal().free() >= 1 && self.core.submit(&mut self.end, CORE, order).is_ok()
-    }
-
-    /// The notes alone.
-    pub fn into_journal(self) -> Journal<u64> {
-        let Caller { core, end } = self;
-        drop(end);
-        core.into_journal()
     }
 }

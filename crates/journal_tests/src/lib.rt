@@ -4,6 +4,4 @@
 #[cfg(test)]
 mod actors;
 #[cfg(test)]
-mod closings;
-#[cfg(test)]
 mod steps;

@@ -13,10 +13,7 @@ use Rattle.rt_ids.specs.Filters.{accepted_orders, order_sent}
 use Rattle.rt_ids.specs.Journal.{Journal, EachNote, is_told, or_else}
 use Rattle.rt_ids.specs.Names.{same_name}
 use Rattle.rt_ids.specs.Sound.{AllEnded}
-use Rattle.rt_ids.specs.Work.{has_work}
 use Rattle.rt_ids.proofs.NameLemmas.{one_name}
-use Rattle.rt_accounts.specs.declared.accounts.Account.{Account}
-use Rattle.rt_accounts.specs.Accounts.{KnowsAccount, has_jobs}
 use Rattle.rt_tables.specs.Names.{value_under, has_name}
 use Rattle.rt_tables.specs.Told.{order_told}
 use Rattle.rt_rules.proofs.FirstUnder.{first_under-with_last, under-order}
@@ -28,10 +25,6 @@ use Rattle.rt_audit.specs.Held.{KnowsHeld, HasEnded, EndedUnder, EndedIfSent}
 pub is_kept : (there : Bool) → not there ≡ false → there ≡ true
 is_kept true kept = refl
 is_kept false kept = absurd (true≢false kept)
-
--- an account has jobs where its queue has work
-pub works : (queue : ℕ) (account : Account) (before : Journal ℕ) → KnowsAccount queue account before → has_jobs account ≡ has_work queue before
-works queue account before knows = rw (knows.left, knows.entered) refl
 
 module _ (held : Held) (assembly : Assembly ℕ) (core : ℕ) (name : JobId) (order : Order (Unit {0})) (here : name.to ≡ core) where
   -- what this note sends has ended

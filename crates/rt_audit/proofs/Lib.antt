@@ -1,4 +1,5 @@
 pub mod AllEnded
+pub mod BrokenRules
+pub mod FirstRules
 pub mod KeptRules
 pub mod NoFaults
-pub mod BrokenRules

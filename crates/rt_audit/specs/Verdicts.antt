@@ -1,5 +1,5 @@
 -- What a verdict says of the rules.
-use Rattle.std.specs.Prelude.{◌≡◌, ℕ, ◌<◌}
+use Rattle.std.specs.Prelude.{◌≡◌, ℕ, ◌<◌, ◌≤◌}
 use Rattle.rt_ids.specs.Assembly.{Assembly}
 use Rattle.rt_ids.specs.Sound.{StartsAreSound, OrderIsSound, ClosesAreSound, OutcomesAreSound, PicksAreSound}
 use Rattle.rt_audit.specs.declared.judge.Verdict.{Verdict}
@@ -25,3 +25,14 @@ pub record BreaksRule (assembly : Assembly ℕ) (rule : ℕ) : Type 0 where
   pub closes : rule ≡ 3 → ClosesAreSound assembly → ⊥
   pub outcomes : rule ≡ 4 → OutcomesAreSound assembly → ⊥
   pub picks : rule ≡ 5 → PicksAreSound assembly → ⊥
+
+-- the rule of this number, and none before it, is broken; the number behind the last rule says that none is
+pub record IsFirstBroken (assembly : Assembly ℕ) (rule : ℕ) : Type 0 where
+  pub some : 1 ≤ rule
+  pub few : rule ≤ 6
+  pub before : KeepsRulesBefore assembly rule
+  pub here : BreaksRule assembly rule
+
+-- no two rules are the first that is broken
+abbrev pub OneRuleIsFirst : Type 0
+OneRuleIsFirst = (assembly : Assembly ℕ) (one other : ℕ) → IsFirstBroken assembly one → IsFirstBroken assembly other → one ≡ other

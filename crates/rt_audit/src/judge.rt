@@ -5,7 +5,7 @@ ghost use Rattle.rt_ids.specs.Limits.{most_cores};
 ghost use Rattle.rt_ids.specs.Sound.{IsSound, OutcomesAreSound};
 ghost use Rattle.rt_ids.specs.Spelled.{IsSpelled};
 ghost use Rattle.rt_audit.specs.declared.judge.Verdict.TheVariants.{Sound, Fault};
-ghost use Rattle.rt_audit.specs.Verdicts.{KeepsRulesBefore, BreaksRule, rule_named};
+ghost use Rattle.rt_audit.specs.Verdicts.{KeepsRulesBefore, BreaksRule, IsFirstBroken, rule_named};
 ghost use Rattle.rt_rules.specs.Links.{KnowsOrders};
 
 use crate::places::{Place, closes_place, order_place, outcomes_place, picks_place, starts_place};
@@ -44,7 +44,7 @@ pub enum AuditError {
 pub fn audit(alloc: Global, assembly: &Assembly) -> Result<Verdict, AuditError>
     ensures sound { IfOk result (λ verdict. verdict ≡ Sound → IsSpelled assembly.now × IsSound assembly.now) }
     ensures first { IfOk result (λ verdict. KeepsRulesBefore assembly.now (rule_named verdict)) }
-    ensures broken { IfOk result (λ verdict. IsSpelled assembly.now → BreaksRule assembly.now (rule_named verdict)) }
+    ensures rule { IfOk result (λ verdict. IsSpelled assembly.now → IsFirstBroken assembly.now (rule_named verdict)) }
     ensures only { IfOk result (λ verdict. IsSpelled assembly.now → IsSound assembly.now → verdict ≡ Sound) }
     ensures unspelled { (IsSpelled assembly.now → ⊥) → result ≡ Ok (Fault 0 0 1) }
 {
@@ -67,6 +67,7 @@ fn told(place: Option<Place>, rule: u8) -> Verdict
     ensures fault { is_some place ≡ true → rule_named result ≡ rule }
     ensures none { is_some place ≡ false → rule_named result ≡ 6 }
     ensures only { place ≡ None → result ≡ Sound }
+    ensures number { 1 ≤ rule → rule ≤ 6 → (1 ≤ rule_named result) × (rule_named result ≤ 6) }
 {
     match place {
         Some(place) => Verdict::Fault {
@@ -85,6 +86,7 @@ fn verdict_of(alloc: Global, assembly: &Assembly) -> Result<Verdict, AllocError>
     ensures first { IfOk result (λ verdict. KeepsRulesBefore assembly.now (rule_named verdict)) }
     ensures broken { IfOk result (λ verdict. IsSpelled assembly.now → BreaksRule assembly.now (rule_named verdict)) }
     ensures only { IfOk result (λ verdict. IsSpelled assembly.now → IsSound assembly.now → verdict ≡ Sound) }
+    ensures number { IfOk result (λ verdict. (1 ≤ rule_named verdict) × (rule_named verdict ≤ 6)) }
 {
     let orders = orders_sent(alloc, assembly)?;
     let sent = orders.as_slice();

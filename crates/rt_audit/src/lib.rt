@@ -2,6 +2,7 @@
 #![tactic(auto)]
 
 mod judge;
+pub mod laws;
 mod lost;
 mod places;
 

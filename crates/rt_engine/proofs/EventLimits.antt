@@ -1,8 +1,12 @@
 -- The events that a script's lines tell: their actors exist, and their jobs have made no poll.
-use Rattle.std.proofs.Common.{ℕ, length, arith, ◌==◌}
+use Rattle.std.proofs.Common.{ℕ, List, length, arith, ◌==◌, All, slice_index_or}
+use Rattle.std.specs.Prelude.{map}
+use Rattle.std.proofs.lemmas.List.Elements.{All-map}
 use Rattle.std.proofs.lemmas.Bool.Decides.{nat_tests}
 use Rattle.rt_ids.specs.declared.order.Order.TheVariants as order
 use Rattle.rt_jobs.specs.Ready.{HasReadyJob}
+use Rattle.rt_jobs.specs.Scripts.{Script}
+use Rattle.rt_world.specs.declared.event.Event.{Event}
 use Rattle.rt_world.specs.Sends.{AreThere}
 use Rattle.rt_world.specs.Opening.{HasReadyEvent}
 use Rattle.rt_script.specs.declared.event.ScriptEvent.{ScriptEvent}
@@ -27,3 +31,10 @@ is_ready cores (Send sender core (order.CloseCore mode)) here = tt
 is_ready cores (Deliver core sender) here = tt
 is_ready cores (Turn core) here = tt
 is_ready cores (Shut core sender) here = tt
+
+-- the jobs of such events may be polled
+abbrev pub AreReady : List (Event Script) → Type 0
+AreReady events = All (HasReadyEvent (HasReadyJob (λ job. job.polled == length job.polls) (λ job. Unit {0}))) events
+
+pub are_ready : (cores : ℕ) (events : List ScriptEvent) → All (IsEventOf cores) events → AreReady (map event_of events)
+are_ready cores events all = All-map (HasReadyEvent (HasReadyJob (λ job. job.polled == length job.polls) (λ job. Unit {0}))) event_of events (λ place default within. is_ready cores (slice_index_or events place default) (all place default within))

@@ -1,9 +1,9 @@
 -- The text of one event, and of events one after another.
-use Rattle.std.proofs.Common.{◌≡◌, ℕ, ◌+◌, ◌≤◌, ◌<◌, List, [], ◌∷◌, ◌++◌, length, Option, refl, sym, ap, ◌∙◌, subst, arith, append_assoc, append-nil, length-append, drop, reverse}
-use Rattle.std.proofs.Math.Seq.{drop-append_seam}
-use Rattle.std.proofs.lemmas.List.{reverse-append, length-reverse}
+use Rattle.std.proofs.Common.{◌≡◌, ℕ, ◌+◌, ◌≤◌, ◌<◌, List, [], ◌∷◌, ◌++◌, length, Option, refl, sym, ap, ◌∙◌, subst, arith, append_assoc, append-nil, length-append, take, drop, reverse, suc, get_or}
+use Rattle.std.specs.Prelude.{map}
+use Rattle.std.proofs.Math.Seq.{drop-append_seam, drop-cons}
+use Rattle.std.proofs.lemmas.List.{reverse-append, length-reverse, map-id, take-append-drop}
 use Rattle.std.specs.Io.KnownBytes.{Appends}
-use Rattle.std.proofs.KnownBytes.{Appends-trans}
 use Rattle.rt_ids.specs.declared.note.Note.{Note}
 use Rattle.rt_jobs.specs.Scripts.{Script}
 use Rattle.rt_script.specs.declared.event.ScriptEvent.{ScriptEvent}
@@ -15,12 +15,15 @@ use Rattle.rt_world.specs.Sends.{actor_of}
 use Rattle.rt_text.specs.declared.reply.Ends.{Ends}
 use Rattle.rt_text.specs.declared.reply.Quiet.{Quiet}
 use Rattle.rt_script.specs.Limits.{IsEventOf}
+use Rattle.rt_spelling.specs.Pages.{AppendsFront}
+use Rattle.rt_spelling.proofs.PageLemmas.{puts_more, puts_out, front_now, front_of_page}
+use Rattle.rt_engine.specs.Begun.{WritesFirst}
 use Rattle.rt_engine.specs.Outputs.{WritesAll}
 use Rattle.rt_engine.specs.Replies.{event_of, ends_of, quiet_of}
 use Rattle.rt_engine.specs.Rooms.{IsRoomy}
 use Rattle.rt_engine.specs.Transcripts.{ScriptWorld, Occurs, IsHeard, Prints, PrintsAll, event_text, note_lines, quiet_text, script_room}
 use Rattle.rt_engine.proofs.EventLimits.{are_there}
-use Rattle.rt_engine.proofs.WorldSteps.{event_grows, is_heard, is_free}
+use Rattle.rt_engine.proofs.WorldSteps.{event_grows, of_scripts, is_heard, is_free}
 
 pub same_actor : (event : ScriptEvent) → (ends_of event).actor ≡ actor_of (event_of event)
 same_actor (Send sender core what) = refl
@@ -55,7 +58,7 @@ module _ (event : ScriptEvent) (old new : ScriptWorld) (answer : Reply Script) (
   pub prints_notes : length (journal_at (actor_of (event_of event)) old) < length (journal_at (actor_of (event_of event)) new) →
       Prints event old new (note_lines (ends_of event).actor (drop (length (journal_at (actor_of (event_of event)) old)) (reverse (journal_at (actor_of (event_of event)) new))))
   prints_notes more =
-      let grows = event_grows (event_of event) old new answer occurs in
+      let grows = event_grows (event_of event) (of_scripts event) old new answer occurs in
       let count = ap length grows.noted ∙ length-append grows.notes (journal_at (actor_of (event_of event)) old) in
       let turned = length-reverse grows.notes in
       let some : 1 ≤ length (reverse grows.notes) = omega arith in
@@ -74,7 +77,7 @@ module _ (event : ScriptEvent) (old new : ScriptWorld) (answer : Reply Script) (
   -- an event with none prints what its reply says
   pub prints_quiet : length (journal_at (actor_of (event_of event)) new) ≤ length (journal_at (actor_of (event_of event)) old) → Prints event old new (quiet_text (ends_of event) (quiet_of answer))
   prints_quiet same =
-      let grows = event_grows (event_of event) old new answer occurs in
+      let grows = event_grows (event_of event) (of_scripts event) old new answer occurs in
       let count = ap length grows.noted ∙ length-append grows.notes (journal_at (actor_of (event_of event)) old) in
       let none : grows.notes ≡ [] = no_notes grows.notes (omega arith) in
       record {
@@ -119,7 +122,7 @@ module _ (event : ScriptEvent) (old new : ScriptWorld) (answer : Reply Script) (
 -- an event adds at most four notes to a journal
 pub roomy_more : (cores cap notes more : ℕ) (event : ScriptEvent) (old new : ScriptWorld) (text : List ℕ) → IsRoomy cores cap notes old → Prints event old new text → notes + 4 ≤ more → IsRoomy cores cap more new
 roomy_more cores cap notes more event old new text roomy prints within =
-    let grows = event_grows (event_of event) old new prints.answer prints.occurs in
+    let grows = event_grows (event_of event) (of_scripts event) old new prints.answer prints.occurs in
     record {
       cores_are = grows.cores ∙ roomy.cores_are;
       cap_is = grows.cap ∙ roomy.cap_is;
@@ -134,6 +137,19 @@ roomy_here cores cap notes world roomy within = record {
   room_is = roomy.room_is ∙ ap (λ size. script_room size cap) (sym roomy.cores_are) ∙ ap (λ size. script_room world.cores size) (sym roomy.cap_is);
   short = λ actor. let before = roomy.short actor in omega arith;
 }
+
+-- what is left of the events
+pub left_over : (all events : List ScriptEvent) → map (λ event. event) events ≡ take (length events) all → all ≡ events ++ drop (length events) all
+left_over all events so_far = sym (ap (λ front. front ++ drop (length events) all) (sym (map-id events) ∙ so_far) ∙ take-append-drop (length events) all)
+
+-- and behind one event more
+pub left_after : (all events : List ScriptEvent) (event : ScriptEvent) → map (λ event. event) events ≡ take (length events) all → length events < length all → event ≡ get_or all (length events) event →
+    all ≡ (events ++ event ∷ []) ++ drop (suc (length events)) all
+left_after all events event so_far within at =
+    let rest = drop (suc (length events)) all in
+    left_over all events so_far
+    ∙ ap (λ rear. events ++ rear) (drop-cons all (length events) event within ∙ ap (λ one. one ∷ rest) (sym at))
+    ∙ sym (append_assoc events (event ∷ []) rest)
 
 -- one event more
 prints_more : (events : List ScriptEvent) (event : ScriptEvent) (old between new : ScriptWorld) (text line : List ℕ) →
@@ -154,12 +170,8 @@ module _ (events : List ScriptEvent) (old new : ScriptWorld) (page_old page_new 
       WritesAll (events ++ event ∷ []) old next page_old page_next sink_old sink_new
   writes_more event next page_next line one grown = record {
     text = writes.text ++ line;
-    written = writes.written;
     prints = prints_more events event old new next writes.text line writes.prints one;
-    appends = writes.appends;
-    whole =
-        sym (append_assoc page_old writes.text line) ∙ ap (λ all. all ++ line) writes.whole
-        ∙ append_assoc writes.written page_new line ∙ ap (λ page. writes.written ++ page) (sym grown);
+    puts = puts_more page_old page_new page_next sink_old sink_new writes.text line (writes.text ++ line) writes.puts grown refl;
   }
 
   -- the page is printed
@@ -167,8 +179,30 @@ module _ (events : List ScriptEvent) (old new : ScriptWorld) (page_old page_new 
       WritesAll events old new page_old page_next sink_old sink_next
   writes_out sink_next page_next more empty = record {
     text = writes.text;
-    written = writes.written ++ page_new;
     prints = writes.prints;
-    appends = Appends-trans sink_old sink_new sink_next _ _ writes.appends more;
-    whole = writes.whole ∙ sym (ap (λ page. (writes.written ++ page_new) ++ page) empty ∙ append-nil (writes.written ++ page_new));
+    puts = puts_out page_old page_new page_next sink_old sink_new sink_next writes.text writes.puts more empty;
+  }
+
+  -- nothing more is printed
+  pub writes_first : (all others : List ScriptEvent) → all ≡ events ++ others → WritesFirst all old page_old sink_old sink_new
+  writes_first all others whole = record {
+    first = events;
+    others = others;
+    end = new;
+    text = writes.text;
+    whole = whole;
+    prints = writes.prints;
+    front = front_now page_old page_new sink_old sink_new writes.text [] writes.text writes.puts (sym (append-nil writes.text));
+  }
+
+  -- a beginning of the page is printed
+  pub page_first : (all others : List ScriptEvent) (sink_next : Option (List ℕ)) → all ≡ events ++ others → AppendsFront sink_new sink_next page_new → WritesFirst all old page_old sink_old sink_next
+  page_first all others sink_next whole front = record {
+    first = events;
+    others = others;
+    end = new;
+    text = writes.text;
+    whole = whole;
+    prints = writes.prints;
+    front = front_of_page page_old page_new sink_old sink_new sink_next writes.text [] writes.text writes.puts front (sym (append-nil writes.text));
   }

@@ -4,3 +4,6 @@ pub mod OpeningLemmas
 pub mod PrintLemmas
 pub mod WorldSteps
 pub mod OneOutput
+pub mod RearLemmas
+pub mod PlayLemmas
+pub mod RunLemmas

@@ -1,6 +1,6 @@
 -- Two outputs of a script are one, unless one of its runs was refused memory.
-use Rattle.std.proofs.Common.{◌≡◌, ℕ, List, [], ◌∷◌, ◌++◌, refl, sym, ◌∙◌, ap, subst, ◌⊎◌, inl, inr, ⊎_elim}
-use Rattle.std.specs.Prelude.{map, reverse, Result, Ok}
+use Rattle.std.proofs.Common.{◌≡◌, ℕ, List, [], ◌∷◌, ◌++◌, refl, sym, ◌∙◌, ap, subst, ◌⊎◌, inl, inr, ⊎_elim, append-nil}
+use Rattle.std.specs.Prelude.{map, reverse, Result, Ok, false}
 use Rattle.std.proofs.lemmas.List.{append_cancel_right}
 use Rattle.std.proofs.lemmas.Option.{same_Some}
 use Rattle.rt_jobs.specs.Scripts.{Script}
@@ -9,8 +9,8 @@ use Rattle.rt_world.specs.State.{journal_at}
 use Rattle.rt_world.specs.Sends.{actor_of}
 use Rattle.rt_world.specs.Opening.{HasAllLists, IsUnbegun, IsFresh}
 use Rattle.rt_world.specs.Creations.{OrderNoQueues, with_creations}
-use Rattle.rt_world.specs.Determined.{WasRefused}
-use Rattle.rt_world.specs.ScriptRuns.{script_made, ScriptPolls, ScriptAnswers, IsScriptRun}
+use Rattle.rt_world.specs.Determined.{WasRefused, AreAlike}
+use Rattle.rt_world.specs.ScriptRuns.{ScriptSame, script_made, ScriptPolls, ScriptAnswers, IsScriptRun}
 use Rattle.rt_world.proofs.KeptLists.{happens_keep}
 use Rattle.rt_world.proofs.DeterminedOpenings.{fresh_once}
 use Rattle.rt_world.proofs.DeterminedRefusals.{refused-happens, was_refused}
@@ -22,16 +22,22 @@ use Rattle.rt_script.specs.declared.event.ScriptEvent.{ScriptEvent}
 use Rattle.rt_script.specs.Drafts.{Drafted}
 use Rattle.rt_script.specs.Scripts.{script_of}
 use Rattle.rt_engine.specs.Replies.{event_of, ends_of, quiet_of}
+use Rattle.rt_engine.specs.Printed.{IsPrinted}
 use Rattle.rt_engine.specs.Transcripts.{ScriptWorld, event_text, Prints, PrintsAll, with_queue, with_queues, script_room, IsOutput}
 use Rattle.rt_engine.specs.OneOutput.{OutputIsDetermined, OutputOfJobsIsDetermined, TextHasOneOutput}
 
+-- replies that are alike are printed so
+same_quiet : (answer other : Reply Script) → AreAlike ScriptSame ScriptAnswers answer other → quiet_of answer ≡ quiet_of other
+same_quiet answer other (inl is) = ap quiet_of is
+same_quiet answer other (inr both) = ap quiet_of both.redeemed ∙ sym (ap quiet_of both.other_redeemed)
+
 -- what an event prints is determined, if what it does is
 module _ (event : ScriptEvent) (old new other : ScriptWorld) (text other_text : List ℕ) (first : Prints event old new text) (second : Prints event old other other_text) where
-  same_text : (new ≡ other) × (first.answer ≡ second.answer) → text ≡ other_text
+  same_text : (new ≡ other) × AreAlike ScriptSame ScriptAnswers first.answer second.answer → text ≡ other_text
   same_text same =
       first.printed
       ∙ (ap (λ notes. event_text (ends_of event) (reverse notes) (quiet_of first.answer)) same_notes
-      ∙ (ap (λ answer. event_text (ends_of event) (reverse second.notes) (quiet_of answer)) same.1 ∙ sym second.printed))
+      ∙ (ap (event_text (ends_of event) (reverse second.notes)) (same_quiet first.answer second.answer same.1) ∙ sym second.printed))
     where
       same_notes : first.notes ≡ second.notes
       same_notes =
@@ -41,13 +47,13 @@ module _ (event : ScriptEvent) (old new other : ScriptWorld) (text other_text : 
   prints_once : HasAllLists old → ((new ≡ other) × (text ≡ other_text)) ⊎ (WasRefused new.journals ⊎ WasRefused other.journals)
   prints_once lists =
       ⊎_elim (λ same. inl (same.0, same_text same)) (λ refused. inr (⊎_elim (λ told. inl (was_refused told)) (λ told. inr (was_refused told)) refused))
-      (happens_once script_made ScriptPolls ScriptAnswers scripts_owe_one (event_of event) old new other first.answer second.answer lists first.occurs second.occurs)
+      (happens_once ScriptSame script_made ScriptPolls ScriptAnswers scripts_owe_one (event_of event) old new other first.answer second.answer lists first.occurs second.occurs)
 
 refused-prints : (events : List ScriptEvent) (old new : ScriptWorld) (text : List ℕ) → PrintsAll events old new text → WasRefused old.journals → WasRefused new.journals
 refused-prints [] old new text all refused = subst (λ world. WasRefused world.journals) (sym all.0) refused
 refused-prints (event ∷ events) old new text all refused =
     refused-prints events all.0 new all.2 all.4
-    (refused-happens script_made ScriptPolls ScriptAnswers (event_of event) old all.0 all.3.answer all.3.occurs refused)
+    (refused-happens ScriptSame script_made ScriptPolls ScriptAnswers (event_of event) old all.0 all.3.answer all.3.occurs refused)
 
 all_once : (events : List ScriptEvent) (old new other : ScriptWorld) (text other_text : List ℕ) → HasAllLists old → PrintsAll events old new text → PrintsAll events old other other_text →
     (text ≡ other_text) ⊎ (WasRefused new.journals ⊎ WasRefused other.journals)
@@ -58,7 +64,7 @@ all_once (event ∷ events) old new other text other_text lists all other_all =
     λ same.
     ⊎_elim (λ rest. inl (all.5 ∙ (ap (λ first. first ++ all.2) same.1 ∙ (ap (λ rest. other_all.1 ++ rest) rest ∙ sym other_all.5)))) inr
     (
-    all_once events all.0 new other all.2 other_all.2 (happens_keep script_made ScriptPolls ScriptAnswers (event_of event) old all.0 all.3.answer all.3.occurs lists) all.4
+    all_once events all.0 new other all.2 other_all.2 (happens_keep ScriptSame script_made ScriptPolls ScriptAnswers (event_of event) old all.0 all.3.answer all.3.occurs lists) all.4
     (subst (λ world. PrintsAll events world other other_all.2) (sym same.0) other_all.4)
     )
     )
@@ -93,7 +99,7 @@ module _ (script : Drafted) (output : List ℕ) (is : IsOutput script output) wh
   not_refused : OrderNoQueues (map event_of script.events) → WasRefused is.end.journals → ⊥
   not_refused none =
       let run = run_of script.events start is.end output is.all in
-      (run_plain script_made ScriptPolls ScriptAnswers (map event_of script.events) none start is.end run.0 run.1 (plain_unbegun start unbegun)).told
+      (run_plain ScriptSame script_made ScriptPolls ScriptAnswers (map event_of script.events) none start is.end run.0 run.1 (plain_unbegun start unbegun)).told
 
 module _ (script : Drafted) (output other : List ℕ) (first : IsOutput script output) (second : IsOutput script other) where
   abbrev first_size : ℕ × ℕ
@@ -136,7 +142,25 @@ output_of_jobs_once script output other none first second =
 same_ok : {A E : Type 0} (found : Result A E) (one other : A) → found ≡ Ok one → found ≡ Ok other → one ≡ other
 same_ok found one other first second = cc
 
+-- what is printed of the events alone
+module _ (script : Drafted) (output other : List ℕ) (first : IsPrinted false false script output) (second : IsPrinted false false script other) where
+  front_is : (text : List ℕ) (is : IsPrinted false false script text) → text ≡ is.front
+  front_is text is = is.whole ∙ (ap (λ rear. is.front ++ rear) is.counted ∙ append-nil is.front)
+
+  printed_once : (output ≡ other) ⊎ (WasRefused first.assembly.journals ⊎ WasRefused second.assembly.journals)
+  printed_once =
+      ⊎_elim (λ same. inl (front_is output first ∙ (same ∙ sym (front_is other second))))
+      (
+      λ refused.
+      inr
+      (
+      ⊎_elim (λ told. inl (subst (λ all. WasRefused all.journals) (sym first.printed.journals) told))
+      (λ told. inr (subst (λ all. WasRefused all.journals) (sym second.printed.journals) told)) refused
+      )
+      )
+      (once script first.front second.front first.printed.output second.printed.output)
+
 pub text_once : TextHasOneOutput
 text_once text sink sink_new other_sink other_new first second =
-    subst (λ script. (right : IsOutput script second.output) → (first.output ≡ second.output) ⊎ (WasRefused first.right.end.journals ⊎ WasRefused right.end.journals))
-    (same_ok (script_of text) first.script second.script first.told second.told) (λ right. once first.script first.output second.output first.right right) second.right
+    subst (λ script. (right : IsPrinted false false script second.output) → (first.output ≡ second.output) ⊎ (WasRefused first.right.assembly.journals ⊎ WasRefused right.assembly.journals))
+    (same_ok (script_of text) first.script second.script first.told second.told) (λ right. printed_once first.script first.output second.output first.right right) second.right

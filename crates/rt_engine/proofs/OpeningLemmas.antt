@@ -1,17 +1,13 @@
 -- A world with its queues, before the first event.
-use Rattle.std.proofs.Common.{◌≡◌, ℕ, List, [], ◌∷◌, ◌++◌, length, Option, refl, sym, ap, ◌∙◌, subst, arith, All}
-use Rattle.std.specs.Io.KnownBytes.{Keeps, Appends}
-use Rattle.std.proofs.KnownBytes.{Appends-trans}
+use Rattle.std.proofs.Common.{◌≡◌, ℕ, List, [], ◌∷◌, length, refl, sym, ap, ◌∙◌, subst, arith, All}
 use Rattle.rt_ids.specs.Commands.{created_count}
 use Rattle.rt_ids.specs.Commands.{IsOpening}
 use Rattle.rt_script.specs.declared.event.ScriptEvent.{ScriptEvent}
 use Rattle.rt_world.specs.Opening.{IsFresh}
 use Rattle.rt_world.specs.State.{journal_at}
 use Rattle.rt_script.specs.Limits.{HasFewQueues, IsEventOf}
-use Rattle.rt_engine.specs.Outputs.{WritesAll}
-use Rattle.rt_engine.specs.Rooms.{MayMake, IsRoomy}
+use Rattle.rt_engine.specs.Rooms.{MayMake, IsRoomy, IsOpened}
 use Rattle.rt_engine.specs.Transcripts.{ScriptWorld, script_room, with_queue, with_queues}
-use Rattle.rt_text.proofs.KnownLemmas.{Appends-more_kept}
 
 -- in a fresh world all queues of a script may be made
 pub fresh_may_make : (cores cap room : ℕ) (queues : List (ℕ × ℕ)) (world : ScriptWorld) → IsFresh cores cap room world → HasFewQueues queues → MayMake queues world
@@ -38,7 +34,7 @@ module _ (cores cap : ℕ) (queues : List (ℕ × ℕ)) (empty world : ScriptWor
   pub made_cores : world.cores ≡ cores
   made_cores = ap (λ w. w.cores) made ∙ queues_cores queues empty ∙ fresh.cores_are
 
-  made_cap : world.cap ≡ cap
+  pub made_cap : world.cap ≡ cap
   made_cap = ap (λ w. w.cap) made ∙ queues_cap queues empty ∙ fresh.cap_is
 
   -- its journals have their notes alone
@@ -55,9 +51,15 @@ module _ (cores cap : ℕ) (queues : List (ℕ × ℕ)) (empty world : ScriptWor
   pub made_events : (events : List ScriptEvent) → All (IsEventOf cores) events → All (IsEventOf world.cores) events
   made_events events all = subst (λ size. All (IsEventOf size) events) (sym made_cores) all
 
--- all that was put on an empty page was written, once the page is printed
-pub all_written : (events : List ScriptEvent) (old new : ScriptWorld) (first last : List ℕ) (sink_old sink_new sink_next sink_end : Option (List ℕ)) →
-    (writes : WritesAll events old new first last sink_old sink_new) → first ≡ [] → Appends sink_new sink_next last → Keeps sink_next sink_end → Appends sink_old sink_end writes.text
-all_written events old new first last sink_old sink_new sink_next sink_end writes none printed kept =
-    let same : writes.text ≡ writes.written ++ last = sym (ap (λ page. page ++ writes.text) none) ∙ writes.whole in
-    subst (Appends sink_old sink_end) (sym same) (Appends-more_kept _ _ _ _ (Appends-trans sink_old sink_new sink_next _ _ writes.appends printed) kept)
+module _ (cores cap : ℕ) (queues : List (ℕ × ℕ)) (world : ScriptWorld) (is : IsOpened cores cap queues world) where
+  pub opened_roomy : IsRoomy world.cores world.cap 255 world
+  opened_roomy = made_roomy cores cap queues is.empty world is.fresh is.made is.may
+
+  pub opened_events : (events : List ScriptEvent) → All (IsEventOf cores) events → All (IsEventOf world.cores) events
+  opened_events events all = made_events cores cap queues is.empty world is.fresh is.made events all
+
+  pub opened_cores : world.cores ≡ cores
+  opened_cores = made_cores cores cap queues is.empty world is.fresh is.made
+
+  pub opened_cap : world.cap ≡ cap
+  opened_cap = made_cap cores cap queues is.empty world is.fresh is.made

@@ -11,7 +11,7 @@ use Rattle.rt_ids.specs.declared.order.SendError.TheVariants as refused
 use Rattle.rt_ids.specs.Commands.{effect_note}
 use Rattle.rt_jobs.specs.Scripts.{Script, Does, IsAnswer}
 use Rattle.rt_world.specs.declared.event.Event.{Event}
-use Rattle.rt_world.specs.declared.event.Event.TheVariants.{Send, Deliver, Turn, Shut}
+use Rattle.rt_world.specs.declared.event.Event.TheVariants.{Send, Deliver, Turn, Shut, Collect, Redeem, Detach}
 use Rattle.rt_world.specs.declared.event.Reply.{Reply}
 use Rattle.rt_world.specs.declared.event.Reply.TheVariants as reply
 use Rattle.rt_world.specs.State.{journal_at, noted, without_job, with_sent, IsNearlyFull}
@@ -22,6 +22,9 @@ use Rattle.rt_world.specs.Turns.{IsPoll, IsHandBack, Turns, settle_note, poll_no
 use Rattle.rt_world.specs.Closings.{Shuts}
 use Rattle.rt_ids.specs.Filters.{name_started}
 use Rattle.rt_world.specs.Runs.{Steps}
+use Rattle.rt_script.specs.declared.event.ScriptEvent.{ScriptEvent}
+use Rattle.rt_script.specs.declared.event.ScriptEvent.TheVariants as lines
+use Rattle.rt_engine.specs.Replies.{event_of}
 use Rattle.rt_engine.specs.Rooms.{IsRoomy}
 use Rattle.rt_engine.specs.Transcripts.{ScriptWorld, Occurs, IsHeard}
 
@@ -144,6 +147,10 @@ send_grows sender core what old new reply.Idle is = absurd is
 send_grows sender core what old new reply.Spent is = absurd is
 send_grows sender core what old new reply.NotClosed is = absurd is
 send_grows sender core what old new reply.AlreadyShut is = absurd is
+send_grows sender core what old new (reply.Collected count) is = absurd is
+send_grows sender core what old new (reply.Redeemed outcome) is = absurd is
+send_grows sender core what old new reply.Detached is = absurd is
+send_grows sender core what old new (reply.NoTicket error) is = absurd is
 send_grows sender core what old new (reply.NoActor back) is = absurd is
 send_grows sender core what old new (reply.NoRoom back) is = absurd is
 
@@ -157,6 +164,10 @@ deliver_grows core sender old new reply.Idle is = absurd is
 deliver_grows core sender old new reply.Spent is = absurd is
 deliver_grows core sender old new reply.NotClosed is = absurd is
 deliver_grows core sender old new reply.AlreadyShut is = absurd is
+deliver_grows core sender old new (reply.Collected count) is = absurd is
+deliver_grows core sender old new (reply.Redeemed outcome) is = absurd is
+deliver_grows core sender old new reply.Detached is = absurd is
+deliver_grows core sender old new (reply.NoTicket error) is = absurd is
 deliver_grows core sender old new (reply.NoActor back) is = absurd is
 deliver_grows core sender old new (reply.NoRoom back) is = absurd is
 
@@ -183,6 +194,10 @@ turn_grows core spent old new (reply.Sent name) is = absurd is
 turn_grows core spent old new (reply.NotSent refusal) is = absurd is
 turn_grows core spent old new reply.NotClosed is = absurd is
 turn_grows core spent old new reply.AlreadyShut is = absurd is
+turn_grows core spent old new (reply.Collected count) is = absurd is
+turn_grows core spent old new (reply.Redeemed outcome) is = absurd is
+turn_grows core spent old new reply.Detached is = absurd is
+turn_grows core spent old new (reply.NoTicket error) is = absurd is
 turn_grows core spent old new (reply.NoActor back) is = absurd is
 turn_grows core spent old new (reply.NoRoom back) is = absurd is
 
@@ -196,27 +211,51 @@ shut_grows core sender old new reply.Spent is = absurd is
 shut_grows core sender old new reply.Empty is = absurd is
 shut_grows core sender old new (reply.Sent name) is = absurd is
 shut_grows core sender old new (reply.NotSent refusal) is = absurd is
+shut_grows core sender old new (reply.Collected count) is = absurd is
+shut_grows core sender old new (reply.Redeemed outcome) is = absurd is
+shut_grows core sender old new reply.Detached is = absurd is
+shut_grows core sender old new (reply.NoTicket error) is = absurd is
 shut_grows core sender old new (reply.NoActor back) is = absurd is
 shut_grows core sender old new (reply.NoRoom back) is = absurd is
 
-step_grows : (event : Event Script) (old new : ScriptWorld) (answer : Reply Script) → Steps (λ job. job.polled) (λ job made before after step told. Does (slice_get job.polls made) before after step told) (λ job out. IsAnswer job.polls out) event old new answer → Grows (actor_of event) old new
-step_grows (Send sender core what) old new answer is = send_grows sender core what old new answer is
-step_grows (Deliver core sender) old new answer is = deliver_grows core sender old new answer is
-step_grows (Turn core spent) old new answer is = turn_grows core spent old new answer is
-step_grows (Shut core sender) old new answer is = shut_grows core sender old new answer is
+-- a script makes such events: it has no line by now that collects, redeems or detaches
+abbrev pub IsOfScripts : Event Script → Type 0
+IsOfScripts (Collect sender core) = ⊥
+IsOfScripts (Redeem sender name) = ⊥
+IsOfScripts (Detach sender name) = ⊥
+IsOfScripts _ = Unit {0}
+
+pub of_scripts : (event : ScriptEvent) → IsOfScripts (event_of event)
+of_scripts (lines.Send sender core order) = tt
+of_scripts (lines.Deliver core sender) = tt
+of_scripts (lines.Turn core) = tt
+of_scripts (lines.Shut core sender) = tt
+
+step_grows : (event : Event Script) → IsOfScripts event → (old new : ScriptWorld) (answer : Reply Script) → Steps (λ job back. job.polls ≡ back.polls) (λ job. job.polled) (λ job made before after step told. Does (slice_get job.polls made) before after step told) (λ job out. IsAnswer job.polls out) event old new answer → Grows (actor_of event) old new
+step_grows (Send sender core what) made old new answer is = send_grows sender core what old new answer is
+step_grows (Deliver core sender) made old new answer is = deliver_grows core sender old new answer is
+step_grows (Turn core spent) made old new answer is = turn_grows core spent old new answer is
+step_grows (Shut core sender) made old new answer is = shut_grows core sender old new answer is
+step_grows (Collect sender core) made old new answer is = absurd made
+step_grows (Redeem sender name) made old new answer is = absurd made
+step_grows (Detach sender name) made old new answer is = absurd made
 
 -- what an event leaves
-pub event_grows : (event : Event Script) (old new : ScriptWorld) (answer : Reply Script) → Occurs event old new answer → Grows (actor_of event) old new
-event_grows event old new (reply.NoActor back) is = stays (actor_of event) old new is.2
-event_grows event old new (reply.NoRoom back) is = stays (actor_of event) old new is.3
-event_grows event old new (reply.Sent name) is = step_grows event old new (reply.Sent name) is.2
-event_grows event old new (reply.NotSent refusal) is = step_grows event old new (reply.NotSent refusal) is.2
-event_grows event old new reply.Noted is = step_grows event old new reply.Noted is.2
-event_grows event old new reply.Empty is = step_grows event old new reply.Empty is.2
-event_grows event old new reply.Idle is = step_grows event old new reply.Idle is.2
-event_grows event old new reply.Spent is = step_grows event old new reply.Spent is.2
-event_grows event old new reply.NotClosed is = step_grows event old new reply.NotClosed is.2
-event_grows event old new reply.AlreadyShut is = step_grows event old new reply.AlreadyShut is.2
+pub event_grows : (event : Event Script) → IsOfScripts event → (old new : ScriptWorld) (answer : Reply Script) → Occurs event old new answer → Grows (actor_of event) old new
+event_grows event made old new (reply.NoActor back) is = stays (actor_of event) old new is.2
+event_grows event made old new (reply.NoRoom back) is = stays (actor_of event) old new is.3
+event_grows event made old new (reply.Sent name) is = step_grows event made old new (reply.Sent name) is.2
+event_grows event made old new (reply.NotSent refusal) is = step_grows event made old new (reply.NotSent refusal) is.2
+event_grows event made old new reply.Noted is = step_grows event made old new reply.Noted is.2
+event_grows event made old new reply.Empty is = step_grows event made old new reply.Empty is.2
+event_grows event made old new reply.Idle is = step_grows event made old new reply.Idle is.2
+event_grows event made old new reply.Spent is = step_grows event made old new reply.Spent is.2
+event_grows event made old new reply.NotClosed is = step_grows event made old new reply.NotClosed is.2
+event_grows event made old new reply.AlreadyShut is = step_grows event made old new reply.AlreadyShut is.2
+event_grows event made old new (reply.Collected count) is = step_grows event made old new (reply.Collected count) is.2
+event_grows event made old new (reply.Redeemed outcome) is = step_grows event made old new (reply.Redeemed outcome) is.2
+event_grows event made old new reply.Detached is = step_grows event made old new reply.Detached is.2
+event_grows event made old new (reply.NoTicket error) is = step_grows event made old new (reply.NoTicket error) is.2
 
 -- an event whose actors exist and whose journal has room isn't handed back
 pub is_heard : (event : Event Script) (old new : ScriptWorld) (answer : Reply Script) → Occurs event old new answer → AreThere old.cores event → (IsNearlyFull (actor_of event) old → ⊥) → IsHeard answer
@@ -230,6 +269,10 @@ is_heard event old new reply.Idle is here free = tt
 is_heard event old new reply.Spent is here free = tt
 is_heard event old new reply.NotClosed is here free = tt
 is_heard event old new reply.AlreadyShut is here free = tt
+is_heard event old new (reply.Collected count) is here free = tt
+is_heard event old new (reply.Redeemed outcome) is here free = tt
+is_heard event old new reply.Detached is here free = tt
+is_heard event old new (reply.NoTicket error) is here free = tt
 
 pub is_free : (actor : ℕ) (world : ScriptWorld) → IsRoomy world.cores world.cap 32768 world → IsNearlyFull actor world → ⊥
 is_free actor world roomy full =

@@ -1,5 +1,7 @@
 pub mod Replies
 pub mod Transcripts
+pub mod Printed
+pub mod Begun
 pub mod Rooms
 pub mod Outputs
 pub mod OneOutput

@@ -1,5 +1,5 @@
 -- What a run writes, as far as it comes.
-use Rattle.std.specs.Prelude.{◌≡◌, ℕ, List, ◌++◌, Option, Ok}
+use Rattle.std.specs.Prelude.{◌≡◌, ℕ, Bool, List, Option, Ok}
 use Rattle.std.specs.Option.{IfSome}
 use Rattle.std.specs.Io.KnownBytes.{Appends}
 use Rattle.rt_script.specs.declared.event.ScriptEvent.{ScriptEvent}
@@ -7,22 +7,22 @@ use Rattle.rt_text.specs.declared.fault.EngineFault.{EngineFault}
 use Rattle.rt_text.specs.declared.fault.EngineFault.TheVariants.{Text, Read, Write, Memory}
 use Rattle.rt_script.specs.Drafts.{Drafted}
 use Rattle.rt_script.specs.Scripts.{script_of}
-use Rattle.rt_engine.specs.Transcripts.{ScriptWorld, PrintsAll, IsOutput}
+use Rattle.rt_spelling.specs.Pages.{Puts}
+use Rattle.rt_engine.specs.Printed.{IsPrinted}
+use Rattle.rt_engine.specs.Transcripts.{ScriptWorld, PrintsAll}
 
 -- the events happen, and their text is put behind what the page had; a first part of the page may be written already
 pub record WritesAll (events : List ScriptEvent) (old new : ScriptWorld) (page_old page_new : List ℕ) (sink_old sink_new : Option (List ℕ)) : Type 0 where
   pub text : List ℕ
-  pub written : List ℕ
   pub prints : PrintsAll events old new text
-  pub appends : Appends sink_old sink_new written
-  pub whole : page_old ++ text ≡ written ++ page_new
+  pub puts : Puts page_old page_new sink_old sink_new text
 
--- the source tells this script, and its output is written
-pub record IsDone (source sink_old sink_new : Option (List ℕ)) : Type 0 where
+-- the source tells this script, and what is wanted of it is written
+pub record IsDone (journal stats : Bool) (source sink_old sink_new : Option (List ℕ)) : Type 0 where
   pub script : Drafted
   pub told : IfSome source (λ text. script_of text ≡ Ok script)
   pub output : List ℕ
-  pub right : IsOutput script output
+  pub right : IsPrinted journal stats script output
   pub appends : Appends sink_old sink_new output
 
 -- a fact of a refused or unread text, of which nothing is printed
@@ -42,3 +42,10 @@ IfUnwritten fact (Text line cause) = Unit {0}
 IfUnwritten fact Read = Unit {0}
 IfUnwritten fact Write = fact
 IfUnwritten fact Memory = Unit {0}
+
+-- a fact of a run that ends early, for want of memory or since a write failed
+abbrev pub IfEnded : Type 0 → EngineFault → Type 0
+IfEnded fact (Text line cause) = Unit {0}
+IfEnded fact Read = Unit {0}
+IfEnded fact Write = fact
+IfEnded fact Memory = fact

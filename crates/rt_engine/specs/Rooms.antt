@@ -1,10 +1,10 @@
 -- A world in the middle of a script: its journals have room for all that is to come.
-use Rattle.std.specs.Prelude.{◌≡◌, ℕ, ◌+◌, ◌≤◌, List, length}
+use Rattle.std.specs.Prelude.{◌≡◌, ℕ, ◌+◌, ◌≤◌, List, [], length}
 use Rattle.rt_ids.specs.Commands.{created_count}
-use Rattle.rt_world.specs.Opening.{IsUnbegun}
+use Rattle.rt_world.specs.Opening.{IsFresh, IsUnbegun}
 use Rattle.rt_world.specs.State.{journal_at}
 use Rattle.rt_script.specs.Drafts.{queue_lines}
-use Rattle.rt_engine.specs.Transcripts.{ScriptWorld, script_room}
+use Rattle.rt_engine.specs.Transcripts.{ScriptWorld, script_room, with_queues}
 
 -- a world of this size, whose journals have at most so many notes
 pub record IsRoomy (cores cap notes : ℕ) (world : ScriptWorld) : Type 0 where
@@ -18,3 +18,10 @@ pub record MayMake (left : List (ℕ × ℕ)) (world : ScriptWorld) : Type 0 whe
   pub unbegun : IsUnbegun world
   pub notes : (core : ℕ) → length (journal_at core world) + queue_lines core left ≤ 255
   pub last : (core : ℕ) → created_count (journal_at core world) + queue_lines core left ≤ 255
+
+-- a world of this size with these queues, in which nothing else has happened
+pub record IsOpened (cores cap : ℕ) (queues : List (ℕ × ℕ)) (world : ScriptWorld) : Type 0 where
+  pub empty : ScriptWorld
+  pub fresh : IsFresh cores cap (script_room cores cap) empty
+  pub made : world ≡ with_queues queues empty
+  pub may : MayMake [] world

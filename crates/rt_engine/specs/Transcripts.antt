@@ -8,12 +8,13 @@ use Rattle.rt_world.specs.declared.event.Event.{Event}
 use Rattle.rt_script.specs.declared.event.ScriptEvent.{ScriptEvent}
 use Rattle.rt_world.specs.declared.event.Reply.{Reply}
 use Rattle.rt_world.specs.declared.event.Reply.TheVariants as reply
+use Rattle.rt_ids.specs.Assembly.{Assembly}
 use Rattle.rt_ids.specs.Joining.{AreJoined}
 use Rattle.rt_ids.specs.Sound.{IsSound}
 use Rattle.rt_world.specs.State.{WorldView, journal_at, noted, assembly_of}
 use Rattle.rt_world.specs.Sends.{actor_of}
 use Rattle.rt_world.specs.Opening.{IsFresh, HasAllLists}
-use Rattle.rt_world.specs.Runs.{Happens}
+use Rattle.rt_world.specs.Runs.{Happens, IsRun, RunsTo}
 use Rattle.rt_text.specs.declared.reply.Ends.{Ends}
 use Rattle.rt_text.specs.declared.reply.Quiet.{Quiet}
 use Rattle.rt_script.specs.Drafts.{Drafted}
@@ -28,7 +29,15 @@ ScriptWorld = WorldView Script ℕ
 -- one event of script jobs
 abbrev pub Occurs : Event Script → ScriptWorld → ScriptWorld → Reply Script → Type 0
 Occurs event old new answer =
-    Happens (λ job. job.polled) (λ job made before after step told. Does (slice_get job.polls made) before after step told) (λ job out. IsAnswer job.polls out) event old new answer
+    Happens (λ job back. job.polls ≡ back.polls) (λ job. job.polled) (λ job made before after step told. Does (slice_get job.polls made) before after step told) (λ job out. IsAnswer job.polls out) event old new answer
+
+-- a run of events of script jobs
+abbrev pub RunOf : List (Event Script) → ScriptWorld → ScriptWorld → Type 0
+RunOf = IsRun (λ job back. job.polls ≡ back.polls) (λ job. job.polled) (λ job made before after step told. Does (slice_get job.polls made) before after step told) (λ job out. IsAnswer job.polls out)
+
+-- these are the journals after such a run
+abbrev pub RunsOf : List (Event Script) → ScriptWorld → Assembly ℕ → Type 0
+RunsOf = RunsTo (λ job back. job.polls ≡ back.polls) (λ job. job.polled) (λ job made before after step told. Does (slice_get job.polls made) before after step told) (λ job out. IsAnswer job.polls out)
 
 -- the event was not handed back: its actors exist, and their journals have room
 abbrev pub IsHeard : Reply Script → Type 0

@@ -2,6 +2,7 @@
 #![tactic(auto)]
 
 pub mod engine;
+mod journal;
 pub mod laws;
 mod print;
 pub mod reply;

@@ -1,8 +1,10 @@
 //! Lets the events of a script happen, and prints each.
 
-ghost use Rattle.std.specs.Prelude.{◌≡◌, ◌≤◌, ◌++◌, [], ℕ, List, length, drop, reverse, IfErr, OnOk, Some, string_bytes};
+ghost use Rattle.std.specs.Prelude.{◌≡◌, ◌≤◌, ◌++◌, [], ℕ, List, length, drop, reverse, IfErr, OnOk, OnErr, Some, string_bytes};
 ghost use Rattle.std.specs.Io.KnownBytes.{Appends};
 ghost use Rattle.rt_script.specs.Limits.{AreEventsOf, IsEventOf};
+ghost use Rattle.rt_spelling.specs.Pages.{AppendsFront};
+ghost use Rattle.rt_engine.specs.Begun.{WritesFirst};
 ghost use Rattle.rt_engine.specs.Outputs.{WritesAll, IfUnread};
 ghost use Rattle.rt_engine.specs.Rooms.{IsRoomy};
 ghost use Rattle.rt_engine.specs.Transcripts.{Prints, note_lines};
@@ -11,7 +13,7 @@ use crate::reply::{ends_of, event_of, quiet_of};
 use rt_ids::ActorNo;
 use rt_jobs::ScriptJob;
 use rt_script::ScriptEvent;
-use rt_text::page::write_page;
+use rt_text::steady::write_all;
 use rt_text::{EngineFault, NoteLine, ReplyLine};
 use rt_world::{Journal, World};
 use std::alloc::Global;
@@ -38,6 +40,7 @@ pub(crate) fn print_events<W: Write>(
     requires short { length events.items ≤ 4096 }
     ensures ok { OnOk result (WritesAll events.items model.old model.new (string_bytes page.old) (string_bytes page.new)
         (W.contents sink.old) (W.contents sink.new)) }
+    ensures err { OnErr result (WritesFirst events.items model.old (string_bytes page.old) (W.contents sink.old) (W.contents sink.new)) }
     ensures device { IfErr result (IfUnread ⊥) }
 {
     for event in events {
@@ -96,10 +99,14 @@ fn print_notes(
 pub(crate) fn print_page<W: Write>(page: &mut String, sink: &mut W) -> Result<(), EngineFault>
     ensures ok { OnOk result (Appends (W.contents sink.old) (W.contents sink.new) (string_bytes page.old)) }
     ensures empty { OnOk result (string_bytes page.new ≡ []) }
+    ensures err { OnErr result (AppendsFront (W.contents sink.old) (W.contents sink.new) (string_bytes page.old)) }
     ensures device { IfErr result (IfUnread ⊥) }
 {
-    match write_page(page, sink) {
-        Ok(()) => Ok(()),
+    match write_all(sink, page.as_bytes()) {
+        Ok(()) => {
+            page.clear();
+            Ok(())
+        }
         Err(_) => Err(EngineFault::Write),
     }
 }

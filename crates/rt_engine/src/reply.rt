@@ -60,6 +60,10 @@ pub fn quiet_of(reply: &Reply<ScriptJob>) -> Option<Quiet>
         Reply::AlreadyShut => Some(Quiet::AlreadyShut),
         Reply::Sent(_) => None,
         Reply::Noted => None,
+        Reply::Collected(_) => None,
+        Reply::Redeemed(_) => None,
+        Reply::Detached => None,
+        Reply::NoTicket(_) => None,
         Reply::NoActor(_) => None,
         Reply::NoRoom(_) => None,
     }

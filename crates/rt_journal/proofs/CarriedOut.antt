@@ -79,7 +79,7 @@ module _ {J T : Type 0} (old : RecordedView J T) (name : JobId)
 
   took_lists : (queue : ℕ) → KeepsLists journal (writes.Took name queue ∷ journal)
   took_lists queue = record {
-    sent = record { accepted = λ core. refl; outstanding = λ core. refl; collected = λ core. refl };
+    sent = record { accepted = λ core. refl; outstanding = λ core. refl; collected = λ core. refl; gone = λ name. refl; waits = λ name. refl };
     gates = λ sender. refl;
   }
 
@@ -137,7 +137,7 @@ module _ {J T : Type 0} (old : RecordedView J T) (name : JobId)
       cores = ap (λ core. core.cores) counts;
       room = ap (λ core. core.queues.room) counts;
       out = ap (λ core. core.out) counts;
-      lists = record { sent = record { accepted = λ core. refl; outstanding = λ core. refl; collected = λ core. refl }; gates = λ from. refl };
+      lists = record { sent = record { accepted = λ core. refl; outstanding = λ core. refl; collected = λ core. refl; gone = λ name. refl; waits = λ name. refl }; gates = λ from. refl };
       given = λ from. refl;
       delivered = counted_one;
       held = omega (arith, ap inside_count counts, given_more);
@@ -163,7 +163,7 @@ module _ {J T : Type 0} (old : RecordedView J T) (name : JobId)
       cores = ap (λ core. core.cores) counts;
       room = ap (λ core. core.queues.room) counts;
       out = ap (λ core. core.out) counts;
-      lists = record { sent = record { accepted = λ core. refl; outstanding = λ core. refl; collected = λ core. refl }; gates = λ from. refl };
+      lists = record { sent = record { accepted = λ core. refl; outstanding = λ core. refl; collected = λ core. refl; gone = λ name. refl; waits = λ name. refl }; gates = λ from. refl };
       given = λ from. refl;
       delivered = counted_one;
       held = omega (arith, ap inside_count counts, answered_more answer);
@@ -185,7 +185,7 @@ module _ {J T : Type 0} (old : RecordedView J T) (name : JobId)
     cores = ap (λ core. core.cores) creates.rest;
     room = creates.added.same_room;
     out = ap (λ core. core.out) creates.rest;
-    lists = record { sent = record { accepted = λ core. refl; outstanding = λ core. refl; collected = λ core. refl }; gates = λ from. refl };
+    lists = record { sent = record { accepted = λ core. refl; outstanding = λ core. refl; collected = λ core. refl; gone = λ name. refl; waits = λ name. refl }; gates = λ from. refl };
     given = λ from. refl;
     delivered = counted_one;
     held = omega (arith, inside, answered_more (answers.Created queue));
@@ -215,7 +215,7 @@ module _ {J T : Type 0} (old : RecordedView J T) (name : JobId)
     cores = ap (λ core. core.cores) weighs.rest;
     room = weighs.shares.same_room;
     out = ap (λ core. core.out) weighs.rest;
-    lists = record { sent = record { accepted = λ core. refl; outstanding = λ core. refl; collected = λ core. refl }; gates = λ from. refl };
+    lists = record { sent = record { accepted = λ core. refl; outstanding = λ core. refl; collected = λ core. refl; gone = λ name. refl; waits = λ name. refl }; gates = λ from. refl };
     given = λ from. refl;
     delivered = counted_one;
     held = omega (arith, inside, answered_more answers.SharesSet);

@@ -50,12 +50,11 @@ module _ {J T : Type 0} {same : J → J → Type 0} {made : J → ℕ} {polls : 
       );
       no_pick = refl;
       no_answer = refl;
-      collects_nothing = (tt, recorded.kept.collects_nothing);
     };
     number = ap (λ core. core.core) is;
     cores = ap (λ core. core.cores) is;
     room = ap (λ core. core.queues.room) is;
-    quiet = record { sent = record { accepted = λ core. refl; outstanding = λ core. refl; collected = λ core. refl }; given = λ sender. refl; delivered = λ sender. refl };
+    quiet = record { sent = record { accepted = λ core. refl; outstanding = λ core. refl; collected = λ core. refl; gone = λ name. refl; waits = λ name. refl }; given = λ sender. refl; delivered = λ sender. refl };
     ungiven = λ sender inward is. tt;
     gates = λ sender there. refl;
     fewer = omega (arith, ap inside_count is);

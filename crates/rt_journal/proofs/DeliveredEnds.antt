@@ -82,7 +82,7 @@ module _ {J T : Type 0} (old new : RecordedView J T) (envelope : Envelope J) (ne
 
   -- the sender's ends stay
   pub outs_keep : KeepsOuts (desk_of old) (desk_of new)
-  outs_keep = keeps_outs (desk_of old) (desk_of new) (λ i. record { actor = seat.number i; cores = seat.cores i; cap = seat.cap i; journal = new.journal }) did.lists.sent
+  outs_keep = keeps_outs (desk_of old) (desk_of new) (λ i. record { actor = seat.number i; cores = seat.cores i; cap = seat.cap i; journal = new.journal; lanes = new.lanes }) did.lists.sent
 
   counted_here : delivered_count new.journal.notes name.from ≡ delivered_count old.journal.notes name.from + 1
   counted_here = did.delivered name.from ∙ ap (λ test. delivered_count old.journal.notes name.from + number_if test) (eq-eqb name.from name.from refl)

@@ -31,7 +31,7 @@ pub slice_get-seen : {A : Type 0} (whole front : List A) → StartsWith whole fr
 slice_get-seen whole front starts place item at = ap (λ list. slice_get list place) starts.1 ∙ slice_get-prefix front starts.0 place item at
 
 -- notes by which nothing is sent and nothing collected leave the sender's ends as they are
-pub keeps_outs : {J T : Type 0} (old new : DeskView J T) → new ≡ record old { journal = new.journal } → KeepsSent old.journal.notes new.journal.notes → KeepsOuts old new
+pub keeps_outs : {J T : Type 0} (old new : DeskView J T) → new ≡ record old { journal = new.journal; lanes = new.lanes } → KeepsSent old.journal.notes new.journal.notes → KeepsOuts old new
 keeps_outs old new rest sent core = record {
   each = λ out credited is. record {
     known = rw (ap (λ desk. desk.cores) rest) is.known;

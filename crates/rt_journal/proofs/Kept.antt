@@ -6,6 +6,7 @@ use Rattle.rt_ids.specs.Terms.{Terms}
 use Rattle.rt_ids.specs.declared.names.JobId.{JobId}
 use Rattle.rt_ids.specs.declared.note.Note.{Note}
 use Rattle.rt_ids.specs.declared.note.Note.TheVariants as writes
+use Rattle.rt_ids.specs.declared.note.OutcomeNote.{OutcomeNote}
 use Rattle.rt_ids.specs.declared.order.Order.{Order}
 use Rattle.rt_ids.specs.declared.order.Mode.{Mode}
 use Rattle.rt_ids.specs.declared.order.Reason.{Reason}
@@ -123,6 +124,15 @@ calm_of note before joins leaves polls settles enters takes costs picks no_turn 
 module _ {T : Type 0} (before : Journal T) where
   pub calm_sent : (name : JobId) (order : Order (Unit {0})) → IsCalm (writes.Sent name order) before
   calm_sent name order = calm_of (writes.Sent name order) before (λ queue. refl) refl refl refl refl (λ which. refl) (λ queue. refl) refl refl refl
+
+  pub calm_collected : (name : JobId) (outcome : OutcomeNote T) → IsCalm (writes.Collected name outcome) before
+  calm_collected name outcome = calm_of (writes.Collected name outcome) before (λ queue. refl) refl refl refl refl (λ which. refl) (λ queue. refl) refl refl refl
+
+  pub calm_redeemed : (name : JobId) (outcome : OutcomeNote T) → IsCalm (writes.Redeemed name outcome) before
+  calm_redeemed name outcome = calm_of (writes.Redeemed name outcome) before (λ queue. refl) refl refl refl refl (λ which. refl) (λ queue. refl) refl refl refl
+
+  pub calm_detached : (name : JobId) → IsCalm (writes.Detached name) before
+  calm_detached name = calm_of (writes.Detached name) before (λ queue. refl) refl refl refl refl (λ which. refl) (λ queue. refl) refl refl refl
 
   pub calm_back : (name : JobId) (reason : Reason) → IsCalm (writes.Back name reason) before
   calm_back name reason = calm_of (writes.Back name reason) before (λ queue. refl) refl refl refl refl (λ which. refl) (λ queue. refl) refl refl refl

@@ -53,7 +53,6 @@ module _ {J T : Type 0} (terms : Terms) (old new : CoreView J) (name : JobId) (j
     );
     no_pick = refl;
     no_answer = refl;
-    collects_nothing = (tt, kept.collects_nothing);
   }
 
   -- a command is answered
@@ -69,5 +68,4 @@ module _ {J T : Type 0} (terms : Terms) (old new : CoreView J) (name : JobId) (j
     notes = (answered_stands order answer right, kept.notes);
     no_pick = refl;
     no_answer = rw plain;
-    collects_nothing = (tt, kept.collects_nothing);
   }

@@ -143,7 +143,6 @@ module _ {J T : Type 0} (terms : Terms) (old new : CoreView J) (name : JobId) (q
       );
       no_pick = refl;
       no_answer = refl;
-      collects_nothing = (tt, (tt, kept.collects_nothing));
     },
   )
     where
@@ -168,7 +167,6 @@ module _ {J T : Type 0} (terms : Terms) (old new : CoreView J) (name : JobId) (q
       );
       no_pick = refl;
       no_answer = refl;
-      collects_nothing = (tt, (tt, kept.collects_nothing));
     },
   )
     where

@@ -188,5 +188,4 @@ module _ {J T : Type 0} (terms : Terms) (old new : CoreView J) (name : JobId) (q
     notes = (plainly_stands terms (writes.Took name queue) journal kept.is_core took_follows kept.no_pick kept.no_answer refl tt, kept.notes);
     no_pick = refl;
     no_answer = refl;
-    collects_nothing = (tt, kept.collects_nothing);
   }

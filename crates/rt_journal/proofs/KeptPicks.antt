@@ -10,7 +10,7 @@ use Rattle.rt_ids.specs.declared.names.JobId.{JobId}
 use Rattle.rt_ids.specs.declared.note.Note.TheVariants as writes
 use Rattle.rt_ids.specs.Limits.{most_turns}
 use Rattle.rt_ids.specs.Keys.{KeyAtMost}
-use Rattle.rt_ids.specs.Journal.{Journal, EachNote, is_told}
+use Rattle.rt_ids.specs.Journal.{Journal, is_told}
 use Rattle.rt_ids.specs.Filters.{name_started, delivered_names}
 use Rattle.rt_ids.specs.Work.{queue_of}
 use Rattle.rt_ids.specs.Runtimes.{virtual_runtime, floor, shares}
@@ -32,7 +32,6 @@ use Rattle.rt_core.specs.Closing as core
 use Rattle.rt_core.specs.Turns.{TakesOut}
 use Rattle.rt_journal.specs.Agreement.{AgreesOnClosing, IsJobOut, AreMarked, names_of}
 use Rattle.rt_journal.proofs.KeptModes.{SameModes, same_modes, closing-stays, return_reason-agrees}
-use Rattle.rt_journal.specs.Yet.{CollectsNothing}
 use Rattle.rt_journal.proofs.Kept.{IsKept, plainly_stands, turns-stays}
 use Rattle.rt_journal.specs.Polls.{poll_note}
 use Rattle.rt_journal.proofs.PollNotes.{is_marked, marks-start}
@@ -231,10 +230,6 @@ module _ {J T : Type 0} (terms : Terms) (old new : CoreView J) (name : JobId) (q
   no_answer_now false = refl
   no_answer_now true = refl
 
-  collects_nothing_now : (before : Bool) → EachNote CollectsNothing (poll_note name before ∷ picked)
-  collects_nothing_now false = (tt, (tt, kept.collects_nothing))
-  collects_nothing_now true = (tt, (tt, kept.collects_nothing))
-
   pub kept-picked : core.return_reason queue old ≡ None → turns journal < most_turns → IsKept terms new polled
   kept-picked keeps left = record {
     is_core = kept.is_core;
@@ -256,5 +251,4 @@ module _ {J T : Type 0} (terms : Terms) (old new : CoreView J) (name : JobId) (q
     notes = (poll_stands (not_returning keeps) was_started (sym start_told), (pick_stands left, kept.notes));
     no_pick = no_pick_now was_started;
     no_answer = no_answer_now was_started;
-    collects_nothing = collects_nothing_now was_started;
   }

@@ -147,5 +147,4 @@ module _ {J T : Type 0} (terms : Terms) (old new : CoreView J) (name : JobId) (q
     notes = return_stands left;
     no_pick = refl;
     no_answer = refl;
-    collects_nothing = (tt, (tt, kept.collects_nothing));
   }

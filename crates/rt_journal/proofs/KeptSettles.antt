@@ -79,7 +79,6 @@ module _ {J T : Type 0} (terms : Terms) (old : CoreView J) (job : JobOut J) (tim
     notes = (plainly_stands terms (writes.Yield job.name time) journal kept.is_core is_out.0 kept.no_pick kept.no_answer refl tt, kept.notes);
     no_pick = refl;
     no_answer = refl;
-    collects_nothing = (tt, kept.collects_nothing);
   }
     where
       lines : (other : ℕ) → names_of (waiting_of other queues) ≡ line other yielded
@@ -147,7 +146,6 @@ module _ {J T : Type 0} (terms : Terms) (old : CoreView J) (job : JobOut J) (tim
     notes = (plainly_stands terms (writes.Done job.name time value) journal kept.is_core is_out.0 kept.no_pick kept.no_answer refl tt, kept.notes);
     no_pick = refl;
     no_answer = refl;
-    collects_nothing = (tt, kept.collects_nothing);
   }
     where
       runtimes : (other : ℕ) → runtime_of other new ≡ virtual_runtime other (finished value)

@@ -11,7 +11,6 @@ pub mod KeptSettles
 pub mod KeptClosings
 pub mod KeptReturns
 pub mod PollsMade
-pub mod AllOutstanding
 pub mod TakenOrders
 pub mod CarriedOut
 pub mod CarriedClosings
@@ -32,6 +31,16 @@ pub mod Wrote
 pub mod Shutting
 pub mod ClosedItself
 pub mod Drained
+pub mod Apart
+pub mod Named
+pub mod TicketNotes
+pub mod LaneNotes
+pub mod Desked
+pub mod Refused
+pub mod Redeemed
+pub mod CollectedNext
+pub mod CollectedAll
+pub mod LaneEnds
 pub mod Submitted
 pub mod SentNotes
 pub mod DeliveredNames

@@ -73,7 +73,7 @@ no_sum T (suc last) = let rest : sum_upto (given_count {T = T} []) last ≡ 0 = 
 pub recorded-opened : {J T : Type 0} (same : J → J → Type 0) (made : J → ℕ) (polls : Owed J T) (core cores cap room : ℕ) → core < cores →
     IsRecorded same made polls (opened_beside {J = J} {T = T} core cores cap room)
 recorded-opened {J} {T} same made polls core cores cap room there = record {
-  kept = record { is_core = there; agrees = agrees-opened J core cores cap T; notes = tt; no_pick = refl; no_answer = refl; collects_nothing = tt };
+  kept = record { is_core = there; agrees = agrees-opened J core cores cap T; notes = tt; no_pick = refl; no_answer = refl };
   room = refl;
   held = record { each = λ sender known. omega arith; inside = omega (arith, no_sum T cores) };
   taken = λ name order at. absurd (none≢some order at);

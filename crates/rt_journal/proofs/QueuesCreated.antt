@@ -45,7 +45,6 @@ module _ {J T : Type 0} {same : J → J → Type 0} {made : J → ℕ} {polls : 
       );
       no_pick = refl;
       no_answer = refl;
-      collects_nothing = (tt, recorded.kept.collects_nothing);
     }
 
     same_inside : inside_count core ≡ inside_count old.core

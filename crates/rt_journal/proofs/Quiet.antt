@@ -42,20 +42,20 @@ KeepsGates old new = (sender : ℕ) → final_count sender new ≡ final_count s
 
 module _ {T : Type 0} (notes : Journal T) where
   pub quiet-nothing : IsQuiet nobody notes notes
-  quiet-nothing = record { sent = record { accepted = λ core. refl; outstanding = λ core. refl; collected = λ core. refl }; given = λ sender. refl; delivered = λ sender. refl }
+  quiet-nothing = record { sent = record { accepted = λ core. refl; outstanding = λ core. refl; collected = λ core. refl; gone = λ name. refl; waits = λ name. refl }; given = λ sender. refl; delivered = λ sender. refl }
 
   -- a creation
   pub quiet-created : (queue weight : ℕ) → IsQuiet nobody notes (writes.Created queue weight ∷ notes)
-  quiet-created queue weight = record { sent = record { accepted = λ core. refl; outstanding = λ core. refl; collected = λ core. refl }; given = λ sender. refl; delivered = λ sender. refl }
+  quiet-created queue weight = record { sent = record { accepted = λ core. refl; outstanding = λ core. refl; collected = λ core. refl; gone = λ name. refl; waits = λ name. refl }; given = λ sender. refl; delivered = λ sender. refl }
 
   -- a gate is shut
   pub quiet-shut : (from count : ℕ) → IsQuiet nobody notes (writes.Shut from count ∷ notes)
-  quiet-shut from count = record { sent = record { accepted = λ core. refl; outstanding = λ core. refl; collected = λ core. refl }; given = λ sender. refl; delivered = λ sender. refl }
+  quiet-shut from count = record { sent = record { accepted = λ core. refl; outstanding = λ core. refl; collected = λ core. refl; gone = λ name. refl; waits = λ name. refl }; given = λ sender. refl; delivered = λ sender. refl }
 
   -- a pick, and the note of the poll that begins
   pub quiet-picked : (name : JobId) (queue runtime : ℕ) (was_started : Bool) → IsQuiet nobody notes (poll_note name was_started ∷ writes.Pick queue runtime ∷ notes)
-  quiet-picked name queue runtime false = record { sent = record { accepted = λ core. refl; outstanding = λ core. refl; collected = λ core. refl }; given = λ sender. refl; delivered = λ sender. refl }
-  quiet-picked name queue runtime true = record { sent = record { accepted = λ core. refl; outstanding = λ core. refl; collected = λ core. refl }; given = λ sender. refl; delivered = λ sender. refl }
+  quiet-picked name queue runtime false = record { sent = record { accepted = λ core. refl; outstanding = λ core. refl; collected = λ core. refl; gone = λ name. refl; waits = λ name. refl }; given = λ sender. refl; delivered = λ sender. refl }
+  quiet-picked name queue runtime true = record { sent = record { accepted = λ core. refl; outstanding = λ core. refl; collected = λ core. refl; gone = λ name. refl; waits = λ name. refl }; given = λ sender. refl; delivered = λ sender. refl }
 
   pub gates-picked : (name : JobId) (queue runtime : ℕ) (was_started : Bool) → KeepsGates notes (poll_note name was_started ∷ writes.Pick queue runtime ∷ notes)
   gates-picked name queue runtime false sender = refl
@@ -64,7 +64,7 @@ module _ {T : Type 0} (notes : Journal T) where
   -- a pick that hands a job back
   pub quiet-returned : (name : JobId) (reason : Reason) (queue runtime : ℕ) → IsQuiet (λ sender. if_from sender name (name, outcomes.Returned reason)) notes (writes.Returned name reason ∷ writes.Pick queue runtime ∷ notes)
   quiet-returned name reason queue runtime = record {
-    sent = record { accepted = λ core. refl; outstanding = λ core. refl; collected = λ core. refl };
+    sent = record { accepted = λ core. refl; outstanding = λ core. refl; collected = λ core. refl; gone = λ name. refl; waits = λ name. refl };
     given = λ sender. refl;
     delivered = λ sender. refl;
   }
@@ -72,11 +72,11 @@ module _ {T : Type 0} (notes : Journal T) where
   -- a poll that is settled
   pub quiet-settled : (name : JobId) (time : ℕ) (step : Step T) → IsQuiet (given_settled name step) notes (settle_note name time step ∷ notes)
   quiet-settled name time (steps.Done out) = record {
-    sent = record { accepted = λ core. refl; outstanding = λ core. refl; collected = λ core. refl };
+    sent = record { accepted = λ core. refl; outstanding = λ core. refl; collected = λ core. refl; gone = λ name. refl; waits = λ name. refl };
     given = λ sender. refl;
     delivered = λ sender. refl;
   }
-  quiet-settled name time steps.Yield = record { sent = record { accepted = λ core. refl; outstanding = λ core. refl; collected = λ core. refl }; given = λ sender. refl; delivered = λ sender. refl }
+  quiet-settled name time steps.Yield = record { sent = record { accepted = λ core. refl; outstanding = λ core. refl; collected = λ core. refl; gone = λ name. refl; waits = λ name. refl }; given = λ sender. refl; delivered = λ sender. refl }
 
   pub gates-settled : (name : JobId) (time : ℕ) (step : Step T) → KeepsGates notes (settle_note name time step ∷ notes)
   gates-settled name time (steps.Done out) sender = refl

@@ -26,7 +26,7 @@ everyone sender = Unit {0}
 module _ {J T : Type 0} (old : RecordedView J T) (core : CoreView J) (written : List (Note T)) where
   -- the core as it is now, beside a journal that is longer by these notes, the newest first
   abbrev pub stepped : RecordedView J T
-  stepped = record { cap = old.cap; core = core; journal = with_notes written old.journal; took = old.took }
+  stepped = record { cap = old.cap; core = core; journal = with_notes written old.journal; took = old.took; lanes = old.lanes }
 
   abbrev longer : Journal T
   longer = written ++ old.journal.notes
@@ -75,10 +75,10 @@ module _ {J T : Type 0} {same : J → J → Type 0} {made : J → ℕ} {polls : 
   ins_step sender kept = ins-quiet old new seat_step step.quiet refl sender (step.gates sender kept) (step.ungiven sender)
 
   pub outs_step : KeepsOuts (desk_of old) (desk_of new)
-  outs_step = keeps_outs (desk_of old) (desk_of new) (λ i. record { actor = step.number i; cores = step.cores i; cap = old.cap; journal = new.journal }) step.quiet.sent
+  outs_step = keeps_outs (desk_of old) (desk_of new) (λ i. record { actor = step.number i; cores = step.cores i; cap = old.cap; journal = new.journal; lanes = old.lanes }) step.quiet.sent
 
   pub written_step : IsWritten (terms_at old) (written ++ old.journal.notes)
-  written_step = record { notes = step.kept.notes; no_pick = step.kept.no_pick; no_answer = step.kept.no_answer; collects_nothing = step.kept.collects_nothing }
+  written_step = record { notes = step.kept.notes; no_pick = step.kept.no_pick; no_answer = step.kept.no_answer }
 
 -- where a call did nothing, all is as it was
 module _ {J T : Type 0} {same : J → J → Type 0} {made : J → ℕ} {polls : Owed J T}
@@ -99,4 +99,4 @@ module _ {J T : Type 0} {same : J → J → Type 0} {made : J → ℕ} {polls : 
   }
 
   pub nothing_stepped : (core : CoreView J) → core ≡ old.core → (written : List (Note T)) → written ≡ [] → stepped old core written ≡ old
-  nothing_stepped core same written none = λ i. record { cap = old.cap; core = same i; journal = record { notes = none i ++ old.journal.notes; room = old.journal.room }; took = old.took }
+  nothing_stepped core same written none = λ i. record { cap = old.cap; core = same i; journal = record { notes = none i ++ old.journal.notes; room = old.journal.room }; took = old.took; lanes = old.lanes }

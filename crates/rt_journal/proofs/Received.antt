@@ -24,7 +24,7 @@ use Rattle.rt_journal.specs.Polls.{polls_made}
 use Rattle.rt_journal.specs.Agreement.{IsKept}
 use Rattle.rt_journal.specs.Submissions.{IsWritten}
 use Rattle.rt_journal.specs.Recorded.{RecordedView, terms_at, IsRecorded, IsHeld, IsTaken, HasTask, OwesAfter, order_taken, note_taken, sum_upto, delivered_count, given_count}
-use Rattle.rt_journal.specs.Ends.{IsSameSeat, GivesMore, told_under}
+use Rattle.rt_journal.specs.Ends.{IsSameSeat, KeepsSent, GivesMore, told_under}
 use Rattle.rt_journal.specs.Deliveries.{outcome_delivered}
 use Rattle.rt_ids.specs.declared.note.OutcomeNote.{OutcomeNote}
 use Rattle.rt_ids.specs.Outcomes.{outcome_note}
@@ -58,7 +58,7 @@ module _ {J T : Type 0} {same : J → J → Type 0} {made : J → ℕ} {polls : 
   longer = written ++ old.journal.notes
 
   abbrev pub received : RecordedView J T
-  received = record { cap = old.cap; core = core; journal = record old.journal { notes = longer }; took = old.took ++ envelope ∷ [] }
+  received = record { cap = old.cap; core = core; journal = record old.journal { notes = longer }; took = old.took ++ envelope ∷ []; lanes = old.lanes }
 
   pub same_seat : IsSameSeat old received
   same_seat = record { number = done.number; cores = done.cores; cap = refl; room = refl }
@@ -181,9 +181,12 @@ module _ {J T : Type 0} {same : J → J → Type 0} {made : J → ℕ} {polls : 
   few = omega (arith, done.few, length-reverse written)
 
   pub written_now : IsWritten (terms_at old) (reverse written ++ old.journal.notes)
-  written_now = record { notes = done.kept.notes; no_pick = done.kept.no_pick; no_answer = done.kept.no_answer; collects_nothing = done.kept.collects_nothing }
+  written_now = record { notes = done.kept.notes; no_pick = done.kept.no_pick; no_answer = done.kept.no_answer }
 
-  module _ (new : RecordedView J T) (is : new ≡ record { cap = old.cap; core = core; journal = record old.journal { notes = reverse written ++ old.journal.notes }; took = old.took ++ envelope ∷ [] }) where
+  pub sent_now : KeepsSent old.journal.notes (reverse written ++ old.journal.notes)
+  sent_now = done.lists.sent
+
+  module _ (new : RecordedView J T) (is : new ≡ record { cap = old.cap; core = core; journal = record old.journal { notes = reverse written ++ old.journal.notes }; took = old.took ++ envelope ∷ []; lanes = old.lanes }) where
     pub sound_now : IsRecorded same made polls new
     sound_now = subst (IsRecorded same made polls) (sym is) (recorded_now is_same old recorded envelope told core (reverse written) done next)
 

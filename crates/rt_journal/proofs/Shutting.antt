@@ -51,7 +51,6 @@ module _ {J T : Type 0} (old : RecordedView J T) (from count : ℕ) (core : Core
       notes = (shut_stands (terms_at old) old.core old.journal.notes recorded.kept from count next, recorded.kept.notes);
       no_pick = refl;
       no_answer = refl;
-      collects_nothing = (tt, recorded.kept.collects_nothing);
     };
     number = ap (λ core. core.core) is;
     cores = ap (λ core. core.cores) is;

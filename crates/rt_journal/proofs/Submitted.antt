@@ -1,43 +1,56 @@
--- An actor submits an order: its journal stays as it should be, and the ends that it sends on stay beside it.
-use Rattle.std.proofs.Common.{◌≡◌, ℕ, ◌+◌, true, false, [], ◌∷◌, ◌++◌, length, refl, sym, ◌∙◌, ap, subst, arith}
-use Rattle.std.specs.Prelude.{◌==◌, Ok, Err, take, count_by}
+-- An actor submits an order: its journal and its lanes stay as they should be, and the ends that it sends on stay beside it.
+use Rattle.std.proofs.Common.{◌≡◌, inl, inr, ℕ, ◌+◌, true, false, Some, [], ◌∷◌, ◌++◌, length, refl, sym, ◌∙◌, ap, subst, arith, set}
+use Rattle.std.specs.Prelude.{◌==◌, ◌&&◌, ◌||◌, not, Ok, Err, is_some, take, slice_get, count_by}
 use Rattle.std.proofs.lemmas.Bool.{eq-eqb, ne_eqb}
-use Rattle.std.proofs.lemmas.List.{length-append}
+use Rattle.std.proofs.lemmas.Bool.Decides.{eqb_tells}
+use Rattle.std.proofs.lemmas.List.{length-append, length-set}
 use Rattle.rt_ids.specs.declared.names.JobId.{JobId}
 use Rattle.rt_ids.specs.declared.note.Note.TheVariants as writes
 use Rattle.rt_ids.specs.declared.order.Order.{Order}
+use Rattle.rt_ids.specs.declared.order.Outcome.{Outcome}
 use Rattle.rt_ids.specs.declared.order.SendError.{SendError}
 use Rattle.rt_ids.specs.declared.order.SendError.TheVariants.{Closed, Full, Spent, NoCore}
-use Rattle.rt_ids.specs.Journal.{Journal}
+use Rattle.rt_ids.specs.Journal.{Journal, is_told}
 use Rattle.rt_ids.specs.Filters.{accepted_orders}
 use Rattle.rt_ids.specs.Lawful.{IsNextSent}
 use Rattle.rt_ids.specs.Orders.{IsSpelledOrder, without_job}
-use Rattle.rt_ids.specs.Outstanding.{outstanding_count, is_outstanding}
+use Rattle.rt_ids.specs.Outstanding.{outstanding_count, is_outstanding, is_gone, name_redeemed, name_detached, name_collected}
 use Rattle.rt_link.specs.declared.ends.Outward.{Outward}
 use Rattle.rt_link.specs.Calls.{Sends}
 use Rattle.rt_notes.specs.Journals.{JournalView}
+use Rattle.rt_desk.specs.Held.{at, Adds}
+use Rattle.rt_desk.specs.Lanes.{Lane, IsLaneOf}
+use Rattle.rt_desk.specs.declared.entry.Entry.TheVariants.{Pending}
+use Rattle.rt_desk.proofs.Cores.{changed, unchanged}
 use Rattle.rt_journal.specs.Orders.{numbered_orders}
-use Rattle.rt_journal.specs.Submissions.{DeskView, IsWritten, Submits, terms_of_desk, desk_with}
-use Rattle.rt_journal.specs.Ends.{IsOutOf, KeepsOut, name_of, named_outcomes}
+use Rattle.rt_journal.specs.Submissions.{DeskView, IsWritten, Submits, terms_of_desk}
+use Rattle.rt_journal.specs.Ends.{IsOutOf, name_of, named_outcomes}
+use Rattle.rt_journal.specs.Tickets.{KnowsLane, KnowsLanes, StaysBeside, is_let_go}
 use Rattle.rt_journal.proofs.Kept.{plainly_stands}
-use Rattle.rt_journal.proofs.AllOutstanding.{outstanding-accepted}
+use Rattle.rt_journal.proofs.Apart.{counted-more}
+use Rattle.rt_journal.proofs.TicketNotes.{neither}
+use Rattle.rt_journal.proofs.LaneNotes.{set_there, slice_get-set_other}
 use Rattle.rt_journal.proofs.NumberedOrders.{length-numbered, numbered-append}
 
 module _ {J T : Type 0} (core : ℕ) (desk : DeskView J T) (out now : Outward J T) (credited : ℕ) (is : IsOutOf core desk out credited)
-    (order : Order J) (written : IsWritten (terms_of_desk desk) desk.journal.notes) where
+    (order : Order J) (written : IsWritten (terms_of_desk desk) desk.journal.notes) (known : KnowsLanes desk) (lane later : Lane J T) (lane_is : slice_get desk.lanes core ≡ Some lane) where
   abbrev journal : Journal T
   journal = desk.journal.notes
 
   accepted_count : length (accepted_orders core journal) ≡ length out.sent
   accepted_count = ap length is.accepted ∙ length-numbered desk.actor core 0 out.sent
 
+  was_known : KnowsLane desk.actor core journal lane
+  was_known = known.each core lane lane_is
+
   -- the order is accepted under this number
-  module _ (number : ℕ) (sends : Sends out credited order now (Ok number)) (spelled : IsSpelledOrder (without_job order)) where
+  module _ (number : ℕ) (sends : Sends out credited order now (Ok number)) (spelled : IsSpelledOrder (without_job order)) {fits : Order J → Outcome J T → Type 0}
+      (lane_of : IsLaneOf fits later now credited) (adds : Adds lane.entries later.entries number Pending) where
     abbrev name : JobId
     name = name_of desk.actor core number
 
     abbrev pub submitted : DeskView J T
-    submitted = desk_with (writes.Sent name (without_job order) ∷ []) desk
+    submitted = record desk { journal = record desk.journal { notes = writes.Sent name (without_job order) ∷ journal }; lanes = set desk.lanes core later }
 
     abbrev longer : Journal T
     longer = submitted.journal.notes
@@ -52,15 +65,14 @@ module _ {J T : Type 0} (core : ℕ) (desk : DeskView J T) (out now : Outward J 
       spelled = spelled;
     }
 
-    pub submits-accepted : Submits core order desk (Ok name) submitted
+    submits-accepted : Submits core order desk (Ok name) submitted
     submits-accepted = (next_sent, refl, refl)
 
-    pub written-accepted : IsWritten (terms_of_desk desk) longer
+    written-accepted : IsWritten (terms_of_desk desk) longer
     written-accepted = record {
       notes = (plainly_stands (terms_of_desk desk) (writes.Sent name (without_job order)) journal tt next_sent written.no_pick written.no_answer refl tt, written.notes);
       no_pick = refl;
       no_answer = refl;
-      collects_nothing = (tt, written.collects_nothing);
     }
 
     accepted_here : accepted_orders core longer ≡ accepted_orders core journal ++ (name, without_job order) ∷ []
@@ -78,63 +90,104 @@ module _ {J T : Type 0} (core : ℕ) (desk : DeskView J T) (out now : Outward J 
     sent_now : now.sent ≡ out.sent ++ order ∷ []
     sent_now = ap (λ end. end.sent) sends.4
 
-    pub beside-accepted : IsOutOf core submitted now credited
-    beside-accepted = record {
-      known = is.known;
-      from = ap (λ end. end.from) sends.4 ∙ is.from;
-      to = ap (λ end. end.to) sends.4 ∙ is.to;
-      base = ap (λ end. end.base) sends.4 ∙ is.base;
-      capacity = ap (λ end. end.capacity) sends.4 ∙ is.capacity;
-      accepted =
-          accepted_here
-          ∙ (ap (λ orders. orders ++ (name, without_job order) ∷ []) is.accepted
-          ∙ (ap (λ at. numbered_orders desk.actor core 0 out.sent ++ (name_of desk.actor core at, without_job order) ∷ []) (omega (arith, sends.2, is.base))
-          ∙ (sym (numbered-append desk.actor core 0 out.sent order) ∙ ap (numbered_orders desk.actor core 0) (sym sent_now))));
-      outstanding =
-          let was : outstanding_count core journal ≡ length (accepted_orders core journal) = outstanding-accepted core journal written.collects_nothing in
-          let all : outstanding_count core longer ≡ length (accepted_orders core longer) = outstanding-accepted core longer (tt, written.collects_nothing) in
-          let one_more : length (accepted_orders core longer) ≡ length (accepted_orders core journal) + 1 = ap length accepted_here ∙ length-append (accepted_orders core journal) ((name, without_job order) ∷ []) in
-          let sent : length now.sent ≡ length out.sent + 1 = ap length sent_now ∙ length-append out.sent (order ∷ []) in
-          omega (arith, was, all, one_more, sent, is.outstanding, accepted_count);
-      behind = omega (arith, is.behind, ap (λ end. end.got) sends.4, ap (λ end. length end.seen) sends.4);
-      collected = is.collected ∙ ap {B = _} (λ end. named_outcomes desk.actor core (take end.got end.seen)) (sym sends.4);
+    next_number : number ≡ lane.count + 1
+    next_number = omega (arith, sends.2, is.base, accepted_count, was_known.count)
+
+    one_more : later.count ≡ lane.count + 1
+    one_more = omega (arith, lane_of.count, ap length sent_now, length-append out.sent (order ∷ []), accepted_count, was_known.count)
+
+    not_gone : is_gone name journal ≡ false
+    not_gone = was_known.unsent number (omega (arith, next_number))
+
+    waits_now : is_outstanding name journal ≡ true
+    waits_now =
+        let apart = neither (is_told name_redeemed name journal) (is_told name_detached name journal) false not_gone in
+        ap (λ redeemed. not (redeemed || is_told name_detached name journal && is_told name_collected name journal)) apart.0
+        ∙ ap (λ detached. not (detached && is_told name_collected name journal)) apart.1
+
+    later_known : KnowsLane desk.actor core longer later
+    later_known = record {
+      count = one_more ∙ (ap (λ count. count + 1) was_known.count ∙ sym (ap length accepted_here ∙ length-append (accepted_orders core journal) ((name, without_job order) ∷ [])));
+      last = omega (arith, lane_of.last (omega (arith, one_more)), ap (λ end. end.base) sends.4, is.base);
+      gone = λ n low high. elim (eqb_tells n number) [
+        | inl same ↦ subst (λ n. is_gone (name_of desk.actor core n) journal ≡ is_let_go (at later.entries n)) (sym same.1) (not_gone ∙ ap is_let_go (sym adds.here))
+        | inr away ↦ was_known.gone n low (omega (arith, high, one_more, next_number, away.1)) ∙ ap is_let_go (sym (adds.others n away.1))
+      ];
+      waits = λ n low high. elim (eqb_tells n number) [
+        | inl same ↦ subst (λ n. is_outstanding (name_of desk.actor core n) journal ≡ is_some (at later.entries n)) (sym same.1) (waits_now ∙ ap is_some (sym adds.here))
+        | inr away ↦ was_known.waits n low (omega (arith, high, one_more, next_number, away.1)) ∙ ap is_some (sym (adds.others n away.1))
+      ];
+      unsent = λ n past. was_known.unsent n (omega (arith, past, one_more));
     }
 
-    pub others-accepted : (other : ℕ) → (other ≡ core → ⊥) → KeepsOut other desk submitted
-    others-accepted other away = record {
-      each = λ end given_back beside. record {
-        known = beside.known;
-        from = beside.from;
-        to = beside.to;
-        base = beside.base;
-        capacity = beside.capacity;
-        accepted = accepted_there other away ∙ beside.accepted;
-        outstanding = ap (λ orders. count_by (λ sent. is_outstanding sent.0 journal) orders + given_back) (accepted_there other away) ∙ beside.outstanding;
-        behind = beside.behind;
-        collected = beside.collected;
+    others_known : (other : ℕ) → (other ≡ core → ⊥) → (its : Lane J T) → KnowsLane desk.actor other journal its → KnowsLane desk.actor other longer its
+    others_known other away its was = record { count = was.count ∙ sym (ap length (accepted_there other away)); last = was.last; gone = was.gone; waits = was.waits; unsent = was.unsent }
+
+    knows-accepted : KnowsLanes submitted
+    knows-accepted = record {
+      cores_are = length-set desk.lanes core later ∙ known.cores_are;
+      each = λ other its there. elim (eqb_tells other core) [
+        | inl same ↦
+            subst (KnowsLane desk.actor other longer) (sym (changed desk.lanes core other later its there same.1))
+            (subst (λ core. KnowsLane desk.actor core longer later) (sym same.1) later_known)
+        | inr away ↦ others_known other away.1 its (known.each other its (unchanged desk.lanes core other later its there away.1))
+      ];
+    }
+
+    stays-accepted : StaysBeside fits core desk submitted now credited
+    stays-accepted = record {
+      beside = record {
+        known = is.known;
+        from = ap (λ end. end.from) sends.4 ∙ is.from;
+        to = ap (λ end. end.to) sends.4 ∙ is.to;
+        base = ap (λ end. end.base) sends.4 ∙ is.base;
+        capacity = ap (λ end. end.capacity) sends.4 ∙ is.capacity;
+        accepted =
+            accepted_here
+            ∙ (ap (λ orders. orders ++ (name, without_job order) ∷ []) is.accepted
+            ∙ (ap (λ at. numbered_orders desk.actor core 0 out.sent ++ (name_of desk.actor core at, without_job order) ∷ []) (omega (arith, sends.2, is.base))
+            ∙ (sym (numbered-append desk.actor core 0 out.sent order) ∙ ap (numbered_orders desk.actor core 0) (sym sent_now))));
+        outstanding =
+            let all : outstanding_count core longer ≡ outstanding_count core journal + 1 =
+            ap (count_by (λ sent. is_outstanding sent.0 journal)) accepted_here ∙ counted-more (λ sent. is_outstanding sent.0 journal) (accepted_orders core journal) (name, without_job order) waits_now in
+            let sent : length now.sent ≡ length out.sent + 1 = ap length sent_now ∙ length-append out.sent (order ∷ []) in
+            omega (arith, all, sent, is.outstanding);
+        behind = omega (arith, is.behind, ap (λ end. end.got) sends.4, ap (λ end. length end.seen) sends.4);
+        collected = is.collected ∙ ap {B = _} (λ end. named_outcomes desk.actor core (take end.got end.seen)) (sym sends.4);
       };
+      lane = record { lane = later; is = set_there desk.lanes core lane later lane_is; lane_of = lane_of };
+      others = λ other away. record {
+        each = λ end given_back beside. record {
+          known = beside.known;
+          from = beside.from;
+          to = beside.to;
+          base = beside.base;
+          capacity = beside.capacity;
+          accepted = accepted_there other away ∙ beside.accepted;
+          outstanding = ap (λ orders. count_by (λ sent. is_outstanding sent.0 journal) orders + given_back) (accepted_there other away) ∙ beside.outstanding;
+          behind = beside.behind;
+          collected = beside.collected;
+        };
+      };
+      lanes = λ other away. slice_get-set_other desk.lanes core other later away;
+      rest = refl;
+      written = written-accepted;
+      known = knows-accepted;
     }
 
     -- the desk whose journal got this note
     module _ (noted : JobId) (noted_is : noted ≡ name) (told : Order (Unit {0})) (told_is : told ≡ without_job order) (page : JournalView T)
         (pushed : page ≡ record desk.journal { notes = writes.Sent noted told ∷ journal }) where
-      pub submitted_is : record desk { journal = page } ≡ submitted
-      submitted_is = ap (λ page. record desk { journal = page }) (pushed ∙ (λ i. record desk.journal { notes = writes.Sent (noted_is i) (told_is i) ∷ journal }))
+      submitted_is : record desk { journal = page; lanes = set desk.lanes core later } ≡ submitted
+      submitted_is = ap (λ page. record desk { journal = page; lanes = set desk.lanes core later }) (pushed ∙ (λ i. record desk.journal { notes = writes.Sent (noted_is i) (told_is i) ∷ journal }))
 
-      pub written-now : IsWritten (terms_of_desk desk) page.notes
-      written-now = subst (λ now. IsWritten (terms_of_desk desk) now.journal.notes) (sym submitted_is) written-accepted
+      pub stays-now : StaysBeside fits core desk (record desk { journal = page; lanes = set desk.lanes core later }) now credited
+      stays-now = subst (λ new. StaysBeside fits core desk new now credited) (sym submitted_is) stays-accepted
 
-      pub submits-now : (before : DeskView J T) → desk ≡ before → (ticket : JobId) → ticket ≡ name → Submits core order before (Ok ticket) (record desk { journal = page })
-      submits-now before before_is ticket ticket_is =
-          subst (λ now. Submits core order before (Ok ticket) now) (sym submitted_is)
-          (subst (λ before. Submits core order before (Ok ticket) submitted) before_is
-          (subst (λ ticket. Submits core order desk (Ok ticket) submitted) (sym ticket_is) submits-accepted))
-
-      pub beside-now : IsOutOf core (record desk { journal = page }) now credited
-      beside-now = subst (λ desk. IsOutOf core desk now credited) (sym submitted_is) beside-accepted
-
-      pub others-now : (other : ℕ) → (other ≡ core → ⊥) → KeepsOut other desk (record desk { journal = page })
-      others-now other away = subst (KeepsOut other desk) (sym submitted_is) (others-accepted other away)
+      pub submits-now : (ticket : JobId) → ticket ≡ name → Submits core order desk (Ok ticket) (record desk { journal = page; lanes = set desk.lanes core later })
+      submits-now ticket ticket_is =
+          subst (λ now. Submits core order desk (Ok ticket) now) (sym submitted_is)
+          (subst (λ ticket. Submits core order desk (Ok ticket) submitted) (sym ticket_is) submits-accepted)
 
   -- the order is refused
   pub beside-refused : (error : SendError J) → Sends out credited order now (Err error) → IsOutOf core desk now credited

@@ -5,21 +5,22 @@ use Rattle.rt_ids.specs.declared.names.JobId.{JobId}
 use Rattle.rt_ids.specs.declared.note.Note.{Note}
 use Rattle.rt_ids.specs.declared.note.OutcomeNote.{OutcomeNote}
 use Rattle.rt_ids.specs.declared.order.Envelope.{Envelope}
+use Rattle.rt_ids.specs.Journal.{Journal}
 use Rattle.rt_jobs.specs.Steps.{Owed}
 use Rattle.rt_core.specs.State.{CoreView}
 use Rattle.rt_journal.specs.Submissions.{DeskView, IsWritten, terms_of_desk, desk_with}
 use Rattle.rt_journal.specs.Recorded.{RecordedView, IsRecorded, desk_of, terms_at}
-use Rattle.rt_journal.specs.Ends.{LeavesOwed, KeepsOuts, IsSameSeat}
+use Rattle.rt_journal.specs.Ends.{KeepsSent, LeavesOwed, KeepsOuts, IsSameSeat}
 use Rattle.rt_journal.proofs.QuietSteps.{stepped, IsQuietStep, recorded_step, seat_step, ins_step, outs_step, written_step}
 
 module _ {J T : Type 0} where
   -- the view of these parts
   abbrev pub view_of : CoreView J → List (Envelope J) → DeskView J T → RecordedView J T
-  view_of core took said = record { cap = said.cap; core = core; journal = said.journal; took = took }
+  view_of core took said = record { cap = said.cap; core = core; journal = said.journal; took = took; lanes = said.lanes }
 
   -- the desk is the one of its core
   pub desk_is : (said : DeskView J T) (core : CoreView J) (took : List (Envelope J)) → said.actor ≡ core.core → said.cores ≡ core.cores → said ≡ desk_of (view_of core took said)
-  desk_is said core took actor cores = λ i. record { actor = actor i; cores = cores i; cap = said.cap; journal = said.journal }
+  desk_is said core took actor cores = λ i. record { actor = actor i; cores = cores i; cap = said.cap; journal = said.journal; lanes = said.lanes }
 
   -- the notes that may stand behind the journal may be written by its desk
   pub may_write : (core : CoreView J) (took : List (Envelope J)) (said : DeskView J T) → said ≡ desk_of (view_of core took said) → (notes slice : List (Note T)) → slice ≡ notes →
@@ -27,6 +28,10 @@ module _ {J T : Type 0} where
   may_write core took said is notes slice slice_is written =
       subst (λ terms. IsWritten terms (reverse slice ++ said.journal.notes)) (sym (ap terms_of_desk is))
       (subst (λ notes. IsWritten (terms_at (view_of core took said)) (reverse notes ++ said.journal.notes)) (sym slice_is) written)
+
+-- what notes say of submissions, the same notes say
+pub may_send : {T : Type 0} (before : Journal T) (notes slice : List (Note T)) → slice ≡ notes → KeepsSent before (reverse notes ++ before) → KeepsSent before (reverse slice ++ before)
+may_send before notes slice slice_is = subst (λ notes. KeepsSent before (reverse notes ++ before)) (sym slice_is)
 
 module _ {J T : Type 0} {same : J → J → Type 0} {made : J → ℕ} {polls : Owed J T}
     (core : CoreView J) (took : List (Envelope J)) (said : DeskView J T)
@@ -37,6 +42,9 @@ module _ {J T : Type 0} {same : J → J → Type 0} {made : J → ℕ} {polls : 
 
   pub quiet_written : IsWritten (terms_of_desk said) (reverse slice ++ said.journal.notes)
   quiet_written = may_write core took said invariant.1 notes slice slice_is (written_step old invariant.0 after (reverse notes) step)
+
+  pub quiet_sent : KeepsSent said.journal.notes (reverse slice ++ said.journal.notes)
+  quiet_sent = may_send said.journal.notes notes slice slice_is step.quiet.sent
 
   module _ (said_now : DeskView J T) (wrote : said_now ≡ desk_with (reverse slice) said) where
     now_written : said_now ≡ desk_with (reverse notes) said

@@ -14,7 +14,6 @@ use Rattle.rt_ids.specs.Lawful.{MayStand}
 use Rattle.rt_ids.specs.Picks.{turns}
 use Rattle.rt_taskqueue.specs.Queues.{queue_count, shares_of, mode_of, waiting_of}
 use Rattle.rt_core.specs.State.{CoreView, JobOut, runtime_of, delivered_of, gate_of}
-use Rattle.rt_journal.specs.Yet.{CollectsNothing}
 
 module _ {J : Type 0} where
   abbrev pub names_of : List (JobId × Bool × J) → List JobId
@@ -52,12 +51,10 @@ module _ {J T : Type 0} where
     pub delivered : (sender : ℕ) → sender ≤ core.cores → delivered_of sender core ≡ length (delivered_names sender journal)
     pub closing : AgreesOnClosing core journal
 
--- the journal is one of notes that may stand where they stand, with no step half done except a poll, and the core agrees with it;
--- nothing is collected yet
+-- the journal is one of notes that may stand where they stand, with no step half done except a poll, and the core agrees with it
 pub record IsKept {J T : Type 0} (terms : Terms) (core : CoreView J) (journal : Journal T) : Type 0 where
   pub is_core : terms.actor < terms.cores
   pub agrees : Agrees core journal
   pub notes : EachNote (MayStand terms) journal
   pub no_pick : queue_just_picked journal ≡ None
   pub no_answer : effect_awaited journal ≡ None
-  pub collects_nothing : EachNote CollectsNothing journal

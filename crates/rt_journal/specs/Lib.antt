@@ -1,7 +1,6 @@
 pub mod Orders
 pub mod Polls
 pub mod Deliveries
-pub mod Yet
 pub mod Agreement
 pub mod Submissions
 pub mod Recorded
@@ -10,4 +9,5 @@ pub mod Ends
 pub mod Steps
 pub mod Turns
 pub mod Owed
+pub mod Tickets
 pub mod Together

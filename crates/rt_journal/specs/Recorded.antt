@@ -14,18 +14,20 @@ use Rattle.rt_jobs.specs.Steps.{Owed}
 use Rattle.rt_taskqueue.specs.Queues.{waiting_of}
 use Rattle.rt_core.specs.State.{CoreView, JobOut, inside_count}
 use Rattle.rt_notes.specs.Journals.{JournalView}
+use Rattle.rt_desk.specs.Lanes.{Lane}
 use Rattle.rt_ids.specs.Orders.{without_job}
 use Rattle.rt_journal.specs.Polls.{polls_made}
 use Rattle.rt_journal.specs.Agreement.{IsKept}
 use Rattle.rt_journal.specs.Submissions.{DeskView}
 use Rattle.rt_ids.specs.Joining.{DeliversAs}
 
--- the capacity of each link, the core, its journal, and the orders that were delivered to it, the oldest first
+-- the capacity of each link, the core, its journal, the orders that were delivered to it, the oldest first, and what is known of its own submissions to each core
 pub record RecordedView (J T : Type 0) : Type 0 where
   pub cap : ℕ
   pub core : CoreView J
   pub journal : JournalView T
   pub took : List (Envelope J)
+  pub lanes : List (Lane J T)
 
 -- whose journal it is, and what holds of the whole house
 abbrev pub terms_at : {J T : Type 0} → RecordedView J T → Terms
@@ -33,7 +35,7 @@ terms_at view = record { actor = view.core.core; cores = view.core.cores; cap = 
 
 -- what the same actor says of its submissions
 abbrev pub desk_of : {J T : Type 0} → RecordedView J T → DeskView J T
-desk_of view = record { actor = view.core.core; cores = view.core.cores; cap = view.cap; journal = view.journal }
+desk_of view = record { actor = view.core.core; cores = view.core.cores; cap = view.cap; journal = view.journal; lanes = view.lanes }
 
 -- a count of the first actors together, the last one included
 abbrev pub sum_upto : (ℕ → ℕ) → ℕ → ℕ

@@ -1,5 +1,5 @@
 -- What the calls of a core beside its journal do.
-use Rattle.std.specs.Prelude.{◌≡◌, ◌==◌, ℕ, ◌+◌, ◌*◌, ◌^◌, ◌<◌, ◌≤◌, Option, Some, None, Bool, true, false, List, [], ◌∷◌, ◌++◌, Result, Ok, Err}
+use Rattle.std.specs.Prelude.{◌≡◌, ◌==◌, ℕ, ◌+◌, ◌*◌, ◌^◌, ◌<◌, ◌≤◌, Option, Some, None, Bool, true, false, List, [], ◌∷◌, ◌++◌, replicate, Result, Ok, Err}
 use Rattle.rt_ids.specs.declared.names.JobId.{JobId}
 use Rattle.rt_ids.specs.declared.note.Note.{Note}
 use Rattle.rt_ids.specs.declared.note.Note.TheVariants as writes
@@ -15,6 +15,7 @@ use Rattle.rt_core.specs.State.{opened}
 use Rattle.rt_link.specs.declared.ends.Inward.{Inward}
 use Rattle.rt_link.specs.Calls.{Takes}
 use Rattle.rt_notes.specs.Journals.{JournalView}
+use Rattle.rt_desk.specs.Lanes.{fresh_lane}
 use Rattle.rt_journal.specs.Deliveries.{IsDelivery}
 use Rattle.rt_journal.specs.Recorded.{RecordedView, delivered_count, given_count}
 use Rattle.rt_journal.specs.Ends.{KeepsLists, Gives}
@@ -32,6 +33,7 @@ module _ {J T : Type 0} where
     core = opened core cores ((cores + 1) * cap) 0;
     journal = record { notes = []; room = room };
     took = [];
+    lanes = replicate cores (fresh_lane cap);
   }
 
   -- the name is the next of its sender, who is there and waits for fewer outcomes than it may, and within the count of its gate, if that is shut

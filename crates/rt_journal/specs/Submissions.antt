@@ -1,5 +1,5 @@
 -- One actor's journal and what it says of its submissions, as callers see them.
-use Rattle.std.specs.Prelude.{◌≡◌, ℕ, ◌-◌, ◌^◌, ◌<◌, ◌≤◌, None, List, [], ◌∷◌, ◌++◌, length, Result, Ok, Err}
+use Rattle.std.specs.Prelude.{◌≡◌, ℕ, ◌-◌, ◌^◌, ◌<◌, ◌≤◌, None, List, [], ◌∷◌, ◌++◌, length, replicate, Result, Ok, Err}
 use Rattle.rt_ids.specs.Terms.{Terms}
 use Rattle.rt_ids.specs.declared.note.Note.{Note}
 use Rattle.rt_ids.specs.declared.names.JobId.{JobId}
@@ -15,14 +15,15 @@ use Rattle.rt_ids.specs.Clauses.{queue_just_picked}
 use Rattle.rt_ids.specs.Commands.{effect_awaited}
 use Rattle.rt_ids.specs.Lawful.{MayStand, IsNextSent}
 use Rattle.rt_notes.specs.Journals.{JournalView}
-use Rattle.rt_journal.specs.Yet.{CollectsNothing}
+use Rattle.rt_desk.specs.Lanes.{Lane, fresh_lane}
 
--- whose submissions they are, how many cores there are, the capacity of each link, and the actor's journal
+-- whose submissions they are, how many cores there are, the capacity of each link, the actor's journal, and what is known of the submissions to each core
 pub record DeskView (J T : Type 0) : Type 0 where
   pub actor : ℕ
   pub cores : ℕ
   pub cap : ℕ
   pub journal : JournalView T
+  pub lanes : List (Lane J T)
 
 module _ {J T : Type 0} where
   -- whose journal it is, and what holds of the whole house
@@ -31,25 +32,25 @@ module _ {J T : Type 0} where
 
   -- a desk whose actor has noted nothing
   abbrev pub opened_desk : ℕ → ℕ → ℕ → ℕ → DeskView J T
-  opened_desk actor cores cap room = record { actor = actor; cores = cores; cap = cap; journal = record { notes = []; room = room } }
+  opened_desk actor cores cap room =
+      record { actor = actor; cores = cores; cap = cap; journal = record { notes = []; room = room }; lanes = replicate cores (fresh_lane cap) }
 
   -- its journal is longer by these notes, the newest first
   abbrev pub desk_with : List (Note T) → DeskView J T → DeskView J T
   desk_with notes desk = record desk { journal = record desk.journal { notes = notes ++ desk.journal.notes } }
 
--- each note may stand where it stands, and no step is half done except a poll; nothing is collected yet
+-- each note may stand where it stands, and no step is half done except a poll
 pub record IsWritten {T : Type 0} (terms : Terms) (journal : Journal T) : Type 0 where
   pub notes : EachNote (MayStand terms) journal
   pub no_pick : queue_just_picked journal ≡ None
   pub no_answer : effect_awaited journal ≡ None
-  pub collects_nothing : EachNote CollectsNothing journal
 
 module _ {J T : Type 0} where
   -- a submission is accepted under the next name of its link, or refused; that the gate is shut is told by the end alone
   abbrev pub Submits : ℕ → Order J → DeskView J T → Result JobId (SendError J) → DeskView J T → Type 0
   Submits core order old (Ok name) new =
       IsNextSent (terms_of_desk old) name (without_job order) old.journal.notes × (name.to ≡ core)
-      × (new ≡ desk_with (writes.Sent name (without_job order) ∷ []) old)
+      × (new.journal ≡ (desk_with (writes.Sent name (without_job order) ∷ []) old).journal)
   Submits core order old (Err (Closed back final)) new =
       (back ≡ order) × (final ≡ length (accepted_orders core old.journal.notes)) × (new ≡ old)
   Submits core order old (Err (Full back)) new = (back ≡ order) × (old.cap ≤ outstanding_count core old.journal.notes) × (new ≡ old)

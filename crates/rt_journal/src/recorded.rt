@@ -1,6 +1,6 @@
 //! A core beside its journal, over any ends of links.
 
-ghost use Rattle.std.specs.Prelude.{◌≡◌, ℕ, ◌+◌, ◌<◌, ◌≤◌, ◌≢◌, ◌↔◌, length, Some, None, is_some, IsSome, IsTrue, IfOk, IfSome};
+ghost use Rattle.std.specs.Prelude.{◌≡◌, ℕ, ◌+◌, ◌<◌, ◌≤◌, ◌≢◌, ◌↔◌, false, length, Some, None, is_some, IsSome, IsTrue, IfOk, IfSome};
 ghost use Rattle.rt_ids.specs.Closing.{IsDrained, core_mode, final_count};
 ghost use Rattle.rt_ids.specs.Commands.{IsOpening};
 ghost use Rattle.rt_jobs.specs.Ready.{HasReadyJob};
@@ -13,9 +13,13 @@ ghost use Rattle.rt_link.specs.Calls.{Sends, Shuts};
 ghost use Rattle.rt_link.specs.Fits.{Fits};
 ghost use Rattle.rt_journal.specs.Submissions.{Submits, numbered};
 ghost use Rattle.rt_journal.specs.Recorded.{IsRecorded, desk_of, order_taken};
-ghost use Rattle.rt_journal.specs.Ends.{IsOutOf, IsInOf, IsInOwing, Gives, GivesMore, told_under, LeavesOwed, KeepsIn, KeepsOut, KeepsOuts, IsSameSeat};
+ghost use Rattle.rt_journal.specs.Ends.{IsOutOf, IsInOf, IsInOwing, Gives, GivesMore, told_under, LeavesOwed, KeepsIn, KeepsOuts, IsSameSeat};
 ghost use Rattle.rt_journal.specs.Steps.{opened_beside, IsNextIn, Receives, Delivers, CreatesQueue, TellsShut, ClosesItself};
 ghost use Rattle.rt_journal.specs.Turns.{Picks, IsOut, IsOutUnder, IsPolled, Settles};
+ghost use Rattle.rt_desk.specs.Lanes.{IsGot, FitsSent};
+ghost use Rattle.rt_ids.specs.Outstanding.{outstanding_count};
+ghost use Rattle.rt_ids.specs.declared.names.TicketError.TheVariants.{Unknown};
+ghost use Rattle.rt_journal.specs.Tickets.{HasLane, StaysBeside, RefusesTicket, RedeemsTicket, DetachesTicket, CollectsFrom, GetsAll};
 ghost use Rattle.rt_journal.specs.Owed.{IsSentUnder, OwesSettled, outcome_settled, owed_back};
 
 use crate::desk::RecordedDesk;
@@ -23,6 +27,7 @@ use crate::given::{give_if, outcome_done, outcome_of};
 use rt_core::{Core, PickError, Settled, Turn};
 use rt_ids::{
     ActorNo, CoreNo, Envelope, JobId, Mode, Order, Outcome, QueueNo, Reason, SendError, Ticket,
+    TicketError,
 };
 use rt_jobs::{Ran, Task};
 use rt_link::{History, InEnd, OutEnd};
@@ -52,11 +57,11 @@ impl<J: Task<Out = u64>, A: Allocator + Clone> Model for Recorded<J, A> {
     ghost use Rattle.std.specs.Prelude.{◌≡◌};
     ghost use Rattle.rt_journal.specs.Recorded.{IsRecorded, desk_of};
 
-    ghost view = { λ r. record { cap = r.said.cap; core = r.core; journal = r.said.journal; took = r.took.items } };
+    ghost view = { λ r. record { cap = r.said.cap; core = r.core; journal = r.said.journal; took = r.took.items; lanes = r.said.lanes } };
 
     ghost invariant = { λ r.
-        IsRecorded J.SameTask J.made J.Polls (record { cap = r.said.cap; core = r.core; journal = r.said.journal; took = r.took.items })
-        × (r.said ≡ desk_of (record { cap = r.said.cap; core = r.core; journal = r.said.journal; took = r.took.items })) };
+        IsRecorded J.SameTask J.made J.Polls (record { cap = r.said.cap; core = r.core; journal = r.said.journal; took = r.took.items; lanes = r.said.lanes })
+        × (r.said ≡ desk_of (record { cap = r.said.cap; core = r.core; journal = r.said.journal; took = r.took.items; lanes = r.said.lanes })) };
 }
 
 impl<J: Task<Out = u64>, A: Allocator + Clone> Recorded<J, A> {
@@ -117,6 +122,7 @@ impl<J: Task<Out = u64>, A: Allocator + Clone> Recorded<J, A> {
         ensures ins { (sender : ℕ) → KeepsIn sender self.old self.new }
         ensures outs { KeepsOuts (desk_of self.old) (desk_of self.new) }
         ensures seat { IsSameSeat self.old self.new }
+        ensures lanes { self.new.lanes ≡ self.old.lanes }
         ensures sound { IsRecorded J.SameTask J.made J.Polls self.new }
     {
         // The shares are within their range, which the law of its journal asks.
@@ -135,6 +141,7 @@ impl<J: Task<Out = u64>, A: Allocator + Clone> Recorded<J, A> {
         ensures others { (sender : ℕ) → sender ≢ (I.inward end.old).from → KeepsIn sender self.old self.new }
         ensures outs { KeepsOuts (desk_of self.old) (desk_of self.new) }
         ensures seat { IsSameSeat self.old self.new }
+        ensures lanes { self.new.lanes ≡ self.old.lanes }
         ensures sound { IsRecorded J.SameTask J.made J.Polls self.new }
         ensures untouched { I.untouched end.new ≡ I.untouched end.old }
     {
@@ -161,6 +168,7 @@ impl<J: Task<Out = u64>, A: Allocator + Clone> Recorded<J, A> {
         ensures stands { order_taken self.new.took envelope.name ≡ Some envelope.order }
         ensures sound { IsRecorded J.SameTask J.made J.Polls self.new }
         ensures seat { IsSameSeat self.old self.new }
+        ensures lanes { self.new.lanes ≡ self.old.lanes }
     {
         // The queue and the shares of a command are within their ranges, which the law of its journal asks.
         let _within_ranges = envelope.order.without_job();
@@ -182,6 +190,7 @@ impl<J: Task<Out = u64>, A: Allocator + Clone> Recorded<J, A> {
         ensures others { (sender : ℕ) → sender ≢ from → KeepsIn sender self.old self.new }
         ensures outs { KeepsOuts (desk_of self.old) (desk_of self.new) }
         ensures seat { IsSameSeat self.old self.new }
+        ensures lanes { self.new.lanes ≡ self.old.lanes }
         ensures sound { IsRecorded J.SameTask J.made J.Polls self.new }
         ensures untouched { I.untouched end.new ≡ I.untouched end.old }
     {
@@ -198,6 +207,7 @@ impl<J: Task<Out = u64>, A: Allocator + Clone> Recorded<J, A> {
         ensures ins { (sender : ℕ) → KeepsIn sender self.old self.new }
         ensures outs { KeepsOuts (desk_of self.old) (desk_of self.new) }
         ensures seat { IsSameSeat self.old self.new }
+        ensures lanes { self.new.lanes ≡ self.old.lanes }
         ensures sound { IsRecorded J.SameTask J.made J.Polls self.new }
     {
         let (closed, notes) = self.core.close(mode);
@@ -248,6 +258,7 @@ impl<J: Task<Out = u64>, A: Allocator + Clone> Recorded<J, A> {
         ensures ins { (sender : ℕ) → LeavesOwed sender (owed_back result sender) self.old self.new }
         ensures outs { KeepsOuts (desk_of self.old) (desk_of self.new) }
         ensures seat { IsSameSeat self.old self.new }
+        ensures lanes { self.new.lanes ≡ self.old.lanes }
         ensures sound { IsRecorded J.SameTask J.made J.Polls self.new }
     {
         // There are fewer notes than turns that a core can make.
@@ -289,6 +300,7 @@ impl<J: Task<Out = u64>, A: Allocator + Clone> Recorded<J, A> {
         ensures others { (sender : ℕ) → sender ≢ name.from → KeepsIn sender self.old self.new }
         ensures outs { KeepsOuts (desk_of self.old) (desk_of self.new) }
         ensures seat { IsSameSeat self.old self.new }
+        ensures lanes { self.new.lanes ≡ self.old.lanes }
         ensures sound { IsRecorded J.SameTask J.made J.Polls self.new }
         ensures untouched { I.untouched end.new ≡ I.untouched end.old }
     {
@@ -306,6 +318,7 @@ impl<J: Task<Out = u64>, A: Allocator + Clone> Recorded<J, A> {
         ensures owes { OwesSettled self.old result self.new }
         ensures outs { KeepsOuts (desk_of self.old) (desk_of self.new) }
         ensures seat { IsSameSeat self.old self.new }
+        ensures lanes { self.new.lanes ≡ self.old.lanes }
         ensures sound { IsRecorded J.SameTask J.made J.Polls self.new }
     {
         let (settled, notes) = self.core.settle(ran, spent);
@@ -325,19 +338,101 @@ impl<J: Task<Out = u64>, A: Allocator + Clone> Recorded<J, A> {
         order: Order<J>,
     ) -> Result<Ticket, SendError<J>>
         requires beside { IsOutOf to (desk_of self.old) (O.out end.old) (O.credited end.old) }
+        requires lane { HasLane (Fits J.SameTask J.Answers) to (desk_of self.old) (O.out end.old) (O.credited end.old) }
         requires room { length self.old.journal.notes < self.old.journal.room }
         requires ready { HasReadyJob J.done J.CanPoll order }
         ensures submits { Submits to order (desk_of self.old) result (desk_of self.new) }
         ensures sends { Sends (O.out end.old) (O.credited end.old) order (O.out end.new) (numbered result) }
         ensures credited { O.credited end.new ≡ O.credited end.old }
-        ensures beside { IsOutOf to (desk_of self.new) (O.out end.new) (O.credited end.new) }
-        ensures others { (core : ℕ) → core ≢ to → KeepsOut core (desk_of self.old) (desk_of self.new) }
-        ensures rest { self.new ≡ record self.old { journal = self.new.journal } }
+        ensures stays { StaysBeside (Fits J.SameTask J.Answers) to (desk_of self.old) (desk_of self.new) (O.out end.new) (O.credited end.new) }
+        ensures rest { self.new ≡ record self.old { journal = self.new.journal; lanes = self.new.lanes } }
         ensures ins { (sender : ℕ) → KeepsIn sender self.old self.new }
         ensures seat { IsSameSeat self.old self.new }
         ensures sound { IsRecorded J.SameTask J.made J.Polls self.new }
         ensures untouched { O.untouched end.new ≡ O.untouched end.old }
     {
         self.said.submit(end, to, order)
+    }
+
+    /// Collects all outcomes that the link of a core shows, and notes each. How many there were.
+    pub fn collect_from<O: OutEnd<J>>(&mut self, end: &mut O, core: CoreNo) -> usize
+        requires beside { IsOutOf core (desk_of self.old) (O.out end.old) (O.credited end.old) }
+        requires lane { HasLane (Fits J.SameTask J.Answers) core (desk_of self.old) (O.out end.old) (O.credited end.old) }
+        requires room { length self.old.journal.notes + self.old.cap ≤ self.old.journal.room }
+        ensures collects { CollectsFrom core (desk_of self.old) result (desk_of self.new) }
+        ensures end { GetsAll (O.out end.old) (O.out end.new) }
+        ensures stays { StaysBeside (Fits J.SameTask J.Answers) core (desk_of self.old) (desk_of self.new) (O.out end.new) (O.credited end.new) }
+        ensures rest { self.new ≡ record self.old { journal = self.new.journal; lanes = self.new.lanes } }
+        ensures ins { (sender : ℕ) → KeepsIn sender self.old self.new }
+        ensures seat { IsSameSeat self.old self.new }
+        ensures sound { IsRecorded J.SameTask J.made J.Polls self.new }
+        ensures untouched { O.untouched end.new ≡ O.untouched end.old }
+    {
+        self.said.collect_from(end, core)
+    }
+
+    /// Whether a ticket is this core's, and there is a core of its number. Only then is there an end to lend; any other ticket is `Unknown`.
+    pub fn knows(&self, ticket: Ticket) -> bool
+        ensures knows { IsTrue result ↔ ((ticket.from ≡ self.now.core.core) × (ticket.to < self.now.core.cores)) }
+        ensures unknown { result ≡ false → RefusesTicket ticket Unknown self.now.journal.notes }
+    {
+        self.said.knows(ticket)
+    }
+
+    /// The outcome of a submission, which is gone from then on, and noted as redeemed. Its place of the link is free.
+    ///
+    /// # Errors
+    ///
+    /// `Unknown` where nothing was accepted under the name; `Gone` where it was redeemed or detached before; `Pending` where its outcome
+    /// isn't collected yet. Nothing changes.
+    pub fn redeem<O: OutEnd<J>>(
+        &mut self,
+        end: &mut O,
+        ticket: Ticket,
+    ) -> Result<Outcome<J, u64>, TicketError>
+        requires beside { IsOutOf ticket.to (desk_of self.old) (O.out end.old) (O.credited end.old) }
+        requires lane { HasLane (Fits J.SameTask J.Answers) ticket.to (desk_of self.old) (O.out end.old) (O.credited end.old) }
+        requires room { length self.old.journal.notes < self.old.journal.room }
+        ensures redeems { RedeemsTicket ticket (desk_of self.old) result (desk_of self.new) }
+        ensures given { IfOk result (IsGot (O.out end.old) ticket.number) }
+        ensures fits { IfOk result (FitsSent (Fits J.SameTask J.Answers) (O.out end.old) ticket.number) }
+        ensures out { O.out end.new ≡ O.out end.old }
+        ensures stays { StaysBeside (Fits J.SameTask J.Answers) ticket.to (desk_of self.old) (desk_of self.new) (O.out end.new) (O.credited end.new) }
+        ensures rest { self.new ≡ record self.old { journal = self.new.journal; lanes = self.new.lanes } }
+        ensures ins { (sender : ℕ) → KeepsIn sender self.old self.new }
+        ensures seat { IsSameSeat self.old self.new }
+        ensures sound { IsRecorded J.SameTask J.made J.Polls self.new }
+        ensures untouched { O.untouched end.new ≡ O.untouched end.old }
+    {
+        self.said.redeem(end, ticket)
+    }
+
+    /// Nobody will ask for the outcome of a submission. It is dropped, at once or when it is collected, and that frees its place of the link.
+    ///
+    /// # Errors
+    ///
+    /// `Unknown` and `Gone`, as `redeem`. Nothing changes.
+    pub fn detach<O: OutEnd<J>>(&mut self, end: &mut O, ticket: Ticket) -> Result<(), TicketError>
+        requires beside { IsOutOf ticket.to (desk_of self.old) (O.out end.old) (O.credited end.old) }
+        requires lane { HasLane (Fits J.SameTask J.Answers) ticket.to (desk_of self.old) (O.out end.old) (O.credited end.old) }
+        requires room { length self.old.journal.notes < self.old.journal.room }
+        ensures detaches { DetachesTicket ticket (desk_of self.old) result (desk_of self.new) }
+        ensures out { O.out end.new ≡ O.out end.old }
+        ensures stays { StaysBeside (Fits J.SameTask J.Answers) ticket.to (desk_of self.old) (desk_of self.new) (O.out end.new) (O.credited end.new) }
+        ensures rest { self.new ≡ record self.old { journal = self.new.journal; lanes = self.new.lanes } }
+        ensures ins { (sender : ℕ) → KeepsIn sender self.old self.new }
+        ensures seat { IsSameSeat self.old self.new }
+        ensures sound { IsRecorded J.SameTask J.made J.Polls self.new }
+        ensures untouched { O.untouched end.new ≡ O.untouched end.old }
+    {
+        self.said.detach(end, ticket)
+    }
+
+    /// How many submissions to a core are outstanding.
+    pub fn outstanding<O: OutEnd<J>>(&self, end: &O, core: CoreNo) -> u64
+        requires { IsOutOf core (desk_of self.now) (O.out end.now) (O.credited end.now) }
+        ensures { result ≡ outstanding_count core self.now.journal.notes }
+    {
+        self.said.outstanding(end, core)
     }
 }

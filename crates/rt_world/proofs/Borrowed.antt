@@ -8,8 +8,8 @@ use Rattle.rt_world.specs.Links.{row_of, link_at}
 use Rattle.rt_world.specs.Inside.{Parts, IsWorld}
 use Rattle.rt_world.proofs.LinkRows as by_rows
 
-module _ {J T V : Type 0} {same : J → J → Type 0} {made : J → ℕ} {polls : Owed J T} {old : Parts J T}
-    (world : IsWorld same made polls old) (items : V → List (Whole J T)) (rows : List V) (are : old.links ≡ map items rows) (sender : ℕ) (there : sender ≤ old.cores) where
+module _ {J T V : Type 0} {same : J → J → Type 0} {made : J → ℕ} {polls : Owed J T} {answers : J → T → Type 0} {old : Parts J T}
+    (world : IsWorld same made polls answers old) (items : V → List (Whole J T)) (rows : List V) (are : old.links ≡ map items rows) (sender : ℕ) (there : sender ≤ old.cores) where
   pub row_within : sender < length rows
   row_within = omega (arith, world.all_there.rows_are, ap length are, length-map rows items, there)
 

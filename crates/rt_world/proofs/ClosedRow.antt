@@ -17,7 +17,7 @@ use Rattle.rt_world.specs.declared.event.Reply.{Reply}
 use Rattle.rt_world.specs.declared.event.Reply.TheVariants as reply
 use Rattle.rt_world.specs.State.{WorldView, noted, with_sent}
 use Rattle.rt_world.specs.Runs.{Happens}
-use Rattle.rt_world.specs.ScriptRuns.{script_made, ScriptPolls, ScriptAnswers}
+use Rattle.rt_world.specs.ScriptRuns.{ScriptSame, script_made, ScriptPolls, ScriptAnswers}
 use Rattle.rt_world.specs.Rows.{name}
 use Rattle.rt_world.specs.WorkedRows.{short_job}
 use Rattle.rt_world.specs.ClosedRow.{CoreCloses}
@@ -27,7 +27,7 @@ use Rattle.rt_world.proofs.UnbegunCreations.{first_world}
 
 -- one event
 abbrev Occurs : Event Script → WorldView Script ℕ → WorldView Script ℕ → Reply Script → Type 0
-Occurs = Happens script_made ScriptPolls ScriptAnswers
+Occurs = Happens ScriptSame script_made ScriptPolls ScriptAnswers
 
 -- the core's journal before the pick
 abbrev before : Journal ℕ
@@ -101,7 +101,7 @@ module _ (room : ℕ) (enough : 100 ≤ room) where
 -- the row, as it is written
 pub core_closes : CoreCloses
 core_closes =
-    runs_just 1 4 [] _ _ _ (tt, (tt, (tt, (tt, (tt, (tt, (tt, (tt, (tt, (tt, tt))))))))))
+    runs_just 1 4 [] _ _ _ (tt, (tt, (tt, (tt, (tt, (tt, (tt, (tt, (tt, (tt, tt)))))))))) refl
     (λ room enough. record {
       end = shut_9 room enough;
       run = (

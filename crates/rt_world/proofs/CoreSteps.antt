@@ -8,16 +8,18 @@ use Rattle.rt_link.specs.declared.plain.Whole.{Whole}
 use Rattle.rt_link.specs.Whole.{out_of, inward_of}
 use Rattle.rt_journal.specs.Recorded.{RecordedView, IsRecorded, desk_of}
 use Rattle.rt_journal.specs.Steps.{opened_beside, with_notes}
+use Rattle.rt_link.specs.Fits.{Fits}
 use Rattle.rt_journal.specs.Ends.{IsOutOf, IsInOf, IsSameSeat}
+use Rattle.rt_journal.specs.Tickets.{HasLane}
 use Rattle.rt_world.specs.State.{journal_at}
 use Rattle.rt_world.specs.Links.{link_at}
 use Rattle.rt_world.specs.Inside.{Parts, core_at, desk_at, notes_at, seat_of, world_of, IsWorld}
 use Rattle.rt_world.proofs.Desks.{desk_at-core, desks-core, journal_at-world, journals-noted}
-use Rattle.rt_world.proofs.LinkSteps.{OnlyReceived, OnlySent}
+use Rattle.rt_world.proofs.LinkSteps.{OnlyReceived, OnlySent, lane_stays}
 use Rattle.rt_world.proofs.WorldAfter.{IsStep, world_after}
 
-module _ {J T : Type 0} {same : J → J → Type 0} {made : J → ℕ} {polls : Owed J T} {old : Parts J T}
-    (world : IsWorld same made polls old) (core : ℕ) (there : core < old.cores) where
+module _ {J T : Type 0} {same : J → J → Type 0} {made : J → ℕ} {polls : Owed J T} {answers : J → T → Type 0} {old : Parts J T}
+    (world : IsWorld same made polls answers old) (core : ℕ) (there : core < old.cores) where
   within : core < length old.inside
   within = omega (arith, there, world.all_there.cores_are)
 
@@ -33,6 +35,9 @@ module _ {J T : Type 0} {same : J → J → Type 0} {made : J → ℕ} {polls : 
 
   pub room_is : (core_at core old).journal.room ≡ old.room
   room_is = sym (ap (λ desk. desk.journal.room) desk_is) ∙ ap (λ desk. desk.journal.room) (world.all_there.seats_are core (omega (arith, there)))
+
+  pub core_cap : (core_at core old).cap ≡ old.cap
+  core_cap = ap (λ desk. desk.cap) (sym desk_is ∙ world.all_there.seats_are core (omega (arith, there)))
 
   pub cores_are : (core_at core old).core.cores ≡ old.cores
   cores_are = ap (λ desk. desk.cores) (sym desk_is ∙ world.all_there.seats_are core (omega (arith, there)))
@@ -62,12 +67,13 @@ module _ {J T : Type 0} {same : J → J → Type 0} {made : J → ℕ} {polls : 
       pub received : (sender to : ℕ) → sender ≢ core → OnlyReceived (link_at sender to old.links) (link_at sender to links)
       pub sent : (sender to : ℕ) → to ≢ core → OnlySent (link_at sender to old.links) (link_at sender to links)
       pub outs : (to : ℕ) → to < old.cores → IsOutOf to (desk_of now) (out_of (link_at core to links)) (link_at core to links).credited
+      pub lanes : (to : ℕ) → to < old.cores → HasLane (Fits same answers) to (desk_of now) (out_of (link_at core to links)) (link_at core to links).credited
       pub ins : (sender : ℕ) → sender ≤ old.cores → IsInOf sender now (inward_of (link_at sender core links))
 
     core_now : core_at core parts_now ≡ now
     core_now = get_or-set_same old.inside core now (opened_beside 0 0 0 0) within
 
-    seat_is : IsSameSeat (core_at core old) now → desk_of now ≡ seat_of core now.journal.notes old
+    seat_is : IsSameSeat (core_at core old) now → desk_of now ≡ seat_of core (desk_of now) old
     seat_is seat =
         let was = sym desk_is ∙ world.all_there.seats_are core (omega (arith, there)) in
         λ i. record {
@@ -75,6 +81,7 @@ module _ {J T : Type 0} {same : J → J → Type 0} {made : J → ℕ} {polls : 
           cores = (seat.cores ∙ ap (λ desk. desk.cores) was) i;
           cap = (seat.cap ∙ ap (λ desk. desk.cap) was) i;
           journal = record { notes = now.journal.notes; room = (seat.room ∙ ap (λ desk. desk.journal.room) was) i };
+          lanes = now.lanes;
         }
 
     step_of : DidStep → IsStep world core (set old.inside core now) old.outside links (desk_of now)
@@ -92,11 +99,19 @@ module _ {J T : Type 0} {same : J → J → Type 0} {made : J → ℕ} {polls : 
       received = did.received;
       sent = did.sent;
       outs = did.outs;
+      lanes = did.lanes;
       ins = λ sender known core_known. subst (λ view. IsInOf sender view (inward_of (link_at sender core links))) (sym core_now) (did.ins sender known);
     }
 
+    -- a core that sends nothing keeps its lanes
+    pub lanes_kept : now.lanes ≡ (core_at core old).lanes → ((to : ℕ) → OnlyReceived (link_at core to old.links) (link_at core to links)) →
+        (to : ℕ) → to < old.cores → HasLane (Fits same answers) to (desk_of now) (out_of (link_at core to links)) (link_at core to links).credited
+    lanes_kept same_lanes received to known =
+        lane_stays (Fits same answers) to (desk_at core old) (desk_of now) (link_at core to old.links) (link_at core to links)
+        (same_lanes ∙ sym (ap (λ desk. desk.lanes) desk_is)) (received to) (world.beside.lanes core to (omega (arith, there)) known)
+
     -- the world is at rest again
-    pub rests : DidStep → IsWorld same made polls parts_now
+    pub rests : DidStep → IsWorld same made polls answers parts_now
     rests did = world_after world core (set old.inside core now) old.outside links (desk_of now) (step_of did)
 
     -- its journal is longer by these notes

@@ -38,20 +38,21 @@ pub record IsTakenBy {J T : Type 0} (same : J → J → Type 0) (made : J → �
   pub beside : IsInOf link.from now (inward_of after)
   pub others : (other : ℕ) → other ≢ link.from → KeepsIn other view now
   pub outs : KeepsOuts (desk_of view) (desk_of now)
+  pub lanes : now.lanes ≡ view.lanes
   pub seat : IsSameSeat view now
   pub sound : IsRecorded same made polls now
   pub untouched : kept_by_receiver after ≡ kept_by_receiver link
 
 -- the end that is taken from is beside the core
-pub may_take_from : {J T : Type 0} {same : J → J → Type 0} {made : J → ℕ} {polls : Owed J T} {old : Parts J T}
-    (world : IsWorld same made polls old) (sender core : ℕ) → sender ≤ old.cores → core < old.cores → (view : RecordedView J T) → view ≡ core_at core old →
+pub may_take_from : {J T : Type 0} {same : J → J → Type 0} {made : J → ℕ} {polls : Owed J T} {answers : J → T → Type 0} {old : Parts J T}
+    (world : IsWorld same made polls answers old) (sender core : ℕ) → sender ≤ old.cores → core < old.cores → (view : RecordedView J T) → view ≡ core_at core old →
     (link : Whole J T) → link ≡ link_at sender core old.links → IsInOf link.from view (inward_of link)
 may_take_from world sender core there core_there view view_is link link_is =
     let its = may_take world sender core there core_there view view_is link link_is in
     subst (λ from. IsInOf from view (inward_of link)) (sym its.from) its
 
-module _ {J T : Type 0} {same : J → J → Type 0} {made : J → ℕ} {polls : Owed J T} {old : Parts J T}
-    (world : IsWorld same made polls old) (sender core : ℕ) (there : sender ≤ old.cores) (core_there : core < old.cores)
+module _ {J T : Type 0} {same : J → J → Type 0} {made : J → ℕ} {polls : Owed J T} {answers : J → T → Type 0} {old : Parts J T}
+    (world : IsWorld same made polls answers old) (sender core : ℕ) (there : sender ≤ old.cores) (core_there : core < old.cores)
     (found : Bool) (now : RecordedView J T) (after : Whole J T)
     (did : IsTakenBy same made polls (core_at core old) (link_at sender core old.links) found now after) where
   abbrev view : RecordedView J T
@@ -128,6 +129,7 @@ module _ {J T : Type 0} {same : J → J → Type 0} {made : J → ℕ} {polls : 
     beside = beside_now;
     others = λ other away. did.others other (λ one. away (one ∙ from_is));
     outs = did.outs;
+    lanes = did.lanes;
     seat = did.seat;
     sound = did.sound;
   }
@@ -135,7 +137,7 @@ module _ {J T : Type 0} {same : J → J → Type 0} {made : J → ℕ} {polls : 
   abbrev pub delivered : Parts J T
   delivered = parts_now world core core_there now links
 
-  pub delivered_rests : IsWorld same made polls delivered
+  pub delivered_rests : IsWorld same made polls answers delivered
   delivered_rests = receives_rests world sender core there core_there now after received
 
   -- the next place is the one that the link says

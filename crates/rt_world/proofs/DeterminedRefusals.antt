@@ -97,21 +97,21 @@ extends-set journals actor notes core =
     )
     (λ other. ([], get_or-set_other journals actor core (notes ++ get_or journals actor []) [] other)) (cases_eq core actor)
 
-module _ {J T : Type 0} (made : J → ℕ) (polls : Owed J T) (answers : J → T → Type 0) where
+module _ {J : Type 0} (same : J → J → Type 0) (made : J → ℕ) (polls : Owed J ℕ) (answers : J → ℕ → Type 0) where
   -- each event keeps what was told
-  pub refused-happens : (event : Event J) (old new : WorldView J T) (answer : Reply J) → Happens made polls answers event old new answer → WasRefused old.journals → WasRefused new.journals
+  pub refused-happens : (event : Event J) (old new : WorldView J ℕ) (answer : Reply J) → Happens same made polls answers event old new answer → WasRefused old.journals → WasRefused new.journals
   refused-happens event old new answer happens refused =
       ⊎_elim (λ same. subst (λ world. WasRefused world.journals) (sym same) refused)
       (λ longer. subst (λ world. WasRefused world.journals) (sym longer.is) (refused-set old.journals longer.actor longer.notes refused))
-      (is_longer made polls answers event old new answer happens)
+      (is_longer same made polls answers event old new answer happens)
 
-  pub refused-run : (events : List (Event J)) (old new : WorldView J T) (replies : List (Reply J)) → IsToldRun made polls answers events old new replies →
+  pub refused-run : (events : List (Event J)) (old new : WorldView J ℕ) (replies : List (Reply J)) → IsToldRun same made polls answers events old new replies →
       WasRefused old.journals → WasRefused new.journals
   refused-run [] old new replies run refused = subst (λ world. WasRefused world.journals) (sym run.0) refused
   refused-run (event ∷ events) old new replies run refused =
       refused-run events run.0 new run.2 run.4 (refused-happens event old run.0 run.1 run.3 refused)
 
-  pub extends-happens : (event : Event J) (old new : WorldView J T) (answer : Reply J) → Happens made polls answers event old new answer → Extends old.journals new.journals
+  pub extends-happens : (event : Event J) (old new : WorldView J ℕ) (answer : Reply J) → Happens same made polls answers event old new answer → Extends old.journals new.journals
   extends-happens event old new answer happens =
       ⊎_elim (λ same core. ([], ap (journal_at core) same))
       (
@@ -119,9 +119,9 @@ module _ {J T : Type 0} (made : J → ℕ) (polls : Owed J T) (answers : J → T
       let more = extends-set old.journals longer.actor longer.notes core in
       (more.0, ap (journal_at core) longer.is ∙ more.1)
       )
-      (is_longer made polls answers event old new answer happens)
+      (is_longer same made polls answers event old new answer happens)
 
-  pub extends-run : (events : List (Event J)) (old new : WorldView J T) (replies : List (Reply J)) → IsToldRun made polls answers events old new replies → Extends old.journals new.journals
+  pub extends-run : (events : List (Event J)) (old new : WorldView J ℕ) (replies : List (Reply J)) → IsToldRun same made polls answers events old new replies → Extends old.journals new.journals
   extends-run [] old new replies run core = ([], ap (journal_at core) run.0)
   extends-run (event ∷ events) old new replies run core =
       let first = extends-happens event old run.0 run.1 run.3 core in

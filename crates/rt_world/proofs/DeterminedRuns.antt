@@ -2,112 +2,125 @@
 use Rattle.std.proofs.Common.{◌≡◌, ℕ, List, [], ◌∷◌, refl, sym, ◌∙◌, ap, subst, ◌⊎◌, inl, inr, ⊎_elim, arith}
 use Rattle.rt_jobs.specs.Steps.{Owed}
 use Rattle.rt_world.specs.declared.event.Event.{Event}
-use Rattle.rt_world.specs.declared.event.Event.TheVariants.{Send, Deliver, Turn, Shut}
+use Rattle.rt_world.specs.declared.event.Event.TheVariants.{Send, Deliver, Turn, Shut, Collect, Redeem, Detach}
 use Rattle.rt_world.specs.declared.event.Reply.{Reply}
 use Rattle.rt_world.specs.declared.event.Reply.TheVariants as reply
 use Rattle.rt_world.specs.State.{WorldView, IsNearlyFull, assembly_of}
 use Rattle.rt_world.specs.Sends.{actor_of, AreThere}
 use Rattle.rt_world.specs.Runs.{Steps, Happens, IsRun}
 use Rattle.rt_world.specs.Opening.{HasAllLists}
-use Rattle.rt_world.specs.Determined.{WasRefusedSince, OwesOne, IsToldRun, RunIsDetermined, AssemblyIsDetermined}
+use Rattle.rt_world.specs.Determined.{WasRefusedSince, OwesOne, IsToldRun, AreAlike, AreAllAlike, RunIsDetermined, AssemblyIsDetermined}
 use Rattle.rt_world.proofs.KeptLists.{happens_keep}
 use Rattle.rt_world.proofs.DeterminedRefusals.{Extends, refused-earlier, refused-later, extends-happens, extends-run}
 use Rattle.rt_world.proofs.DeterminedSends.{sends_once}
 use Rattle.rt_world.proofs.DeterminedDeliveries.{delivers_once}
 use Rattle.rt_world.proofs.DeterminedTurns.{turns_once}
 use Rattle.rt_world.proofs.DeterminedShuts.{shuts_once}
+use Rattle.rt_world.proofs.DeterminedTickets.{collects_once, redeems_once, detaches_once}
 
-module _ {J T : Type 0} (made : J → ℕ) (polls : Owed J T) (answers : J → T → Type 0) where
-  module _ (event : Event J) (old new : WorldView J T) (answer : Reply J) where
+module _ {J : Type 0} (same : J → J → Type 0) (made : J → ℕ) (polls : Owed J ℕ) (answers : J → ℕ → Type 0) where
+  module _ (event : Event J) (old new : WorldView J ℕ) (answer : Reply J) where
     -- an actor of the event doesn't exist
     record IsNoActor : Type 0 where
       not_there : AreThere old.cores event → ⊥
       told : answer ≡ reply.NoActor event
-      same : new ≡ old
+      unchanged : new ≡ old
 
     -- the journal has too little room
     record IsNoRoom : Type 0 where
       there : AreThere old.cores event
       full : IsNearlyFull (actor_of event) old
       told : answer ≡ reply.NoRoom event
-      same : new ≡ old
+      unchanged : new ≡ old
 
     -- the step is made
     record IsStep : Type 0 where
       there : AreThere old.cores event
       room : IsNearlyFull (actor_of event) old → ⊥
-      step : Steps made polls answers event old new answer
+      step : Steps same made polls answers event old new answer
 
-  module _ (event : Event J) (old : WorldView J T) where
-    sorted : (new : WorldView J T) (answer : Reply J) → Happens made polls answers event old new answer →
+  module _ (event : Event J) (old : WorldView J ℕ) where
+    sorted : (new : WorldView J ℕ) (answer : Reply J) → Happens same made polls answers event old new answer →
         IsNoActor event old new answer ⊎ (IsNoRoom event old new answer ⊎ IsStep event old new answer)
-    sorted new (reply.NoActor back) happens = inl (record { not_there = happens.1; told = ap reply.NoActor happens.0; same = happens.2 })
-    sorted new (reply.NoRoom back) happens = inr (inl (record { there = happens.1; full = happens.2; told = ap reply.NoRoom happens.0; same = happens.3 }))
+    sorted new (reply.NoActor back) happens = inl (record { not_there = happens.1; told = ap reply.NoActor happens.0; unchanged = happens.2 })
+    sorted new (reply.NoRoom back) happens = inr (inl (record { there = happens.1; full = happens.2; told = ap reply.NoRoom happens.0; unchanged = happens.3 }))
     sorted new answer happens = inr (inr (record { there = happens.0; room = happens.1; step = happens.2 }))
 
-  module _ (owes : OwesOne polls) where
-    steps_once : (event : Event J) (old new other : WorldView J T) (answer other_answer : Reply J) → HasAllLists old → AreThere old.cores event →
-        Steps made polls answers event old new answer → Steps made polls answers event old other other_answer →
-        ((new ≡ other) × (answer ≡ other_answer)) ⊎ (WasRefusedSince old.journals new.journals ⊎ WasRefusedSince old.journals other.journals)
-    steps_once (Send sender core order) old new other answer other_answer lists there first second = inl (sends_once sender core order old new other answer other_answer first second)
-    steps_once (Deliver core sender) old new other answer other_answer lists there first second =
-        delivers_once core sender old (omega (arith, there.0, lists.journals_are)) new other answer other_answer first second
-    steps_once (Turn core spent) old new other answer other_answer lists there first second = inl (turns_once made polls answers owes core spent old new other answer other_answer first second)
-    steps_once (Shut core sender) old new other answer other_answer lists there first second = inl (shuts_once core sender old new other answer other_answer first second)
+  -- equal replies are alike
+  plainly : {new other : WorldView J ℕ} {answer other_answer : Reply J} → (new ≡ other) × (answer ≡ other_answer) → (new ≡ other) × AreAlike same answers answer other_answer
+  plainly found = (found.0, inl found.1)
 
-    module _ (event : Event J) (old new other : WorldView J T) (answer other_answer : Reply J) (lists : HasAllLists old) where
+  -- all alike, where the lists of replies are what these are
+  alike_as : (replies same_replies others same_others : List (Reply J)) → replies ≡ same_replies → others ≡ same_others → AreAllAlike same answers same_replies same_others → AreAllAlike same answers replies others
+  alike_as replies same_replies others same_others is others_is alike =
+      subst (λ list. AreAllAlike same answers list others) (sym is) (subst (AreAllAlike same answers same_replies) (sym others_is) alike)
+
+  module _ (owes : OwesOne polls) where
+    steps_once : (event : Event J) (old new other : WorldView J ℕ) (answer other_answer : Reply J) → HasAllLists old → AreThere old.cores event →
+        Steps same made polls answers event old new answer → Steps same made polls answers event old other other_answer →
+        ((new ≡ other) × AreAlike same answers answer other_answer) ⊎ (WasRefusedSince old.journals new.journals ⊎ WasRefusedSince old.journals other.journals)
+    steps_once (Send sender core order) old new other answer other_answer lists there first second = inl (plainly (sends_once sender core order old new other answer other_answer first second))
+    steps_once (Deliver core sender) old new other answer other_answer lists there first second =
+        ⊎_elim (λ one. inl (plainly one)) inr (delivers_once core sender old (omega (arith, there.0, lists.journals_are)) new other answer other_answer first second)
+    steps_once (Turn core spent) old new other answer other_answer lists there first second = inl (plainly (turns_once made polls answers owes core spent old new other answer other_answer first second))
+    steps_once (Shut core sender) old new other answer other_answer lists there first second = inl (plainly (shuts_once core sender old new other answer other_answer first second))
+    steps_once (Collect sender core) old new other answer other_answer lists there first second = inl (plainly (collects_once sender old new other core answer other_answer first second))
+    steps_once (Redeem sender name) old new other answer other_answer lists there first second = inl (redeems_once same answers sender old new other name answer other_answer first second)
+    steps_once (Detach sender name) old new other answer other_answer lists there first second = inl (plainly (detaches_once sender old new other name answer other_answer first second))
+
+    module _ (event : Event J) (old new other : WorldView J ℕ) (answer other_answer : Reply J) (lists : HasAllLists old) where
       one : IsNoActor event old new answer ⊎ (IsNoRoom event old new answer ⊎ IsStep event old new answer) →
           IsNoActor event old other other_answer ⊎ (IsNoRoom event old other other_answer ⊎ IsStep event old other other_answer) →
-          ((new ≡ other) × (answer ≡ other_answer)) ⊎ (WasRefusedSince old.journals new.journals ⊎ WasRefusedSince old.journals other.journals)
-      one (inl a) (inl b) = inl (a.same ∙ sym b.same, a.told ∙ sym b.told)
+          ((new ≡ other) × AreAlike same answers answer other_answer) ⊎ (WasRefusedSince old.journals new.journals ⊎ WasRefusedSince old.journals other.journals)
+      one (inl a) (inl b) = inl (a.unchanged ∙ sym b.unchanged, inl (a.told ∙ sym b.told))
       one (inl a) (inr (inl b)) = absurd (a.not_there b.there)
       one (inl a) (inr (inr b)) = absurd (a.not_there b.there)
       one (inr (inl a)) (inl b) = absurd (b.not_there a.there)
-      one (inr (inl a)) (inr (inl b)) = inl (a.same ∙ sym b.same, a.told ∙ sym b.told)
+      one (inr (inl a)) (inr (inl b)) = inl (a.unchanged ∙ sym b.unchanged, inl (a.told ∙ sym b.told))
       one (inr (inl a)) (inr (inr b)) = absurd (b.room a.full)
       one (inr (inr a)) (inl b) = absurd (b.not_there a.there)
       one (inr (inr a)) (inr (inl b)) = absurd (a.room b.full)
       one (inr (inr a)) (inr (inr b)) = steps_once event old new other answer other_answer lists a.there a.step b.step
 
-      pub happens_once : Happens made polls answers event old new answer → Happens made polls answers event old other other_answer →
-          ((new ≡ other) × (answer ≡ other_answer)) ⊎ (WasRefusedSince old.journals new.journals ⊎ WasRefusedSince old.journals other.journals)
+      pub happens_once : Happens same made polls answers event old new answer → Happens same made polls answers event old other other_answer →
+          ((new ≡ other) × AreAlike same answers answer other_answer) ⊎ (WasRefusedSince old.journals new.journals ⊎ WasRefusedSince old.journals other.journals)
       happens_once first second = one (sorted event old new answer first) (sorted event old other other_answer second)
 
-    pub run_once : RunIsDetermined made polls answers
-    run_once [] old new other replies others lists run other_run = inl (run.0 ∙ sym other_run.0, run.1 ∙ sym other_run.1)
+    pub run_once : RunIsDetermined same made polls answers
+    run_once [] old new other replies others lists run other_run = inl (run.0 ∙ sym other_run.0, alike_as replies [] others [] run.1 other_run.1 refl)
     run_once (event ∷ events) old new other replies others lists run other_run =
         ⊎_elim
         (
-        λ same.
-        ⊎_elim (λ rest. inl (rest.0, run.5 ∙ (ap (λ answer. answer ∷ run.2) same.1 ∙ (ap (λ rest. other_run.1 ∷ rest) rest.1 ∙ sym other_run.5))))
+        λ one.
+        ⊎_elim (λ rest. inl (rest.0, alike_as replies (run.1 ∷ run.2) others (other_run.1 ∷ other_run.2) run.5 other_run.5 (other_run.1, other_run.2, refl, one.1, rest.1)))
         (λ refused. inr (⊎_elim (λ told. inl (refused-earlier first_longer told)) (λ told. inr (refused-earlier first_longer told)) refused))
         (
-        run_once events run.0 new other run.2 other_run.2 (happens_keep made polls answers event old run.0 run.1 run.3 lists) run.4
-        (subst (λ world. IsToldRun made polls answers events world other other_run.2) (sym same.0) other_run.4)
+        run_once events run.0 new other run.2 other_run.2 (happens_keep same made polls answers event old run.0 run.1 run.3 lists) run.4
+        (subst (λ world. IsToldRun same made polls answers events world other other_run.2) (sym one.0) other_run.4)
         )
         )
         (
         λ refused.
-        inr (⊎_elim (λ told. inl (refused-later (extends-run made polls answers events run.0 new run.2 run.4) told))
-        (λ told. inr (refused-later (extends-run made polls answers events other_run.0 other other_run.2 other_run.4) told)) refused)
+        inr (⊎_elim (λ told. inl (refused-later (extends-run same made polls answers events run.0 new run.2 run.4) told))
+        (λ told. inr (refused-later (extends-run same made polls answers events other_run.0 other other_run.2 other_run.4) told)) refused)
         )
         (happens_once event old run.0 other_run.0 run.1 other_run.1 lists run.3 other_run.3)
       where
         first_longer : Extends old.journals run.0.journals
-        first_longer = extends-happens made polls answers event old run.0 run.1 run.3
+        first_longer = extends-happens same made polls answers event old run.0 run.1 run.3
 
     -- what the actors of a run are told
-    replies_of : (events : List (Event J)) (old new : WorldView J T) → IsRun made polls answers events old new → (replies : List (Reply J)) × IsToldRun made polls answers events old new replies
+    replies_of : (events : List (Event J)) (old new : WorldView J ℕ) → IsRun same made polls answers events old new → (replies : List (Reply J)) × IsToldRun same made polls answers events old new replies
     replies_of [] old new run = ([], (run, refl))
     replies_of (event ∷ events) old new run =
         let later = replies_of events run.0 new run.3 in
         (run.1 ∷ later.0, (run.0, run.1, later.0, run.2, later.1, refl))
 
-    pub assembly_once : AssemblyIsDetermined made polls answers
+    pub assembly_once : AssemblyIsDetermined same made polls answers
     assembly_once events old assembly other lists run other_run =
         let told = replies_of events old run.0 run.1 in
         let other_told = replies_of events old other_run.0 other_run.1 in
-        ⊎_elim (λ same. inl (run.2 ∙ (ap assembly_of same.0 ∙ sym other_run.2)))
+        ⊎_elim (λ one. inl (run.2 ∙ (ap assembly_of one.0 ∙ sym other_run.2)))
         (
         λ refused.
         inr (⊎_elim (λ at. inl (subst (λ assembly. WasRefusedSince old.journals assembly.journals) (sym run.2) at))

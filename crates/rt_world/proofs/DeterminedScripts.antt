@@ -7,7 +7,7 @@ use Rattle.rt_jobs.specs.declared.poll.Poll.{Poll}
 use Rattle.rt_jobs.specs.declared.poll.Poll.TheVariants as poll
 use Rattle.rt_jobs.specs.Scripts.{Does}
 use Rattle.rt_world.specs.Determined.{OwesOne}
-use Rattle.rt_world.specs.ScriptRuns.{script_made, ScriptPolls, ScriptAnswers, ScriptRunIsDetermined}
+use Rattle.rt_world.specs.ScriptRuns.{ScriptSame, script_made, ScriptPolls, ScriptAnswers, ScriptRunIsDetermined}
 use Rattle.rt_world.proofs.DeterminedRuns.{run_once}
 
 module _ (before after other_after : Journal ℕ) (step other : Step ℕ) (told other_told : Option ℕ) where
@@ -24,4 +24,4 @@ scripts_owe_one = record {
 }
 
 pub script_run_once : ScriptRunIsDetermined
-script_run_once = run_once script_made ScriptPolls ScriptAnswers scripts_owe_one
+script_run_once = run_once ScriptSame script_made ScriptPolls ScriptAnswers scripts_owe_one

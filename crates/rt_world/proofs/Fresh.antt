@@ -9,7 +9,11 @@ use Rattle.rt_link.specs.Whole.{out_of, inward_of, fresh}
 use Rattle.rt_journal.specs.Submissions.{DeskView, IsWritten, opened_desk, terms_of_desk}
 use Rattle.rt_journal.specs.Recorded.{RecordedView, IsRecorded, desk_of}
 use Rattle.rt_journal.specs.Steps.{opened_beside}
+use Rattle.rt_link.specs.Ends.{SoundOut}
+use Rattle.rt_link.specs.Fits.{Fits}
 use Rattle.rt_journal.specs.Ends.{IsOutOf, IsInOf}
+use Rattle.rt_journal.specs.Tickets.{HasLane}
+use Rattle.rt_journal.proofs.LaneEnds.{fresh_has_lane}
 use Rattle.rt_journal.proofs.Opened.{recorded-opened}
 use Rattle.rt_world.specs.State.{journal_at, sent_at}
 use Rattle.rt_world.specs.Links.{row_of, link_at, no_link, AreFresh}
@@ -27,6 +31,9 @@ module _ {J T : Type 0} (sender core cores cap room : ℕ) where
   out_of-opened known =
       record { known = known; from = refl; to = refl; base = refl; capacity = refl; behind = omega arith; accepted = refl; outstanding = refl; collected = refl }
 
+  sound_at_opening : SoundOut {J = J} {T = T} (out_of (fresh sender core cap 0)) 0
+  sound_at_opening = record { numbered = omega arith; room = omega arith; credits = omega arith; behind = omega arith; within = omega arith }
+
   in_of-opened : sender ≤ cores → IsInOf {J = J} {T = T} sender (opened_beside core cores cap room) (inward_of (fresh sender core cap 0))
   in_of-opened known = record {
     known = known;
@@ -42,7 +49,7 @@ module _ {J T : Type 0} (sender core cores cap room : ℕ) where
     orders = λ name order from at. absurd (none≢some order at);
   }
 
-module _ {J T : Type 0} (same : J → J → Type 0) (made : J → ℕ) (polls : Owed J T) (cores cap room : ℕ)
+module _ {J T : Type 0} (same : J → J → Type 0) (made : J → ℕ) (polls : Owed J T) (answers : J → T → Type 0) (cores cap room : ℕ)
     (inside : List (RecordedView J T)) (outside : DeskView J T) (links : List (List (Whole J T)))
     (cores_open : AreOpened cores cap room inside) (outside_open : outside ≡ opened_desk cores cores cap room)
     (written : IsWritten (terms_of_desk outside) outside.journal.notes) (links_open : AreFresh cores cap links) where
@@ -59,13 +66,13 @@ module _ {J T : Type 0} (same : J → J → Type 0) (made : J → ℕ) (polls : 
       (cases_lt actor cores)
 
   -- the parts that were just opened make a world at rest
-  pub world_at_opening : IsWorld same made polls parts
+  pub world_at_opening : IsWorld same made polls answers parts
   world_at_opening = record {
     all_there = record {
       cores_are = cores_open.cores_are;
       rows_are = links_open.rows_are;
       links_are = links_open.cores_are;
-      seats_are = λ actor known. desk_is actor known ∙ ap (λ desk. record { actor = actor; cores = cores; cap = cap; journal = record { notes = desk.journal.notes; room = room } }) (sym (desk_is actor known));
+      seats_are = λ actor known. desk_is actor known ∙ ap (λ desk. record { actor = actor; cores = cores; cap = cap; journal = record { notes = desk.journal.notes; room = room }; lanes = desk.lanes }) (sym (desk_is actor known));
     };
     recorded = λ core known. subst (IsRecorded same made polls) (sym (cores_open.each_opened core known)) (recorded-opened same made polls core cores cap room known);
     at_rest = λ core known. ap (λ view. view.core.out) (cores_open.each_opened core known);
@@ -74,6 +81,10 @@ module _ {J T : Type 0} (same : J → J → Type 0) (made : J → ℕ) (polls : 
       outs = λ sender core known core_known.
           subst (λ link. IsOutOf core (desk_at sender parts) (out_of link) link.credited) (sym (links_open.each_fresh sender core known core_known))
           (subst (λ desk. IsOutOf core desk (out_of (fresh sender core cap 0)) 0) (sym (desk_is sender known)) (out_of-opened sender core cores cap room core_known));
+      lanes = λ sender core known core_known.
+          subst (λ link. HasLane (Fits same answers) core (desk_at sender parts) (out_of link) link.credited) (sym (links_open.each_fresh sender core known core_known))
+          (subst (λ desk. HasLane (Fits same answers) core desk (out_of (fresh sender core cap 0)) 0) (sym (desk_is sender known))
+          (fresh_has_lane (Fits same answers) core sender cores cap room (out_of (fresh sender core cap 0)) core_known (refl, refl, refl, refl, refl, sound_at_opening sender core cores cap room)));
       ins = λ sender core known core_known.
           subst (λ link. IsInOf sender (core_at core parts) (inward_of link)) (sym (links_open.each_fresh sender core known core_known))
           (subst (λ view. IsInOf sender view (inward_of (fresh sender core cap 0))) (sym (cores_open.each_opened core core_known)) (in_of-opened sender core cores cap room known));

@@ -18,7 +18,7 @@ no_lists world hollow lists =
 pub hollow_refused : (J T : Type 0) → HollowIsRefused J T
 hollow_refused J T cores cap room world hollow = ((λ fresh. no_lists world hollow fresh.lists), (λ unbegun. no_lists world hollow unbegun.lists))
 
-module _ {J T : Type 0} {same : J → J → Type 0} {made : J → ℕ} {polls : Owed J T} (parts : Parts J T) (world : IsWorld same made polls parts) where
+module _ {J T : Type 0} {same : J → J → Type 0} {made : J → ℕ} {polls : Owed J T} {answers : J → T → Type 0} (parts : Parts J T) (world : IsWorld same made polls answers parts) where
   pub world_lists : HasAllLists (world_of parts)
   world_lists = record {
     journals_are = length-map (desks parts) (λ desk. desk.journal.notes) ∙ (desk_count parts ∙ ap (λ count. count + 1) world.all_there.cores_are);

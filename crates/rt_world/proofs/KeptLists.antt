@@ -8,13 +8,15 @@ use Rattle.rt_ids.specs.declared.note.Note.{Note}
 use Rattle.rt_ids.specs.declared.note.Note.TheVariants as writes
 use Rattle.rt_ids.specs.declared.order.Order.{Order}
 use Rattle.rt_ids.specs.declared.order.Reason.{Reason}
+use Rattle.rt_ids.specs.declared.names.TicketError.TheVariants.{Unknown, Gone}
 use Rattle.rt_ids.specs.declared.order.SendError.TheVariants.{Closed, Full, Spent}
 use Rattle.rt_ids.specs.Filters.{accepted_orders, name_started}
 use Rattle.rt_ids.specs.Journal.{Journal, is_told}
+use Rattle.rt_ids.specs.Outcomes.{outcome_note}
 use Rattle.rt_jobs.specs.declared.job.Step.{Step}
 use Rattle.rt_jobs.specs.Steps.{Owed}
 use Rattle.rt_world.specs.declared.event.Event.{Event}
-use Rattle.rt_world.specs.declared.event.Event.TheVariants.{Send, Deliver, Turn, Shut}
+use Rattle.rt_world.specs.declared.event.Event.TheVariants.{Send, Deliver, Turn, Shut, Collect, Redeem, Detach}
 use Rattle.rt_world.specs.declared.event.Reply.{Reply}
 use Rattle.rt_world.specs.declared.event.Reply.TheVariants as reply
 use Rattle.rt_world.specs.State.{WorldView, without_job, journal_at, sent_at, noted, with_sent}
@@ -22,6 +24,7 @@ use Rattle.rt_world.specs.Sends.{Sends}
 use Rattle.rt_world.specs.Deliveries.{Delivers}
 use Rattle.rt_world.specs.Turns.{poll_note, settle_note, Turns}
 use Rattle.rt_world.specs.Closings.{Shuts}
+use Rattle.rt_world.specs.Collections.{collected_notes, uncollected, Collects, Redeems, Detaches}
 use Rattle.rt_world.specs.Runs.{Steps, Happens}
 use Rattle.rt_world.specs.Opening.{HasAllLists}
 
@@ -99,8 +102,20 @@ module _ {J T : Type 0} where
   shuts core sender old new reply.AlreadyShut happens = inl happens.2
   shuts core sender old new _ happens = absurd happens
 
-module _ {J T : Type 0} (made : J → ℕ) (polls : Owed J T) (answers : J → T → Type 0) where
-  turns : (core spent : ℕ) (old new : WorldView J T) (answer : Reply J) → Turns made polls answers core spent old new answer → (new ≡ old) ⊎ IsLonger old new
+  collects : (sender core : ℕ) (old new : WorldView J T) (answer : Reply J) → Collects sender core old new answer → (new ≡ old) ⊎ IsLonger old new
+  collects sender core old new (reply.Collected count) happens =
+      inr (record { actor = sender; notes = collected_notes (uncollected sender core old); sent = old.sent; kept = same_rows old.sent; is = happens.1 })
+  collects sender core old new _ happens = absurd happens
+
+  detaches : (sender : ℕ) (name : JobId) (old new : WorldView J T) (answer : Reply J) → Detaches sender name old new answer → (new ≡ old) ⊎ IsLonger old new
+  detaches sender name old new reply.Detached happens =
+      inr (record { actor = sender; notes = writes.Detached name ∷ []; sent = old.sent; kept = same_rows old.sent; is = happens.1 })
+  detaches sender name old new (reply.NoTicket Unknown) happens = inl happens.1
+  detaches sender name old new (reply.NoTicket Gone) happens = inl happens.1
+  detaches sender name old new _ happens = absurd happens
+
+module _ {J : Type 0} (same : J → J → Type 0) (made : J → ℕ) (polls : Owed J ℕ) (answers : J → ℕ → Type 0) where
+  turns : (core spent : ℕ) (old new : WorldView J ℕ) (answer : Reply J) → Turns made polls answers core spent old new answer → (new ≡ old) ⊎ IsLonger old new
   turns core spent old new reply.Noted (inl poll) =
       inr (record { actor = core; notes = turn_notes poll.name poll.queue poll.runtime (unwrap_or poll.told spent) poll.step (journal_at core old); sent = old.sent; kept = same_rows old.sent; is = poll.notes })
   turns core spent old new reply.Noted (inr back) =
@@ -109,19 +124,28 @@ module _ {J T : Type 0} (made : J → ℕ) (polls : Owed J T) (answers : J → T
   turns core spent old new reply.Spent happens = inl happens.2
   turns core spent old new _ happens = absurd happens
 
-  steps : (event : Event J) (old new : WorldView J T) (answer : Reply J) → Steps made polls answers event old new answer → (new ≡ old) ⊎ IsLonger old new
+  redeems : (sender : ℕ) (name : JobId) (old new : WorldView J ℕ) (answer : Reply J) → Redeems same answers sender name old new answer → (new ≡ old) ⊎ IsLonger old new
+  redeems sender name old new (reply.Redeemed outcome) happens =
+      inr (record { actor = sender; notes = writes.Redeemed name (outcome_note outcome) ∷ []; sent = old.sent; kept = same_rows old.sent; is = happens.3 })
+  redeems sender name old new (reply.NoTicket error) happens = inl happens.1
+  redeems sender name old new _ happens = absurd happens
+
+  steps : (event : Event J) (old new : WorldView J ℕ) (answer : Reply J) → Steps same made polls answers event old new answer → (new ≡ old) ⊎ IsLonger old new
   steps (Send sender core order) = sends sender core order
   steps (Deliver core sender) = delivers core sender
   steps (Turn core spent) = turns core spent
   steps (Shut core sender) = shuts core sender
+  steps (Collect sender core) = collects sender core
+  steps (Redeem sender name) = redeems sender name
+  steps (Detach sender name) = detaches sender name
 
   -- an event changes nothing, or one journal is longer after it
-  pub is_longer : (event : Event J) (old new : WorldView J T) (answer : Reply J) → Happens made polls answers event old new answer → (new ≡ old) ⊎ IsLonger old new
+  pub is_longer : (event : Event J) (old new : WorldView J ℕ) (answer : Reply J) → Happens same made polls answers event old new answer → (new ≡ old) ⊎ IsLonger old new
   is_longer event old new (reply.NoActor back) happens = inl happens.2
   is_longer event old new (reply.NoRoom back) happens = inl happens.3
   is_longer event old new answer happens = steps event old new answer happens.2
 
-  pub happens_keep : (event : Event J) (old new : WorldView J T) (answer : Reply J) → Happens made polls answers event old new answer → HasAllLists old → HasAllLists new
+  pub happens_keep : (event : Event J) (old new : WorldView J ℕ) (answer : Reply J) → Happens same made polls answers event old new answer → HasAllLists old → HasAllLists new
   happens_keep event old new answer happens lists =
       ⊎_elim (λ same. subst (λ world. HasAllLists world) (sym same) lists) (λ longer. keeps_lists old new longer lists)
       (is_longer event old new answer happens)

@@ -12,6 +12,8 @@ pub mod CoreSteps
 pub mod SentLinks
 pub mod Sending
 pub mod CoreSending
+pub mod Collecting
+pub mod Ticketing
 pub mod Receiving
 pub mod Delivering
 pub mod Shutting
@@ -26,6 +28,7 @@ pub mod DeterminedSends
 pub mod DeterminedDeliveries
 pub mod DeterminedTurns
 pub mod DeterminedShuts
+pub mod DeterminedTickets
 pub mod DeterminedRuns
 pub mod DeterminedOpenings
 pub mod DeterminedScripts

@@ -2,13 +2,18 @@
 use Rattle.std.proofs.Common.{◌≡◌, ℕ, true, List, [], ◌∷◌, ◌++◌, length, refl, sym, ◌∙◌, ap, subst, ⊎_elim, arith}
 use Rattle.std.proofs.lemmas.Bool.{cases_eq}
 use Rattle.std.proofs.lemmas.List.{append-nil, length-append}
+use Rattle.rt_ids.specs.declared.order.Order.{Order}
 use Rattle.rt_ids.specs.declared.order.Outcome.{Outcome}
 use Rattle.rt_link.specs.declared.plain.Whole.{Whole}
 use Rattle.rt_link.specs.Whole.{out_of, inward_of}
 use Rattle.rt_link.specs.Ends.{StartsWith}
+use Rattle.rt_desk.specs.Lanes.{IsLaneOf}
+use Rattle.std.specs.Prelude.{slice_get}
 use Rattle.rt_journal.specs.Submissions.{DeskView}
 use Rattle.rt_journal.specs.Recorded.{RecordedView}
 use Rattle.rt_journal.specs.Ends.{IsOutOf, IsInOf}
+use Rattle.rt_journal.specs.Tickets.{HasLane}
+use Rattle.rt_journal.proofs.LaneEnds.{sees_more_lane}
 use Rattle.rt_journal.proofs.EndsKept.{sees_more_in, sees_more_out}
 use Rattle.rt_world.specs.Links.{link_at, ChangesLink}
 
@@ -48,6 +53,17 @@ module _ {J T : Type 0} where
   out_stays core desk old new received is =
       subst (IsOutOf core desk (out_of new)) (sym (ap (λ link. link.credited) received.rest))
       (sees_more_out core desk (out_of old) (out_of new) old.credited (record { rest = ap out_of received.rest; seen = received.given }) is)
+
+  -- and so does its lane, where the actor's lanes are the same
+  pub lane_stays : (fits : Order J → Outcome J T → Type 0) (core : ℕ) (desk later : DeskView J T) (old new : Whole J T) → later.lanes ≡ desk.lanes → OnlyReceived old new →
+      HasLane fits core desk (out_of old) old.credited → HasLane fits core later (out_of new) new.credited
+  lane_stays fits core desk later old new lanes received has =
+      let seen = sees_more_lane fits core desk (out_of old) (out_of new) old.credited (record { rest = ap out_of received.rest; seen = received.given }) has in
+      record {
+        lane = seen.lane;
+        is = ap (λ all. slice_get all core) lanes ∙ seen.is;
+        lane_of = subst (λ credited. IsLaneOf fits seen.lane (out_of new) credited) (sym (ap (λ link. link.credited) received.rest)) seen.lane_of;
+      }
 
   pub in_stays : (sender : ℕ) (view : RecordedView J T) (old new : Whole J T) → OnlySent old new → IsInOf sender view (inward_of old) → IsInOf sender view (inward_of new)
   in_stays sender view old new sent is =

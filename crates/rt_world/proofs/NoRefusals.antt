@@ -1,10 +1,11 @@
 -- If no queue is ordered, no refusal is told.
 use Rattle.std.proofs.Common.{◌≡◌, ℕ, zero, suc, ◌+◌, Bool, true, false, cond, List, [], ◌∷◌, ◌++◌, length, refl, sym, ◌∙◌, ap, subst, ◌⊎◌, inl, inr, ⊎_elim, get_or, set}
 use Rattle.std.specs.Prelude.{◌||◌, Option, Some, None, slice_get, nat_le, unwrap_or}
-use Rattle.std.proofs.lemmas.Bool.{cases_eq, cases_lt, true≢false}
+use Rattle.std.proofs.lemmas.Bool.{cases_eq, cases_lt, true≢false, or_parts}
 use Rattle.std.proofs.lemmas.Option.{none-some}
 use Rattle.std.proofs.lemmas.List.{get_or-set_same, get_or-set_other, set_past}
 use Rattle.rt_ids.specs.declared.names.JobId.{JobId}
+use Rattle.rt_ids.specs.declared.names.TicketError.TheVariants.{Unknown, Gone}
 use Rattle.rt_ids.specs.declared.note.Note.{Note}
 use Rattle.rt_ids.specs.declared.note.Note.TheVariants as writes
 use Rattle.rt_ids.specs.declared.order.Answer.{Answer}
@@ -16,14 +17,15 @@ use Rattle.rt_ids.specs.declared.order.Reason.{Reason}
 use Rattle.rt_ids.specs.declared.order.SendError.TheVariants.{Closed, Full, Spent}
 use Rattle.rt_ids.specs.Commands.{created_count, refusal, effect_note}
 use Rattle.rt_ids.specs.Closing.{closes, core_mode, queue_mode}
-use Rattle.rt_ids.specs.Filters.{accepted_orders, name_started}
+use Rattle.rt_ids.specs.Filters.{Outcomes, accepted_orders, name_started}
 use Rattle.rt_ids.specs.Journal.{Journal, is_told}
 use Rattle.rt_ids.specs.Commands.{IsOpening}
+use Rattle.rt_ids.specs.Outcomes.{outcome_note}
 use Rattle.rt_jobs.specs.declared.job.Step.{Step}
 use Rattle.rt_jobs.specs.Steps.{Owed}
 use Rattle.rt_jobs.specs.declared.job.Step.TheVariants as steps
 use Rattle.rt_world.specs.declared.event.Event.{Event}
-use Rattle.rt_world.specs.declared.event.Event.TheVariants.{Send, Deliver, Turn, Shut}
+use Rattle.rt_world.specs.declared.event.Event.TheVariants.{Send, Deliver, Turn, Shut, Collect, Redeem, Detach}
 use Rattle.rt_world.specs.declared.event.Reply.{Reply}
 use Rattle.rt_world.specs.declared.event.Reply.TheVariants as reply
 use Rattle.rt_world.specs.State.{WorldView, without_job, journal_at, sent_at, noted, with_sent}
@@ -31,6 +33,7 @@ use Rattle.rt_world.specs.Sends.{Sends}
 use Rattle.rt_world.specs.Deliveries.{entry_note, with_effect, IsDelivery, next_place, Delivers}
 use Rattle.rt_world.specs.Turns.{poll_note, settle_note, Turns}
 use Rattle.rt_world.specs.Closings.{Shuts}
+use Rattle.rt_world.specs.Collections.{collected_notes, uncollected, Collects, Redeems, Detaches}
 use Rattle.rt_world.specs.Runs.{Steps, Happens}
 use Rattle.rt_world.specs.Opening.{IsUnbegun}
 use Rattle.rt_world.specs.Determined.{is_refusal, tells_refusal, WasRefused, IsToldRun}
@@ -67,6 +70,17 @@ not_added {T} (note ∷ notes) before none told = by_note (is_refusal note) none
         (tells_refusal notes ≡ false → tells_refusal (notes ++ before) ≡ true → tells_refusal before ≡ true) → tells_refusal before ≡ true
     by_note true none told rest = absurd (true≢false none)
     by_note false none told rest = rest none told
+
+-- notes that are collected tell no refusal
+plain_after : {T : Type 0} (notes rest : List (Note T)) → tells_refusal notes ≡ false → tells_refusal rest ≡ false → tells_refusal (notes ++ rest) ≡ false
+plain_after [] rest none plain = plain
+plain_after (note ∷ notes) rest none plain =
+    let parts = or_parts (is_refusal note) (tells_refusal notes) none in
+    ap (λ first. first || tells_refusal (notes ++ rest)) parts.0 ∙ plain_after notes rest parts.1 plain
+
+collected_plain : {T : Type 0} (outcomes : Outcomes T) → tells_refusal (collected_notes outcomes) ≡ false
+collected_plain [] = refl
+collected_plain (outcome ∷ later) = plain_after (collected_notes later) (writes.Collected outcome.0 outcome.1 ∷ []) (collected_plain later) refl
 
 module _ (T : Type 0) where
   taken_plain : (name : JobId) (queue : ℕ) (reason : Option Reason) → tells_refusal {T = T} (entry_note name queue reason ∷ []) ≡ false
@@ -193,8 +207,19 @@ module _ {J T : Type 0} where
   shuts_plain core sender old new reply.AlreadyShut happens plain = subst (λ world. IsPlain world) (sym happens.2) plain
   shuts_plain core sender old new _ happens plain = absurd happens
 
-module _ {J T : Type 0} (made : J → ℕ) (polls : Owed J T) (answers : J → T → Type 0) where
-  turns_plain : (core spent : ℕ) (old new : WorldView J T) (answer : Reply J) → Turns made polls answers core spent old new answer → IsPlain old → IsPlain new
+  collects_plain : (sender core : ℕ) (old new : WorldView J T) (answer : Reply J) → Collects sender core old new answer → IsPlain old → IsPlain new
+  collects_plain sender core old new (reply.Collected count) happens plain =
+      subst (λ world. IsPlain world) (sym happens.1) (plain_noted old sender (collected_notes (uncollected sender core old)) (collected_plain (uncollected sender core old)) plain)
+  collects_plain sender core old new _ happens plain = absurd happens
+
+  detaches_plain : (sender : ℕ) (name : JobId) (old new : WorldView J T) (answer : Reply J) → Detaches sender name old new answer → IsPlain old → IsPlain new
+  detaches_plain sender name old new reply.Detached happens plain = subst (λ world. IsPlain world) (sym happens.1) (plain_noted old sender (writes.Detached name ∷ []) refl plain)
+  detaches_plain sender name old new (reply.NoTicket Unknown) happens plain = subst (λ world. IsPlain world) (sym happens.1) plain
+  detaches_plain sender name old new (reply.NoTicket Gone) happens plain = subst (λ world. IsPlain world) (sym happens.1) plain
+  detaches_plain sender name old new _ happens plain = absurd happens
+
+module _ {J : Type 0} (same : J → J → Type 0) (made : J → ℕ) (polls : Owed J ℕ) (answers : J → ℕ → Type 0) where
+  turns_plain : (core spent : ℕ) (old new : WorldView J ℕ) (answer : Reply J) → Turns made polls answers core spent old new answer → IsPlain old → IsPlain new
   turns_plain core spent old new reply.Noted (inl poll) plain =
       subst (λ world. IsPlain world) (sym poll.notes)
       (
@@ -207,23 +232,32 @@ module _ {J T : Type 0} (made : J → ℕ) (polls : Owed J T) (answers : J → T
   turns_plain core spent old new reply.Spent happens plain = subst (λ world. IsPlain world) (sym happens.2) plain
   turns_plain core spent old new _ happens plain = absurd happens
 
-  steps_plain : (event : Event J) → OrdersNoQueue event → (old new : WorldView J T) (answer : Reply J) → Steps made polls answers event old new answer → IsPlain old → IsPlain new
+  redeems_plain : (sender : ℕ) (name : JobId) (old new : WorldView J ℕ) (answer : Reply J) → Redeems same answers sender name old new answer → IsPlain old → IsPlain new
+  redeems_plain sender name old new (reply.Redeemed outcome) happens plain =
+      subst (λ world. IsPlain world) (sym happens.3) (plain_noted old sender (writes.Redeemed name (outcome_note outcome) ∷ []) refl plain)
+  redeems_plain sender name old new (reply.NoTicket error) happens plain = subst (λ world. IsPlain world) (sym happens.1) plain
+  redeems_plain sender name old new _ happens plain = absurd happens
+
+  steps_plain : (event : Event J) → OrdersNoQueue event → (old new : WorldView J ℕ) (answer : Reply J) → Steps same made polls answers event old new answer → IsPlain old → IsPlain new
   steps_plain (Send sender core order) none = sends_plain sender core order none
   steps_plain (Deliver core sender) none = delivers_plain core sender
   steps_plain (Turn core spent) none = turns_plain core spent
   steps_plain (Shut core sender) none = shuts_plain core sender
+  steps_plain (Collect sender core) none = collects_plain sender core
+  steps_plain (Redeem sender name) none = redeems_plain sender name
+  steps_plain (Detach sender name) none = detaches_plain sender name
 
-  happens_plain : (event : Event J) → OrdersNoQueue event → (old new : WorldView J T) (answer : Reply J) → Happens made polls answers event old new answer → IsPlain old → IsPlain new
+  happens_plain : (event : Event J) → OrdersNoQueue event → (old new : WorldView J ℕ) (answer : Reply J) → Happens same made polls answers event old new answer → IsPlain old → IsPlain new
   happens_plain event none old new (reply.NoActor back) happens plain = subst (λ world. IsPlain world) (sym happens.2) plain
   happens_plain event none old new (reply.NoRoom back) happens plain = subst (λ world. IsPlain world) (sym happens.3) plain
   happens_plain event none old new answer happens plain = steps_plain event none old new answer happens.2 plain
 
-  pub run_plain : (events : List (Event J)) → OrderNoQueues events → (old new : WorldView J T) (replies : List (Reply J)) → IsToldRun made polls answers events old new replies → IsPlain old → IsPlain new
+  pub run_plain : (events : List (Event J)) → OrderNoQueues events → (old new : WorldView J ℕ) (replies : List (Reply J)) → IsToldRun same made polls answers events old new replies → IsPlain old → IsPlain new
   run_plain [] none old new replies run plain = subst (λ world. IsPlain world) (sym run.0) plain
   run_plain (event ∷ events) none old new replies run plain =
       run_plain events none.1 run.0 new run.2 run.4 (happens_plain event none.0 old run.0 run.1 run.3 plain)
 
-  pub jobs_once : RunOfJobsIsDetermined made polls answers
+  pub jobs_once : RunOfJobsIsDetermined same made polls answers
   jobs_once owes events old new other replies others unbegun none run other_run =
       let plain = plain_unbegun old unbegun in
       ⊎_elim (λ same. same)
@@ -232,4 +266,4 @@ module _ {J T : Type 0} (made : J → ℕ) (polls : Owed J T) (answers : J → T
       absurd (⊎_elim (λ told. (run_plain events none old new replies run plain).told (was_refused told))
       (λ told. (run_plain events none old other others other_run plain).told (was_refused told)) refused)
       )
-      (run_once made polls answers owes events old new other replies others unbegun.lists run other_run)
+      (run_once same made polls answers owes events old new other replies others unbegun.lists run other_run)

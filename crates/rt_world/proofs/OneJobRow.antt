@@ -13,7 +13,7 @@ use Rattle.rt_world.specs.declared.event.Event.TheVariants.{Send, Deliver, Turn}
 use Rattle.rt_world.specs.declared.event.Reply.TheVariants as reply
 use Rattle.rt_world.specs.State.{WorldView, noted, with_sent}
 use Rattle.rt_world.specs.Runs.{Happens}
-use Rattle.rt_world.specs.ScriptRuns.{script_made, ScriptPolls, ScriptAnswers}
+use Rattle.rt_world.specs.ScriptRuns.{ScriptSame, script_made, ScriptPolls, ScriptAnswers}
 use Rattle.rt_world.specs.Rows.{name, job_of}
 use Rattle.rt_world.specs.WorkedRows.{OneJob}
 use Rattle.rt_world.proofs.RowPicks.{right_of_one, few_turns, few_names, some_room}
@@ -46,17 +46,17 @@ module _ (room : ℕ) (enough : 100 ≤ room) where
   abbrev turned : WorldView Script ℕ
   turned = noted 0 (Done (name 0 0 1) 40 7 ∷ Start (name 0 0 1) ∷ Pick 0 0 ∷ []) delivered
 
-  sends : Happens script_made ScriptPolls ScriptAnswers (Send 0 0 (Job 0 job)) world sent (reply.Sent (name 0 0 1))
+  sends : Happens ScriptSame script_made ScriptPolls ScriptAnswers (Send 0 0 (Job 0 job)) world sent (reply.Sent (name 0 0 1))
   sends = (
     (omega arith, omega arith),
     some_room room 0 enough (omega arith),
     (record { sender = refl; receiver = omega arith; next = refl; in_range = few_names 1 (omega arith); credit = omega arith; spelled = omega arith }, refl, refl, refl),
   )
 
-  delivers : Happens script_made ScriptPolls ScriptAnswers (Deliver 0 0) sent delivered reply.Noted
+  delivers : Happens ScriptSame script_made ScriptPolls ScriptAnswers (Deliver 0 0) sent delivered reply.Noted
   delivers = ((omega arith, omega arith), some_room room 1 enough (omega arith), (Job 0 job, refl, Took (name 0 0 1) 0 ∷ [], refl, refl))
 
-  turns : Happens script_made ScriptPolls ScriptAnswers (Turn 0 0) delivered turned reply.Noted
+  turns : Happens ScriptSame script_made ScriptPolls ScriptAnswers (Turn 0 0) delivered turned reply.Noted
   turns = (
     omega arith,
     some_room room 2 enough (omega arith),
@@ -82,7 +82,7 @@ module _ (room : ℕ) (enough : 100 ≤ room) where
 -- the row, as it is written
 pub one_job : OneJob
 one_job =
-    runs_just 1 4 [] _ _ _ (tt, (tt, (tt, tt)))
+    runs_just 1 4 [] _ _ _ (tt, (tt, (tt, tt))) refl
     (
     λ room enough.
     record {

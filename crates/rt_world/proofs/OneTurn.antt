@@ -39,6 +39,7 @@ pub record IsKeptBeside {J T : Type 0} (same : J → J → Type 0) (made : J →
   pub seat : IsSameSeat old new
   pub ins : (sender : ℕ) → LeavesOwed sender (owed sender) old new
   pub outs : KeepsOuts (desk_of old) (desk_of new)
+  pub lanes : new.lanes ≡ old.lanes
 
 -- so each end is beside the core, except for what is owed
 pub beside_then : {J T : Type 0} {same : J → J → Type 0} {made : J → ℕ} {polls : Owed J T} {owed : ℕ → Option (JobId × OutcomeNote T)} {old new : RecordedView J T} →
@@ -98,6 +99,7 @@ module _ {J T : Type 0} {same : J → J → Type 0} {made : J → ℕ} {polls : 
     at_rest = by_reply told none;
     seat = kept.seat;
     outs = kept.outs;
+    lanes = kept.lanes;
     links = no_gift number links;
     ins = owed_as (owed_back picked) none_owed (nobody told none) number middle links (beside_then kept number links before);
   }
@@ -133,7 +135,7 @@ module _ {J T : Type 0} {same : J → J → Type 0} {made : J → ℕ} {polls : 
     back_turns answers spent = inr (record { name = name; reason = reason; order = order; did = back })
 
     pub back_stays : (links_now : List (List (Whole J T))) → GivesOnOne number links links_now → IsBesideAll number none_owed middle links_now → StaysBeside same made polls number old middle links links_now
-    back_stays links_now gives then = record { recorded = kept.sound; at_rest = back.out; seat = kept.seat; outs = kept.outs; links = gives; ins = then }
+    back_stays links_now gives then = record { recorded = kept.sound; at_rest = back.out; seat = kept.seat; outs = kept.outs; lanes = kept.lanes; links = gives; ins = then }
 
   module _ (name : JobId) (job : J) (is_job : TookOut picked name job) where
     abbrev out : JobOut J
@@ -209,12 +211,13 @@ module _ {J T : Type 0} {same : J → J → Type 0} {made : J → ℕ} {polls : 
       }
 
       pub turned_stays : (links_now : List (List (Whole J T))) → GivesOnOne number links links_now → IsBesideAll number none_owed new links_now →
-          KeepsOuts (desk_of middle) (desk_of new) → IsSameSeat middle new → IsRecorded same made polls new → StaysBeside same made polls number old new links links_now
-      turned_stays links_now gives then outs seat sound = record {
+          KeepsOuts (desk_of middle) (desk_of new) → new.lanes ≡ middle.lanes → IsSameSeat middle new → IsRecorded same made polls new → StaysBeside same made polls number old new links links_now
+      turned_stays links_now gives then outs lanes seat sound = record {
         recorded = sound;
         at_rest = settles.out_now;
         seat = same_seat-then old middle new kept.seat seat;
         outs = keeps_outs-then (desk_of old) (desk_of middle) (desk_of new) kept.outs outs;
+        lanes = lanes ∙ kept.lanes;
         links = gives;
         ins = then;
       }

@@ -12,11 +12,11 @@ use Rattle.rt_world.specs.Links.{link_at, ChangesLink}
 use Rattle.rt_world.specs.Inside.{Parts, core_at, IsWorld}
 use Rattle.rt_world.proofs.LinkRows.{with_link, ChangesLink-with_link}
 use Rattle.rt_world.proofs.LinkSteps.{as_long, OnlyReceived, OnlySent, received-same, sent-same, each_link, other_link, out_stays}
-use Rattle.rt_world.proofs.CoreSteps.{desk_is, parts_now, rests}
+use Rattle.rt_world.proofs.CoreSteps.{desk_is, parts_now, lanes_kept, rests}
 
 -- the end is beside the core that takes from it
-pub may_take : {J T : Type 0} {same : J → J → Type 0} {made : J → ℕ} {polls : Owed J T} {old : Parts J T}
-    (world : IsWorld same made polls old) (sender core : ℕ) → sender ≤ old.cores → core < old.cores → (view : RecordedView J T) → view ≡ core_at core old →
+pub may_take : {J T : Type 0} {same : J → J → Type 0} {made : J → ℕ} {polls : Owed J T} {answers : J → T → Type 0} {old : Parts J T}
+    (world : IsWorld same made polls answers old) (sender core : ℕ) → sender ≤ old.cores → core < old.cores → (view : RecordedView J T) → view ≡ core_at core old →
     (link : Whole J T) → link ≡ link_at sender core old.links → IsInOf sender view (inward_of link)
 may_take {old = old} world sender core there core_there view view_is link link_is =
     subst (λ at. IsInOf sender view (inward_of at)) (sym link_is)
@@ -53,11 +53,12 @@ pub record DidReceive {J T : Type 0} (same : J → J → Type 0) (made : J → �
   pub beside : IsInOf sender now (inward_of after)
   pub others : (other : ℕ) → other ≢ sender → KeepsIn other view now
   pub outs : KeepsOuts (desk_of view) (desk_of now)
+  pub lanes : now.lanes ≡ view.lanes
   pub seat : IsSameSeat view now
   pub sound : IsRecorded same made polls now
 
-module _ {J T : Type 0} {same : J → J → Type 0} {made : J → ℕ} {polls : Owed J T} {old : Parts J T}
-    (world : IsWorld same made polls old) (sender core : ℕ) (there : sender ≤ old.cores) (core_there : core < old.cores)
+module _ {J T : Type 0} {same : J → J → Type 0} {made : J → ℕ} {polls : Owed J T} {answers : J → T → Type 0} {old : Parts J T}
+    (world : IsWorld same made polls answers old) (sender core : ℕ) (there : sender ≤ old.cores) (core_there : core < old.cores)
     (now : RecordedView J T) (after : Whole J T)
     (did : DidReceive same made polls sender (core_at core old) (link_at sender core old.links) now after) where
   abbrev links : List (List (Whole J T))
@@ -77,7 +78,7 @@ module _ {J T : Type 0} {same : J → J → Type 0} {made : J → ℕ} {polls : 
       (λ away. subst (λ link. IsInOf from now (inward_of link)) (sym (changes.others from core (λ one two. away one))) ((did.others from away).each _ (world.beside.ins from core known core_there)))
       (cases_eq from sender)
 
-  pub receives_rests : IsWorld same made polls (parts_now world core core_there now links)
+  pub receives_rests : IsWorld same made polls answers (parts_now world core core_there now links)
   receives_rests =
       rests world core core_there now links (record {
         recorded = did.sound;
@@ -90,5 +91,6 @@ module _ {J T : Type 0} {same : J → J → Type 0} {made : J → ℕ} {polls : 
         outs = λ to known.
             out_stays to (desk_of now) _ _ (all_received core to)
             ((did.outs to).each _ _ (subst (λ desk. IsOutOf to desk (out_of (link_at core to old.links)) (link_at core to old.links).credited) (desk_is world core core_there) (world.beside.outs core to (omega (arith, core_there)) known)));
+        lanes = lanes_kept world core core_there now links did.lanes (λ to. all_received core to);
         ins = ins;
       })

@@ -45,8 +45,6 @@ pub record IsSubmitted {J T : Type 0} (core : ℕ) (order : Order J) (desk : Des
   pub submits : Submits core order desk answer now
   pub sends : SendsOn (out_of link) link.credited order (out_of after) (numbered answer)
   pub credited : after.credited ≡ link.credited
-  pub beside : IsOutOf core now (out_of after) after.credited
-  pub others : (other : ℕ) → other ≢ core → KeepsOut other desk now
   pub untouched : kept_by_sender after ≡ kept_by_sender link
 
 module _ {J T : Type 0} (core : ℕ) (order : Order J) (desk : DeskView J T) (link : Whole J T) (answer : Result JobId (SendError J)) (now : DeskView J T) (after : Whole J T)
@@ -95,8 +93,8 @@ module _ {J T : Type 0} (core : ℕ) (order : Order J) (desk : DeskView J T) (li
       by_answer (Ok name) shut sends sent = absurd (true≢false (sym shut ∙ sends.0))
       by_answer (Err error) shut sends sent = sent ∙ append-nil link.sent
 
-module _ {J T : Type 0} {same : J → J → Type 0} {made : J → ℕ} {polls : Owed J T} {old : Parts J T}
-    (world : IsWorld same made polls old) (sender core : ℕ) (there : sender ≤ old.cores) (core_there : core < old.cores) where
+module _ {J T : Type 0} {same : J → J → Type 0} {made : J → ℕ} {polls : Owed J T} {answers : J → T → Type 0} {old : Parts J T}
+    (world : IsWorld same made polls answers old) (sender core : ℕ) (there : sender ≤ old.cores) (core_there : core < old.cores) where
   abbrev link : Whole J T
   link = link_at sender core old.links
 
@@ -145,7 +143,7 @@ module _ {J T : Type 0} {same : J → J → Type 0} {made : J → ℕ} {polls : 
             cores = old.cores;
             cap = old.cap;
             room = old.room;
-            journals = (journals_are ∙ journals-noted old sender now (writes.Sent name (without_job order) ∷ []) (ap (λ desk. desk.journal.notes) submits.2)) i;
+            journals = (journals_are ∙ journals-noted old sender now (writes.Sent name (without_job order) ∷ []) (ap (λ journal. journal.notes) submits.2)) i;
             sent = (
                 sent-with_link old.links sender core after
                 ∙ ap (λ orders. set (world_of old).sent sender (set (get_or (world_of old).sent sender []) core orders))

@@ -27,12 +27,13 @@ pub record IsShutBy {J T : Type 0} (same : J → J → Type 0) (made : J → ℕ
   pub beside : IsInOf sender now (inward_of after)
   pub others : (other : ℕ) → other ≢ sender → KeepsIn other view now
   pub outs : KeepsOuts (desk_of view) (desk_of now)
+  pub lanes : now.lanes ≡ view.lanes
   pub seat : IsSameSeat view now
   pub sound : IsRecorded same made polls now
   pub untouched : kept_by_receiver after ≡ kept_by_receiver link
 
-module _ {J T : Type 0} {same : J → J → Type 0} {made : J → ℕ} {polls : Owed J T} {old : Parts J T}
-    (world : IsWorld same made polls old) (sender core : ℕ) (there : sender ≤ old.cores) (core_there : core < old.cores)
+module _ {J T : Type 0} {same : J → J → Type 0} {made : J → ℕ} {polls : Owed J T} {answers : J → T → Type 0} {old : Parts J T}
+    (world : IsWorld same made polls answers old) (sender core : ℕ) (there : sender ≤ old.cores) (core_there : core < old.cores)
     (count : ℕ) (now : RecordedView J T) (after : Whole J T)
     (did : IsShutBy same made polls sender (core_at core old) (link_at sender core old.links) count now after) where
   abbrev link : Whole J T
@@ -47,13 +48,14 @@ module _ {J T : Type 0} {same : J → J → Type 0} {made : J → ℕ} {polls : 
   abbrev pub after_shut : Parts J T
   after_shut = parts_now world core core_there now (with_link old.links sender core after)
 
-  pub shut_rests : IsWorld same made polls after_shut
+  pub shut_rests : IsWorld same made polls answers after_shut
   shut_rests = receives_rests world sender core there core_there now after (record {
     received = only_received link after did.shuts.1 did.untouched rest ([], ap (λ end. end.given) did.shuts.0 ∙ sym (append-nil link.given));
     at_rest = did.tells.out;
     beside = did.beside;
     others = did.others;
     outs = did.outs;
+    lanes = did.lanes;
     seat = did.seat;
     sound = did.sound;
   })

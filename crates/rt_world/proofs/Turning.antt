@@ -34,11 +34,11 @@ use Rattle.rt_world.proofs.LinkRows.{same_sent}
 use Rattle.rt_world.proofs.LinkSteps.{OnlyReceived, OnlySent, received-same, received-given, sent-same, each_link, other_link, out_stays}
 use Rattle.rt_world.proofs.LentLinks.{no_gift}
 use Rattle.rt_world.proofs.OneTurn.{IsKeptBeside, beside_then}
-use Rattle.rt_world.proofs.CoreSteps.{cores_are, number_is, desk_is, parts_now, rests, journal_is, journals_now}
+use Rattle.rt_world.proofs.CoreSteps.{cores_are, number_is, desk_is, parts_now, lanes_kept, rests, journal_is, journals_now}
 
 -- a core that makes a step has each end beside it, and nothing is owed
-pub all_beside : {J T : Type 0} {same : J → J → Type 0} {made : J → ℕ} {polls : Owed J T} {old : Parts J T}
-    (world : IsWorld same made polls old) (core : ℕ) (there : core < old.cores) → one.IsBesideAll core one.none_owed (core_at core old) old.links
+pub all_beside : {J T : Type 0} {same : J → J → Type 0} {made : J → ℕ} {polls : Owed J T} {answers : J → T → Type 0} {old : Parts J T}
+    (world : IsWorld same made polls answers old) (core : ℕ) (there : core < old.cores) → one.IsBesideAll core one.none_owed (core_at core old) old.links
 all_beside {old = old} world core there = record {
   rows = λ sender within. omega (arith, world.all_there.rows_are, its sender within);
   cores = λ sender within. omega (arith, world.all_there.links_are sender (its sender within), there);
@@ -48,8 +48,8 @@ all_beside {old = old} world core there = record {
     its : (sender : ℕ) → sender ≤ (core_at core old).core.cores → sender ≤ old.cores
     its sender within = subst (λ cores. sender ≤ cores) (cores_are world core there) within
 
-module _ {J T : Type 0} {same : J → J → Type 0} {made : J → ℕ} {polls : Owed J T} {old : Parts J T}
-    (world : IsWorld same made polls old) (core : ℕ) (there : core < old.cores) (now : RecordedView J T) (links : List (List (Whole J T)))
+module _ {J T : Type 0} {same : J → J → Type 0} {made : J → ℕ} {polls : Owed J T} {answers : J → T → Type 0} {old : Parts J T}
+    (world : IsWorld same made polls answers old) (core : ℕ) (there : core < old.cores) (now : RecordedView J T) (links : List (List (Whole J T)))
     (stays : one.StaysBeside same made polls core (core_at core old) now old.links links) where
   abbrev view : RecordedView J T
   view = core_at core old
@@ -63,7 +63,7 @@ module _ {J T : Type 0} {same : J → J → Type 0} {made : J → ℕ} {polls : 
       (received-given (link_at stays.links.sender core old.links) stays.links.link stays.links.given stays.links.gives)
 
   -- the core stays beside its ends, on which at most an outcome was given: the world is at rest again
-  pub quiet_rests : IsWorld same made polls quiet
+  pub quiet_rests : IsWorld same made polls answers quiet
   quiet_rests = rests world core there now links (record {
     recorded = stays.recorded;
     at_rest = stays.at_rest;
@@ -75,6 +75,7 @@ module _ {J T : Type 0} {same : J → J → Type 0} {made : J → ℕ} {polls : 
     outs = λ to known.
         out_stays to (desk_of now) _ _ (all_received core to)
         ((stays.outs to).each _ _ (subst (λ desk. IsOutOf to desk (out_of (link_at core to old.links)) (link_at core to old.links).credited) (desk_is world core there) (world.beside.outs core to (omega (arith, there)) known)));
+    lanes = lanes_kept world core there now links stays.lanes (λ to. all_received core to);
     ins = λ sender known. stays.ins.ins sender (subst (λ cores. sender ≤ cores) (sym (stays.seat.cores ∙ cores_are world core there)) known);
   })
 
@@ -100,7 +101,7 @@ module _ {J T : Type 0} {same : J → J → Type 0} {made : J → ℕ} {polls : 
       ap (λ orders. slice_get orders (name.number - 1)) (sent_at-world old name.from name.to ∙ ap (λ to. (link_at name.from to old.links).sent) to_is)
       ∙ (ap (slice_get (link_at name.from core old.links).sent) place ∙ found.2)
 
-  module _ (answers : J → T → Type 0) (spent : ℕ) where
+  module _ (spent : ℕ) where
     polled : one.PollsOne made polls answers spent view now → IsPoll made polls answers core spent (world_of old) (world_of quiet)
     polled did = record {
       turn_left = subst (λ journal. turns journal < 2 ^ 64 - 1) (sym here) did.turn_left;
@@ -162,8 +163,8 @@ module _ {J T : Type 0} {same : J → J → Type 0} {made : J → ℕ} {polls : 
   creates_now weight (Err Memory) did = (subst (λ journal. created_count journal + 1 < 256) (sym here) did.0, unchanged did.1)
 
 -- a creation leaves the core at rest
-pub created_stays : {J T : Type 0} {same : J → J → Type 0} {made : J → ℕ} {polls : Owed J T} {old : Parts J T}
-    (world : IsWorld same made polls old) (core : ℕ) (there : core < old.cores) (now : RecordedView J T) (weight : ℕ) (told : Result ℕ CreateError) →
+pub created_stays : {J T : Type 0} {same : J → J → Type 0} {made : J → ℕ} {polls : Owed J T} {answers : J → T → Type 0} {old : Parts J T}
+    (world : IsWorld same made polls answers old) (core : ℕ) (there : core < old.cores) (now : RecordedView J T) (weight : ℕ) (told : Result ℕ CreateError) →
     CreatesQueue weight (core_at core old) told now → IsKeptBeside same made polls one.none_owed (core_at core old) now →
     one.StaysBeside same made polls core (core_at core old) now old.links old.links
 created_stays {old = old} world core there now weight told did kept = record {
@@ -171,6 +172,7 @@ created_stays {old = old} world core there now weight told did kept = record {
   at_rest = by_told told did ∙ world.at_rest core there;
   seat = kept.seat;
   outs = kept.outs;
+  lanes = kept.lanes;
   links = no_gift core old.links;
   ins = beside_then kept core old.links (all_beside world core there);
 }

@@ -16,7 +16,7 @@ use Rattle.rt_world.specs.declared.event.Reply.TheVariants as reply
 use Rattle.rt_world.specs.State.{WorldView, noted, with_sent}
 use Rattle.rt_world.specs.Runs.{Happens}
 use Rattle.rt_world.specs.Creations.{with_creations}
-use Rattle.rt_world.specs.ScriptRuns.{script_made, ScriptPolls, ScriptAnswers}
+use Rattle.rt_world.specs.ScriptRuns.{ScriptSame, script_made, ScriptPolls, ScriptAnswers}
 use Rattle.rt_world.specs.Rows.{name}
 use Rattle.rt_world.specs.WorkedRows.{three_polls, TwoQueues}
 use Rattle.rt_world.proofs.RowPicks.{right_of_two, few_turns, few_names, some_room}
@@ -25,7 +25,7 @@ use Rattle.rt_world.proofs.UnbegunCreations.{first_world}
 
 -- one event
 abbrev Occurs : Event Script → WorldView Script ℕ → WorldView Script ℕ → Reply Script → Type 0
-Occurs = Happens script_made ScriptPolls ScriptAnswers
+Occurs = Happens ScriptSame script_made ScriptPolls ScriptAnswers
 
 -- the journal before each pick
 abbrev before_1 : Journal ℕ
@@ -155,7 +155,7 @@ module _ (room : ℕ) (enough : 100 ≤ room) where
 -- the row, as it is written
 pub two_queues : TwoQueues
 two_queues =
-    runs_just 1 4 ((0, 500) ∷ []) _ _ _ (tt, (tt, (tt, (tt, (tt, (tt, (tt, (tt, (tt, (tt, tt))))))))))
+    runs_just 1 4 ((0, 500) ∷ []) _ _ _ (tt, (tt, (tt, (tt, (tt, (tt, (tt, (tt, (tt, (tt, tt)))))))))) refl
     (λ room enough. record {
       end = turned_10 room enough;
       run = (

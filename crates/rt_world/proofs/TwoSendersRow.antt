@@ -15,7 +15,7 @@ use Rattle.rt_world.specs.declared.event.Reply.{Reply}
 use Rattle.rt_world.specs.declared.event.Reply.TheVariants as reply
 use Rattle.rt_world.specs.State.{WorldView, noted, with_sent}
 use Rattle.rt_world.specs.Runs.{Happens}
-use Rattle.rt_world.specs.ScriptRuns.{script_made, ScriptPolls, ScriptAnswers}
+use Rattle.rt_world.specs.ScriptRuns.{ScriptSame, script_made, ScriptPolls, ScriptAnswers}
 use Rattle.rt_world.specs.Rows.{name}
 use Rattle.rt_world.specs.WorkedRows.{short_job, TwoSenders}
 use Rattle.rt_world.proofs.RowPicks.{right_of_one, few_turns, few_names, some_room}
@@ -24,7 +24,7 @@ use Rattle.rt_world.proofs.UnbegunCreations.{first_world}
 
 -- one event
 abbrev Occurs : Event Script → WorldView Script ℕ → WorldView Script ℕ → Reply Script → Type 0
-Occurs = Happens script_made ScriptPolls ScriptAnswers
+Occurs = Happens ScriptSame script_made ScriptPolls ScriptAnswers
 
 -- the core's journal before each pick
 abbrev before_1 : Journal ℕ
@@ -127,7 +127,7 @@ module _ (room : ℕ) (enough : 100 ≤ room) where
 -- the row, as it is written
 pub two_senders : TwoSenders
 two_senders =
-    runs_just 2 2 [] _ _ _ (tt, (tt, (tt, (tt, (tt, (tt, (tt, (tt, (tt, (tt, (tt, (tt, tt))))))))))))
+    runs_just 2 2 [] _ _ _ (tt, (tt, (tt, (tt, (tt, (tt, (tt, (tt, (tt, (tt, (tt, (tt, tt)))))))))))) refl
     (λ room enough. record {
       end = turned_10 room enough;
       run = (

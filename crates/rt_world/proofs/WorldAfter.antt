@@ -7,14 +7,16 @@ use Rattle.rt_link.specs.declared.plain.Whole.{Whole}
 use Rattle.rt_link.specs.Whole.{out_of, inward_of}
 use Rattle.rt_journal.specs.Submissions.{DeskView, IsWritten, terms_of_desk, opened_desk}
 use Rattle.rt_journal.specs.Recorded.{RecordedView, IsRecorded}
+use Rattle.rt_link.specs.Fits.{Fits}
 use Rattle.rt_journal.specs.Ends.{IsOutOf, IsInOf}
+use Rattle.rt_journal.specs.Tickets.{HasLane}
 use Rattle.rt_world.specs.Links.{row_of, link_at}
-use Rattle.rt_world.specs.Inside.{Parts, core_at, desks, desk_at, notes_at, seat_of, IsWorld}
+use Rattle.rt_world.specs.Inside.{Parts, core_at, desks, desk_at, seat_of, IsWorld}
 use Rattle.rt_world.proofs.Desks.{desk_count}
-use Rattle.rt_world.proofs.LinkSteps.{OnlyReceived, OnlySent, out_stays, in_stays}
+use Rattle.rt_world.proofs.LinkSteps.{OnlyReceived, OnlySent, out_stays, lane_stays, in_stays}
 
-module _ {J T : Type 0} {same : J → J → Type 0} {made : J → ℕ} {polls : Owed J T} {old : Parts J T}
-    (world : IsWorld same made polls old) (actor : ℕ) (inside : List (RecordedView J T)) (outside : DeskView J T) (links : List (List (Whole J T))) (desk : DeskView J T) where
+module _ {J T : Type 0} {same : J → J → Type 0} {made : J → ℕ} {polls : Owed J T} {answers : J → T → Type 0} {old : Parts J T}
+    (world : IsWorld same made polls answers old) (actor : ℕ) (inside : List (RecordedView J T)) (outside : DeskView J T) (links : List (List (Whole J T))) (desk : DeskView J T) where
   abbrev pub new : Parts J T
   new = record old { inside = inside; outside = outside; links = links }
 
@@ -25,7 +27,7 @@ module _ {J T : Type 0} {same : J → J → Type 0} {made : J → ℕ} {polls : 
     pub rows_are : length links ≡ length old.links
     pub links_are : (sender : ℕ) → length (row_of sender links) ≡ length (row_of sender old.links)
     pub desks_are : desks new ≡ set (desks old) actor desk
-    pub seat : desk ≡ seat_of actor desk.journal.notes old
+    pub seat : desk ≡ seat_of actor desk old
     pub other_cores : (core : ℕ) → core ≢ actor → core_at core new ≡ core_at core old
     pub recorded : actor < old.cores → IsRecorded same made polls (core_at actor new)
     pub at_rest : actor < old.cores → (core_at actor new).core.out ≡ None
@@ -33,6 +35,7 @@ module _ {J T : Type 0} {same : J → J → Type 0} {made : J → ℕ} {polls : 
     pub received : (sender core : ℕ) → sender ≢ actor → OnlyReceived (link_at sender core old.links) (link_at sender core links)
     pub sent : (sender core : ℕ) → core ≢ actor → OnlySent (link_at sender core old.links) (link_at sender core links)
     pub outs : (core : ℕ) → core < old.cores → IsOutOf core desk (out_of (link_at actor core links)) (link_at actor core links).credited
+    pub lanes : (core : ℕ) → core < old.cores → HasLane (Fits same answers) core desk (out_of (link_at actor core links)) (link_at actor core links).credited
     pub ins : (sender : ℕ) → sender ≤ old.cores → actor < old.cores → IsInOf sender (core_at actor new) (inward_of (link_at sender actor links))
 
   module _ (step : IsStep) where
@@ -45,11 +48,11 @@ module _ {J T : Type 0} {same : J → J → Type 0} {made : J → ℕ} {polls : 
     desk_elsewhere other away =
         ap (λ all. get_or all other (opened_desk 0 0 0 0)) step.desks_are ∙ get_or-set_other (desks old) actor other desk (opened_desk 0 0 0 0) away
 
-    seats_now : (other : ℕ) → other ≤ old.cores → desk_at other new ≡ seat_of other (notes_at other new) new
+    seats_now : (other : ℕ) → other ≤ old.cores → desk_at other new ≡ seat_of other (desk_at other new) new
     seats_now other known =
         ⊎_elim
-        (λ one. subst (λ at. desk_at at new ≡ seat_of at (notes_at at new) new) (sym one) (desk_now ∙ (step.seat ∙ ap (λ now. seat_of actor now.journal.notes old) (sym desk_now))))
-        (λ away. desk_elsewhere other away ∙ (world.all_there.seats_are other known ∙ ap (λ now. seat_of other now.journal.notes old) (sym (desk_elsewhere other away))))
+        (λ one. subst (λ at. desk_at at new ≡ seat_of at (desk_at at new) new) (sym one) (desk_now ∙ (step.seat ∙ ap (λ now. seat_of actor now old) (sym desk_now))))
+        (λ away. desk_elsewhere other away ∙ (world.all_there.seats_are other known ∙ ap (λ now. seat_of other now old) (sym (desk_elsewhere other away))))
         (cases_eq other actor)
 
     recorded_now : (core : ℕ) → core < old.cores → IsRecorded same made polls (core_at core new)
@@ -75,6 +78,16 @@ module _ {J T : Type 0} {same : J → J → Type 0} {made : J → ℕ} {polls : 
         (out_stays core (desk_at sender old) (link_at sender core old.links) (link_at sender core links) (step.received sender core away) (world.beside.outs sender core known core_known)))
         (cases_eq sender actor)
 
+    lanes_now : (sender core : ℕ) → sender ≤ old.cores → core < old.cores → HasLane (Fits same answers) core (desk_at sender new) (out_of (link_at sender core links)) (link_at sender core links).credited
+    lanes_now sender core known core_known =
+        ⊎_elim
+        (λ one. subst (λ at. HasLane (Fits same answers) core (desk_at at new) (out_of (link_at at core links)) (link_at at core links).credited) (sym one)
+        (subst (λ now. HasLane (Fits same answers) core now (out_of (link_at actor core links)) (link_at actor core links).credited) (sym desk_now) (step.lanes core core_known)))
+        (λ away.
+        lane_stays (Fits same answers) core (desk_at sender old) (desk_at sender new) (link_at sender core old.links) (link_at sender core links)
+        (ap (λ desk. desk.lanes) (desk_elsewhere sender away)) (step.received sender core away) (world.beside.lanes sender core known core_known))
+        (cases_eq sender actor)
+
     ins_now : (sender core : ℕ) → sender ≤ old.cores → core < old.cores → IsInOf sender (core_at core new) (inward_of (link_at sender core links))
     ins_now sender core known core_known =
         ⊎_elim
@@ -84,7 +97,7 @@ module _ {J T : Type 0} {same : J → J → Type 0} {made : J → ℕ} {polls : 
         (cases_eq core actor)
 
     -- the world is at rest again
-    pub world_after : IsWorld same made polls new
+    pub world_after : IsWorld same made polls answers new
     world_after = record {
       all_there = record {
         cores_are = step.inside_are ∙ world.all_there.cores_are;
@@ -95,5 +108,5 @@ module _ {J T : Type 0} {same : J → J → Type 0} {made : J → ℕ} {polls : 
       recorded = recorded_now;
       at_rest = rest_now;
       outside = step.written;
-      beside = record { outs = outs_now; ins = ins_now };
+      beside = record { outs = outs_now; lanes = lanes_now; ins = ins_now };
     }

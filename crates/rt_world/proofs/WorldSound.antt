@@ -14,7 +14,7 @@ use Rattle.rt_world.specs.Links.{link_at}
 use Rattle.rt_world.specs.Inside.{Parts, core_at, desks, desk_at, world_of, IsWorld}
 use Rattle.rt_world.proofs.Desks.{desk_count, desk_at-core, desk_at-outside, journal_of-world}
 
-module _ {J : Type 0} {same : J → J → Type 0} {made : J → ℕ} {polls : Owed J ℕ} (parts : Parts J ℕ) (world : IsWorld same made polls parts) where
+module _ {J : Type 0} {same : J → J → Type 0} {made : J → ℕ} {polls : Owed J ℕ} {answers : J → ℕ → Type 0} (parts : Parts J ℕ) (world : IsWorld same made polls answers parts) where
   -- a plain link shows each end all that the other did
   together : AreTogether same made polls parts.cores parts.cap (λ actor. desk_at actor parts) (λ core. core_at core parts)
       (λ sender core. out_of (link_at sender core parts.links)) (λ sender core. (link_at sender core parts.links).credited) (λ sender core. inward_of (link_at sender core parts.links))

@@ -10,7 +10,7 @@ use Rattle.rt_world.specs.declared.event.Event.TheVariants.{Send}
 use Rattle.rt_world.specs.declared.event.Reply.{Reply}
 use Rattle.rt_world.specs.State.{WorldView, journal_at, noted}
 use Rattle.rt_world.specs.Opening.{IsUnbegun}
-use Rattle.rt_world.specs.Determined.{OwesOne, IsToldRun}
+use Rattle.rt_world.specs.Determined.{OwesOne, IsToldRun, AreAllAlike}
 
 module _ {J T : Type 0} where
   -- queues of these cores, with these shares, each under the next number of its core
@@ -34,10 +34,10 @@ module _ {J : Type 0} where
   OrderNoQueues [] = Unit {0}
   OrderNoQueues (event ∷ events) = OrdersNoQueue event × OrderNoQueues events
 
-module _ {J T : Type 0} (made : J → ℕ) (polls : Owed J T) (answers : J → T → Type 0) where
+module _ {J : Type 0} (same : J → J → Type 0) (made : J → ℕ) (polls : Owed J ℕ) (answers : J → ℕ → Type 0) where
   -- before its first event, a world and events that order no queue have one result
   abbrev pub RunOfJobsIsDetermined : Type 0
   RunOfJobsIsDetermined =
-      OwesOne polls → (events : List (Event J)) (old new other : WorldView J T) (replies others : List (Reply J)) → IsUnbegun old → OrderNoQueues events →
-      IsToldRun made polls answers events old new replies → IsToldRun made polls answers events old other others →
-      (new ≡ other) × (replies ≡ others)
+      OwesOne polls → (events : List (Event J)) (old new other : WorldView J ℕ) (replies others : List (Reply J)) → IsUnbegun old → OrderNoQueues events →
+      IsToldRun same made polls answers events old new replies → IsToldRun same made polls answers events old other others →
+      (new ≡ other) × AreAllAlike same answers replies others

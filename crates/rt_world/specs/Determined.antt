@@ -10,6 +10,7 @@ use Rattle.rt_jobs.specs.Steps.{Owed}
 use Rattle.rt_world.specs.declared.event.Event.{Event}
 use Rattle.rt_world.specs.declared.event.Reply.{Reply}
 use Rattle.rt_world.specs.State.{WorldView}
+use Rattle.rt_world.specs.Collections.{AreBothRedeemed}
 use Rattle.rt_world.specs.Opening.{HasAllLists, IsFresh}
 use Rattle.rt_world.specs.Runs.{Happens, RunsTo}
 
@@ -43,26 +44,36 @@ module _ {J T : Type 0} (polls : Owed J T) where
     pub told : (job : J) (place : ℕ) (before after other_after : Journal T) (step other : Step T) (told other_told : Option ℕ) →
         polls job place before after step told → polls job place before other_after other other_told → told ≡ other_told
 
-module _ {J T : Type 0} (made : J → ℕ) (polls : Owed J T) (answers : J → T → Type 0) where
+module _ {J : Type 0} (same : J → J → Type 0) (answers : J → ℕ → Type 0) where
+  -- two replies are the same, except that jobs which come back with a redeemed outcome may differ: no journal tells how far such a job got
+  abbrev pub AreAlike : Reply J → Reply J → Type 0
+  AreAlike answer other = (answer ≡ other) ⊎ AreBothRedeemed same answers answer other
+
+  -- replies that are alike, one by one
+  abbrev pub AreAllAlike : List (Reply J) → List (Reply J) → Type 0
+  AreAllAlike [] others = others ≡ []
+  AreAllAlike (answer ∷ replies) others = (other : Reply J) × (rest : List (Reply J)) × (others ≡ other ∷ rest) × AreAlike answer other × AreAllAlike replies rest
+
+module _ {J : Type 0} (same : J → J → Type 0) (made : J → ℕ) (polls : Owed J ℕ) (answers : J → ℕ → Type 0) where
   -- events, one after another, and what their actors are told
-  abbrev pub IsToldRun : List (Event J) → WorldView J T → WorldView J T → List (Reply J) → Type 0
+  abbrev pub IsToldRun : List (Event J) → WorldView J ℕ → WorldView J ℕ → List (Reply J) → Type 0
   IsToldRun [] old new replies = (new ≡ old) × (replies ≡ [])
   IsToldRun (event ∷ events) old new replies =
-      (between : WorldView J T) × (answer : Reply J) × (rest : List (Reply J))
-      × Happens made polls answers event old between answer × IsToldRun events between new rest × (replies ≡ answer ∷ rest)
+      (between : WorldView J ℕ) × (answer : Reply J) × (rest : List (Reply J))
+      × Happens same made polls answers event old between answer × IsToldRun events between new rest × (replies ≡ answer ∷ rest)
 
-  -- two runs of the same events from one world end in one world, with the same replies; else one of them was refused memory
+  -- two runs of the same events from one world end in one world, with replies that are alike; else one of them was refused memory
   abbrev pub RunIsDetermined : Type 0
   RunIsDetermined =
-      (events : List (Event J)) (old new other : WorldView J T) (replies others : List (Reply J)) → HasAllLists old →
+      (events : List (Event J)) (old new other : WorldView J ℕ) (replies others : List (Reply J)) → HasAllLists old →
       IsToldRun events old new replies → IsToldRun events old other others →
-      ((new ≡ other) × (replies ≡ others)) ⊎ (WasRefusedSince old.journals new.journals ⊎ WasRefusedSince old.journals other.journals)
+      ((new ≡ other) × AreAllAlike same answers replies others) ⊎ (WasRefusedSince old.journals new.journals ⊎ WasRefusedSince old.journals other.journals)
 
   -- and so their journals are the same
   abbrev pub AssemblyIsDetermined : Type 0
   AssemblyIsDetermined =
-      (events : List (Event J)) (old : WorldView J T) (assembly other : Assembly T) → HasAllLists old →
-      RunsTo made polls answers events old assembly → RunsTo made polls answers events old other →
+      (events : List (Event J)) (old : WorldView J ℕ) (assembly other : Assembly ℕ) → HasAllLists old →
+      RunsTo same made polls answers events old assembly → RunsTo same made polls answers events old other →
       (assembly ≡ other) ⊎ (WasRefusedSince old.journals assembly.journals ⊎ WasRefusedSince old.journals other.journals)
 
 -- two fresh worlds of the same numbers are one

@@ -13,7 +13,7 @@ HollowIsRefused J T =
     (cores cap room : ℕ) (world : WorldView J T) → (world.journals ≡ []) ⊎ (world.sent ≡ []) →
     (IsFresh cores cap room world → ⊥) × (IsUnbegun world → ⊥)
 
-module _ {J T : Type 0} (made : J → ℕ) (polls : Owed J T) (answers : J → T → Type 0) where
+module _ {J : Type 0} (same : J → J → Type 0) (made : J → ℕ) (polls : Owed J ℕ) (answers : J → ℕ → Type 0) where
   -- after each event there are as many lists as before
   abbrev pub EventsKeepLists : Type 0
-  EventsKeepLists = (event : Event J) (old new : WorldView J T) (answer : Reply J) → Happens made polls answers event old new answer → HasAllLists old → HasAllLists new
+  EventsKeepLists = (event : Event J) (old new : WorldView J ℕ) (answer : Reply J) → Happens same made polls answers event old new answer → HasAllLists old → HasAllLists new

@@ -1,13 +1,17 @@
 -- What the parts of a world are to each other: each actor to its number, and each end of a link to the journal of its actor.
 use Rattle.std.specs.Prelude.{◌≡◌, ℕ, ◌+◌, ◌<◌, ◌≤◌, None, List, [], ◌∷◌, ◌++◌, length, map, slice_index_or}
+use Rattle.rt_ids.specs.declared.order.Order.{Order}
+use Rattle.rt_ids.specs.declared.order.Outcome.{Outcome}
 use Rattle.rt_ids.specs.Journal.{Journal}
 use Rattle.rt_jobs.specs.Steps.{Owed}
 use Rattle.rt_link.specs.declared.plain.Whole.{Whole}
 use Rattle.rt_link.specs.Whole.{out_of, inward_of}
+use Rattle.rt_link.specs.Fits.{Fits}
 use Rattle.rt_journal.specs.Submissions.{DeskView, IsWritten, terms_of_desk, opened_desk}
 use Rattle.rt_journal.specs.Recorded.{RecordedView, IsRecorded, desk_of}
 use Rattle.rt_journal.specs.Steps.{opened_beside}
 use Rattle.rt_journal.specs.Ends.{IsOutOf, IsInOf}
+use Rattle.rt_journal.specs.Tickets.{HasLane}
 use Rattle.rt_world.specs.State.{WorldView}
 use Rattle.rt_world.specs.Links.{row_of, link_at}
 
@@ -44,33 +48,35 @@ module _ {J T : Type 0} where
     sent = map (map (λ link. link.sent)) parts.links;
   }
 
-  -- the actor of this number, with these notes
-  abbrev pub seat_of : ℕ → Journal T → Parts J T → DeskView J T
-  seat_of actor notes parts =
-      record { actor = actor; cores = parts.cores; cap = parts.cap; journal = record { notes = notes; room = parts.room } }
+  -- this desk at the seat of this number
+  abbrev pub seat_of : ℕ → DeskView J T → Parts J T → DeskView J T
+  seat_of actor desk parts =
+      record { actor = actor; cores = parts.cores; cap = parts.cap; journal = record { notes = desk.journal.notes; room = parts.room }; lanes = desk.lanes }
 
   -- there are as many of each part as the numbers say, and each actor has its number
   pub record AreAllThere (parts : Parts J T) : Type 0 where
     pub cores_are : length parts.inside ≡ parts.cores
     pub rows_are : length parts.links ≡ parts.cores + 1
     pub links_are : (sender : ℕ) → sender ≤ parts.cores → length (row_of sender parts.links) ≡ parts.cores
-    pub seats_are : (actor : ℕ) → actor ≤ parts.cores → desk_at actor parts ≡ seat_of actor (notes_at actor parts) parts
+    pub seats_are : (actor : ℕ) → actor ≤ parts.cores → desk_at actor parts ≡ seat_of actor (desk_at actor parts) parts
 
-  -- the outside actor's journal is as it should be, and both ends of each link are beside the actors whose they are
-  pub record AreBeside (parts : Parts J T) : Type 0 where
+  -- both ends of each link are beside the actors whose they are, and each sender's lane beside its end
+  pub record AreBeside (fits : Order J → Outcome J T → Type 0) (parts : Parts J T) : Type 0 where
     pub outs : (sender core : ℕ) → sender ≤ parts.cores → core < parts.cores →
         IsOutOf core (desk_at sender parts) (out_of (link_at sender core parts.links)) (link_at sender core parts.links).credited
+    pub lanes : (sender core : ℕ) → sender ≤ parts.cores → core < parts.cores →
+        HasLane fits core (desk_at sender parts) (out_of (link_at sender core parts.links)) (link_at sender core parts.links).credited
     pub ins : (sender core : ℕ) → sender ≤ parts.cores → core < parts.cores →
         IsInOf sender (core_at core parts) (inward_of (link_at sender core parts.links))
 
-module _ {J T : Type 0} (same : J → J → Type 0) (made : J → ℕ) (polls : Owed J T) where
+module _ {J T : Type 0} (same : J → J → Type 0) (made : J → ℕ) (polls : Owed J T) (answers : J → T → Type 0) where
   -- a world at rest: each core is recorded and has no job out, and the ends of its links are beside their actors
   pub record IsWorld (parts : Parts J T) : Type 0 where
     pub all_there : AreAllThere parts
     pub recorded : (core : ℕ) → core < parts.cores → IsRecorded same made polls (core_at core parts)
     pub at_rest : (core : ℕ) → core < parts.cores → (core_at core parts).core.out ≡ None
     pub outside : IsWritten (terms_of_desk parts.outside) parts.outside.journal.notes
-    pub beside : AreBeside parts
+    pub beside : AreBeside (Fits same answers) parts
 
 module _ {J T : Type 0} where
   -- a core of each number, just opened

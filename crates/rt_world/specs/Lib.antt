@@ -1,5 +1,6 @@
 pub mod State
 pub mod Closings
+pub mod Collections
 pub mod Sends
 pub mod Deliveries
 pub mod OneTurn

@@ -43,6 +43,7 @@ module _ {J T : Type 0} (same : J → J → Type 0) (made : J → ℕ) (polls : 
     pub at_rest : new.core.out ≡ None
     pub seat : IsSameSeat old new
     pub outs : KeepsOuts (desk_of old) (desk_of new)
+    pub lanes : new.lanes ≡ old.lanes
     pub links : GivesOnOne number before after
     pub ins : IsBesideAll number none_owed new after
 

@@ -2,7 +2,7 @@
 use Rattle.std.specs.Prelude.{◌≡◌, ℕ, List, [], ◌∷◌}
 use Rattle.rt_jobs.specs.Steps.{Owed}
 use Rattle.rt_world.specs.declared.event.Event.{Event}
-use Rattle.rt_world.specs.declared.event.Event.TheVariants.{Send, Deliver, Turn, Shut}
+use Rattle.rt_world.specs.declared.event.Event.TheVariants.{Send, Deliver, Turn, Shut, Collect, Redeem, Detach}
 use Rattle.rt_world.specs.declared.event.Reply.{Reply}
 use Rattle.rt_world.specs.declared.event.Reply.TheVariants as reply
 use Rattle.rt_ids.specs.Assembly.{Assembly}
@@ -11,18 +11,22 @@ use Rattle.rt_world.specs.Sends.{actor_of, AreThere, Sends}
 use Rattle.rt_world.specs.Deliveries.{Delivers}
 use Rattle.rt_world.specs.Turns.{Turns}
 use Rattle.rt_world.specs.Closings.{Shuts}
+use Rattle.rt_world.specs.Collections.{Collects, Redeems, Detaches}
 
--- the words of a task: the polls that it made before, what a poll owes, and what may answer it
-module _ {J T : Type 0} (made : J → ℕ) (polls : Owed J T) (answers : J → T → Type 0) where
+-- the words of a task: which jobs are of one task, the polls that a job made before, what a poll owes, and what may answer it
+module _ {J : Type 0} (same : J → J → Type 0) (made : J → ℕ) (polls : Owed J ℕ) (answers : J → ℕ → Type 0) where
   -- the step of an event whose actors exist, and for which the journal has room
-  abbrev pub Steps : Event J → WorldView J T → WorldView J T → Reply J → Type 0
+  abbrev pub Steps : Event J → WorldView J ℕ → WorldView J ℕ → Reply J → Type 0
   Steps (Send sender core order) old new answer = Sends sender core order old new answer
   Steps (Deliver core sender) old new answer = Delivers core sender old new answer
   Steps (Turn core spent) old new answer = Turns made polls answers core spent old new answer
   Steps (Shut core sender) old new answer = Shuts core sender old new answer
+  Steps (Collect sender core) old new answer = Collects sender core old new answer
+  Steps (Redeem sender name) old new answer = Redeems same answers sender name old new answer
+  Steps (Detach sender name) old new answer = Detaches sender name old new answer
 
   -- one event: first it is asked whether its actors exist, then whether the journal has room
-  abbrev pub Happens : Event J → WorldView J T → WorldView J T → Reply J → Type 0
+  abbrev pub Happens : Event J → WorldView J ℕ → WorldView J ℕ → Reply J → Type 0
   Happens event old new (reply.NoActor back) = (back ≡ event) × (AreThere old.cores event → ⊥) × (new ≡ old)
   Happens event old new (reply.NoRoom back) =
       (back ≡ event) × AreThere old.cores event × IsNearlyFull (actor_of event) old × (new ≡ old)
@@ -30,11 +34,11 @@ module _ {J T : Type 0} (made : J → ℕ) (polls : Owed J T) (answers : J → T
       AreThere old.cores event × (IsNearlyFull (actor_of event) old → ⊥) × Steps event old new answer
 
   -- events, one after another
-  abbrev pub IsRun : List (Event J) → WorldView J T → WorldView J T → Type 0
+  abbrev pub IsRun : List (Event J) → WorldView J ℕ → WorldView J ℕ → Type 0
   IsRun [] old new = new ≡ old
   IsRun (event ∷ events) old new =
-      (between : WorldView J T) × (answer : Reply J) × Happens event old between answer × IsRun events between new
+      (between : WorldView J ℕ) × (answer : Reply J) × Happens event old between answer × IsRun events between new
 
   -- these are the journals after a run of the events
-  abbrev pub RunsTo : List (Event J) → WorldView J T → Assembly T → Type 0
-  RunsTo events old assembly = (end : WorldView J T) × IsRun events old end × (assembly ≡ assembly_of end)
+  abbrev pub RunsTo : List (Event J) → WorldView J ℕ → Assembly ℕ → Type 0
+  RunsTo events old assembly = (end : WorldView J ℕ) × IsRun events old end × (assembly ≡ assembly_of end)

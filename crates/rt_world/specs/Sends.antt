@@ -10,7 +10,7 @@ use Rattle.rt_ids.specs.Filters.{accepted_orders}
 use Rattle.rt_ids.specs.Outstanding.{outstanding_count}
 use Rattle.rt_ids.specs.Lawful.{IsNextSent}
 use Rattle.rt_world.specs.declared.event.Event.{Event}
-use Rattle.rt_world.specs.declared.event.Event.TheVariants.{Send, Deliver, Turn, Shut}
+use Rattle.rt_world.specs.declared.event.Event.TheVariants.{Send, Deliver, Turn, Shut, Collect, Redeem, Detach}
 use Rattle.rt_world.specs.declared.event.Reply.{Reply}
 use Rattle.rt_world.specs.declared.event.Reply.TheVariants as reply
 use Rattle.rt_world.specs.State.{WorldView, without_job, terms_at, journal_at, noted, with_sent}
@@ -22,13 +22,19 @@ actor_of (Send sender core order) = sender
 actor_of (Deliver core sender) = core
 actor_of (Turn core spent) = core
 actor_of (Shut core sender) = core
+actor_of (Collect sender core) = sender
+actor_of (Redeem sender name) = sender
+actor_of (Detach sender name) = sender
 
--- the actors and cores of the event exist
+-- the actors and cores of the event exist; those that a ticket names aside
 abbrev pub AreThere : {J : Type 0} → ℕ → Event J → Type 0
 AreThere cores (Send sender core order) = (sender ≤ cores) × (core < cores)
 AreThere cores (Deliver core sender) = (core < cores) × (sender ≤ cores)
 AreThere cores (Turn core spent) = core < cores
 AreThere cores (Shut core sender) = (core < cores) × (sender ≤ cores)
+AreThere cores (Collect sender core) = (sender ≤ cores) × (core < cores)
+AreThere cores (Redeem sender name) = sender ≤ cores
+AreThere cores (Detach sender name) = sender ≤ cores
 
 -- what the sender is told
 abbrev pub sent_reply : {J : Type 0} → Result JobId (SendError J) → Reply J

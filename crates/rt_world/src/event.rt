@@ -3,7 +3,7 @@
 ghost use Rattle.std.specs.Prelude.{◌≡◌};
 ghost use Rattle.rt_world.specs.Sends.{actor_of};
 
-use rt_ids::{ActorNo, CoreNo, Order, SendError, Ticket};
+use rt_ids::{ActorNo, CoreNo, Order, Outcome, SendError, Ticket, TicketError};
 
 /// One step of one actor.
 #[derive(PartialEq, Eq, Debug, Drop)]
@@ -16,6 +16,12 @@ pub enum Event<J> {
     Turn(CoreNo, u64),
     /// The core shuts the gate of the actor, once it is closed.
     Shut(CoreNo, ActorNo),
+    /// The actor collects all outcomes that the core gave it.
+    Collect(ActorNo, CoreNo),
+    /// The actor asks for the outcome of a submission.
+    Redeem(ActorNo, Ticket),
+    /// The actor lets go of the outcome of a submission.
+    Detach(ActorNo, Ticket),
 }
 
 impl<J> Event<J> {
@@ -28,6 +34,9 @@ impl<J> Event<J> {
             Event::Deliver(core, _) => ActorNo(core.0),
             Event::Turn(core, _) => ActorNo(core.0),
             Event::Shut(core, _) => ActorNo(core.0),
+            Event::Collect(from, _) => *from,
+            Event::Redeem(from, _) => *from,
+            Event::Detach(from, _) => *from,
         }
     }
 }
@@ -51,6 +60,14 @@ pub enum Reply<J> {
     NotClosed,
     /// The gate of the actor is shut.
     AlreadyShut,
+    /// So many outcomes were collected.
+    Collected(usize),
+    /// What became of the submission. A job that was handed back is in it.
+    Redeemed(Outcome<J, u64>),
+    /// Nobody will ask for the outcome.
+    Detached,
+    /// The ticket gives no outcome, for this reason.
+    NoTicket(TicketError),
     /// An actor or a core of the event doesn't exist. The event comes back.
     NoActor(Event<J>),
     /// The actor's journal has too few notes free. The event comes back.

@@ -18,6 +18,7 @@ mod events;
 mod opening;
 mod sound;
 mod steps;
+mod tickets;
 
 /// The cores of one executor, the links between all actors, and a journal for each actor.
 ///
@@ -50,7 +51,7 @@ impl<J: Task<Out = u64>, A: Allocator + Clone> Model for World<J, A> {
 
     ghost invariant = { λ w.
         IsConfig w.cores w.cap w.room
-        × IsWorld J.SameTask J.made J.Polls
+        × IsWorld J.SameTask J.made J.Polls J.Answers
         (record { cores = w.cores; cap = w.cap; room = w.room; inside = w.inside.items; outside = w.outside; links = map vec_items w.links.items })
         × HasRoomFor (w.cores + 1) w.gathered.items (vec_capacity w.gathered) };
 }

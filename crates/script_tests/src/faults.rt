@@ -34,30 +34,36 @@ const CAUSES: [(Cause, &str); 9] = [
     (Cause::TooManyQueues, "too many queues"),
 ];
 
-/// Whether this is what is printed of the answer.
-fn is_told(
+/// Whether the answer has this status, and this is what is printed of it.
+fn ends_so(
     alloc: Global,
-    answer: Result<bool, EngineFault>,
+    answer: &Result<bool, EngineFault>,
+    code: u8,
     text: &str,
 ) -> Result<bool, AllocError> {
-    match answer {
-        Ok(_) => Ok(text.is_empty()),
-        Err(fault) => Ok(format!(in alloc; "{fault}")?.as_str() == text),
-    }
+    let told = match answer {
+        Ok(_) => text.is_empty(),
+        Err(fault) => format!(in alloc; "{fault}")?.as_str() == text,
+    };
+    Ok(told && Status::of(answer).code() == code)
 }
 
 #[test]
 fn each_end_has_its_status_and_text(rt: HostRuntime) -> Result<(), Fail> {
-    for (answer, code, text) in ENDS {
-        assert_eq!(rt; Status::of(&answer).code(), code);
-        assert!(rt; is_told(rt.alloc(), answer, text)?, "{text}");
+    for (answer, code, text) in ENDS.iter() {
+        assert!(rt; ends_so(rt.alloc(), answer, *code, text)?, "{text}");
     }
     Ok(())
 }
 
+/// By bytes, since a comparison of texts of which one is told by cases costs much to prove.
+fn has_words(cause: &Cause, words: &str) -> bool {
+    cause.words().as_bytes() == words.as_bytes()
+}
+
 #[test]
 fn each_cause_has_its_words(rt: HostRuntime) {
-    for (cause, words) in CAUSES {
-        assert_eq!(rt; cause.words(), words);
+    for (cause, words) in CAUSES.iter() {
+        assert!(rt; has_words(cause, words), "{words}");
     }
 }

@@ -1,6 +1,6 @@
 //! What no clause says: that a run succeeds, and what happens where a device fails or is interrupted.
 
-use crate::devices::{FaultyReader, FaultyWriter, reader_of, writer_of};
+use crate::devices::{reader_of, writer_of};
 use rt_engine::run_script;
 use rt_text::{Cause, EngineFault};
 use std::alloc::Global;
@@ -18,83 +18,55 @@ const FAULTY: &str = "cores 1 cap 4\nturn 0\nturn 1\n";
 /// The script has 52 bytes: six reads, and a seventh finds the end.
 const READS: u32 = 7;
 
-/// What it prints has 85 bytes: nine writes.
-const WRITES: u32 = 9;
+/// A script, how often in a row each read and each write is interrupted, what the run comes to, and what is written.
+type Row = (
+    &'static str,
+    u32,
+    u32,
+    Result<bool, EngineFault>,
+    &'static str,
+);
 
-/// Whether a run from the source to the sink comes to this answer, and the sink then has these bytes.
-fn comes_to(
-    alloc: Global,
-    mut source: FaultyReader,
-    mut sink: FaultyWriter,
-    want: Result<bool, EngineFault>,
-    written: &str,
-) -> bool {
-    let answer = run_script(alloc, &mut source, &mut sink);
-    answer == want && sink.written.as_slice() == written.as_bytes()
-}
+const RUNS: [Row; 5] = [
+    (SCRIPT, 0, 0, Ok(true), PRINTED),
+    (SCRIPT, 999, 999, Ok(true), PRINTED),
+    (SCRIPT, 1000, 0, Err(EngineFault::Read), ""),
+    (SCRIPT, 0, 1000, Err(EngineFault::Write), ""),
+    (
+        FAULTY,
+        0,
+        0,
+        Err(EngineFault::Text {
+            line: 3,
+            cause: Cause::OutOfRange,
+        }),
+        "",
+    ),
+];
 
-/// Whether a run whose write fails leaves the first bytes of what it prints.
-fn leaves_a_beginning(alloc: Global, mut sink: FaultyWriter) -> bool {
-    let answer = run_script(alloc, &mut SCRIPT.as_bytes(), &mut sink);
-    answer == Err(EngineFault::Write) && PRINTED.as_bytes().starts_with(sink.written.as_slice())
+/// A run of which one read fails.
+const UNREAD: Row = (SCRIPT, 0, 0, Err(EngineFault::Read), "");
+
+/// Whether a run of this row comes to its answer, where the read of this number fails.
+fn comes_to(alloc: Global, row: &Row, failing: u32) -> bool {
+    let mut source = reader_of(row.0, row.1, failing);
+    let mut sink = writer_of(alloc, row.2, 0, 4096);
+    let answer = run_script(alloc, false, false, &mut source, &mut sink);
+    answer == row.3 && sink.written.as_slice() == row.4.as_bytes()
 }
 
 #[test]
-fn each_event_prints_its_notes(rt: HostRuntime) {
-    let source = reader_of(SCRIPT, 0, 0);
-    let sink = writer_of(rt.alloc(), 0, 0, 4096);
-    assert!(rt; comes_to(rt.alloc(), source, sink, Ok(true), PRINTED));
-}
-
-#[test]
-fn a_faulty_line_prints_nothing(rt: HostRuntime) {
-    let source = reader_of(FAULTY, 0, 0);
-    let sink = writer_of(rt.alloc(), 0, 0, 4096);
-    let fault = EngineFault::Text {
-        line: 3,
-        cause: Cause::OutOfRange,
-    };
-    assert!(rt; comes_to(rt.alloc(), source, sink, Err(fault), ""));
+fn each_run_comes_to_its_answer(rt: HostRuntime) {
+    for row in RUNS.iter() {
+        assert!(rt; comes_to(rt.alloc(), row, 0), "{} {}", row.1, row.2);
+    }
 }
 
 #[test]
 fn a_failed_read_prints_nothing(rt: HostRuntime) {
-    let mut all = true;
-    for failing in 1..READS + 1 {
-        let source = reader_of(SCRIPT, 0, failing);
-        let sink = writer_of(rt.alloc(), 0, 0, 4096);
-        all = all && comes_to(rt.alloc(), source, sink, Err(EngineFault::Read), "");
+    let mut all = comes_to(rt.alloc(), &RUNS[0], READS + 1);
+    for failing in 1..=READS {
+        all = comes_to(rt.alloc(), &UNREAD, failing) && all;
     }
-    let source = reader_of(SCRIPT, 0, READS + 1);
-    let sink = writer_of(rt.alloc(), 0, 0, 4096);
-    assert!(rt; all && comes_to(rt.alloc(), source, sink, Ok(true), PRINTED));
-}
-
-#[test]
-fn a_failed_write_leaves_a_beginning(rt: HostRuntime) {
-    let mut all = true;
-    for failing in 1..WRITES + 1 {
-        all = all && leaves_a_beginning(rt.alloc(), writer_of(rt.alloc(), 0, failing, 4096));
-    }
-    let source = reader_of(SCRIPT, 0, 0);
-    let full = writer_of(rt.alloc(), 0, 0, 20);
-    let kept = "0 sent 0>0#1 job q0\n";
-    assert!(rt; all && comes_to(rt.alloc(), source, full, Err(EngineFault::Write), kept));
-}
-
-#[test]
-fn a_thousand_interruptions_are_a_fault(rt: HostRuntime) {
-    let alloc = rt.alloc();
-    for (reads, writes, want, written) in [
-        (999, 999, Ok(true), PRINTED),
-        (1000, 0, Err(EngineFault::Read), ""),
-        (0, 1000, Err(EngineFault::Write), ""),
-    ] {
-        let source = reader_of(SCRIPT, reads, 0);
-        let sink = writer_of(alloc, writes, 0, 4096);
-        assert!(rt;
-            comes_to(alloc, source, sink, want, written),
-            "{reads} {writes}"
-        );
-    }
+    assert!(rt; all);
 }

@@ -92,47 +92,51 @@ const REPLIES: [(Quiet, &str); 12] = [
     (Quiet::AlreadyShut, "3 alreadyshut 12"),
 ];
 
-fn is_line(alloc: Global, note: Note<u64>, text: &str) -> Result<bool, AllocError> {
-    let line = NoteLine(ActorNo(1), note);
+fn is_line(alloc: Global, note: &Note<u64>, text: &str) -> Result<bool, AllocError> {
+    let line = NoteLine(ActorNo(1), *note);
     Ok(format!(in alloc; "{line}")?.as_str() == text)
 }
 
-fn is_reply(alloc: Global, quiet: Quiet, text: &str) -> Result<bool, AllocError> {
+fn is_reply(alloc: Global, quiet: &Quiet, text: &str) -> Result<bool, AllocError> {
     let ends = Ends {
         actor: ActorNo(3),
         other: 12,
         number: 7,
     };
-    let line = ReplyLine(ends, quiet);
+    let line = ReplyLine(ends, *quiet);
     Ok(format!(in alloc; "{line}")?.as_str() == text)
 }
 
 /// Whether all notes that tell these shares are written so.
 fn are_shares_told(alloc: Global, shares: Shares) -> Result<bool, AllocError> {
     let queue = QueueNo(2);
-    let create = Note::Sent(NAME, Order::Create(shares));
-    let set = Note::Sent(NAME, Order::SetShares(queue, shares));
-    Ok(
-        is_line(alloc, create, "1 sent 2>1#3 create 500")?
-            && is_line(alloc, set, "1 sent 2>1#3 shares q2 500")?
-            && is_line(alloc, Note::Created(queue, shares), "1 queue q2 500")?
-            && is_line(alloc, Note::SharesSet(queue, shares), "1 shares q2 500")?,
-    )
+    let rows = [
+        (
+            Note::Sent(NAME, Order::Create(shares)),
+            "1 sent 2>1#3 create 500",
+        ),
+        (
+            Note::Sent(NAME, Order::SetShares(queue, shares)),
+            "1 sent 2>1#3 shares q2 500",
+        ),
+        (Note::Created(queue, shares), "1 queue q2 500"),
+        (Note::SharesSet(queue, shares), "1 shares q2 500"),
+    ];
+    are_lines(alloc, &rows)
+}
+
+/// Whether each note is written so.
+fn are_lines(alloc: Global, rows: &[(Note<u64>, &str)]) -> Result<bool, AllocError> {
+    let mut all = true;
+    for (note, text) in rows.iter() {
+        all = is_line(alloc, note, text)? && all;
+    }
+    Ok(all)
 }
 
 #[test]
-fn notes_of_jobs(rt: HostRuntime) -> Result<(), Fail> {
-    for (note, text) in JOB_NOTES {
-        assert!(rt; is_line(rt.alloc(), note, text)?, "{text}");
-    }
-    Ok(())
-}
-
-#[test]
-fn notes_of_cores(rt: HostRuntime) -> Result<(), Fail> {
-    for (note, text) in CORE_NOTES {
-        assert!(rt; is_line(rt.alloc(), note, text)?, "{text}");
-    }
+fn notes_of_jobs_and_cores(rt: HostRuntime) -> Result<(), Fail> {
+    assert!(rt; are_lines(rt.alloc(), &JOB_NOTES)? && are_lines(rt.alloc(), &CORE_NOTES)?);
     Ok(())
 }
 
@@ -148,18 +152,16 @@ fn notes_of_shares(rt: HostRuntime) -> Result<(), Fail> {
 
 #[test]
 fn answers_of_commands(rt: HostRuntime) -> Result<(), Fail> {
-    for (answer, text) in ANSWERS {
-        assert!(rt;
-            is_line(rt.alloc(), Note::Answered(NAME, answer), text)?,
-            "{text}"
-        );
+    for (answer, text) in ANSWERS.iter() {
+        let note = Note::Answered(NAME, *answer);
+        assert!(rt; is_line(rt.alloc(), &note, text)?, "{text}");
     }
     Ok(())
 }
 
 #[test]
 fn replies_without_notes(rt: HostRuntime) -> Result<(), Fail> {
-    for (quiet, text) in REPLIES {
+    for (quiet, text) in REPLIES.iter() {
         assert!(rt; is_reply(rt.alloc(), quiet, text)?, "{text}");
     }
     Ok(())

@@ -3,7 +3,9 @@
 ghost use Rattle.rt_jobs.specs.Ready.{HasReadyJob};
 ghost use Rattle.rt_world.specs.Opening.{HasReadyEvent};
 
-use rt_ids::{ActorNo, CoreNo, Mode, Order, QueueNo, SendError};
+use rt_ids::{
+    ActorNo, CoreNo, JobId, Mode, Order, Outcome, QueueNo, SendError, Ticket, TicketError,
+};
 use rt_jobs::{ScriptJob, Task};
 use rt_shares::Shares;
 use rt_world::{Event, Reply, World};
@@ -23,6 +25,10 @@ pub enum Act {
     Deliver(u8, u8),
     Turn(u8),
     Shut(u8, u8),
+    Collect(u8, u8),
+    /// The number of the submission stands last.
+    Redeem(u8, u8, u64),
+    Detach(u8, u8, u64),
 }
 
 /// What became of an event.
@@ -37,6 +43,11 @@ pub enum Became {
     Idle,
     NotClosed,
     AlreadyShut,
+    Collected(usize),
+    /// With this answer.
+    Redeemed(u64),
+    Detached,
+    NoTicket(TicketError),
     NoActor,
     NoRoom,
     Other,
@@ -65,6 +76,15 @@ fn two_polls(time: u64, answer: u64) -> ScriptJob {
     job
 }
 
+/// The ticket of this submission.
+fn ticket(from: u8, to: u8, number: u64) -> Ticket {
+    Ticket::named(JobId {
+        from: ActorNo(from),
+        to: CoreNo(to),
+        number,
+    })
+}
+
 /// The event of the model.
 pub fn event_of(rt: &impl Abort, act: &Act) -> Event<ScriptJob>
     ensures { HasReadyEvent (HasReadyJob ⟦<ScriptJob as Task>⟧.done ⟦<ScriptJob as Task>⟧.CanPoll) result }
@@ -81,6 +101,13 @@ pub fn event_of(rt: &impl Abort, act: &Act) -> Event<ScriptJob>
         Act::Deliver(core, from) => Event::Deliver(CoreNo(*core), ActorNo(*from)),
         Act::Turn(core) => Event::Turn(CoreNo(*core), 0),
         Act::Shut(core, from) => Event::Shut(CoreNo(*core), ActorNo(*from)),
+        Act::Collect(from, to) => Event::Collect(ActorNo(*from), CoreNo(*to)),
+        Act::Redeem(from, to, number) => {
+            Event::Redeem(ActorNo(*from), ticket(*from, *to, *number))
+        }
+        Act::Detach(from, to, number) => {
+            Event::Detach(ActorNo(*from), ticket(*from, *to, *number))
+        }
     }
 }
 
@@ -94,6 +121,10 @@ fn told_by(reply: Reply<ScriptJob>) -> Became {
         Reply::Idle => Became::Idle,
         Reply::NotClosed => Became::NotClosed,
         Reply::AlreadyShut => Became::AlreadyShut,
+        Reply::Collected(count) => Became::Collected(count),
+        Reply::Redeemed(Outcome::Finished(answer)) => Became::Redeemed(answer),
+        Reply::Detached => Became::Detached,
+        Reply::NoTicket(error) => Became::NoTicket(error),
         Reply::NoActor(_) => Became::NoActor,
         Reply::NoRoom(_) => Became::NoRoom,
         _ => Became::Other,

@@ -1,7 +1,7 @@
 //! The model by its events: how a world opens, what is refused, and what a run answers.
 
 use crate::acts::{Act, Became, event_of, run};
-use rt_ids::{ActorNo, CoreNo, JobId, Note, QueueNo};
+use rt_ids::{ActorNo, CoreNo, JobId, Note, QueueNo, TicketError};
 use rt_jobs::{ScriptJob, Task};
 use rt_shares::Shares;
 use rt_world::{Event, World, WorldError};
@@ -103,5 +103,25 @@ fn a_run_answers_the_journals(rt: HostRuntime) -> Result<(), Fail> {
     let assembly = world.run(events);
     let last = assembly.journal(ActorNo(0)).get(3);
     assert!(rt; assembly.cores() == 1 && last == Some(Note::Done(name(1, 0, 1), 10, 7)));
+    Ok(())
+}
+
+#[test]
+fn outcomes_come_back(rt: HostRuntime) -> Result<(), Fail> {
+    let mut world: World<ScriptJob> = World::try_new(rt.alloc(), rt.alloc(), 1, 1, 100)?;
+    let row = [
+        (Act::Job(0, 0, 0, 10, 6), Became::Sent),
+        (Act::Redeem(0, 0, 1), Became::NoTicket(TicketError::Pending)),
+        (Act::Deliver(0, 0), Became::Noted),
+        (Act::Turn(0), Became::Noted),
+        (Act::Collect(0, 0), Became::Collected(1)),
+        (Act::Job(0, 0, 0, 10, 7), Became::Full),
+        (Act::Redeem(0, 0, 1), Became::Redeemed(6)),
+        (Act::Job(0, 0, 0, 10, 7), Became::Sent),
+        (Act::Detach(0, 0, 1), Became::NoTicket(TicketError::Gone)),
+        (Act::Detach(0, 0, 2), Became::Detached),
+        (Act::Redeem(1, 0, 2), Became::NoTicket(TicketError::Unknown)),
+    ];
+    assert!(rt; run(&rt, &mut world, &row));
     Ok(())
 }

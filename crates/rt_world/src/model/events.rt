@@ -26,6 +26,9 @@ impl<J: Task<Out = u64>, A: Allocator + Clone> World<J, A> {
             Event::Deliver(core, from) => core.0 < self.cores && from.0 <= self.cores,
             Event::Turn(core, _) => core.0 < self.cores,
             Event::Shut(core, from) => core.0 < self.cores && from.0 <= self.cores,
+            Event::Collect(from, core) => from.0 <= self.cores && core.0 < self.cores,
+            Event::Redeem(from, _) => from.0 <= self.cores,
+            Event::Detach(from, _) => from.0 <= self.cores,
         }
     }
 
@@ -48,7 +51,7 @@ impl<J: Job + Task<Out = u64>, A: Allocator + Clone> World<J, A> {
     /// free (`NoRoom`), changes nothing and comes back.
     pub fn step(&mut self, event: Event<J>) -> Reply<J>
         requires ready { HasReadyEvent (HasReadyJob J.done J.CanPoll) event }
-        ensures { Happens J.made J.Polls J.Answers event self.old self.new result }
+        ensures { Happens J.SameTask J.made J.Polls J.Answers event self.old self.new result }
     {
         if !self.has_actors(&event) {
             return Reply::NoActor(event);
@@ -61,6 +64,9 @@ impl<J: Job + Task<Out = u64>, A: Allocator + Clone> World<J, A> {
             Event::Deliver(core, from) => self.deliver(core, from),
             Event::Turn(core, spent) => self.turn(core, spent),
             Event::Shut(core, from) => self.shut(core, from),
+            Event::Collect(from, core) => self.collect(from, core),
+            Event::Redeem(from, ticket) => self.redeem(from, ticket),
+            Event::Detach(from, ticket) => self.detach(from, ticket),
         }
     }
 
@@ -68,7 +74,7 @@ impl<J: Job + Task<Out = u64>, A: Allocator + Clone> World<J, A> {
     pub fn run(self, events: Vec<Event<J>>) -> Assembly
         requires unbegun { IsUnbegun self }
         requires ready { All (HasReadyEvent (HasReadyJob J.done J.CanPoll)) events.items }
-        ensures run { RunsTo J.made J.Polls J.Answers events.items self result }
+        ensures run { RunsTo J.SameTask J.made J.Polls J.Answers events.items self result }
         ensures sound { IsSound result }
         ensures joined { AreJoined result }
     {

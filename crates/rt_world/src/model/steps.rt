@@ -118,6 +118,7 @@ fn settle_on<J: Task<Out = u64>, A: Allocator + Clone>(
     ensures beside { one.IsBesideAll number one.none_owed core.new (map vec_items links.new.items) }
     ensures outs { KeepsOuts (desk_of core.old) (desk_of core.new) }
     ensures seat { IsSameSeat core.old core.new }
+    ensures lanes { core.new.lanes ≡ core.old.lanes }
     ensures sound { IsRecorded J.SameTask J.made J.Polls core.new }
 {
     let row = &mut links[name.from.0 as usize];

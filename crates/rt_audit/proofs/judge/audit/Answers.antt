@@ -13,13 +13,20 @@ pub returns-in-Ok : goal.returns-in-Ok
 returns-in-Ok c = record {
   sound = λ sound. (c.is_spelled.ensures.0 c.if-not-is_spelled.false, c.in-Ok.ensures.sound sound);
   first = c.in-Ok.ensures.first;
-  broken = c.in-Ok.ensures.broken;
+  rule =
+      λ spelled.
+      record {
+        some = c.in-Ok.ensures.number.0;
+        few = c.in-Ok.ensures.number.1;
+        before = c.in-Ok.ensures.first;
+        here = c.in-Ok.ensures.broken spelled;
+      };
   only = c.in-Ok.ensures.only;
   unspelled = λ no. absurd (no (c.is_spelled.ensures.0 c.if-not-is_spelled.false));
 }
 
-pub returns-then-not-is_spelled-clause-broken : goal.returns-then-not-is_spelled-clause-broken
-returns-then-not-is_spelled-clause-broken c = λ spelled. absurd (both_ways c.is_spelled.result c.if-not-is_spelled.true (c.is_spelled.ensures.1 spelled))
+pub returns-then-not-is_spelled-clause-rule : goal.returns-then-not-is_spelled-clause-rule
+returns-then-not-is_spelled-clause-rule c = λ spelled. absurd (both_ways c.is_spelled.result c.if-not-is_spelled.true (c.is_spelled.ensures.1 spelled))
 
 pub returns-then-not-is_spelled-clause-only : goal.returns-then-not-is_spelled-clause-only
 returns-then-not-is_spelled-clause-only c = λ spelled sound. absurd (both_ways c.is_spelled.result c.if-not-is_spelled.true (c.is_spelled.ensures.1 spelled))

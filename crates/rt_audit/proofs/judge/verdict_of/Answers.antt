@@ -1,4 +1,4 @@
-use Rattle.std.proofs.Common.{sym, ◌∙◌}
+use Rattle.std.proofs.Common.{sym, ◌∙◌, arith}
 use Rattle.std.specs.Prelude.{is_some}
 use Rattle.rt_ids.specs.Sound.{StartsAreSound}
 use Rattle.rt_rules.specs.Links.{KnowsOrders}
@@ -55,6 +55,7 @@ returns c =
           λ spelled.
           breaks_picks c.args.assembly.now (rule_named c.told-fifth.result) c.in_ok-picks.picks c.told-fifth.ensures.fault c.told-fifth.ensures.none
           (c.in_ok-picks.ensures.only spelled);
+      number = c.told-fifth.ensures.number (omega arith) (omega arith);
       only = λ spelled sound. c.told-fifth.ensures.only (c.in_ok-picks.ensures.only spelled sound.picks);
     }
 
@@ -122,3 +123,15 @@ returns-then-is_some-4-clause-only c =
     (
     (returns-then-is_some-4-clause-broken c spelled).outcomes (c.told-fourth.ensures.fault (sym c.is_some-4.ensures ∙ c.if-is_some-4.true)) sound.outcomes
     )
+
+pub returns-then-is_some-clause-number : goal.returns-then-is_some-clause-number
+returns-then-is_some-clause-number c = c.told-first.ensures.number (omega arith) (omega arith)
+
+pub returns-then-is_some-2-clause-number : goal.returns-then-is_some-2-clause-number
+returns-then-is_some-2-clause-number c = c.told-second.ensures.number (omega arith) (omega arith)
+
+pub returns-then-is_some-3-clause-number : goal.returns-then-is_some-3-clause-number
+returns-then-is_some-3-clause-number c = c.told-third.ensures.number (omega arith) (omega arith)
+
+pub returns-then-is_some-4-clause-number : goal.returns-then-is_some-4-clause-number
+returns-then-is_some-4-clause-number c = c.told-fourth.ensures.number (omega arith) (omega arith)

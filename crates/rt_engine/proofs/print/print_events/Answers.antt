@@ -1,10 +1,11 @@
 use Rattle.std.proofs.Common.{◌≡◌, ◌+◌, ◌++◌, ◌∷◌, [], length, length-append, arith, sym, subst, ◌∙◌, string_bytes}
 use Rattle.std.proofs.lemmas.Iterator.Adapters.{YieldsList-from_vec}
-use Rattle.std.proofs.lemmas.Iterator.Consumers.{YieldsList-turn, YieldsList-end}
+use Rattle.std.proofs.lemmas.Iterator.Consumers.{YieldsList-so_far, YieldsList-turn, YieldsList-end}
 use Rattle.std.proofs.lemmas.List.{map-id}
+use Rattle.rt_spelling.proofs.PageLemmas.{OnErr-any}
 use Rattle.rt_script.specs.Limits.{IsEventOf}
 use Rattle.rt_engine.specs.Outputs.{WritesAll}
-use Rattle.rt_engine.proofs.EventTexts.{writes_more, writes_out, roomy_more, roomy_here}
+use Rattle.rt_engine.proofs.EventTexts.{writes_more, writes_out, writes_first, page_first, left_over, left_after, roomy_more, roomy_here}
 use Rattle.rt_engine.proofs.print.print_events.Goals as goal
 
 pub print_event-requires : goal.print_event-requires
@@ -42,3 +43,18 @@ returns-clause-ok g c =
     let all = YieldsList-from_vec {s = c.into_iter-event-iterator.result} c.args.events.items c.into_iter-event-iterator.ensures.into_iter_gives.0 (c.into_iter-event-iterator.ensures.into_iter_gives.1 ∙ c.args.events.ok.0) in
     let end = YieldsList-end all c.loop-event.yielded c.loop-event.event-iterator c.loop-event.yielded_by _ c.next.new.self c.in-None.is c.next.ensures.steps in
     subst (λ events. WritesAll events c.args.model.now c.loop-event.model (string_bytes c.args.page.now) (string_bytes c.loop-event.page) (g.W.Write.contents c.args.sink.now) (g.W.Write.contents c.loop-event.sink)) (sym (map-id c.loop-event.yielded) ∙ end.0) c.loop-event.invariant.writes
+
+pub returns-in_err-print_event-clause-err : goal.returns-in_err-print_event-clause-err
+returns-in_err-print_event-clause-err g c =
+    let all = YieldsList-from_vec {s = c.into_iter-event-iterator.result} c.args.events.items c.into_iter-event-iterator.ensures.into_iter_gives.0 (c.into_iter-event-iterator.ensures.into_iter_gives.1 ∙ c.args.events.ok.0) in
+    let so_far = YieldsList-so_far all c.loop-event.yielded c.loop-event.event-iterator c.loop-event.yielded_by in
+    OnErr-any c.from_residual.result (writes_first c.loop-event.yielded _ _ _ _ _ _ c.loop-event.invariant.writes c.args.events.items _ (left_over c.args.events.items c.loop-event.yielded so_far))
+
+pub returns-in_err-print_page-clause-err : goal.returns-in_err-print_page-clause-err
+returns-in_err-print_page-clause-err g c =
+    let all = YieldsList-from_vec {s = c.into_iter-event-iterator.result} c.args.events.items c.into_iter-event-iterator.ensures.into_iter_gives.0 (c.into_iter-event-iterator.ensures.into_iter_gives.1 ∙ c.args.events.ok.0) in
+    let so_far = YieldsList-so_far all c.loop-event.yielded c.loop-event.event-iterator c.loop-event.yielded_by in
+    let turn = YieldsList-turn all c.loop-event.yielded c.loop-event.event-iterator c.loop-event.yielded_by _ c.next.new.self c.in-Some.event c.in-Some.is c.next.ensures.steps in
+    let one = c.in_ok-print_event.ensures.ok in
+    let more = writes_more c.loop-event.yielded _ _ _ _ _ _ c.loop-event.invariant.writes c.in-Some.event _ _ one.0 one.1 one.2 in
+    OnErr-any c.from_residual-in_err-print_page.result (page_first _ _ _ _ _ _ _ more c.args.events.items _ _ (left_after c.args.events.items c.loop-event.yielded c.in-Some.event so_far turn.0 turn.1) c.in_err-print_page.ensures.err)

@@ -1,7 +1,7 @@
 use Rattle.std.proofs.Common.{length, sym, subst, ap, arith}
 use Rattle.rt_journal.specs.Steps.{ClosesItself}
 use Rattle.rt_journal.proofs.ClosedItself.{few_closed, step_closed, closes_itself}
-use Rattle.rt_journal.proofs.Wrote.{view_of, quiet_written, now_is, quiet_sound, quiet_invariant, quiet_seat, quiet_ins, quiet_outs}
+use Rattle.rt_journal.proofs.Wrote.{view_of, quiet_written, quiet_sent, now_is, quiet_sound, quiet_invariant, quiet_seat, quiet_ins, quiet_outs}
 use Rattle.rt_journal.proofs.recorded.Recorded.close.Goals as goal
 
 pub write-requires-clause-room : goal.write-requires-clause-room
@@ -11,6 +11,9 @@ write-requires-clause-room g c =
 
 pub write-requires-clause-written : goal.write-requires-clause-written
 write-requires-clause-written g c = quiet_written c.self.inside.core c.self.inside.took.items c.self.inside.said c.self.invariant c.close-closed.new.self c.close-closed.result.1.items c.as_slice.result.now c.as_slice.ensures.value (step_closed (view_of c.self.inside.core c.self.inside.took.items c.self.inside.said) c.self.invariant.0 c.args.mode c.close-closed.result.0 c.close-closed.new.self c.close-closed.result.1.items c.close-closed.ensures.closes)
+
+pub write-requires-clause-sent : goal.write-requires-clause-sent
+write-requires-clause-sent g c = quiet_sent c.self.inside.core c.self.inside.took.items c.self.inside.said c.self.invariant c.close-closed.new.self c.close-closed.result.1.items c.as_slice.result.now c.as_slice.ensures.value (step_closed (view_of c.self.inside.core c.self.inside.took.items c.self.inside.said) c.self.invariant.0 c.args.mode c.close-closed.result.0 c.close-closed.new.self c.close-closed.result.1.items c.close-closed.ensures.closes)
 
 pub invariant_of-self : goal.invariant_of-self
 invariant_of-self g c = quiet_invariant c.self.inside.core c.self.inside.took.items c.self.inside.said c.self.invariant c.close-closed.new.self c.close-closed.result.1.items c.as_slice.result.now c.as_slice.ensures.value (step_closed (view_of c.self.inside.core c.self.inside.took.items c.self.inside.said) c.self.invariant.0 c.args.mode c.close-closed.result.0 c.close-closed.new.self c.close-closed.result.1.items c.close-closed.ensures.closes) c.write.new.self c.write.ensures

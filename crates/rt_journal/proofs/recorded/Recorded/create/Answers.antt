@@ -4,7 +4,7 @@ use Rattle.rt_ids.specs.Commands.{IsOpening}
 use Rattle.rt_journal.specs.Steps.{CreatesQueue}
 use Rattle.rt_journal.proofs.QueuesCreated.{few-created, step-created, creates-now}
 use Rattle.rt_journal.proofs.KeptModes.{opening_is_open}
-use Rattle.rt_journal.proofs.Wrote.{view_of, quiet_written, now_is, quiet_sound, quiet_invariant, quiet_seat, quiet_ins, quiet_outs}
+use Rattle.rt_journal.proofs.Wrote.{view_of, quiet_written, quiet_sent, now_is, quiet_sound, quiet_invariant, quiet_seat, quiet_ins, quiet_outs}
 use Rattle.rt_journal.proofs.recorded.Recorded.create.Goals as goal
 
 pub create-created-requires : goal.create-created-requires
@@ -25,6 +25,14 @@ write-requires-clause-written g c =
     let in_range : InRange c.args.shares = record { positive = omega (arith, c.get-in_range.ensures.value, c.get-in_range.ensures.positive); bounded = omega (arith, c.get-in_range.ensures.value, c.get-in_range.ensures.bounded) } in
     let step = step-created (view_of c.self.inside.core c.self.inside.took.items c.self.inside.said) c.self.invariant.0 opening c.args.shares in_range c.create-created.new.self c.create-created.result.0 c.create-created.result.1.items c.create-created.ensures.creates in
     quiet_written c.self.inside.core c.self.inside.took.items c.self.inside.said c.self.invariant c.create-created.new.self c.create-created.result.1.items c.as_slice.result.now c.as_slice.ensures.value
+    step
+
+pub write-requires-clause-sent : goal.write-requires-clause-sent
+write-requires-clause-sent g c =
+    let opening = subst (λ view. IsOpening view.journal.notes) (sym c.self.view_is) c.requires.opening in
+    let in_range : InRange c.args.shares = record { positive = omega (arith, c.get-in_range.ensures.value, c.get-in_range.ensures.positive); bounded = omega (arith, c.get-in_range.ensures.value, c.get-in_range.ensures.bounded) } in
+    let step = step-created (view_of c.self.inside.core c.self.inside.took.items c.self.inside.said) c.self.invariant.0 opening c.args.shares in_range c.create-created.new.self c.create-created.result.0 c.create-created.result.1.items c.create-created.ensures.creates in
+    quiet_sent c.self.inside.core c.self.inside.took.items c.self.inside.said c.self.invariant c.create-created.new.self c.create-created.result.1.items c.as_slice.result.now c.as_slice.ensures.value
     step
 
 pub invariant_of-self : goal.invariant_of-self

@@ -3,7 +3,7 @@ use Rattle.rt_ids.specs.Limits.{most_turns}
 use Rattle.rt_ids.specs.Picks.{turns}
 use Rattle.rt_journal.specs.Turns.{Picks}
 use Rattle.rt_journal.proofs.Picked.{turns-within, few-picked, step-picked, picks-now}
-use Rattle.rt_journal.proofs.Wrote.{view_of, quiet_written, now_is, quiet_sound, quiet_invariant, quiet_seat, quiet_ins, quiet_outs}
+use Rattle.rt_journal.proofs.Wrote.{view_of, quiet_written, quiet_sent, now_is, quiet_sound, quiet_invariant, quiet_seat, quiet_ins, quiet_outs}
 use Rattle.rt_journal.proofs.recorded.Recorded.pick.Goals as goal
 
 pub write-requires-clause-room : goal.write-requires-clause-room
@@ -17,6 +17,13 @@ write-requires-clause-written g c =
     let left : turns c.self.inside.said.journal.notes < most_turns = omega (arith, turns-within c.self.inside.said.journal.notes, c.requires.room, ap (λ view. view.journal.room) c.self.view_is, ap (λ view. length view.journal.notes) c.self.view_is, ap (λ view. view.room) c.journal.ensures, c.room-room.ensures.value) in
     let step = step-picked (view_of c.self.inside.core c.self.inside.took.items c.self.inside.said) c.self.invariant.0 left c.pick-picked.new.self c.pick-picked.result.0 c.pick-picked.result.1.items c.pick-picked.ensures.picks in
     quiet_written c.self.inside.core c.self.inside.took.items c.self.inside.said c.self.invariant c.pick-picked.new.self c.pick-picked.result.1.items c.as_slice.result.now c.as_slice.ensures.value
+    step
+
+pub write-requires-clause-sent : goal.write-requires-clause-sent
+write-requires-clause-sent g c =
+    let left : turns c.self.inside.said.journal.notes < most_turns = omega (arith, turns-within c.self.inside.said.journal.notes, c.requires.room, ap (λ view. view.journal.room) c.self.view_is, ap (λ view. length view.journal.notes) c.self.view_is, ap (λ view. view.room) c.journal.ensures, c.room-room.ensures.value) in
+    let step = step-picked (view_of c.self.inside.core c.self.inside.took.items c.self.inside.said) c.self.invariant.0 left c.pick-picked.new.self c.pick-picked.result.0 c.pick-picked.result.1.items c.pick-picked.ensures.picks in
+    quiet_sent c.self.inside.core c.self.inside.took.items c.self.inside.said c.self.invariant c.pick-picked.new.self c.pick-picked.result.1.items c.as_slice.result.now c.as_slice.ensures.value
     step
 
 pub invariant_of-self : goal.invariant_of-self

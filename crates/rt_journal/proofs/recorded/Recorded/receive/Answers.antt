@@ -2,9 +2,9 @@ use Rattle.std.proofs.Common.{length, sym, ◌∙◌, ap, subst, reverse, arith}
 use Rattle.rt_ids.specs.Orders.{IsSpelledOrder}
 use Rattle.rt_journal.specs.Steps.{IsNextIn}
 use Rattle.rt_journal.specs.Submissions.{desk_with}
-use Rattle.rt_journal.proofs.Received.{next_for_core, room_in, few, sound_now, seat_now, receives_now, written_now, gives_now, stands_now}
+use Rattle.rt_journal.proofs.Received.{next_for_core, room_in, few, sound_now, seat_now, receives_now, written_now, sent_now, gives_now, stands_now}
 use Rattle.rt_journal.proofs.Carries.{fits_delivered}
-use Rattle.rt_journal.proofs.Wrote.{view_of, may_write, desk_is}
+use Rattle.rt_journal.proofs.Wrote.{view_of, may_write, may_send, desk_is}
 use Rattle.rt_journal.proofs.recorded.Recorded.receive.Goals as goal
 
 pub deliver-delivered-requires : goal.deliver-delivered-requires
@@ -28,6 +28,14 @@ write-requires-clause-written g c =
     (written_now g.met.J.Task.same_task (view_of c.self.inside.core c.self.inside.took.items c.self.inside.said) c.self.invariant.0 c.args.envelope next spelled c.deliver-delivered.new.self c.deliver-delivered.result.0 c.deliver-delivered.result.1.items
     c.deliver-delivered.ensures.delivers)
 
+pub write-requires-clause-sent : goal.write-requires-clause-sent
+write-requires-clause-sent g c =
+    let next = subst (λ view. IsNextIn view c.args.envelope.name) (sym c.self.view_is) c.requires.next in
+    let spelled = subst IsSpelledOrder c.without_job-within_ranges.ensures.same c.without_job-within_ranges.ensures.spelled in
+    may_send c.self.inside.said.journal.notes c.deliver-delivered.result.1.items c.as_slice.result.now c.as_slice.ensures.value
+    (sent_now g.met.J.Task.same_task (view_of c.self.inside.core c.self.inside.took.items c.self.inside.said) c.self.invariant.0 c.args.envelope next spelled c.deliver-delivered.new.self c.deliver-delivered.result.0 c.deliver-delivered.result.1.items
+    c.deliver-delivered.ensures.delivers)
+
 pub invariant_of-self : goal.invariant_of-self
 invariant_of-self g c =
     let next = subst (λ view. IsNextIn view c.args.envelope.name) (sym c.self.view_is) c.requires.next in
@@ -35,10 +43,10 @@ invariant_of-self g c =
     let said_is = c.write.ensures ∙ ap (λ notes. desk_with (reverse notes) c.self.inside.said) c.as_slice.ensures.value in
     let seat = seat_now g.met.J.Task.same_task (view_of c.self.inside.core c.self.inside.took.items c.self.inside.said) c.self.invariant.0 c.args.envelope next spelled c.deliver-delivered.new.self c.deliver-delivered.result.0 c.deliver-delivered.result.1.items
     c.deliver-delivered.ensures.delivers
-    _ (λ i. record { cap = (said_is i).cap; core = c.deliver-delivered.new.self; journal = (said_is i).journal; took = c.with-self-inside.ensures i }) in (
+    _ (λ i. record { cap = (said_is i).cap; core = c.deliver-delivered.new.self; journal = (said_is i).journal; took = c.with-self-inside.ensures i; lanes = (said_is i).lanes }) in (
       sound_now g.met.J.Task.same_task (view_of c.self.inside.core c.self.inside.took.items c.self.inside.said) c.self.invariant.0 c.args.envelope next spelled c.deliver-delivered.new.self c.deliver-delivered.result.0 c.deliver-delivered.result.1.items
           c.deliver-delivered.ensures.delivers
-          _ (λ i. record { cap = (said_is i).cap; core = c.deliver-delivered.new.self; journal = (said_is i).journal; took = c.with-self-inside.ensures i }),
+          _ (λ i. record { cap = (said_is i).cap; core = c.deliver-delivered.new.self; journal = (said_is i).journal; took = c.with-self-inside.ensures i; lanes = (said_is i).lanes }),
       desk_is c.write.new.self c.deliver-delivered.new.self c.self.inside.took.items (ap (λ desk. desk.actor) said_is ∙ (ap (λ desk. desk.actor) c.self.invariant.1 ∙ sym seat.number))
           (ap (λ desk. desk.cores) said_is ∙ (ap (λ desk. desk.cores) c.self.invariant.1 ∙ sym seat.cores)),
     )
@@ -50,7 +58,7 @@ returns-clause-receives g c =
     let said_is = c.write.ensures ∙ ap (λ notes. desk_with (reverse notes) c.self.inside.said) c.as_slice.ensures.value in
     rw (← c.self.view_is) (receives_now g.met.J.Task.same_task (view_of c.self.inside.core c.self.inside.took.items c.self.inside.said) c.self.invariant.0 c.args.envelope next spelled c.deliver-delivered.new.self c.deliver-delivered.result.0 c.deliver-delivered.result.1.items
     c.deliver-delivered.ensures.delivers
-    _ (λ i. record { cap = (said_is i).cap; core = c.deliver-delivered.new.self; journal = (said_is i).journal; took = c.with-self-inside.ensures i }))
+    _ (λ i. record { cap = (said_is i).cap; core = c.deliver-delivered.new.self; journal = (said_is i).journal; took = c.with-self-inside.ensures i; lanes = (said_is i).lanes }))
 
 pub returns-clause-gives : goal.returns-clause-gives
 returns-clause-gives g c =
@@ -59,7 +67,7 @@ returns-clause-gives g c =
     let said_is = c.write.ensures ∙ ap (λ notes. desk_with (reverse notes) c.self.inside.said) c.as_slice.ensures.value in
     rw (← c.self.view_is, c.outcome_of.ensures) (gives_now g.met.J.Task.same_task (view_of c.self.inside.core c.self.inside.took.items c.self.inside.said) c.self.invariant.0 c.args.envelope next spelled c.deliver-delivered.new.self c.deliver-delivered.result.0 c.deliver-delivered.result.1.items
     c.deliver-delivered.ensures.delivers
-    _ (λ i. record { cap = (said_is i).cap; core = c.deliver-delivered.new.self; journal = (said_is i).journal; took = c.with-self-inside.ensures i }))
+    _ (λ i. record { cap = (said_is i).cap; core = c.deliver-delivered.new.self; journal = (said_is i).journal; took = c.with-self-inside.ensures i; lanes = (said_is i).lanes }))
 
 pub returns-clause-stands : goal.returns-clause-stands
 returns-clause-stands g c =
@@ -68,7 +76,7 @@ returns-clause-stands g c =
     let said_is = c.write.ensures ∙ ap (λ notes. desk_with (reverse notes) c.self.inside.said) c.as_slice.ensures.value in
     (stands_now g.met.J.Task.same_task (view_of c.self.inside.core c.self.inside.took.items c.self.inside.said) c.self.invariant.0 c.args.envelope next spelled c.deliver-delivered.new.self c.deliver-delivered.result.0 c.deliver-delivered.result.1.items
     c.deliver-delivered.ensures.delivers
-    _ (λ i. record { cap = (said_is i).cap; core = c.deliver-delivered.new.self; journal = (said_is i).journal; took = c.with-self-inside.ensures i }))
+    _ (λ i. record { cap = (said_is i).cap; core = c.deliver-delivered.new.self; journal = (said_is i).journal; took = c.with-self-inside.ensures i; lanes = (said_is i).lanes }))
 
 pub returns-clause-fits : goal.returns-clause-fits
 returns-clause-fits g c =
@@ -81,7 +89,7 @@ returns-clause-sound g c =
     let said_is = c.write.ensures ∙ ap (λ notes. desk_with (reverse notes) c.self.inside.said) c.as_slice.ensures.value in
     sound_now g.met.J.Task.same_task (view_of c.self.inside.core c.self.inside.took.items c.self.inside.said) c.self.invariant.0 c.args.envelope next spelled c.deliver-delivered.new.self c.deliver-delivered.result.0 c.deliver-delivered.result.1.items
     c.deliver-delivered.ensures.delivers
-    _ (λ i. record { cap = (said_is i).cap; core = c.deliver-delivered.new.self; journal = (said_is i).journal; took = c.with-self-inside.ensures i })
+    _ (λ i. record { cap = (said_is i).cap; core = c.deliver-delivered.new.self; journal = (said_is i).journal; took = c.with-self-inside.ensures i; lanes = (said_is i).lanes })
 
 pub returns-clause-seat : goal.returns-clause-seat
 returns-clause-seat g c =
@@ -90,4 +98,4 @@ returns-clause-seat g c =
     let said_is = c.write.ensures ∙ ap (λ notes. desk_with (reverse notes) c.self.inside.said) c.as_slice.ensures.value in
     rw (← c.self.view_is) (seat_now g.met.J.Task.same_task (view_of c.self.inside.core c.self.inside.took.items c.self.inside.said) c.self.invariant.0 c.args.envelope next spelled c.deliver-delivered.new.self c.deliver-delivered.result.0 c.deliver-delivered.result.1.items
     c.deliver-delivered.ensures.delivers
-    _ (λ i. record { cap = (said_is i).cap; core = c.deliver-delivered.new.self; journal = (said_is i).journal; took = c.with-self-inside.ensures i }))
+    _ (λ i. record { cap = (said_is i).cap; core = c.deliver-delivered.new.self; journal = (said_is i).journal; took = c.with-self-inside.ensures i; lanes = (said_is i).lanes }))

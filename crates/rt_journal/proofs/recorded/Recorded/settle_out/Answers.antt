@@ -2,7 +2,7 @@ use Rattle.std.proofs.Common.{length, sym, subst, ap, arith}
 use Rattle.rt_journal.specs.Turns.{IsOut, Settles}
 use Rattle.rt_journal.proofs.SettledPolls.{its_job_out, task_out, few-settled, step-settled, settles-now}
 use Rattle.rt_journal.proofs.SettledEnds.{owes_settled}
-use Rattle.rt_journal.proofs.Wrote.{view_of, quiet_written, now_is, quiet_sound, quiet_invariant, quiet_seat, quiet_ins, quiet_outs}
+use Rattle.rt_journal.proofs.Wrote.{view_of, quiet_written, quiet_sent, now_is, quiet_sound, quiet_invariant, quiet_seat, quiet_ins, quiet_outs}
 use Rattle.rt_journal.proofs.recorded.Recorded.settle_out.Goals as goal
 
 pub write-requires-clause-room : goal.write-requires-clause-room
@@ -20,6 +20,15 @@ write-requires-clause-written g c =
     let step = step-settled g.met.J.Task.same_task g.met.J.Task.answers_same (view_of c.self.inside.core c.self.inside.took.items c.self.inside.said) c.self.invariant.0 out.0 out.1 c.settle-settled.new.self c.args.ran its_job c.requires.polled c.args.spent
     c.settle-settled.result.0 c.settle-settled.result.1.items out.2 in
     quiet_written c.self.inside.core c.self.inside.took.items c.self.inside.said c.self.invariant c.settle-settled.new.self c.settle-settled.result.1.items c.as_slice.result.now c.as_slice.ensures.value
+    step
+
+pub write-requires-clause-sent : goal.write-requires-clause-sent
+write-requires-clause-sent g c =
+    let out = c.settle-settled.ensures.settles in
+    let its_job = its_job_out c.self.inside.core.out out.0 out.1 c.args.ran.before (subst (λ view. IsOut view.core.out c.args.ran.before) (sym c.self.view_is) c.requires.out) in
+    let step = step-settled g.met.J.Task.same_task g.met.J.Task.answers_same (view_of c.self.inside.core c.self.inside.took.items c.self.inside.said) c.self.invariant.0 out.0 out.1 c.settle-settled.new.self c.args.ran its_job c.requires.polled c.args.spent
+    c.settle-settled.result.0 c.settle-settled.result.1.items out.2 in
+    quiet_sent c.self.inside.core c.self.inside.took.items c.self.inside.said c.self.invariant c.settle-settled.new.self c.settle-settled.result.1.items c.as_slice.result.now c.as_slice.ensures.value
     step
 
 pub invariant_of-self : goal.invariant_of-self

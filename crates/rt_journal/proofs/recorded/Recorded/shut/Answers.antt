@@ -2,7 +2,7 @@ use Rattle.std.proofs.Common.{length, sym, ap, subst, arith}
 use Rattle.rt_journal.specs.Ends.{IsInOf}
 use Rattle.rt_journal.specs.Steps.{TellsShut}
 use Rattle.rt_journal.proofs.Shutting.{core_asks, few_shut, step_shut, tells_shut_now, beside_shut}
-use Rattle.rt_journal.proofs.Wrote.{view_of, quiet_written, now_is, quiet_sound, quiet_invariant, quiet_seat, quiet_ins, quiet_outs}
+use Rattle.rt_journal.proofs.Wrote.{view_of, quiet_written, quiet_sent, now_is, quiet_sound, quiet_invariant, quiet_seat, quiet_ins, quiet_outs}
 use Rattle.rt_journal.proofs.recorded.Recorded.shut.Goals as goal
 
 pub gate_shut-told-requires : goal.gate_shut-told-requires
@@ -18,6 +18,11 @@ pub write-requires-clause-written : goal.write-requires-clause-written
 write-requires-clause-written g c =
     let step = step_shut (view_of c.self.inside.core c.self.inside.took.items c.self.inside.said) _ c.self.view_is c.args.from c.shut-count.result _ _ c.requires.beside c.shut-count.ensures.shuts c.shut-count.ensures.sound c.requires.closed c.requires.untold c.gate_shut-told.new.self c.gate_shut-told.result.items c.gate_shut-told.ensures.shuts c.self.invariant.0 in
     quiet_written c.self.inside.core c.self.inside.took.items c.self.inside.said c.self.invariant c.gate_shut-told.new.self c.gate_shut-told.result.items c.as_slice.result.now c.as_slice.ensures.value step
+
+pub write-requires-clause-sent : goal.write-requires-clause-sent
+write-requires-clause-sent g c =
+    let step = step_shut (view_of c.self.inside.core c.self.inside.took.items c.self.inside.said) _ c.self.view_is c.args.from c.shut-count.result _ _ c.requires.beside c.shut-count.ensures.shuts c.shut-count.ensures.sound c.requires.closed c.requires.untold c.gate_shut-told.new.self c.gate_shut-told.result.items c.gate_shut-told.ensures.shuts c.self.invariant.0 in
+    quiet_sent c.self.inside.core c.self.inside.took.items c.self.inside.said c.self.invariant c.gate_shut-told.new.self c.gate_shut-told.result.items c.as_slice.result.now c.as_slice.ensures.value step
 
 pub invariant_of-self : goal.invariant_of-self
 invariant_of-self g c =

@@ -27,7 +27,7 @@ invariant_of-self g c =
     let there : c.core.inside.0 < c.self.inside.cores = omega (arith, c.core.view_is, c.requires.core, ap (λ world. world.cores) c.self.view_is) in
     let view = viewed c.self.invariant.1 c.core.inside.0 there _ c.index_mut.ensures.value in
     let kept = subst (λ at. IsKeptBeside g.J.Task.SameTask g.J.Task.made g.J.Task.Polls none_owed at c.create.new.self) view
-    (record { sound = c.create.ensures.sound; seat = c.create.ensures.seat; ins = c.create.ensures.ins; outs = c.create.ensures.outs }) in
+    (record { sound = c.create.ensures.sound; seat = c.create.ensures.seat; ins = c.create.ensures.ins; outs = c.create.ensures.outs; lanes = c.create.ensures.lanes }) in
     let creates = subst (λ at. CreatesQueue c.args.shares at c.create.result c.create.new.self) view c.create.ensures.creates in
     let stays = created_stays c.self.invariant.1 c.core.inside.0 there c.create.new.self c.args.shares c.create.result creates kept in
     (c.self.invariant.0, quiet_rests c.self.invariant.1 c.core.inside.0 there c.create.new.self _ stays, c.self.invariant.2)
@@ -37,7 +37,7 @@ returns g c =
     let there : c.core.inside.0 < c.self.inside.cores = omega (arith, c.core.view_is, c.requires.core, ap (λ world. world.cores) c.self.view_is) in
     let view = viewed c.self.invariant.1 c.core.inside.0 there _ c.index_mut.ensures.value in
     let kept = subst (λ at. IsKeptBeside g.J.Task.SameTask g.J.Task.made g.J.Task.Polls none_owed at c.create.new.self) view
-    (record { sound = c.create.ensures.sound; seat = c.create.ensures.seat; ins = c.create.ensures.ins; outs = c.create.ensures.outs }) in
+    (record { sound = c.create.ensures.sound; seat = c.create.ensures.seat; ins = c.create.ensures.ins; outs = c.create.ensures.outs; lanes = c.create.ensures.lanes }) in
     let creates = subst (λ at. CreatesQueue c.args.shares at c.create.result c.create.new.self) view c.create.ensures.creates in
     let stays = created_stays c.self.invariant.1 c.core.inside.0 there c.create.new.self c.args.shares c.create.result creates kept in
     rw (← c.self.view_is, ← c.core.view_is) (creates_now c.self.invariant.1 c.core.inside.0 there c.create.new.self _ stays c.args.shares c.create.result creates)

@@ -45,7 +45,7 @@ invariant_of-self g c =
     (with_item c.index_mut-row.result.now c.core.inside.0 c.deliver.new.end) c.deliver.new.end refl in
     let did = subst (λ at. IsTakenBy g.J.Task.SameTask g.J.Task.made g.J.Task.Polls at (link_at c.from.inside.0 c.core.inside.0 (map vec_items c.self.inside.links.items)) c.deliver.result c.deliver.new.self c.deliver.new.end) view
     (subst (λ at. IsTakenBy g.J.Task.SameTask g.J.Task.made g.J.Task.Polls c.index_mut.result.now at c.deliver.result c.deliver.new.self c.deliver.new.end) link
-    (record { delivers = c.deliver.ensures.delivers; beside = c.deliver.ensures.beside; others = c.deliver.ensures.others; outs = c.deliver.ensures.outs; seat = c.deliver.ensures.seat; sound = c.deliver.ensures.sound; untouched = c.deliver.ensures.untouched })) in
+    (record { delivers = c.deliver.ensures.delivers; beside = c.deliver.ensures.beside; others = c.deliver.ensures.others; outs = c.deliver.ensures.outs; lanes = c.deliver.ensures.lanes; seat = c.deliver.ensures.seat; sound = c.deliver.ensures.sound; untouched = c.deliver.ensures.untouched })) in
     rw links (c.self.invariant.0, delivered_rests c.self.invariant.1 c.from.inside.0 c.core.inside.0 there core_there c.deliver.result c.deliver.new.self c.deliver.new.end did, c.self.invariant.2)
 
 pub returns : goal.returns
@@ -58,6 +58,6 @@ returns g c =
     (with_item c.index_mut-row.result.now c.core.inside.0 c.deliver.new.end) c.deliver.new.end refl in
     let did = subst (λ at. IsTakenBy g.J.Task.SameTask g.J.Task.made g.J.Task.Polls at (link_at c.from.inside.0 c.core.inside.0 (map vec_items c.self.inside.links.items)) c.deliver.result c.deliver.new.self c.deliver.new.end) view
     (subst (λ at. IsTakenBy g.J.Task.SameTask g.J.Task.made g.J.Task.Polls c.index_mut.result.now at c.deliver.result c.deliver.new.self c.deliver.new.end) link
-    (record { delivers = c.deliver.ensures.delivers; beside = c.deliver.ensures.beside; others = c.deliver.ensures.others; outs = c.deliver.ensures.outs; seat = c.deliver.ensures.seat; sound = c.deliver.ensures.sound; untouched = c.deliver.ensures.untouched })) in
+    (record { delivers = c.deliver.ensures.delivers; beside = c.deliver.ensures.beside; others = c.deliver.ensures.others; outs = c.deliver.ensures.outs; lanes = c.deliver.ensures.lanes; seat = c.deliver.ensures.seat; sound = c.deliver.ensures.sound; untouched = c.deliver.ensures.untouched })) in
     rw (← c.self.view_is, ← c.core.view_is, ← c.from.view_is, c.reply_if.ensures, links)
     (delivers_now c.self.invariant.1 c.from.inside.0 c.core.inside.0 there core_there c.deliver.result c.deliver.new.self c.deliver.new.end did)

@@ -18,14 +18,14 @@ step-requires g c =
     record { ready = subst (HasReadyEvent (HasReadyJob g.J.Task.done g.J.Task.CanPoll)) (sym turn.1) (c.requires.ready _ c.in-Some.event turn.0) }
 
 pub loop-event-preserved : goal.loop-event-preserved
-loop-event-preserved g c = run_longer _ _ _ c.loop-event.yielded _ _ _ c.in-Some.event _ c.loop-event.invariant c.step.ensures
+loop-event-preserved g c = run_longer _ _ _ _ c.loop-event.yielded _ _ _ c.in-Some.event _ c.loop-event.invariant c.step.ensures
 
 pub returns-clause-run : goal.returns-clause-run
 returns-clause-run g c =
     let all = YieldsList-from_vec {s = c.into_iter-event-iterator.result} c.args.events.items c.into_iter-event-iterator.ensures.into_iter_gives.0 (c.into_iter-event-iterator.ensures.into_iter_gives.1 ∙ c.args.events.ok.0) in
     let end = YieldsList-end all c.loop-event.yielded c.loop-event.event-iterator c.loop-event.yielded_by _ c.next.new.self c.in-None.is c.next.ensures.steps in (
       c.loop-event.world,
-      subst (λ events. IsRun g.J.Task.made g.J.Task.Polls g.J.Task.Answers events c.args.self c.loop-event.world) (sym (map-id c.loop-event.yielded) ∙ end.0) c.loop-event.invariant,
+      subst (λ events. IsRun g.J.Task.SameTask g.J.Task.made g.J.Task.Polls g.J.Task.Answers events c.args.self c.loop-event.world) (sym (map-id c.loop-event.yielded) ∙ end.0) c.loop-event.invariant,
       c.into_assembly.ensures.value,
     )
 

@@ -1,13 +1,15 @@
 use Rattle.std.proofs.Common.{◌≡◌, ◌≤◌, ◌<◌, ◌+◌, length, refl, sym, ◌∙◌, ap, subst, arith, vec_items, get_or, set}
 use Rattle.std.specs.Prelude.{map}
 use Rattle.std.specs.Vec.{with_item}
-use Rattle.rt_world.specs.State.{journal_at}
+use Rattle.rt_link.specs.Fits.{Fits}
 use Rattle.rt_journal.specs.Recorded.{desk_of}
+use Rattle.rt_world.specs.State.{journal_at}
 use Rattle.rt_world.specs.Links.{link_at}
 use Rattle.rt_world.proofs.Borrowed.{row_within, link_within, link_here, links_now}
 use Rattle.rt_world.proofs.CoreSteps.{viewed, free, desk_is}
-use Rattle.rt_world.proofs.Sending.{IsSentOutside, may_send, outside_desk, outside_free, outside_rests, outside_sends}
-use Rattle.rt_world.proofs.CoreSending.{IsSentBy, core_rests, core_sends}
+use Rattle.rt_world.proofs.Sending.{IsDoneOn, may_send, may_ask, outside_desk, outside_free, outside_rests, outside_desks}
+use Rattle.rt_world.proofs.CoreSending.{IsDoneBy, core_rests, core_desks}
+use Rattle.rt_world.proofs.SentLinks.{IsSubmitted, only_sent, sends_now}
 use Rattle.rt_world.proofs.model.World.send.Goals as goal
 
 pub index_mut-row-requires : goal.index_mut-row-requires
@@ -19,23 +21,27 @@ index_mut-row-requires g c =
 pub index_mut-link-requires : goal.index_mut-link-requires
 index_mut-link-requires g c =
     let there : c.from.inside.0 ≤ c.self.inside.cores = omega (arith, c.from.view_is, c.requires.sender, ap (λ world. world.cores) c.self.view_is) in
-    let to_there : c.to.inside.0 < c.self.inside.cores = omega (arith, c.to.view_is, c.requires.core, ap (λ world. world.cores) c.self.view_is) in
-    let within = link_within c.self.invariant.1 vec_items c.self.inside.links.items refl c.from.inside.0 there _ c.index_mut-row.ensures.value c.to.inside.0 to_there in
-    omega (arith, within, c.index_mut-row.result.now.ok.0)
+    let to_there : c.args.to < c.self.inside.cores = omega (arith, c.requires.core, ap (λ world. world.cores) c.self.view_is) in
+    let to_is : c.to.inside.0 ≡ c.args.to = c.to.view_is in
+    let within = link_within c.self.invariant.1 vec_items c.self.inside.links.items refl c.from.inside.0 there _ c.index_mut-row.ensures.value c.args.to to_there in
+    omega (arith, within, to_is, c.index_mut-row.result.now.ok.0)
 
 pub submit-requires : goal.submit-requires
 submit-requires g c =
     let there : c.from.inside.0 ≤ c.self.inside.cores = omega (arith, c.from.view_is, c.requires.sender, ap (λ world. world.cores) c.self.view_is) in
     let to_there : c.args.to < c.self.inside.cores = omega (arith, c.requires.core, ap (λ world. world.cores) c.self.view_is) in
-    let link_read = subst (λ at. c.index_mut-link.result.now ≡ get_or c.index_mut-row.result.now.items at c.index_mut-link.result.now) c.to.view_is c.index_mut-link.ensures.value in
+    let to_is : c.to.inside.0 ≡ c.args.to = c.to.view_is in
+    let link_read = subst (λ at. c.index_mut-link.result.now ≡ get_or c.index_mut-row.result.now.items at c.index_mut-link.result.now) to_is c.index_mut-link.ensures.value in
     let link = link_here c.self.invariant.1 vec_items c.self.inside.links.items refl c.from.inside.0 there _ c.index_mut-row.ensures.value c.args.to to_there _ link_read in
     let sender_there : c.from.inside.0 < c.self.inside.cores = c.if-from-self.true in
     let view = viewed c.self.invariant.1 c.from.inside.0 sender_there _ c.index_mut-actor.ensures.value in
+    let desk = ap desk_of view ∙ sym (desk_is c.self.invariant.1 c.from.inside.0 sender_there) in
     let room = subst (λ world. length (journal_at c.from.inside.0 world) + 4 ≤ world.room) (sym c.self.view_is)
     (subst (λ actor. length (journal_at actor c.args.self.now) + 4 ≤ c.args.self.now.room) (sym c.from.view_is) c.requires.room) in
     let places = free c.self.invariant.1 c.from.inside.0 sender_there 4 room in
     record {
-      beside = may_send c.self.invariant.1 c.from.inside.0 c.args.to there to_there _ (ap desk_of view ∙ sym (desk_is c.self.invariant.1 c.from.inside.0 sender_there)) _ link;
+      beside = may_send c.self.invariant.1 c.from.inside.0 c.args.to there to_there _ desk _ link;
+      lane = may_ask c.self.invariant.1 c.from.inside.0 c.args.to there to_there _ desk _ link;
       room = omega (arith, places, ap (λ at. length at.journal.notes) view, ap (λ at. at.journal.room) view);
       ready = c.requires.ready;
     }
@@ -44,58 +50,68 @@ pub invariant_of-self : goal.invariant_of-self
 invariant_of-self g c =
     let there : c.from.inside.0 ≤ c.self.inside.cores = omega (arith, c.from.view_is, c.requires.sender, ap (λ world. world.cores) c.self.view_is) in
     let to_there : c.args.to < c.self.inside.cores = omega (arith, c.requires.core, ap (λ world. world.cores) c.self.view_is) in
-    let link_read = subst (λ at. c.index_mut-link.result.now ≡ get_or c.index_mut-row.result.now.items at c.index_mut-link.result.now) c.to.view_is c.index_mut-link.ensures.value in
+    let to_is : c.to.inside.0 ≡ c.args.to = c.to.view_is in
+    let link_read = subst (λ at. c.index_mut-link.result.now ≡ get_or c.index_mut-row.result.now.items at c.index_mut-link.result.now) to_is c.index_mut-link.ensures.value in
     let link = link_here c.self.invariant.1 vec_items c.self.inside.links.items refl c.from.inside.0 there _ c.index_mut-row.ensures.value c.args.to to_there _ link_read in
     let sender_there : c.from.inside.0 < c.self.inside.cores = c.if-from-self.true in
     let view = viewed c.self.invariant.1 c.from.inside.0 sender_there _ c.index_mut-actor.ensures.value in
+    let desk = ap desk_of view ∙ sym (desk_is c.self.invariant.1 c.from.inside.0 sender_there) in
     let links = links_now c.self.invariant.1 vec_items c.self.inside.links.items refl c.from.inside.0 there _ c.index_mut-row.ensures.value c.args.to to_there
-    (with_item c.index_mut-row.result.now c.to.inside.0 c.submit.new.end) c.submit.new.end (ap (λ at. set c.index_mut-row.result.now.items at c.submit.new.end) c.to.view_is) in
-    let did = subst (λ at. IsSentBy g.J.Task.SameTask g.J.Task.made g.J.Task.Polls c.args.to c.args.order at (link_at c.from.inside.0 c.args.to (map vec_items c.self.inside.links.items)) c.submit.result c.submit.new.self c.submit.new.end) view
-    (subst (λ at. IsSentBy g.J.Task.SameTask g.J.Task.made g.J.Task.Polls c.args.to c.args.order c.index_mut-actor.result.now at c.submit.result c.submit.new.self c.submit.new.end) link
+    (with_item c.index_mut-row.result.now c.to.inside.0 c.submit.new.end) c.submit.new.end (ap (λ at. set c.index_mut-row.result.now.items at c.submit.new.end) to_is) in
+    let did = subst (λ at. IsDoneBy g.J.Task.SameTask g.J.Task.made g.J.Task.Polls g.J.Task.Answers c.args.to at (link_at c.from.inside.0 c.args.to (map vec_items c.self.inside.links.items)) c.submit.new.self c.submit.new.end) view
+    (subst (λ at. IsDoneBy g.J.Task.SameTask g.J.Task.made g.J.Task.Polls g.J.Task.Answers c.args.to c.index_mut-actor.result.now at c.submit.new.self c.submit.new.end) link
     (record {
-      submitted = record { submits = c.submit.ensures.submits; sends = c.submit.ensures.sends; credited = c.submit.ensures.credited; beside = c.submit.ensures.beside; others = c.submit.ensures.others; untouched = c.submit.ensures.untouched };
+      done = record { only_sent = only_sent c.args.to c.args.order _ _ c.submit.result _ _ (record { submits = c.submit.ensures.submits; sends = c.submit.ensures.sends; credited = c.submit.ensures.credited; untouched = c.submit.ensures.untouched }); stays = c.submit.ensures.stays };
       rest = c.submit.ensures.rest;
       seat = c.submit.ensures.seat;
       ins = c.submit.ensures.ins;
       sound = c.submit.ensures.sound;
     })) in
-    rw links (c.self.invariant.0, core_rests c.self.invariant.1 c.from.inside.0 c.args.to sender_there to_there c.args.order c.submit.result c.submit.new.self c.submit.new.end did, c.self.invariant.2)
+    rw links (c.self.invariant.0, core_rests c.self.invariant.1 c.from.inside.0 c.args.to sender_there to_there c.submit.new.self c.submit.new.end did, c.self.invariant.2)
 
 pub returns-then-from-self : goal.returns-then-from-self
 returns-then-from-self g c =
     let there : c.from.inside.0 ≤ c.self.inside.cores = omega (arith, c.from.view_is, c.requires.sender, ap (λ world. world.cores) c.self.view_is) in
     let to_there : c.args.to < c.self.inside.cores = omega (arith, c.requires.core, ap (λ world. world.cores) c.self.view_is) in
-    let link_read = subst (λ at. c.index_mut-link.result.now ≡ get_or c.index_mut-row.result.now.items at c.index_mut-link.result.now) c.to.view_is c.index_mut-link.ensures.value in
+    let to_is : c.to.inside.0 ≡ c.args.to = c.to.view_is in
+    let link_read = subst (λ at. c.index_mut-link.result.now ≡ get_or c.index_mut-row.result.now.items at c.index_mut-link.result.now) to_is c.index_mut-link.ensures.value in
     let link = link_here c.self.invariant.1 vec_items c.self.inside.links.items refl c.from.inside.0 there _ c.index_mut-row.ensures.value c.args.to to_there _ link_read in
     let sender_there : c.from.inside.0 < c.self.inside.cores = c.if-from-self.true in
     let view = viewed c.self.invariant.1 c.from.inside.0 sender_there _ c.index_mut-actor.ensures.value in
+    let desk = ap desk_of view ∙ sym (desk_is c.self.invariant.1 c.from.inside.0 sender_there) in
     let links = links_now c.self.invariant.1 vec_items c.self.inside.links.items refl c.from.inside.0 there _ c.index_mut-row.ensures.value c.args.to to_there
-    (with_item c.index_mut-row.result.now c.to.inside.0 c.submit.new.end) c.submit.new.end (ap (λ at. set c.index_mut-row.result.now.items at c.submit.new.end) c.to.view_is) in
-    let did = subst (λ at. IsSentBy g.J.Task.SameTask g.J.Task.made g.J.Task.Polls c.args.to c.args.order at (link_at c.from.inside.0 c.args.to (map vec_items c.self.inside.links.items)) c.submit.result c.submit.new.self c.submit.new.end) view
-    (subst (λ at. IsSentBy g.J.Task.SameTask g.J.Task.made g.J.Task.Polls c.args.to c.args.order c.index_mut-actor.result.now at c.submit.result c.submit.new.self c.submit.new.end) link
+    (with_item c.index_mut-row.result.now c.to.inside.0 c.submit.new.end) c.submit.new.end (ap (λ at. set c.index_mut-row.result.now.items at c.submit.new.end) to_is) in
+    let did = subst (λ at. IsDoneBy g.J.Task.SameTask g.J.Task.made g.J.Task.Polls g.J.Task.Answers c.args.to at (link_at c.from.inside.0 c.args.to (map vec_items c.self.inside.links.items)) c.submit.new.self c.submit.new.end) view
+    (subst (λ at. IsDoneBy g.J.Task.SameTask g.J.Task.made g.J.Task.Polls g.J.Task.Answers c.args.to c.index_mut-actor.result.now at c.submit.new.self c.submit.new.end) link
     (record {
-      submitted = record { submits = c.submit.ensures.submits; sends = c.submit.ensures.sends; credited = c.submit.ensures.credited; beside = c.submit.ensures.beside; others = c.submit.ensures.others; untouched = c.submit.ensures.untouched };
+      done = record { only_sent = only_sent c.args.to c.args.order _ _ c.submit.result _ _ (record { submits = c.submit.ensures.submits; sends = c.submit.ensures.sends; credited = c.submit.ensures.credited; untouched = c.submit.ensures.untouched }); stays = c.submit.ensures.stays };
       rest = c.submit.ensures.rest;
       seat = c.submit.ensures.seat;
       ins = c.submit.ensures.ins;
       sound = c.submit.ensures.sound;
     })) in
+    let journals = ap (map (λ desk. desk.journal.notes)) (core_desks c.self.invariant.1 c.from.inside.0 c.args.to sender_there to_there c.submit.new.self c.submit.new.end did) in
+    let submitted = subst (λ at. IsSubmitted c.args.to c.args.order at (link_at c.from.inside.0 c.args.to (map vec_items c.self.inside.links.items)) c.submit.result (desk_of c.submit.new.self) c.submit.new.end) desk
+    (subst (λ at. IsSubmitted c.args.to c.args.order (desk_of c.index_mut-actor.result.now) at c.submit.result (desk_of c.submit.new.self) c.submit.new.end) link
+    (record { submits = c.submit.ensures.submits; sends = c.submit.ensures.sends; credited = c.submit.ensures.credited; untouched = c.submit.ensures.untouched })) in
     rw (← c.self.view_is, ← c.from.view_is, c.reply_to.ensures, links)
-    (core_sends c.self.invariant.1 c.from.inside.0 c.args.to sender_there to_there c.args.order c.submit.result c.submit.new.self c.submit.new.end did)
+    (sends_now c.self.invariant.1 c.from.inside.0 c.args.to there to_there c.args.order c.submit.result (desk_of c.submit.new.self) c.submit.new.end submitted _ journals)
 
 pub submit-requires-2 : goal.submit-requires-2
 submit-requires-2 g c =
     let there : c.from.inside.0 ≤ c.self.inside.cores = omega (arith, c.from.view_is, c.requires.sender, ap (λ world. world.cores) c.self.view_is) in
     let to_there : c.args.to < c.self.inside.cores = omega (arith, c.requires.core, ap (λ world. world.cores) c.self.view_is) in
-    let link_read = subst (λ at. c.index_mut-link.result.now ≡ get_or c.index_mut-row.result.now.items at c.index_mut-link.result.now) c.to.view_is c.index_mut-link.ensures.value in
+    let to_is : c.to.inside.0 ≡ c.args.to = c.to.view_is in
+    let link_read = subst (λ at. c.index_mut-link.result.now ≡ get_or c.index_mut-row.result.now.items at c.index_mut-link.result.now) to_is c.index_mut-link.ensures.value in
     let link = link_here c.self.invariant.1 vec_items c.self.inside.links.items refl c.from.inside.0 there _ c.index_mut-row.ensures.value c.args.to to_there _ link_read in
     let is_last : c.from.inside.0 ≡ c.self.inside.cores = omega (arith, there, c.if-from-self.false) in
+    let desk = sym (outside_desk c.self.invariant.1 c.from.inside.0 is_last) in
     let room = subst (λ world. length (journal_at c.from.inside.0 world) + 4 ≤ world.room) (sym c.self.view_is)
     (subst (λ actor. length (journal_at actor c.args.self.now) + 4 ≤ c.args.self.now.room) (sym c.from.view_is) c.requires.room) in
-    let desk = outside_desk c.self.invariant.1 c.from.inside.0 is_last in
     let places = outside_free c.self.invariant.1 c.from.inside.0 is_last 4 room in
     record {
-      beside = may_send c.self.invariant.1 c.from.inside.0 c.args.to there to_there _ (sym desk) _ link;
+      beside = may_send c.self.invariant.1 c.from.inside.0 c.args.to there to_there _ desk _ link;
+      lane = may_ask c.self.invariant.1 c.from.inside.0 c.args.to there to_there _ desk _ link;
       room = omega (arith, places);
       ready = c.requires.ready;
     }
@@ -104,35 +120,33 @@ pub invariant_of-self-2 : goal.invariant_of-self-2
 invariant_of-self-2 g c =
     let there : c.from.inside.0 ≤ c.self.inside.cores = omega (arith, c.from.view_is, c.requires.sender, ap (λ world. world.cores) c.self.view_is) in
     let to_there : c.args.to < c.self.inside.cores = omega (arith, c.requires.core, ap (λ world. world.cores) c.self.view_is) in
-    let link_read = subst (λ at. c.index_mut-link.result.now ≡ get_or c.index_mut-row.result.now.items at c.index_mut-link.result.now) c.to.view_is c.index_mut-link.ensures.value in
+    let to_is : c.to.inside.0 ≡ c.args.to = c.to.view_is in
+    let link_read = subst (λ at. c.index_mut-link.result.now ≡ get_or c.index_mut-row.result.now.items at c.index_mut-link.result.now) to_is c.index_mut-link.ensures.value in
     let link = link_here c.self.invariant.1 vec_items c.self.inside.links.items refl c.from.inside.0 there _ c.index_mut-row.ensures.value c.args.to to_there _ link_read in
     let is_last : c.from.inside.0 ≡ c.self.inside.cores = omega (arith, there, c.if-from-self.false) in
+    let desk = sym (outside_desk c.self.invariant.1 c.from.inside.0 is_last) in
     let links = links_now c.self.invariant.1 vec_items c.self.inside.links.items refl c.from.inside.0 there _ c.index_mut-row.ensures.value c.args.to to_there
-    (with_item c.index_mut-row.result.now c.to.inside.0 c.submit-2.new.end) c.submit-2.new.end (ap (λ at. set c.index_mut-row.result.now.items at c.submit-2.new.end) c.to.view_is) in
-    let did = subst (λ at. IsSentOutside c.args.to c.args.order c.self.inside.outside at c.submit-2.result c.submit-2.new.self c.submit-2.new.end) link
-    (record {
-      submitted = record { submits = c.submit-2.ensures.submits; sends = c.submit-2.ensures.sends; credited = c.submit-2.ensures.credited; beside = c.submit-2.ensures.beside; others = c.submit-2.ensures.others; untouched = c.submit-2.ensures.untouched };
-      rest = c.submit-2.ensures.rest;
-      room = c.submit-2.ensures.room;
-      written = c.submit-2.ensures.written;
-    }) in
-    rw links (c.self.invariant.0, outside_rests c.self.invariant.1 c.from.inside.0 c.args.to is_last to_there c.args.order c.submit-2.result c.submit-2.new.self c.submit-2.new.end did, c.self.invariant.2)
+    (with_item c.index_mut-row.result.now c.to.inside.0 c.submit-2.new.end) c.submit-2.new.end (ap (λ at. set c.index_mut-row.result.now.items at c.submit-2.new.end) to_is) in
+    let did = subst (λ at. IsDoneOn (Fits g.J.Task.SameTask g.J.Task.Answers) c.args.to c.self.inside.outside at c.submit-2.new.self c.submit-2.new.end) link
+    (record { only_sent = only_sent c.args.to c.args.order _ _ c.submit-2.result _ _ (record { submits = c.submit-2.ensures.submits; sends = c.submit-2.ensures.sends; credited = c.submit-2.ensures.credited; untouched = c.submit-2.ensures.untouched }); stays = c.submit-2.ensures.stays }) in
+    rw links (c.self.invariant.0, outside_rests c.self.invariant.1 c.from.inside.0 c.args.to is_last to_there c.submit-2.new.self c.submit-2.new.end did, c.self.invariant.2)
 
 pub returns : goal.returns
 returns g c =
     let there : c.from.inside.0 ≤ c.self.inside.cores = omega (arith, c.from.view_is, c.requires.sender, ap (λ world. world.cores) c.self.view_is) in
     let to_there : c.args.to < c.self.inside.cores = omega (arith, c.requires.core, ap (λ world. world.cores) c.self.view_is) in
-    let link_read = subst (λ at. c.index_mut-link.result.now ≡ get_or c.index_mut-row.result.now.items at c.index_mut-link.result.now) c.to.view_is c.index_mut-link.ensures.value in
+    let to_is : c.to.inside.0 ≡ c.args.to = c.to.view_is in
+    let link_read = subst (λ at. c.index_mut-link.result.now ≡ get_or c.index_mut-row.result.now.items at c.index_mut-link.result.now) to_is c.index_mut-link.ensures.value in
     let link = link_here c.self.invariant.1 vec_items c.self.inside.links.items refl c.from.inside.0 there _ c.index_mut-row.ensures.value c.args.to to_there _ link_read in
     let is_last : c.from.inside.0 ≡ c.self.inside.cores = omega (arith, there, c.if-from-self.false) in
+    let desk = sym (outside_desk c.self.invariant.1 c.from.inside.0 is_last) in
     let links = links_now c.self.invariant.1 vec_items c.self.inside.links.items refl c.from.inside.0 there _ c.index_mut-row.ensures.value c.args.to to_there
-    (with_item c.index_mut-row.result.now c.to.inside.0 c.submit-2.new.end) c.submit-2.new.end (ap (λ at. set c.index_mut-row.result.now.items at c.submit-2.new.end) c.to.view_is) in
-    let did = subst (λ at. IsSentOutside c.args.to c.args.order c.self.inside.outside at c.submit-2.result c.submit-2.new.self c.submit-2.new.end) link
-    (record {
-      submitted = record { submits = c.submit-2.ensures.submits; sends = c.submit-2.ensures.sends; credited = c.submit-2.ensures.credited; beside = c.submit-2.ensures.beside; others = c.submit-2.ensures.others; untouched = c.submit-2.ensures.untouched };
-      rest = c.submit-2.ensures.rest;
-      room = c.submit-2.ensures.room;
-      written = c.submit-2.ensures.written;
-    }) in
+    (with_item c.index_mut-row.result.now c.to.inside.0 c.submit-2.new.end) c.submit-2.new.end (ap (λ at. set c.index_mut-row.result.now.items at c.submit-2.new.end) to_is) in
+    let did = subst (λ at. IsDoneOn (Fits g.J.Task.SameTask g.J.Task.Answers) c.args.to c.self.inside.outside at c.submit-2.new.self c.submit-2.new.end) link
+    (record { only_sent = only_sent c.args.to c.args.order _ _ c.submit-2.result _ _ (record { submits = c.submit-2.ensures.submits; sends = c.submit-2.ensures.sends; credited = c.submit-2.ensures.credited; untouched = c.submit-2.ensures.untouched }); stays = c.submit-2.ensures.stays }) in
+    let journals = ap (map (λ desk. desk.journal.notes)) (outside_desks c.self.invariant.1 c.from.inside.0 c.args.to is_last to_there c.submit-2.new.self c.submit-2.new.end did) in
+    let submitted = subst (λ at. IsSubmitted c.args.to c.args.order at (link_at c.from.inside.0 c.args.to (map vec_items c.self.inside.links.items)) c.submit-2.result c.submit-2.new.self c.submit-2.new.end) desk
+    (subst (λ at. IsSubmitted c.args.to c.args.order c.self.inside.outside at c.submit-2.result c.submit-2.new.self c.submit-2.new.end) link
+    (record { submits = c.submit-2.ensures.submits; sends = c.submit-2.ensures.sends; credited = c.submit-2.ensures.credited; untouched = c.submit-2.ensures.untouched })) in
     rw (← c.self.view_is, ← c.from.view_is, c.reply_to-2.ensures, links)
-    (outside_sends c.self.invariant.1 c.from.inside.0 c.args.to is_last to_there c.args.order c.submit-2.result c.submit-2.new.self c.submit-2.new.end did)
+    (sends_now c.self.invariant.1 c.from.inside.0 c.args.to there to_there c.args.order c.submit-2.result c.submit-2.new.self c.submit-2.new.end submitted _ journals)

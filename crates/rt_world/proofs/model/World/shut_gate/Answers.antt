@@ -57,7 +57,7 @@ invariant_of-self g c =
     let did = subst (λ at. IsShutBy g.J.Task.SameTask g.J.Task.made g.J.Task.Polls c.from.inside.0 at (link_at c.from.inside.0 c.core.inside.0 (map vec_items c.self.inside.links.items)) c.shut.result c.shut.new.self c.shut.new.end) view
     (subst (λ at. IsShutBy g.J.Task.SameTask g.J.Task.made g.J.Task.Polls c.from.inside.0 c.index_mut.result.now at c.shut.result c.shut.new.self c.shut.new.end) link
     (subst (λ from. IsShutBy g.J.Task.SameTask g.J.Task.made g.J.Task.Polls from c.index_mut.result.now c.index_mut-link.result.now c.shut.result c.shut.new.self c.shut.new.end) (sym c.from.view_is)
-    (record { shuts = c.shut.ensures.shuts; tells = c.shut.ensures.tells; beside = c.shut.ensures.beside; others = c.shut.ensures.others; outs = c.shut.ensures.outs; seat = c.shut.ensures.seat; sound = c.shut.ensures.sound; untouched = c.shut.ensures.untouched }))) in
+    (record { shuts = c.shut.ensures.shuts; tells = c.shut.ensures.tells; beside = c.shut.ensures.beside; others = c.shut.ensures.others; outs = c.shut.ensures.outs; lanes = c.shut.ensures.lanes; seat = c.shut.ensures.seat; sound = c.shut.ensures.sound; untouched = c.shut.ensures.untouched }))) in
     rw links (c.self.invariant.0, shut_rests c.self.invariant.1 c.from.inside.0 c.core.inside.0 there core_there c.shut.result c.shut.new.self c.shut.new.end did, c.self.invariant.2)
 
 pub returns : goal.returns
@@ -71,6 +71,6 @@ returns g c =
     let did = subst (λ at. IsShutBy g.J.Task.SameTask g.J.Task.made g.J.Task.Polls c.from.inside.0 at (link_at c.from.inside.0 c.core.inside.0 (map vec_items c.self.inside.links.items)) c.shut.result c.shut.new.self c.shut.new.end) view
     (subst (λ at. IsShutBy g.J.Task.SameTask g.J.Task.made g.J.Task.Polls c.from.inside.0 c.index_mut.result.now at c.shut.result c.shut.new.self c.shut.new.end) link
     (subst (λ from. IsShutBy g.J.Task.SameTask g.J.Task.made g.J.Task.Polls from c.index_mut.result.now c.index_mut-link.result.now c.shut.result c.shut.new.self c.shut.new.end) (sym c.from.view_is)
-    (record { shuts = c.shut.ensures.shuts; tells = c.shut.ensures.tells; beside = c.shut.ensures.beside; others = c.shut.ensures.others; outs = c.shut.ensures.outs; seat = c.shut.ensures.seat; sound = c.shut.ensures.sound; untouched = c.shut.ensures.untouched }))) in
+    (record { shuts = c.shut.ensures.shuts; tells = c.shut.ensures.tells; beside = c.shut.ensures.beside; others = c.shut.ensures.others; outs = c.shut.ensures.outs; lanes = c.shut.ensures.lanes; seat = c.shut.ensures.seat; sound = c.shut.ensures.sound; untouched = c.shut.ensures.untouched }))) in
     rw (← c.self.view_is, ← c.core.view_is, ← c.from.view_is, links)
     (shuts_now c.self.invariant.1 c.from.inside.0 c.core.inside.0 there core_there c.shut.result c.shut.new.self c.shut.new.end did)

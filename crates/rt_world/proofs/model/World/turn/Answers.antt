@@ -35,4 +35,4 @@ returns g c =
     let view = viewed c.self.invariant.1 c.core.inside.0 there _ c.index_mut.ensures.value in
     let stays = subst (λ at. one.StaysBeside g.J.Task.SameTask g.J.Task.made g.J.Task.Polls c.core.inside.0 at c.turn_of.new.core (map vec_items c.self.inside.links.items) (map vec_items c.turn_of.new.links.items)) view c.turn_of.ensures.beside in
     let turns = subst (λ at. one.Turns g.J.Task.SameTask g.J.Task.made g.J.Task.Polls g.J.Task.Answers c.args.spent at c.turn_of.new.core c.turn_of.result) view c.turn_of.ensures.turns in
-    rw (← c.self.view_is, ← c.core.view_is) (turns_now c.self.invariant.1 c.core.inside.0 there c.turn_of.new.core _ stays g.J.Task.Answers c.args.spent c.turn_of.result turns)
+    rw (← c.self.view_is, ← c.core.view_is) (turns_now c.self.invariant.1 c.core.inside.0 there c.turn_of.new.core _ stays c.args.spent c.turn_of.result turns)

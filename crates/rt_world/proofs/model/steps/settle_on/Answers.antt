@@ -48,5 +48,6 @@ returns g c =
           (λ other away inward is. (c.settle.ensures.others other (λ one. away (one ∙ sym from_is))).each inward is);
       outs = c.settle.ensures.outs;
       seat = c.settle.ensures.seat;
+      lanes = c.settle.ensures.lanes;
       sound = c.settle.ensures.sound;
     }

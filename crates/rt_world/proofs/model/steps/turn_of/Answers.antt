@@ -7,14 +7,14 @@ use Rattle.rt_world.proofs.model.steps.turn_of.Goals as goal
 
 pub picked_of-requires : goal.picked_of-requires
 picked_of-requires g c =
-    let kept : IsKeptBeside g.J.Task.SameTask g.J.Task.made g.J.Task.Polls (owed_back c.pick.result) c.args.core.now c.pick.new.self = record { sound = c.pick.ensures.sound; seat = c.pick.ensures.seat; ins = c.pick.ensures.ins; outs = c.pick.ensures.outs } in
+    let kept : IsKeptBeside g.J.Task.SameTask g.J.Task.made g.J.Task.Polls (owed_back c.pick.result) c.args.core.now c.pick.new.self = record { sound = c.pick.ensures.sound; seat = c.pick.ensures.seat; ins = c.pick.ensures.ins; outs = c.pick.ensures.outs; lanes = c.pick.ensures.lanes } in
     record {
       free = not_busy c.args.core.now c.requires.free c.pick.result c.pick.new.self c.pick.ensures.picks kept c.args.number (map vec_items c.args.links.now.items) c.requires.beside;
     }
 
 pub settle_on-requires : goal.settle_on-requires
 settle_on-requires g c =
-    let kept : IsKeptBeside g.J.Task.SameTask g.J.Task.made g.J.Task.Polls (owed_back c.pick.result) c.args.core.now c.pick.new.self = record { sound = c.pick.ensures.sound; seat = c.pick.ensures.seat; ins = c.pick.ensures.ins; outs = c.pick.ensures.outs } in
+    let kept : IsKeptBeside g.J.Task.SameTask g.J.Task.made g.J.Task.Polls (owed_back c.pick.result) c.args.core.now c.pick.new.self = record { sound = c.pick.ensures.sound; seat = c.pick.ensures.seat; ins = c.pick.ensures.ins; outs = c.pick.ensures.outs; lanes = c.pick.ensures.lanes } in
     let links = map vec_items c.args.links.now.items in
     let room = room_left c.args.core.now c.requires.free c.pick.result c.pick.new.self c.pick.ensures.picks kept c.args.number links c.requires.beside c.in-Job.name c.in-Job.job c.in-Job.ensures c.requires.room in
     record {
@@ -32,18 +32,18 @@ settle_on-requires g c =
 
 pub returns-in-Job : goal.returns-in-Job
 returns-in-Job g c =
-    let kept : IsKeptBeside g.J.Task.SameTask g.J.Task.made g.J.Task.Polls (owed_back c.pick.result) c.args.core.now c.pick.new.self = record { sound = c.pick.ensures.sound; seat = c.pick.ensures.seat; ins = c.pick.ensures.ins; outs = c.pick.ensures.outs } in
+    let kept : IsKeptBeside g.J.Task.SameTask g.J.Task.made g.J.Task.Polls (owed_back c.pick.result) c.args.core.now c.pick.new.self = record { sound = c.pick.ensures.sound; seat = c.pick.ensures.seat; ins = c.pick.ensures.ins; outs = c.pick.ensures.outs; lanes = c.pick.ensures.lanes } in
     let links = map vec_items c.args.links.now.items in
     record {
       turns = inl (turned c.args.core.now c.requires.free c.pick.result c.pick.new.self c.pick.ensures.picks kept c.args.number links c.requires.beside c.in-Job.name c.in-Job.job c.in-Job.ensures g.J.Task.Answers c.poll-ran.result c.args.spent c.settle_on.result c.settle_on.new.core c.settle_on.ensures.settles
           (subst (λ job. g.J.Task.Polls job (g.J.Task.made job) [] [] c.poll-ran.result.step c.poll-ran.result.told) (sym c.poll-ran.ensures.before) c.poll-ran.ensures.owed));
       beside = turned_stays c.args.core.now c.requires.free c.pick.result c.pick.new.self c.pick.ensures.picks kept c.args.number links c.requires.beside c.in-Job.name c.in-Job.job c.in-Job.ensures g.J.Task.Answers c.poll-ran.result c.args.spent c.settle_on.result c.settle_on.new.core c.settle_on.ensures.settles
-          (map vec_items c.settle_on.new.links.items) c.settle_on.ensures.links c.settle_on.ensures.beside c.settle_on.ensures.outs c.settle_on.ensures.seat c.settle_on.ensures.sound;
+          (map vec_items c.settle_on.new.links.items) c.settle_on.ensures.links c.settle_on.ensures.beside c.settle_on.ensures.outs c.settle_on.ensures.lanes c.settle_on.ensures.seat c.settle_on.ensures.sound;
     }
 
 pub give_back_on-requires : goal.give_back_on-requires
 give_back_on-requires g c =
-    let kept : IsKeptBeside g.J.Task.SameTask g.J.Task.made g.J.Task.Polls (owed_back c.pick.result) c.args.core.now c.pick.new.self = record { sound = c.pick.ensures.sound; seat = c.pick.ensures.seat; ins = c.pick.ensures.ins; outs = c.pick.ensures.outs } in
+    let kept : IsKeptBeside g.J.Task.SameTask g.J.Task.made g.J.Task.Polls (owed_back c.pick.result) c.args.core.now c.pick.new.self = record { sound = c.pick.ensures.sound; seat = c.pick.ensures.seat; ins = c.pick.ensures.ins; outs = c.pick.ensures.outs; lanes = c.pick.ensures.lanes } in
     let links = map vec_items c.args.links.now.items in
     record {
       sender = back_known c.args.core.now c.requires.free c.pick.result c.pick.new.self c.pick.ensures.picks kept c.args.number links c.requires.beside c.in-Returned.name c.in-Returned.reason c.in-Returned.order c.in-Returned.ensures;
@@ -53,7 +53,7 @@ give_back_on-requires g c =
 
 pub returns-in-Returned : goal.returns-in-Returned
 returns-in-Returned g c =
-    let kept : IsKeptBeside g.J.Task.SameTask g.J.Task.made g.J.Task.Polls (owed_back c.pick.result) c.args.core.now c.pick.new.self = record { sound = c.pick.ensures.sound; seat = c.pick.ensures.seat; ins = c.pick.ensures.ins; outs = c.pick.ensures.outs } in
+    let kept : IsKeptBeside g.J.Task.SameTask g.J.Task.made g.J.Task.Polls (owed_back c.pick.result) c.args.core.now c.pick.new.self = record { sound = c.pick.ensures.sound; seat = c.pick.ensures.seat; ins = c.pick.ensures.ins; outs = c.pick.ensures.outs; lanes = c.pick.ensures.lanes } in
     let links = map vec_items c.args.links.now.items in
     record {
       turns = back_turns c.args.core.now c.requires.free c.pick.result c.pick.new.self c.pick.ensures.picks kept c.args.number links c.requires.beside c.in-Returned.name c.in-Returned.reason c.in-Returned.order c.in-Returned.ensures g.J.Task.Answers c.args.spent;
@@ -63,7 +63,7 @@ returns-in-Returned g c =
 
 pub returns-in-Nothing : goal.returns-in-Nothing
 returns-in-Nothing g c =
-    let kept : IsKeptBeside g.J.Task.SameTask g.J.Task.made g.J.Task.Polls (owed_back c.pick.result) c.args.core.now c.pick.new.self = record { sound = c.pick.ensures.sound; seat = c.pick.ensures.seat; ins = c.pick.ensures.ins; outs = c.pick.ensures.outs } in
+    let kept : IsKeptBeside g.J.Task.SameTask g.J.Task.made g.J.Task.Polls (owed_back c.pick.result) c.args.core.now c.pick.new.self = record { sound = c.pick.ensures.sound; seat = c.pick.ensures.seat; ins = c.pick.ensures.ins; outs = c.pick.ensures.outs; lanes = c.pick.ensures.lanes } in
     let links = map vec_items c.args.links.now.items in
     record {
       turns = no_turn c.args.core.now c.requires.free c.pick.result c.pick.new.self c.pick.ensures.picks kept c.args.number links c.requires.beside g.J.Task.Answers c.args.spent c.in-Nothing.reply c.in-Nothing.ensures;

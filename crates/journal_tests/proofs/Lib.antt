@@ -1,0 +1,2 @@
+mod Owing
+mod FreshLanes

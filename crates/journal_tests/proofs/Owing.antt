@@ -1,0 +1,41 @@
+-- What a pick that hands a job back leaves owed, and to whom.
+use Rattle.std.proofs.Common.{◌≡◌, ◌≢◌, ℕ, Bool, true, false, Ok, Some, None, refl, sym, ap, subst, cond}
+use Rattle.std.specs.Prelude.{◌==◌}
+use Rattle.std.proofs.lemmas.Bool.{eq-eqb, ne_eqb}
+use Rattle.rt_ids.specs.declared.names.JobId.{JobId}
+use Rattle.rt_ids.specs.declared.note.OutcomeNote.{OutcomeNote}
+use Rattle.rt_ids.specs.declared.order.Order.{Order}
+use Rattle.rt_ids.specs.declared.order.Order.TheVariants.{Job}
+use Rattle.rt_ids.specs.declared.order.Reason.{Reason}
+use Rattle.rt_ids.specs.Filters.{if_from}
+use Rattle.rt_core.specs.declared.turn.Turn.{Turn}
+use Rattle.rt_core.specs.declared.turn.Turn.TheVariants.{Back}
+use Rattle.rt_link.specs.declared.ends.Inward.{Inward}
+use Rattle.rt_journal.specs.Recorded.{RecordedView, order_taken}
+use Rattle.rt_journal.specs.Owed.{IsSentUnder}
+use Rattle.rt_journal.specs.Turns.{Picks, IsHandBack}
+use Rattle.rt_journal.specs.Ends.{IsInOf, IsInOwing, LeavesOwed}
+
+module _ {J T : Type 0} (old new : RecordedView J T) (name : JobId) (what : JobId × OutcomeNote T) (end : Inward J T) where
+  -- to its sender
+  pub owes_sender : (sender : ℕ) → name.from ≡ sender → LeavesOwed sender (if_from sender name what) old new → IsInOf sender old end → IsInOwing name.from (Some what) new end
+  owes_sender sender from leaves is =
+      subst (λ at. IsInOwing at (Some what) new end) (sym from)
+      (subst (λ test. IsInOwing sender (cond test (Some what) None) new end) (eq-eqb name.from sender from) (leaves.each end is))
+
+  -- and to nobody else
+  pub owes_nobody : (sender : ℕ) → name.from ≢ sender → LeavesOwed sender (if_from sender name what) old new → IsInOf sender old end → IsInOf sender new end
+  owes_nobody sender apart leaves is = subst (λ test. IsInOwing sender (cond test (Some what) None) new end) (ne_eqb name.from sender apart) (leaves.each end is)
+
+-- an order that is handed back is one that was sent under its name
+pub hands_sent : {J T : Type 0} {same : J → J → Type 0} (old new : RecordedView J T) (turn : Turn J) (name : JobId) (reason : Reason) (order : Order J) → turn ≡ Back name reason order → Picks same old (Ok turn) new → IsSentUnder same new.took name order
+hands_sent {same = same} old new turn name reason order is picks =
+    let hands : IsHandBack same old name reason order new = subst (λ turn. Picks same old (Ok turn) new) is picks in
+    record {
+      queue = hands.queue;
+      sent = hands.sent;
+      task = subst (λ took. order_taken took name ≡ Some (Job hands.queue hands.sent)) (sym hands.took) hands.task;
+      job = hands.job;
+      back = hands.back;
+      same_task = hands.same_task;
+    }

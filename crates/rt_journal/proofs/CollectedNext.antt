@@ -1,0 +1,202 @@
+-- The next outcome of a core is collected, and noted.
+use Rattle.std.proofs.Common.{◌≡◌, ◌≢◌, inl, inr, ℕ, ◌+◌, ◌-◌, ◌<◌, ◌≤◌, Bool, true, false, List, [], ◌∷◌, ◌++◌, length, Some, None, refl, sym, ◌∙◌, ap, subst, arith, cond, set}
+use Rattle.std.specs.Prelude.{Option, unwrap_or, ◌&&◌, ◌||◌, not, is_some, slice_get, take, IfSome}
+use Rattle.std.proofs.lemmas.Bool.{eq-eqb}
+use Rattle.std.proofs.lemmas.List.{take_more, take-append-le, map-append}
+use Rattle.std.proofs.lemmas.Option.{slice_get_within, get_or_from_slice_get}
+use Rattle.rt_ids.specs.declared.names.JobId.{JobId}
+use Rattle.rt_ids.specs.declared.note.Note.TheVariants as writes
+use Rattle.rt_ids.specs.declared.note.OutcomeNote.{OutcomeNote}
+use Rattle.rt_ids.specs.declared.order.Answer.{Answer}
+use Rattle.rt_ids.specs.declared.order.Answer.TheVariants as answer
+use Rattle.rt_ids.specs.declared.order.Order.{Order}
+use Rattle.rt_ids.specs.declared.order.Order.TheVariants.{Job, Create, SetShares, Close, CloseCore}
+use Rattle.rt_ids.specs.declared.order.Outcome.{Outcome}
+use Rattle.rt_ids.specs.declared.order.Outcome.TheVariants.{Finished, Returned, Answered}
+use Rattle.rt_ids.specs.Collecting.{IsNextCollected}
+use Rattle.rt_ids.specs.Filters.{collected_outcomes}
+use Rattle.rt_ids.specs.Journal.{Journal, is_told, with_last}
+use Rattle.rt_ids.specs.Orders.{without_job}
+use Rattle.rt_ids.specs.Outcomes as ids
+use Rattle.rt_ids.specs.Outcomes.{outcome_note, FitsOrder, IsSpelledOutcome, IsSpelledAnswer}
+use Rattle.rt_ids.specs.Outstanding.{outstanding_count, is_gone, is_outstanding, name_redeemed, name_detached, name_collected}
+use Rattle.rt_ids.proofs.NameLemmas.{same_as_itself}
+use Rattle.rt_link.specs.declared.ends.Outward.{Outward}
+use Rattle.rt_link.specs.Ends.{StartsWith}
+use Rattle.rt_link.specs.Fits.{Fits, AnswersCreation, AnswersShares}
+use Rattle.rt_notes.specs.Journals.{JournalView}
+use Rattle.rt_desk.specs.Held.{at}
+use Rattle.rt_desk.specs.Lanes.{Lane, IsLaneOf, IsAwaited, IsSent}
+use Rattle.rt_desk.specs.Steps.{CollectsNext}
+use Rattle.rt_desk.specs.Told.{told_of}
+use Rattle.rt_desk.specs.declared.entry.Entry.TheVariants as entry
+use Rattle.rt_desk.proofs.Taken.{taken-get}
+use Rattle.rt_journal.specs.Submissions.{DeskView, IsWritten, terms_of_desk}
+use Rattle.rt_journal.specs.Ends.{IsOutOf, ShowsMore, name_of, named_outcomes}
+use Rattle.rt_journal.specs.Tickets.{KnowsLane, KnowsLanes, StaysBeside, is_let_go}
+use Rattle.rt_journal.proofs.Desked.{stays_refused}
+use Rattle.rt_journal.proofs.EndsKept.{sees_more_out}
+use Rattle.rt_journal.proofs.LaneNotes.{stays_noted, as_many, one_less}
+use Rattle.rt_journal.proofs.Refused.{accepted_at, awaited}
+use Rattle.rt_journal.proofs.TicketNotes.{collected_note, neither, detached_only}
+
+-- an outcome that fits an order, and can be spelled, fits it as notes tell both
+module _ {J T : Type 0} (same : J → J → Type 0) (answers : J → T → Type 0) where
+  creation_fits : (what : Answer) → AnswersCreation what → IsSpelledAnswer what → ids.AnswersCreation what
+  creation_fits (answer.Created queue) fits spelled = spelled
+  creation_fits answer.TooMany fits spelled = tt
+  creation_fits answer.NoMemory fits spelled = tt
+  creation_fits answer.CoreClosing fits spelled = tt
+  creation_fits _ fits spelled = absurd fits
+
+  shares_fit : (what : Answer) → AnswersShares what → ids.AnswersShares what
+  shares_fit answer.SharesSet fits = tt
+  shares_fit answer.NoQueue fits = tt
+  shares_fit _ fits = absurd fits
+
+  pub fits_noted : (order : Order J) (outcome : Outcome J T) → Fits same answers order outcome → IsSpelledOutcome (outcome_note outcome) → FitsOrder (without_job order) (outcome_note outcome)
+  fits_noted (Job queue job) (Finished out) fits spelled = tt
+  fits_noted (Job queue job) (Returned reason back) fits spelled = tt
+  fits_noted (Job queue job) (Answered what) fits spelled = absurd fits
+  fits_noted (Create shares) (Answered what) fits spelled = creation_fits what fits spelled
+  fits_noted (SetShares queue shares) (Answered what) fits spelled = shares_fit what fits
+  fits_noted (Close queue mode) (Answered what) fits spelled = fits
+  fits_noted (CloseCore mode) (Answered what) fits spelled = fits
+  fits_noted (Create shares) (Finished out) fits spelled = absurd fits
+  fits_noted (Create shares) (Returned reason back) fits spelled = absurd fits
+  fits_noted (SetShares queue shares) (Finished out) fits spelled = absurd fits
+  fits_noted (SetShares queue shares) (Returned reason back) fits spelled = absurd fits
+  fits_noted (Close queue mode) (Finished out) fits spelled = absurd fits
+  fits_noted (Close queue mode) (Returned reason back) fits spelled = absurd fits
+  fits_noted (CloseCore mode) (Finished out) fits spelled = absurd fits
+  fits_noted (CloseCore mode) (Returned reason back) fits spelled = absurd fits
+
+and-true : (test : Bool) → (test && true) ≡ test
+and-true true = refl
+and-true false = refl
+
+-- what was got of a list that sees more, and the next item
+take-one_more : {A : Type 0} (seen front : List A) (got : ℕ) (item : A) → StartsWith seen front → got ≤ length front → slice_get seen got ≡ Some item → take (got + 1) seen ≡ take got front ++ item ∷ []
+take-one_more seen front got item longer behind there =
+    take_more seen got item (slice_get_within seen got item there)
+    ∙ (ap (λ last. take got seen ++ last ∷ []) (get_or_from_slice_get seen got item item there)
+    ∙ ap (λ taken. taken ++ item ∷ []) (ap (take got) longer.1 ∙ take-append-le got front longer.0 behind))
+
+module _ {J T : Type 0} (same : J → J → Type 0) (answers : J → T → Type 0) (desk : DeskView J T) (written : IsWritten (terms_of_desk desk) desk.journal.notes) (known : KnowsLanes desk) (core : ℕ)
+    (out : Outward J T) (credited : ℕ) (beside : IsOutOf core desk out credited) (lane later : Lane J T) (there : slice_get desk.lanes core ≡ Some lane) (lane_of : IsLaneOf (Fits same answers) lane out credited)
+    (now : Outward J T) (after : ℕ) (later_of : IsLaneOf (Fits same answers) later now after) (number : ℕ) (outcome : Outcome J T) (spelled : IsSpelledOutcome (outcome_note outcome))
+    (collects : CollectsNext lane later out now credited after (Some (number, outcome))) where
+  abbrev notes : Journal T
+  notes = desk.journal.notes
+
+  abbrev name : JobId
+  name = name_of desk.actor core number
+
+  abbrev told : OutcomeNote T
+  told = outcome_note outcome
+
+  was_known : KnowsLane desk.actor core notes lane
+  was_known = known.each core lane there
+
+  end : now ≡ record out { seen = now.seen; got = out.got + 1 }
+  end = collects.0.0
+
+  -- the number waits, detached or not
+  waits : IsSent out number × IsAwaited out number
+  waits = elim collects.2 [
+    | inl kept ↦ lane_of.standing number entry.Pending kept.0.removes.was
+    | inr dropped ↦ lane_of.standing number entry.Detached dropped.0.was
+  ]
+
+  low : 0 < number
+  low = omega (arith, waits.0.0, beside.base)
+
+  high : number ≤ lane.count
+  high = omega (arith, waits.0.1, beside.base, lane_of.count)
+
+  unmet : is_told name_collected name notes ≡ false
+  unmet = awaited desk core number lane was_known out credited beside lane_of waits.1
+
+  next_collected : IsNextCollected name told notes
+  next_collected =
+      let accepted = accepted_at desk core number lane was_known out credited beside lane_of low high in
+      let got : out.got < now.got = omega (arith, ap (λ end. end.got) end) in
+      let named = (later_of.named.0 out.got (number, outcome) (taken-get now.got now.seen out.got (number, outcome) got collects.0.2)).1 in
+      let order_is : slice_get now.sent (number - now.base - 1) ≡ Some accepted.0 =
+      ap (slice_get now.sent) (omega (arith, ap (λ end. end.base) end, beside.base)) ∙ (ap (λ end. slice_get end.sent (number - 1)) end ∙ accepted.1) in
+      record {
+        order = without_job accepted.0;
+        accepted = accepted.2;
+        fits = fits_noted same answers accepted.0 outcome (subst (λ order. IfSome order (λ order. Fits same answers order outcome)) order_is named) spelled;
+        new = unmet;
+      }
+
+  -- it stands as collected, behind those that were collected before
+  collected_now : collected_outcomes core (writes.Collected name told ∷ notes) ≡ named_outcomes desk.actor core (take now.got now.seen)
+  collected_now =
+      ap (λ test. with_last (collected_outcomes core notes) (cond test (Some (name, told)) None)) (eq-eqb core core refl)
+      ∙ (ap (λ before. before ++ (name, told) ∷ []) beside.collected
+      ∙ (sym (map-append (λ outcome. (name_of desk.actor core outcome.0, outcome_note outcome.1)) (take out.got out.seen) ((number, outcome) ∷ []))
+      ∙ ap (named_outcomes desk.actor core) (sym (ap (λ got. take got now.seen) (ap (λ end. end.got) end) ∙ take-one_more now.seen out.seen out.got (number, outcome) collects.0.1 beside.behind collects.0.2))))
+
+  behind : now.got ≤ length now.seen
+  behind = omega (arith, ap (λ end. end.got) end, slice_get_within now.seen out.got (number, outcome) collects.0.2)
+
+  end_is : now ≡ record out { seen = now.seen; got = now.got }
+  end_is = end ∙ ap (λ got. record out { seen = now.seen; got = got }) (sym (ap (λ end. end.got) end))
+
+  abbrev collected : DeskView J T
+  collected = record desk { journal = record desk.journal { notes = writes.Collected name told ∷ notes }; lanes = set desk.lanes core later }
+
+  -- whether it is outstanding from now on
+  waits_for : (redeemed detached : Bool) → is_told name_redeemed name notes ≡ redeemed → is_told name_detached name notes ≡ detached → is_outstanding name (writes.Collected name told ∷ notes) ≡ not (redeemed || detached)
+  waits_for redeemed detached r d =
+      ap (λ test. not (is_told name_redeemed name notes || is_told name_detached name notes && (test || is_told name_collected name notes))) (same_as_itself name)
+      ∙ (ap (λ redeemed. not (redeemed || is_told name_detached name notes && true)) r ∙ (ap (λ detached. not (redeemed || detached && true)) d ∙ ap (λ test. not (redeemed || test)) (and-true detached)))
+
+  pub collected_stays : StaysBeside (Fits same answers) core desk collected now after
+  collected_stays = elim collects.2 [
+    | inl kept ↦
+        let still = neither (is_told name_redeemed name notes) (is_told name_detached name notes) false (was_known.gone number low high ∙ ap is_let_go kept.0.removes.was) in
+        let gone_now : is_gone name (writes.Collected name told ∷ notes) ≡ is_let_go (at later.entries number) = was_known.gone number low high ∙ (ap is_let_go kept.0.removes.was ∙ ap is_let_go (sym kept.0.adds.here)) in
+        let waits_now : is_outstanding name (writes.Collected name told ∷ notes) ≡ is_some (at later.entries number) = waits_for false false still.0 still.1 ∙ ap is_some (sym kept.0.adds.here) in
+        let others : (n : ℕ) → n ≢ number → at later.entries n ≡ at lane.entries n = λ n away. kept.0.adds.others n away ∙ kept.0.removes.others n away in
+        stays_noted desk known core number lane later there (writes.Collected name told) (collected_note name told) collects.1 others low high gone_now waits_now out credited beside now after later_of end_is behind collected_now written next_collected
+        (subst (λ after. outstanding_count core (writes.Collected name told ∷ notes) + after ≡ length out.sent) (sym kept.1)
+        (as_many desk known core number lane later there (writes.Collected name told) (collected_note name told) collects.1 others low high gone_now waits_now out credited beside (ap is_some kept.0.removes.was ∙ ap is_some (sym kept.0.adds.here))))
+    | inr dropped ↦
+        let only = detached_only (is_told name_redeemed name notes) (is_told name_detached name notes) (is_told name_collected name notes) (was_known.gone number low high ∙ ap is_let_go dropped.0.was)
+        (was_known.waits number low high ∙ ap is_some dropped.0.was) unmet in
+        let gone_now : is_gone name (writes.Collected name told ∷ notes) ≡ is_let_go (at later.entries number) = was_known.gone number low high ∙ (ap is_let_go dropped.0.was ∙ ap is_let_go (sym dropped.0.gone)) in
+        let waits_now : is_outstanding name (writes.Collected name told ∷ notes) ≡ is_some (at later.entries number) = waits_for false true only.0 only.1 ∙ ap is_some (sym dropped.0.gone) in
+        stays_noted desk known core number lane later there (writes.Collected name told) (collected_note name told) collects.1 dropped.0.others low high gone_now waits_now out credited beside now after later_of end_is behind collected_now written next_collected
+        (subst (λ after. outstanding_count core (writes.Collected name told ∷ notes) + after ≡ length out.sent) (sym dropped.1)
+        (one_less desk known core number lane later there (writes.Collected name told) (collected_note name told) collects.1 dropped.0.others low high gone_now waits_now out credited beside (ap is_some dropped.0.was) (ap is_some dropped.0.gone)))
+  ]
+
+-- what a call that collected knows, by what it was told
+module _ {J T : Type 0} (same : J → J → Type 0) (answers : J → T → Type 0) (desk : DeskView J T) (written : IsWritten (terms_of_desk desk) desk.journal.notes) (known : KnowsLanes desk) (core : ℕ)
+    (out : Outward J T) (credited : ℕ) (beside : IsOutOf core desk out credited) (lane later : Lane J T) (there : slice_get desk.lanes core ≡ Some lane) (lane_of : IsLaneOf (Fits same answers) lane out credited)
+    (now : Outward J T) (after : ℕ) (later_of : IsLaneOf (Fits same answers) later now after) where
+  pub gets_some : (found : Option (ℕ × Outcome J T)) → CollectsNext lane later out now credited after found → (name : JobId) (told : OutcomeNote T) → Some (name, told) ≡ told_of desk.actor core found → IsSpelledOutcome told →
+      (page : JournalView T) → page ≡ record desk.journal { notes = writes.Collected name told ∷ desk.journal.notes } →
+      StaysBeside (Fits same answers) core desk (record desk { journal = page; lanes = set desk.lanes core later }) now after
+  gets_some None next name told is spelled page page_is = absurd cc
+  gets_some (Some found) next noted what is spelled page page_is =
+      let name_is : noted ≡ name_of desk.actor core found.0 = ap (λ (option : Option (JobId × OutcomeNote T)). (unwrap_or option (noted, what)).0) is in
+      let told_is : what ≡ outcome_note found.1 = ap (λ (option : Option (JobId × OutcomeNote T)). (unwrap_or option (noted, what)).1) is in
+      subst (λ page. StaysBeside (Fits same answers) core desk (record desk { journal = page; lanes = set desk.lanes core later }) now after)
+      (sym (page_is ∙ (λ i. record desk.journal { notes = writes.Collected (name_is i) (told_is i) ∷ desk.journal.notes })))
+      (collected_stays same answers desk written known core out credited beside lane later there lane_of now after later_of found.0 found.1 (subst IsSpelledOutcome told_is spelled) next)
+
+  pub gets_none : (found : Option (ℕ × Outcome J T)) → CollectsNext lane later out now credited after found → None ≡ told_of desk.actor core found →
+      (later ≡ lane) × StaysBeside (Fits same answers) core desk (record desk { lanes = set desk.lanes core later }) now after
+  gets_none None next is =
+      let more : ShowsMore out now = record {
+        rest = next.0.0 ∙ ap (λ closed. record out { seen = now.seen; closed = closed }) (sym (ap (λ end. end.closed) next.0.0));
+        seen = next.0.1;
+      } in (
+        next.1,
+        stays_refused desk known core lane later there next.1 now after written (sees_more_out core desk out now after more (subst (IsOutOf core desk out) (sym next.2) beside)) later_of,
+      )
+  gets_none (Some found) next is = absurd cc

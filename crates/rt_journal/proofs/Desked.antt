@@ -1,0 +1,90 @@
+-- What a call of a recorded desk knows of the lane that it took, and a call that changed nothing.
+use Rattle.std.proofs.Common.{◌≡◌, ℕ, ◌<◌, Bool, true, false, List, ◌∷◌, length, Some, refl, sym, ◌∙◌, ap, subst, arith, set, get_or}
+use Rattle.std.specs.Prelude.{◌==◌, not, slice_get}
+use Rattle.std.proofs.lemmas.Bool.{eqb-true, eq-eqb, true≢false}
+use Rattle.std.proofs.lemmas.List.{set-get_or}
+use Rattle.std.proofs.lemmas.Option.{get_or_from_slice_get}
+use Rattle.rt_ids.specs.declared.names.JobId.{JobId}
+use Rattle.rt_ids.specs.declared.note.Note.{Note}
+use Rattle.rt_ids.specs.declared.order.Order.{Order}
+use Rattle.rt_ids.specs.declared.order.Outcome.{Outcome}
+use Rattle.rt_link.specs.declared.ends.Outward.{Outward}
+use Rattle.rt_notes.specs.Journals.{JournalView}
+use Rattle.rt_desk.specs.Lanes.{Lane, IsLaneOf}
+use Rattle.rt_desk.proofs.Cores.{found}
+use Rattle.rt_journal.specs.Submissions.{DeskView, IsWritten, terms_of_desk}
+use Rattle.rt_journal.specs.Ends.{IsOutOf, name_of}
+use Rattle.rt_journal.specs.Tickets.{KnowsLanes, HasLane, StaysBeside}
+
+-- the name of a number, by its core
+abbrev pub name_at : ℕ → ℕ → ℕ → JobId
+name_at actor number core = record { from = actor; to = core; number = number }
+
+-- an item that is set to what it was
+pub set_same : {A : Type 0} (items : List A) (place : ℕ) (item : A) → slice_get items place ≡ Some item → set items place item ≡ items
+set_same items place item there = ap (set items place) (sym (get_or_from_slice_get items place item item there)) ∙ set-get_or items place item
+
+module _ {J T : Type 0} (desk : DeskView J T) (known : KnowsLanes desk) (core : ℕ) where
+  -- there is a lane for each core that there is
+  pub lane_within : {out : Outward J T} {credited : ℕ} → IsOutOf core desk out credited → core < length desk.lanes
+  lane_within is = omega (arith, is.known, known.cores_are)
+
+  pub lane_there : {out : Outward J T} {credited : ℕ} → IsOutOf core desk out credited → (lane : Lane J T) → lane ≡ get_or desk.lanes core lane → slice_get desk.lanes core ≡ Some lane
+  lane_there is lane lane_is = found desk.lanes core lane (lane_within is) lane_is
+
+  -- where the lane is as it was, so is the desk
+  pub desk_same : (lane later : Lane J T) → slice_get desk.lanes core ≡ Some lane → later ≡ lane → record desk { lanes = set desk.lanes core later } ≡ desk
+  desk_same lane later lane_is same = ap (λ lanes. record desk { lanes = lanes }) (ap (set desk.lanes core) same ∙ set_same desk.lanes core lane lane_is)
+
+module _ {J T : Type 0} {fits : Order J → Outcome J T → Type 0} (desk : DeskView J T) (known : KnowsLanes desk) (core : ℕ) where
+  -- the lane that is there is the one beside the end
+  pub lane_beside : {out : Outward J T} {credited : ℕ} → HasLane fits core desk out credited → (lane : Lane J T) → slice_get desk.lanes core ≡ Some lane → IsLaneOf fits lane out credited
+  lane_beside {out} {credited} has lane lane_is =
+      let same : has.lane ≡ lane = let e : slice_get desk.lanes core ≡ Some has.lane = has.is in cc in
+      subst (λ lane. IsLaneOf fits lane out credited) same has.lane_of
+
+  -- a step by which nothing was noted
+  pub stays_nothing : (now : Outward J T) (after : ℕ) → IsWritten (terms_of_desk desk) desk.journal.notes → IsOutOf core desk now after → HasLane fits core desk now after → StaysBeside fits core desk desk now after
+  stays_nothing now after written beside has = record {
+    beside = beside;
+    lane = has;
+    others = λ other away. record { each = λ out credited is. is };
+    lanes = λ other away. refl;
+    rest = refl;
+    written = written;
+    known = known;
+  }
+
+  pub stays_refused : (lane later : Lane J T) (lane_is : slice_get desk.lanes core ≡ Some lane) → later ≡ lane → (now : Outward J T) (after : ℕ) → IsWritten (terms_of_desk desk) desk.journal.notes → IsOutOf core desk now after →
+      IsLaneOf fits later now after → StaysBeside fits core desk (record desk { lanes = set desk.lanes core later }) now after
+  stays_refused lane later lane_is same now after written beside lane_of =
+      subst (λ new. StaysBeside fits core desk new now after) (sym (desk_same desk known core lane later lane_is same))
+      (stays_nothing now after written beside (record { lane = lane; is = lane_is; lane_of = subst (λ lane. IsLaneOf fits lane now after) same lane_of }))
+
+-- the name of these parts is the ticket's
+pub names_are : (actor core number : ℕ) (ticket : JobId) → actor ≡ ticket.from → core ≡ ticket.to → number ≡ ticket.number → name_of actor core number ≡ ticket
+names_are actor core number ticket a c n = λ i. record { from = a i; to = c i; number = n i }
+
+-- what a test of two numbers tells
+pub are_same : (a b : ℕ) (result : Bool) → result ≡ not (a == b) → result ≡ false → a ≡ b
+are_same a b result is told = eqb-true a b (by_test (a == b) (sym is ∙ told))
+  where
+    by_test : (test : Bool) → not test ≡ false → test ≡ true
+    by_test true is = refl
+    by_test false is = absurd cc
+
+pub are_apart : (a b : ℕ) (result : Bool) → result ≡ not (a == b) → result ≡ true → a ≡ b → ⊥
+are_apart a b result is told same = true≢false (sym told ∙ (is ∙ ap not (eq-eqb a b same)))
+
+-- what a call knows of its own names, it ensures of its caller's
+module _ {J T : Type 0} {fits : Order J → Outcome J T → Type 0} (desk now : DeskView J T) (desk_is : desk ≡ now) (core to : ℕ) (core_is : core ≡ to) (later : Outward J T) (after : ℕ) where
+  pub carried_same : (new : DeskView J T) → StaysBeside fits core desk new later after → StaysBeside fits to now new later after
+  carried_same new stays = subst (λ now. StaysBeside fits to now new later after) desk_is (subst (λ core. StaysBeside fits core desk new later after) core_is stays)
+
+  pub carried : (lanes : List (Lane J T)) (note : Note T) (page : JournalView T) → page ≡ record desk.journal { notes = note ∷ desk.journal.notes } → (out : Outward J T) → later ≡ out →
+      StaysBeside fits core desk (record desk { journal = record desk.journal { notes = note ∷ desk.journal.notes }; lanes = lanes }) out after →
+      StaysBeside fits to now (record desk { journal = page; lanes = lanes }) later after
+  carried lanes note page page_is out out_is stays =
+      carried_same (record desk { journal = page; lanes = lanes })
+      (subst (λ page. StaysBeside fits core desk (record desk { journal = page; lanes = lanes }) later after) (sym page_is)
+      (subst (λ out. StaysBeside fits core desk (record desk { journal = record desk.journal { notes = note ∷ desk.journal.notes }; lanes = lanes }) out after) (sym out_is) stays))

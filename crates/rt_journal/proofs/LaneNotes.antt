@@ -1,0 +1,218 @@
+-- A step on one submission: its lane changes at its number, its note is written, and all else of the desk stays.
+use Rattle.std.proofs.Common.{◌≡◌, ◌≢◌, inl, inr, ℕ, zero, suc, ◌+◌, ◌<◌, ◌≤◌, true, false, List, [], ◌∷◌, ◌++◌, length, reverse, Some, refl, sym, ◌∙◌, ap, subst, arith, set, get_or-set_same}
+use Rattle.std.specs.Prelude.{is_some, slice_get, take, count_by}
+use Rattle.std.proofs.lemmas.Bool.{ne_eqb}
+use Rattle.std.proofs.lemmas.Bool.Decides.{eqb_tells}
+use Rattle.std.proofs.lemmas.List.{length-set}
+use Rattle.std.proofs.lemmas.Option.{slice_get-get_or, slice_get_within}
+use Rattle.rt_ids.specs.declared.names.JobId.{JobId}
+use Rattle.rt_ids.specs.declared.note.Note.{Note}
+use Rattle.rt_ids.specs.declared.order.Order.{Order}
+use Rattle.rt_ids.specs.declared.order.Outcome.{Outcome}
+use Rattle.rt_ids.specs.Filters.{accepted_orders, collected_outcomes}
+use Rattle.rt_ids.specs.Journal.{Journal}
+use Rattle.rt_ids.specs.Lawful.{MayFollow}
+use Rattle.rt_ids.specs.Names.{same_name}
+use Rattle.rt_ids.specs.Outstanding.{is_gone, is_outstanding, outstanding_count}
+use Rattle.rt_link.specs.declared.ends.Outward.{Outward}
+use Rattle.rt_desk.specs.Held.{at}
+use Rattle.rt_desk.specs.Lanes.{Lane, IsLaneOf}
+use Rattle.rt_desk.proofs.Cores.{changed, unchanged}
+use Rattle.rt_notes.specs.Journals.{JournalView}
+use Rattle.rt_journal.specs.Submissions.{DeskView, IsWritten, terms_of_desk}
+use Rattle.rt_journal.specs.Ends.{IsOutOf, KeepsOut, KeepsSent, name_of, named_outcomes}
+use Rattle.rt_journal.specs.Orders.{numbered_orders}
+use Rattle.rt_journal.specs.Tickets.{KnowsLane, KnowsLanes, StaysBeside, is_let_go}
+use Rattle.rt_journal.proofs.Kept.{plainly_stands}
+use Rattle.rt_journal.proofs.NumberedOrders.{length-numbered}
+use Rattle.rt_journal.proofs.Apart.{other_name, counted, counted-same, counted-less}
+use Rattle.rt_journal.proofs.TicketNotes.{IsTicketNote}
+
+-- an item that was set is there
+pub set_there : {A : Type 0} (items : List A) (place : ℕ) (was item : A) → slice_get items place ≡ Some was → slice_get (set items place item) place ≡ Some item
+set_there items place was item there =
+    let low : place < length items = slice_get_within items place was there in
+    slice_get-get_or (set items place item) place item (omega (arith, low, length-set items place item)) ∙ ap Some (get_or-set_same items place item item low)
+
+-- an item at another place stays
+pub slice_get-set_other : {A : Type 0} (items : List A) (place other : ℕ) (item : A) → other ≢ place → slice_get (set items place item) other ≡ slice_get items other
+slice_get-set_other [] place other item away = refl
+slice_get-set_other (first ∷ rest) zero zero item away = absurd (away refl)
+slice_get-set_other (first ∷ rest) zero (suc other) item away = refl
+slice_get-set_other (first ∷ rest) (suc place) zero item away = refl
+slice_get-set_other (first ∷ rest) (suc place) (suc other) item away = slice_get-set_other rest place other item (λ same. away (ap suc same))
+
+-- what is outstanding, counted over the orders of a link
+pub outstanding_as : {J T : Type 0} (actor core : ℕ) (journal : Journal T) (sent : List (Order J)) → accepted_orders core journal ≡ numbered_orders actor core 0 sent →
+    outstanding_count core journal ≡ counted actor core (λ name. is_outstanding name journal) 0 sent
+outstanding_as actor core journal sent is = ap (count_by (λ sent. is_outstanding sent.0 journal)) is
+
+module _ {J T : Type 0} (desk : DeskView J T) (known : KnowsLanes desk) (core number : ℕ) (lane later : Lane J T) (lane_is : slice_get desk.lanes core ≡ Some lane)
+    (note : Note T) (ticket : IsTicketNote (name_of desk.actor core number) note) where
+  abbrev notes : Journal T
+  notes = desk.journal.notes
+
+  abbrev name : JobId
+  name = name_of desk.actor core number
+
+  -- the desk afterwards
+  abbrev pub noted : DeskView J T
+  noted = record desk { journal = record desk.journal { notes = note ∷ notes }; lanes = set desk.lanes core later }
+
+  was_known : KnowsLane desk.actor core notes lane
+  was_known = known.each core lane lane_is
+
+  other_number : (n : ℕ) → n ≢ number → same_name (name_of desk.actor core n) name ≡ false
+  other_number n away = other_name (name_of desk.actor core n) name (λ same. away (ap (λ id. id.number) same))
+
+  other_core : (other n : ℕ) → other ≢ core → same_name (name_of desk.actor other n) name ≡ false
+  other_core other n away = other_name (name_of desk.actor other n) name (λ same. away (ap (λ id. id.to) same))
+
+  others_known : (other : ℕ) → other ≢ core → (its : Lane J T) → KnowsLane desk.actor other notes its → KnowsLane desk.actor other (note ∷ notes) its
+  others_known other away its was = record {
+    count = was.count ∙ sym (ap length (ticket.accepted other notes));
+    last = was.last;
+    gone = λ n low high. ticket.gone (name_of desk.actor other n) notes (other_core other n away) ∙ was.gone n low high;
+    waits = λ n low high. ticket.waits (name_of desk.actor other n) notes (other_core other n away) ∙ was.waits n low high;
+    unsent = λ n past. ticket.gone (name_of desk.actor other n) notes (other_core other n away) ∙ was.unsent n past;
+  }
+
+  -- the ends of the other cores stay beside the journal
+  others_kept : (other : ℕ) → other ≢ core → KeepsOut other desk noted
+  others_kept other away = record {
+    each = λ out credited is. record {
+      known = is.known;
+      from = is.from;
+      to = is.to;
+      base = is.base;
+      capacity = is.capacity;
+      accepted = ticket.accepted other notes ∙ is.accepted;
+      outstanding =
+          ap (λ count. count + credited)
+          (outstanding_as desk.actor other (note ∷ notes) out.sent (ticket.accepted other notes ∙ is.accepted)
+          ∙ (counted-same desk.actor other (λ name. is_outstanding name (note ∷ notes)) (λ name. is_outstanding name notes) 0 out.sent
+          (λ n low high. ticket.waits (name_of desk.actor other n) notes (other_core other n away))
+          ∙ sym (outstanding_as desk.actor other notes out.sent is.accepted)))
+          ∙ is.outstanding;
+      behind = is.behind;
+      collected = ticket.collected other notes (ne_eqb core other (λ same. away (sym same))) ∙ is.collected;
+    };
+  }
+
+  lanes_kept : (other : ℕ) → other ≢ core → slice_get (set desk.lanes core later) other ≡ slice_get desk.lanes other
+  lanes_kept other away = slice_get-set_other desk.lanes core other later away
+
+  written_noted : IsWritten (terms_of_desk desk) notes → MayFollow (terms_of_desk desk) note notes → IsWritten (terms_of_desk desk) (note ∷ notes)
+  written_noted written law = record {
+    notes = (plainly_stands (terms_of_desk desk) note notes (ticket.writer (terms_of_desk desk)) law written.no_pick written.no_answer ticket.plain (ticket.free notes), written.notes);
+    no_pick = ticket.no_pick notes;
+    no_answer = ticket.no_answer notes;
+  }
+
+  -- the lane changes at that number alone, as the note says
+  module _ (rest : later ≡ record lane { entries = later.entries }) (others : (n : ℕ) → n ≢ number → at later.entries n ≡ at lane.entries n) (low : 0 < number) (high : number ≤ lane.count)
+      (gone_now : is_gone name (note ∷ notes) ≡ is_let_go (at later.entries number)) (waits_now : is_outstanding name (note ∷ notes) ≡ is_some (at later.entries number)) where
+    later_known : KnowsLane desk.actor core (note ∷ notes) later
+    later_known = record {
+      count = ap (λ lane. lane.count) rest ∙ (was_known.count ∙ sym (ap length (ticket.accepted core notes)));
+      last = ap (λ lane. lane.last) rest ∙ (was_known.last ∙ sym (ap (λ lane. lane.count) rest));
+      gone = λ n positive within. elim (eqb_tells n number) [
+        | inl same ↦ subst (λ n. is_gone (name_of desk.actor core n) (note ∷ notes) ≡ is_let_go (at later.entries n)) (sym same.1) gone_now
+        | inr away ↦ ticket.gone (name_of desk.actor core n) notes (other_number n away.1) ∙ (was_known.gone n positive (omega (arith, within, ap (λ lane. lane.count) rest)) ∙ ap is_let_go (sym (others n away.1)))
+      ];
+      waits = λ n positive within. elim (eqb_tells n number) [
+        | inl same ↦ subst (λ n. is_outstanding (name_of desk.actor core n) (note ∷ notes) ≡ is_some (at later.entries n)) (sym same.1) waits_now
+        | inr away ↦ ticket.waits (name_of desk.actor core n) notes (other_number n away.1) ∙ (was_known.waits n positive (omega (arith, within, ap (λ lane. lane.count) rest)) ∙ ap is_some (sym (others n away.1)))
+      ];
+      unsent = λ n past.
+          ticket.gone (name_of desk.actor core n) notes (other_number n (λ same. omega (arith, same, past, high, ap (λ lane. lane.count) rest)))
+          ∙ was_known.unsent n (omega (arith, past, ap (λ lane. lane.count) rest));
+    }
+
+    pub knows_noted : KnowsLanes noted
+    knows_noted = record {
+      cores_are = length-set desk.lanes core later ∙ known.cores_are;
+      each = λ other its there. elim (eqb_tells other core) [
+        | inl same ↦
+            subst (KnowsLane desk.actor other (note ∷ notes)) (sym (changed desk.lanes core other later its there same.1))
+            (subst (λ core. KnowsLane desk.actor core (note ∷ notes) later) (sym same.1) later_known)
+        | inr away ↦ others_known other away.1 its (known.each other its (unchanged desk.lanes core other later its there away.1))
+      ];
+    }
+
+    module _ (out : Outward J T) (credited : ℕ) (is : IsOutOf core desk out credited) where
+      accepted_now : accepted_orders core (note ∷ notes) ≡ numbered_orders desk.actor core 0 out.sent
+      accepted_now = ticket.accepted core notes ∙ is.accepted
+
+      all_sent : lane.count ≡ length out.sent
+      all_sent = was_known.count ∙ (ap length is.accepted ∙ length-numbered desk.actor core 0 out.sent)
+
+      -- the submission is outstanding as before
+      pub as_many : is_some (at lane.entries number) ≡ is_some (at later.entries number) → outstanding_count core (note ∷ notes) + credited ≡ length out.sent
+      as_many same =
+          ap (λ count. count + credited)
+          (outstanding_as desk.actor core (note ∷ notes) out.sent accepted_now
+          ∙ (counted-same desk.actor core (λ name. is_outstanding name (note ∷ notes)) (λ name. is_outstanding name notes) 0 out.sent
+          (λ n positive within. elim (eqb_tells n number) [
+            | inl here ↦ subst (λ n. is_outstanding (name_of desk.actor core n) (note ∷ notes) ≡ is_outstanding (name_of desk.actor core n) notes) (sym here.1) (waits_now ∙ (sym same ∙ sym (was_known.waits number low high)))
+            | inr away ↦ ticket.waits (name_of desk.actor core n) notes (other_number n away.1)
+          ])
+          ∙ sym (outstanding_as desk.actor core notes out.sent is.accepted)))
+          ∙ is.outstanding
+
+      -- it was outstanding, and is so no more
+      pub one_less : is_some (at lane.entries number) ≡ true → is_some (at later.entries number) ≡ false → outstanding_count core (note ∷ notes) + (credited + 1) ≡ length out.sent
+      one_less was_there is_gone =
+          let fewer : counted desk.actor core (λ name. is_outstanding name notes) 0 out.sent ≡ counted desk.actor core (λ name. is_outstanding name (note ∷ notes)) 0 out.sent + 1 =
+          counted-less desk.actor core (λ name. is_outstanding name notes) (λ name. is_outstanding name (note ∷ notes)) 0 out.sent number low (omega (arith, high, all_sent))
+          (was_known.waits number low high ∙ was_there) (waits_now ∙ is_gone) (λ n away positive within. sym (ticket.waits (name_of desk.actor core n) notes (other_number n away))) in
+          omega (arith, fewer, outstanding_as desk.actor core (note ∷ notes) out.sent accepted_now, outstanding_as desk.actor core notes out.sent is.accepted, is.outstanding)
+
+      module _ {fits : Order J → Outcome J T → Type 0} (now : Outward J T) (after : ℕ) (lane_of : IsLaneOf fits later now after) (end : now ≡ record out { seen = now.seen; got = now.got })
+          (behind : now.got ≤ length now.seen) (collected : collected_outcomes core (note ∷ notes) ≡ named_outcomes desk.actor core (take now.got now.seen))
+          (written : IsWritten (terms_of_desk desk) notes) (law : MayFollow (terms_of_desk desk) note notes) (counts : outstanding_count core (note ∷ notes) + after ≡ length out.sent) where
+        pub stays_noted : StaysBeside fits core desk noted now after
+        stays_noted = record {
+          beside = record {
+            known = is.known;
+            from = ap (λ end. end.from) end ∙ is.from;
+            to = ap (λ end. end.to) end ∙ is.to;
+            base = ap (λ end. end.base) end ∙ is.base;
+            capacity = ap (λ end. end.capacity) end ∙ is.capacity;
+            accepted = accepted_now ∙ ap (numbered_orders desk.actor core 0) (sym (ap (λ end. end.sent) end));
+            outstanding = counts ∙ ap length (sym (ap (λ end. end.sent) end));
+            behind = behind;
+            collected = collected;
+          };
+          lane = record { lane = later; is = set_there desk.lanes core lane later lane_is; lane_of = lane_of };
+          others = others_kept;
+          lanes = lanes_kept;
+          rest = refl;
+          written = written_noted written law;
+          known = knows_noted;
+        }
+
+-- notes that say nothing of submissions leave what the lanes know
+pub knows_quiet : {J T : Type 0} (desk : DeskView J T) (later : Journal T) → KnowsLanes desk → KeepsSent desk.journal.notes later → KnowsLanes (record desk { journal = record desk.journal { notes = later } })
+knows_quiet desk later known sent = record {
+  cores_are = known.cores_are;
+  each = λ core lane there.
+      let was = known.each core lane there in
+      record {
+        count = was.count ∙ sym (ap length (sent.accepted core));
+        last = was.last;
+        gone = λ n low high. sent.gone (name_of desk.actor core n) ∙ was.gone n low high;
+        waits = λ n low high. sent.waits (name_of desk.actor core n) ∙ was.waits n low high;
+        unsent = λ n past. sent.gone (name_of desk.actor core n) ∙ was.unsent n past;
+      };
+}
+
+-- what a call that wrote such notes knows
+pub knows_written : {J T : Type 0} (desk now : DeskView J T) (is : desk ≡ now) (slice : List (Note T)) → KnowsLanes desk → IsWritten (terms_of_desk now) (reverse slice ++ now.journal.notes) →
+    KeepsSent now.journal.notes (reverse slice ++ now.journal.notes) → (page : JournalView T) → page ≡ record desk.journal { notes = reverse slice ++ desk.journal.notes } →
+    IsWritten (terms_of_desk desk) page.notes × KnowsLanes (record desk { journal = page })
+knows_written desk now is slice known written sent page page_is =
+    let written = subst (λ desk. IsWritten (terms_of_desk desk) (reverse slice ++ desk.journal.notes)) (sym is) written in
+    let sent = subst (λ desk. KeepsSent desk.journal.notes (reverse slice ++ desk.journal.notes)) (sym is) sent in
+    subst (λ page. IsWritten (terms_of_desk desk) page.notes × KnowsLanes (record desk { journal = page })) (sym page_is)
+    (written, knows_quiet desk (reverse slice ++ desk.journal.notes) known sent)

@@ -1,0 +1,88 @@
+-- The notes of an actor on one of its submissions: that its outcome was collected or redeemed, or that it was detached.
+use Rattle.std.proofs.Common.{◌≡◌, ℕ, Bool, true, false, ◌∷◌, refl, ap, cond}
+use Rattle.std.specs.Prelude.{◌==◌, ◌&&◌, ◌||◌, not, Some, None}
+use Rattle.rt_ids.specs.declared.names.JobId.{JobId}
+use Rattle.rt_ids.specs.declared.note.Note.{Note}
+use Rattle.rt_ids.specs.declared.note.Note.TheVariants as writes
+use Rattle.rt_ids.specs.declared.note.OutcomeNote.{OutcomeNote}
+use Rattle.rt_ids.specs.Clauses.{queue_just_picked}
+use Rattle.rt_ids.specs.Commands.{effect_awaited}
+use Rattle.rt_ids.specs.Filters.{accepted_orders, collected_outcomes}
+use Rattle.rt_ids.specs.Journal.{Journal, is_told, with_last}
+use Rattle.rt_ids.specs.Lawful.{MayWrite, takes_turn, IsEffectDue}
+use Rattle.rt_ids.specs.Names.{same_name}
+use Rattle.rt_ids.specs.Outstanding.{is_gone, is_outstanding, name_collected, name_redeemed, name_detached}
+use Rattle.rt_ids.specs.Terms.{Terms}
+
+-- a note on this submission says nothing of any other
+pub record IsTicketNote {T : Type 0} (name : JobId) (note : Note T) : Type 0 where
+  pub accepted : (core : ℕ) (before : Journal T) → accepted_orders core (note ∷ before) ≡ accepted_orders core before
+  pub collected : (core : ℕ) (before : Journal T) → (name.to == core) ≡ false → collected_outcomes core (note ∷ before) ≡ collected_outcomes core before
+  pub gone : (other : JobId) (before : Journal T) → same_name other name ≡ false → is_gone other (note ∷ before) ≡ is_gone other before
+  pub waits : (other : JobId) (before : Journal T) → same_name other name ≡ false → is_outstanding other (note ∷ before) ≡ is_outstanding other before
+  pub no_pick : (before : Journal T) → queue_just_picked (note ∷ before) ≡ None
+  pub no_answer : (before : Journal T) → effect_awaited (note ∷ before) ≡ None
+  pub plain : takes_turn note ≡ false
+  pub free : (before : Journal T) → IsEffectDue None note before
+  pub writer : (terms : Terms) → MayWrite terms note
+
+module _ {T : Type 0} (name : JobId) where
+  pub redeemed_note : (outcome : OutcomeNote T) → IsTicketNote name (writes.Redeemed name outcome)
+  redeemed_note outcome = record {
+    accepted = λ core before. refl;
+    collected = λ core before apart. refl;
+    gone = λ other before apart. ap (λ test. (test || is_told name_redeemed other before) || is_told name_detached other before) apart;
+    waits = λ other before apart. ap (λ test. not ((test || is_told name_redeemed other before) || is_told name_detached other before && is_told name_collected other before)) apart;
+    no_pick = λ before. refl;
+    no_answer = λ before. refl;
+    plain = refl;
+    free = λ before. tt;
+    writer = λ terms. tt;
+  }
+
+  pub detached_note : IsTicketNote {T = T} name (writes.Detached name)
+  detached_note = record {
+    accepted = λ core before. refl;
+    collected = λ core before apart. refl;
+    gone = λ other before apart. ap (λ test. is_told name_redeemed other before || (test || is_told name_detached other before)) apart;
+    waits = λ other before apart. ap (λ test. not (is_told name_redeemed other before || (test || is_told name_detached other before) && is_told name_collected other before)) apart;
+    no_pick = λ before. refl;
+    no_answer = λ before. refl;
+    plain = refl;
+    free = λ before. tt;
+    writer = λ terms. tt;
+  }
+
+  pub collected_note : (outcome : OutcomeNote T) → IsTicketNote name (writes.Collected name outcome)
+  collected_note outcome = record {
+    accepted = λ core before. refl;
+    collected = λ core before apart. ap (λ test. with_last (collected_outcomes core before) (cond test (Some (name, outcome)) None)) apart;
+    gone = λ other before apart. refl;
+    waits = λ other before apart. ap (λ test. not (is_told name_redeemed other before || is_told name_detached other before && (test || is_told name_collected other before))) apart;
+    no_pick = λ before. refl;
+    no_answer = λ before. refl;
+    plain = refl;
+    free = λ before. tt;
+    writer = λ terms. tt;
+  }
+
+-- what two tests say together
+module _ (redeemed detached collected : Bool) where
+  -- who waits neither redeemed nor detached
+  pub neither : (redeemed || detached) ≡ false → (redeemed ≡ false) × (detached ≡ false)
+  neither = by_tests redeemed detached
+    where
+      by_tests : (redeemed detached : Bool) → (redeemed || detached) ≡ false → (redeemed ≡ false) × (detached ≡ false)
+      by_tests true detached is = absurd cc
+      by_tests false true is = absurd cc
+      by_tests false false is = (refl, refl)
+
+  -- what is gone and outstanding, and not collected, is detached
+  pub detached_only : (redeemed || detached) ≡ true → not (redeemed || detached && collected) ≡ true → collected ≡ false → (redeemed ≡ false) × (detached ≡ true)
+  detached_only gone waits un = by_tests redeemed detached collected gone waits un
+    where
+      by_tests : (redeemed detached collected : Bool) → (redeemed || detached) ≡ true → not (redeemed || detached && collected) ≡ true → collected ≡ false → (redeemed ≡ false) × (detached ≡ true)
+      by_tests true detached collected gone waits un = absurd cc
+      by_tests false false collected gone waits un = absurd cc
+      by_tests false true true gone waits un = absurd cc
+      by_tests false true false gone waits un = (refl, refl)

@@ -1,0 +1,66 @@
+use Rattle.std.proofs.Common.{[], length, refl, ◌∙◌, ap, subst, arith}
+use Rattle.rt_link.proofs.Lists.{StartsWith-self}
+use Rattle.rt_journal.specs.Submissions.{IsWritten, terms_of_desk}
+use Rattle.rt_journal.specs.Tickets.{KnowsLanes}
+use Rattle.rt_journal.proofs.Desked.{stays_nothing}
+use Rattle.rt_journal.proofs.CollectedAll.{stays_then, gathers_more, end_more, gathers_no_more, gets_all}
+use Rattle.rt_journal.proofs.desk.RecordedDesk.collect_from.Goals as goal
+
+pub loop-core-init : goal.loop-core-init
+loop-core-init g c =
+    let invariant = subst (λ desk. IsWritten (terms_of_desk desk) desk.journal.notes × KnowsLanes desk) c.self.view_is c.self.invariant in
+    let sound = c.requires.lane.lane_of.sound in
+    record {
+      stays = stays_nothing c.args.self.now invariant.1 c.args.core (g.O.OutEnd.out c.args.end.now) (g.O.OutEnd.credited c.args.end.now) invariant.0 c.requires.beside c.requires.lane;
+      gathered = ([], tt, refl, refl);
+      end = refl;
+      longer = StartsWith-self (g.O.OutEnd.out c.args.end.now).seen;
+      room = omega (arith, c.requires.room, sound.room, sound.credits, c.requires.beside.capacity);
+      low = omega arith;
+      untouched = refl;
+    }
+
+pub collect_one-requires-clause-beside : goal.collect_one-requires-clause-beside
+collect_one-requires-clause-beside g c = c.loop-core.invariant.stays.beside
+
+pub collect_one-requires-clause-lane : goal.collect_one-requires-clause-lane
+collect_one-requires-clause-lane g c = c.loop-core.invariant.stays.lane
+
+pub collect_one-requires-clause-room : goal.collect_one-requires-clause-room
+collect_one-requires-clause-room g c = c.loop-core.invariant.room
+
+pub overflow_add-count : goal.overflow_add-count
+overflow_add-count g c =
+    let sound = c.loop-core.invariant.stays.lane.lane_of.sound in
+    omega (arith, c.loop-core.invariant.low, sound.within, sound.numbered)
+
+pub loop-core-smaller : goal.loop-core-smaller
+loop-core-smaller g c =
+    let gets = c.loop-core-test.ensures.gets in
+    omega (arith, ap (λ end. end.got) gets.1, ap (λ end. length end.sent) gets.1, c.collect_one.ensures.stays.lane.lane_of.sound.within)
+
+pub loop-core-preserved : goal.loop-core-preserved
+loop-core-preserved g c =
+    let gets = c.loop-core-test.ensures.gets in
+    let end = end_more c.args.core c.args.self.now c.loop-core.self c.collect_one.new.self (g.O.OutEnd.out c.args.end.now) (g.O.OutEnd.out c.loop-core.end) (g.O.OutEnd.out c.collect_one.new.end) c.loop-core.count c.loop-core.invariant.gathered c.loop-core.invariant.end c.loop-core.invariant.longer gets in
+    record {
+      stays = stays_then c.args.core c.args.self.now c.loop-core.self c.collect_one.new.self c.loop-core.invariant.stays c.collect_one.ensures.stays;
+      gathered = gathers_more c.args.core c.args.self.now c.loop-core.self c.collect_one.new.self (g.O.OutEnd.out c.args.end.now) (g.O.OutEnd.out c.loop-core.end) (g.O.OutEnd.out c.collect_one.new.end) c.loop-core.count c.loop-core.invariant.gathered c.loop-core.invariant.end c.loop-core.invariant.longer gets;
+      end = end.0;
+      longer = end.1;
+      room = omega (arith, c.loop-core.invariant.room, ap (λ journal. length journal.notes) gets.0.3, ap (λ journal. journal.room) gets.0.3, ap (λ end. end.got) gets.1, ap (λ end. length end.sent) gets.1);
+      low = omega (arith, c.loop-core.invariant.low, ap (λ end. end.got) gets.1);
+      untouched = c.collect_one.ensures.untouched ∙ c.loop-core.invariant.untouched;
+    }
+
+pub returns-clause-collects : goal.returns-clause-collects
+returns-clause-collects g c = gathers_no_more c.args.core c.args.self.now c.loop-core.self c.collect_one.new.self (g.O.OutEnd.out c.args.end.now) (g.O.OutEnd.out c.loop-core.end) (g.O.OutEnd.out c.collect_one.new.end) c.loop-core.count c.loop-core.invariant.gathered c.loop-core.invariant.end c.loop-core.invariant.longer c.loop-core-test.ensures.gets
+
+pub returns-clause-end : goal.returns-clause-end
+returns-clause-end g c = gets_all c.args.core c.args.self.now c.loop-core.self c.collect_one.new.self (g.O.OutEnd.out c.args.end.now) (g.O.OutEnd.out c.loop-core.end) (g.O.OutEnd.out c.collect_one.new.end) c.loop-core.count c.loop-core.invariant.gathered c.loop-core.invariant.end c.loop-core.invariant.longer c.loop-core-test.ensures.gets
+
+pub returns-clause-stays : goal.returns-clause-stays
+returns-clause-stays g c = stays_then c.args.core c.args.self.now c.loop-core.self c.collect_one.new.self c.loop-core.invariant.stays c.collect_one.ensures.stays
+
+pub returns-clause-untouched : goal.returns-clause-untouched
+returns-clause-untouched g c = c.collect_one.ensures.untouched ∙ c.loop-core.invariant.untouched
