@@ -47,7 +47,7 @@ module _ {J T : Type 0} (outside : JournalView T) where
   read_last [] = refl
   read_last (worker ∷ ended) = read_last ended
 
-module _ {J : Type 0} (view : RuntimeView J ℕ) (is : IsRuntime view) (ended : List (LinkedView J ℕ))
+module _ {J : Type 0} {fits : Order J → Outcome J ℕ → Type 0} (view : RuntimeView J ℕ) (is : IsRuntime fits view) (ended : List (LinkedView J ℕ))
     (kept : Together StaysLinked view.workers ended) where
   pub count : length ended ≡ view.desk.cores
   count = sym (together_length StaysLinked view.workers ended kept) ∙ is.count
@@ -125,7 +125,7 @@ module _ {J : Type 0} (view : RuntimeView J ℕ) (is : IsRuntime view) (ended : 
         (subst (λ least. EachNote (ClosesRightly least (worker_at core ended).recorded.journal.room) (worker_at core ended).recorded.journal.notes)
         (ap (λ cores. least_free cores (worker_at core ended).recorded.cap) cores ∙ ap (λ cap. least_free view.desk.cores cap) cap) end.closes))
 
-    have_ended : {fits : Order J → Outcome J ℕ → Type 0} → AreReunited fits view.desk.cores (all_ends ended (outside_of view)) → HaveEnded same made polls fits view.desk.cores view.desk.cap ended (outside_of view)
+    have_ended : AreReunited fits view.desk.cores (all_ends ended (outside_of view)) → HaveEnded same made polls fits view.desk.cores view.desk.cap ended (outside_of view)
     have_ended reunited = record {
       count = count;
       seats = terms_now;
@@ -135,7 +135,7 @@ module _ {J : Type 0} (view : RuntimeView J ℕ) (is : IsRuntime view) (ended : 
       reunited = reunited;
     }
 
-    pub finished : {fits : Order J → Outcome J ℕ → Type 0} → AreReunited fits view.desk.cores (all_ends ended (outside_of view)) → EndedAreJoined same made polls fits → JoiningIsSound → JoinedAreSpelled → ((core : ℕ) → core < length view.closing → closing_at core view ≡ true) → HasFinished view assembly
+    pub finished : AreReunited fits view.desk.cores (all_ends ended (outside_of view)) → EndedAreJoined same made polls fits → JoiningIsSound → JoinedAreSpelled → ((core : ℕ) → core < length view.closing → closing_at core view ≡ true) → HasFinished view assembly
     finished reunited joined_law sound_law spelled_law closed =
         let law = joined_law view.desk.cores view.desk.cap ended (outside_of view) assembly (have_ended reunited) is_assembly in
         record {
@@ -151,11 +151,11 @@ module _ {J : Type 0} (view : RuntimeView J ℕ) (is : IsRuntime view) (ended : 
         }
 
     -- the same of the assembly as the code has it
-    pub finished_as : {fits : Order J → Outcome J ℕ → Type 0} (cores cap : ℕ) (ends : List (EndsView J ℕ)) (journals : List (JournalView ℕ)) → cores ≡ view.desk.cores → cap ≡ view.desk.cap →
+    pub finished_as : (cores cap : ℕ) (ends : List (EndsView J ℕ)) (journals : List (JournalView ℕ)) → cores ≡ view.desk.cores → cap ≡ view.desk.cap →
         ends ≡ all_ends ended (outside_of view) → journals ≡ map (λ worker. worker.recorded.journal) ended ++ view.desk.journal ∷ [] → AreReunited fits cores ends → EndedAreJoined same made polls fits →
         JoiningIsSound → JoinedAreSpelled → ((core : ℕ) → core < length view.closing → closing_at core view ≡ true) →
         HasFinished view (record { cores = cores; cap = cap; journals = map (λ journal. journal.notes) journals })
-    finished_as {fits} cores cap ends journals same_cores same_cap ends_are journals_are reunited joined_law sound_law spelled_law closed =
+    finished_as cores cap ends journals same_cores same_cap ends_are journals_are reunited joined_law sound_law spelled_law closed =
         subst (λ cores. HasFinished view (record { cores = cores; cap = cap; journals = map (λ (journal : JournalView ℕ). journal.notes) journals })) (sym same_cores)
         (subst (λ cap. HasFinished view (record { cores = view.desk.cores; cap = cap; journals = map (λ (journal : JournalView ℕ). journal.notes) journals })) (sym same_cap)
         (subst (λ journals. HasFinished view (record { cores = view.desk.cores; cap = view.desk.cap; journals = map (λ (journal : JournalView ℕ). journal.notes) journals })) (sym journals_are)
@@ -170,7 +170,7 @@ part_counts {J} {T} all ends journals parts = (
 )
 
 -- the first core that is told as open is the first that the caller didn't close
-pub first_open_of : {J T : Type 0} (inside view : RuntimeView J T) (core : ℕ) → inside ≡ view → IsRuntime inside → IsFirstOpenOf inside.closing (Some core) → IsFirstOpen core view
+pub first_open_of : {J T : Type 0} {fits : Order J → Outcome J T → Type 0} (inside view : RuntimeView J T) (core : ℕ) → inside ≡ view → IsRuntime fits inside → IsFirstOpenOf inside.closing (Some core) → IsFirstOpen core view
 first_open_of inside view core seen is found =
     subst (IsFirstOpen core) seen
     (record {

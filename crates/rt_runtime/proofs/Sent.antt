@@ -4,8 +4,12 @@ use Rattle.std.specs.Prelude.{Bool, false}
 use Rattle.std.proofs.lemmas.Bool.{cases_eq}
 use Rattle.std.proofs.lemmas.List.{get_or_default, length-map}
 use Rattle.rt_ring.specs.declared.ring_out.Sending.{Sending}
-use Rattle.rt_journal.specs.Submissions.{DeskView, IsWritten, terms_of_desk}
-use Rattle.rt_journal.specs.Ends.{IsOutOf, KeepsOut}
+use Rattle.rt_ids.specs.declared.order.Order.{Order}
+use Rattle.rt_ids.specs.declared.order.Outcome.{Outcome}
+use Rattle.rt_ids.specs.Spelled.{IsWithinLimits}
+use Rattle.rt_journal.specs.Submissions.{DeskView}
+use Rattle.rt_journal.specs.Ends.{IsOutOf}
+use Rattle.rt_journal.specs.Tickets.{HasLane, StaysBeside}
 use Rattle.rt_grid.specs.Ends.{EndsView, SameEnds, out_at, no_out}
 use Rattle.rt_grid.specs.Grid.{IsGrid, AreSameEnds, ends_at, no_ends}
 use Rattle.rt_grid.proofs.Using.{out_used, ends_same}
@@ -39,37 +43,75 @@ module _ {J T : Type 0} where
         (cases_eq actor (length workers));
   }
 
-  module _ (view : RuntimeView J T) (is : IsRuntime view) (core : ℕ) (low : core < view.desk.cores) (desk : DeskView J T) (end : Sending J T) where
-    -- the runtime with the end put back
-    abbrev pub sent_ends : EndsView J T
-    sent_ends = record view.ends { outs = set view.ends.outs core end }
+  -- the end to a core, as the code has it
+  module _ (core : ℕ) (ends : EndsView J T) (low : core < length ends.outs) (at : ℕ) (inside : EndsView J T) (here : at ≡ core) (seen : inside ≡ ends) where
+    pub lent_out : (end : Sending J T) → end ≡ get_or inside.outs at end → end ≡ out_at core ends
+    lent_out end lent =
+        subst (λ number. end ≡ get_or ends.outs number end) here (subst (λ (ends : EndsView J T). end ≡ get_or ends.outs at end) seen lent) ∙ get_or_default ends.outs core end no_out low
 
-    module _ (rest : desk ≡ record view.desk { journal = desk.journal }) (written : IsWritten (terms_of_desk desk) desk.journal.notes) (beside : IsOutOf core desk end.out end.credited)
-        (others : (other : ℕ) → other ≢ core → KeepsOut other view.desk desk) (link : end.link ≡ (out_at core view.ends).link) where
-      cores : desk.cores ≡ view.desk.cores
-      cores = ap (λ desk. desk.cores) rest
+    -- it is put back
+    pub put_seen : (later : Sending J T) → record inside { outs = set inside.outs at later } ≡ record ends { outs = set ends.outs core later }
+    put_seen later = ap (λ (ends : EndsView J T). record ends { outs = set ends.outs at later }) seen ∙ ap (λ number. record ends { outs = set ends.outs number later }) here
 
-      there : core < length view.ends.outs
-      there = omega (arith, low, is.outside.outs_are)
+    pub put_at : (later : Sending J T) → out_at core (record inside { outs = set inside.outs at later }) ≡ later
+    put_at later = ap (out_at core) (put_seen later) ∙ get_or-set_same ends.outs core later no_out low
 
-      outs_now : (to : ℕ) → to < desk.cores → IsOutOf to desk (out_at to sent_ends).out (out_at to sent_ends).credited
-      outs_now to known =
-          ⊎_elim
-          (λ (here : to ≡ core).
-          rw here (subst (λ (end : Sending J T). IsOutOf core desk end.out end.credited) (sym (get_or-set_same view.ends.outs core end no_out there)) beside))
-          (λ (away : to ≢ core).
-          subst (λ (end : Sending J T). IsOutOf to desk end.out end.credited) (sym (get_or-set_other view.ends.outs core to end no_out away))
-          ((others to away).each _ _ (is.outside.outs to (omega (arith, known, cores)))))
-          (cases_eq to core)
+  -- a runtime whose desk made a step on the link to one core
+  module _ {fits : Order J → Outcome J T → Type 0} (view : RuntimeView J T) (is : IsRuntime fits view) (core : ℕ) (low : core < view.desk.cores) (desk : DeskView J T) (later : Sending J T)
+      (stays : StaysBeside fits core view.desk desk later.out later.credited) (link : later.link ≡ (out_at core view.ends).link) where
+    there : core < length view.ends.outs
+    there = omega (arith, low, is.outside.outs_are)
 
-      pub sent_outside : IsOutside (record { desk = desk; ends = sent_ends })
-      sent_outside = record {
-        outs_are = length-set view.ends.outs core end ∙ (is.outside.outs_are ∙ sym cores);
-        written = written;
+    abbrev put : EndsView J T
+    put = record view.ends { outs = set view.ends.outs core later }
+
+    cores : desk.cores ≡ view.desk.cores
+    cores = ap (λ desk. desk.cores) stays.rest
+
+    cap : desk.cap ≡ view.desk.cap
+    cap = ap (λ desk. desk.cap) stays.rest
+
+    put_is : out_at core put ≡ later
+    put_is = get_or-set_same view.ends.outs core later no_out there
+
+    put_other : (to : ℕ) → to ≢ core → out_at to put ≡ out_at to view.ends
+    put_other to away = get_or-set_other view.ends.outs core to later no_out away
+
+    outs_now : (to : ℕ) → to < desk.cores → IsOutOf to desk (out_at to put).out (out_at to put).credited
+    outs_now to known =
+        ⊎_elim
+        (λ (same : to ≡ core). rw same (subst (λ (end : Sending J T). IsOutOf core desk end.out end.credited) (sym put_is) stays.beside))
+        (λ (away : to ≢ core).
+        subst (λ (end : Sending J T). IsOutOf to desk end.out end.credited) (sym (put_other to away)) ((stays.others to away).each _ _ (is.outside.outs to (omega (arith, known, cores)))))
+        (cases_eq to core)
+
+    lane_stays : (to : ℕ) → to ≢ core → HasLane fits to view.desk (out_at to view.ends).out (out_at to view.ends).credited → HasLane fits to desk (out_at to view.ends).out (out_at to view.ends).credited
+    lane_stays to away has = record { lane = has.lane; is = stays.lanes to away ∙ has.is; lane_of = has.lane_of }
+
+    lanes_now : (to : ℕ) → to < desk.cores → HasLane fits to desk (out_at to put).out (out_at to put).credited
+    lanes_now to known =
+        ⊎_elim
+        (λ (same : to ≡ core). rw same (subst (λ (end : Sending J T). HasLane fits core desk end.out end.credited) (sym put_is) stays.lane))
+        (λ (away : to ≢ core).
+        subst (λ (end : Sending J T). HasLane fits to desk end.out end.credited) (sym (put_other to away)) (lane_stays to away (is.lanes to (omega (arith, known, cores)))))
+        (cases_eq to core)
+
+    same_links : SameEnds view.ends put
+    same_links = out_used view.ends core later there link
+
+    pub runtime_put : (closing : List Bool) → length closing ≡ view.desk.cores → IsRuntime fits (record { desk = desk; ends = put; closing = closing; workers = view.workers; room = view.room })
+    runtime_put closing count = record {
+      count = is.count ∙ sym cores;
+      each = subst (λ cores. (core : ℕ) → core < cores → IsWorkerOf core cores desk.cap view.room (worker_at core view.workers)) (sym cores)
+          (subst (λ cap. (core : ℕ) → core < view.desk.cores → IsWorkerOf core view.desk.cores cap view.room (worker_at core view.workers)) (sym cap) is.each);
+      actor = ap (λ desk. desk.actor) stays.rest ∙ (is.actor ∙ sym cores);
+      outside = record {
+        outs_are = length-set view.ends.outs core later ∙ (is.outside.outs_are ∙ sym cores);
+        written = stays.written;
         outs = outs_now;
-      }
-
-      pub sent_grid : IsGrid desk.cores (map (λ worker. worker.ends) view.workers ++ sent_ends ∷ [])
-      sent_grid =
-          subst (λ cores. IsGrid cores (map (λ worker. worker.ends) view.workers ++ sent_ends ∷ [])) (sym cores)
-          (grid_kept view.desk.cores _ _ (same_last view.workers view.ends sent_ends (out_used view.ends core end there link)) is.grid)
+      };
+      grid = subst (λ cores. IsGrid cores (map (λ worker. worker.ends) view.workers ++ put ∷ [])) (sym cores) (grid_kept view.desk.cores _ _ (same_last view.workers view.ends put same_links) is.grid);
+      closings = count ∙ sym cores;
+      lanes = lanes_now;
+      limits = subst (λ cores. IsWithinLimits cores desk.cap) (sym cores) (subst (IsWithinLimits view.desk.cores) (sym cap) is.limits);
+    }

@@ -10,6 +10,13 @@ use Rattle.rt_workers.specs.Works.{Together}
 use Rattle.rt_workers.proofs.Lists.{together_length}
 use Rattle.rt_journal.specs.Submissions.{DeskView, IsWritten, opened_desk, terms_of_desk}
 use Rattle.rt_journal.specs.Ends.{IsOutOf}
+use Rattle.rt_ids.specs.declared.order.Order.{Order}
+use Rattle.rt_ids.specs.declared.order.Outcome.{Outcome}
+use Rattle.rt_ring.specs.declared.ring_out.Sending.{Sending}
+use Rattle.rt_desk.specs.Lanes.{IsUnused}
+use Rattle.rt_desk.proofs.Cores.{IsUnused-fresh}
+use Rattle.rt_journal.specs.Tickets.{HasLane}
+use Rattle.rt_journal.proofs.LaneEnds.{fresh_has_lane}
 use Rattle.rt_grid.specs.Ends.{EndsView, AreFresh, out_at}
 use Rattle.rt_grid.specs.Grid.{IsGrid, AreAllFresh, ends_at, no_ends}
 use Rattle.rt_grid.proofs.Parts.{at_end}
@@ -88,8 +95,17 @@ module _ {J T : Type 0} (cores cap room : ℕ) where
       outs = subst (λ desk. (core : ℕ) → core < desk.cores → IsOutOf core desk (out_at core ends).out (out_at core ends).credited) (sym opened) outs_opened;
     }
 
-    pub started : IsRuntime (record { desk = desk; ends = ends; closing = closing; workers = workers; room = room })
-    started = record {
+    lanes_opened : (fits : Order J → Outcome J T → Type 0) (core : ℕ) → core < cores → HasLane fits core (opened_desk cores cores cap room) (out_at core ends).out (out_at core ends).credited
+    lanes_opened fits core low =
+        let is = house.fresh.outs core (omega (arith, low, house.outs)) in
+        subst (λ credited. HasLane fits core (opened_desk cores cores cap room) (out_at core ends).out credited) (sym is.credited)
+        (fresh_has_lane fits core cores cores cap room (out_at core ends).out low
+        (subst (λ credited. IsUnused cap (out_at core ends).out credited) is.credited
+        (IsUnused-fresh (λ (end : Sending J T). end.out) (λ (end : Sending J T). end.credited) cores core cap 0 (out_at core ends) (omega arith) is.out is.credited)))
+
+    pub started : (fits : Order J → Outcome J T → Type 0) → IsRuntime fits (record { desk = desk; ends = ends; closing = closing; workers = workers; room = room })
+    started fits = record {
+      lanes = subst (λ (desk : DeskView J T). (core : ℕ) → core < desk.cores → HasLane fits core desk (out_at core ends).out (out_at core ends).credited) (sym opened) (lanes_opened fits);
       count = house.count ∙ ap (λ desk. desk.cores) (sym opened);
       each = subst (λ (desk : DeskView J T). (core : ℕ) → core < desk.cores → IsWorkerOf core desk.cores desk.cap room (worker_at core workers)) (sym opened) house.each;
       actor = ap (λ desk. desk.actor) opened ∙ ap (λ desk. desk.cores) (sym opened);

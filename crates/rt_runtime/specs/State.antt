@@ -1,8 +1,11 @@
 -- What a caller sees of a runtime, and what is true of it at any time.
 use Rattle.std.specs.Prelude.{◌≡◌, ℕ, ◌+◌, ◌<◌, ◌≤◌, Bool, false, List, length, slice_index_or}
+use Rattle.rt_ids.specs.declared.order.Order.{Order}
+use Rattle.rt_ids.specs.declared.order.Outcome.{Outcome}
 use Rattle.rt_ids.specs.Spelled.{IsWithinLimits}
 use Rattle.rt_journal.specs.Submissions.{DeskView}
-use Rattle.rt_grid.specs.Ends.{EndsView}
+use Rattle.rt_journal.specs.Tickets.{HasLane}
+use Rattle.rt_grid.specs.Ends.{EndsView, out_at}
 use Rattle.rt_grid.specs.Grid.{IsGrid}
 use Rattle.rt_worker.specs.Linked.{LinkedView}
 use Rattle.rt_worker.specs.Opening.{IsWorkerOf}
@@ -26,7 +29,8 @@ module _ {J T : Type 0} where
   abbrev pub closing_at : ℕ → RuntimeView J T → Bool
   closing_at core view = slice_index_or view.closing core false
 
-  -- each core has its worker, all links of the house are there, and the outside actor's journal is written by the rules
+module _ {J T : Type 0} (fits : Order J → Outcome J T → Type 0) where
+  -- each core has its worker, all links of the house are there, and the outside actor's journal is written by the rules and beside its ends
   pub record IsRuntime (view : RuntimeView J T) : Type 0 where
     pub count : length view.workers ≡ view.desk.cores
     pub each : (core : ℕ) → core < view.desk.cores → IsWorkerOf core view.desk.cores view.desk.cap view.room (worker_at core view.workers)
@@ -34,6 +38,7 @@ module _ {J T : Type 0} where
     pub outside : IsOutside (outside_of view)
     pub grid : IsGrid view.desk.cores (all_ends view.workers (outside_of view))
     pub closings : length view.closing ≡ view.desk.cores
+    pub lanes : (core : ℕ) → core < view.desk.cores → HasLane fits core view.desk (out_at core view.ends).out (out_at core view.ends).credited
     pub limits : IsWithinLimits view.desk.cores view.desk.cap
 
 -- what stands in a runtime beside what a caller sees: its numbers, a bell for each worker, and room for what the workers give back

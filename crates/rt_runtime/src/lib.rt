@@ -1,6 +1,7 @@
 //! The running threads: a worker for each core, and the outside actor whose calls the caller makes.
 #![tactic(auto)]
 
+mod calls;
 pub mod error;
 mod finishing;
 pub mod runtime;

@@ -35,12 +35,13 @@ impl<J: Task<Out = u64>, C: Drop, G: Drop> Model for Runtime<J, C, G> {
     ghost Value = { RuntimeView J ℕ };
 
     ghost use Rattle.std.specs.Prelude.{◌≡◌, [], length, vec_capacity};
+    ghost use Rattle.rt_link.specs.Fits.{Fits};
     ghost use Rattle.rt_runtime.specs.State.{IsRuntime, IsStored};
 
     ghost view = { λ r. record { desk = r.desk; ends = r.ends; closing = r.closing.items; workers = r.team; room = r.room } };
 
     ghost invariant = { λ r.
-        IsRuntime (record { desk = r.desk; ends = r.ends; closing = r.closing.items; workers = r.team; room = r.room })
+        IsRuntime (Fits J.SameTask J.Answers) (record { desk = r.desk; ends = r.ends; closing = r.closing.items; workers = r.team; room = r.room })
         × IsStored (record { desk = r.desk; ends = r.ends; closing = r.closing.items; workers = r.team; room = r.room })
         r.cores r.cap (length r.bells.items) (vec_capacity r.spare_ends) (vec_capacity r.spare_journals)
         × (r.spare_ends.items ≡ []) × (r.spare_journals.items ≡ []) };

@@ -2,6 +2,7 @@ use Rattle.std.proofs.Common.{◌≡◌, ◌+◌, ◌≤◌, ◌∙◌, ap, sym,
 use denote.Param.Send.{param_send}
 use Rattle.rt_runtime.proofs.Crosses.{worker_send, ended_send}
 use Rattle.rt_runtime.proofs.runtime.Runtime.begin.Lts.{arg-11-0, arg-11-1}
+use Rattle.rt_link.specs.Fits.{Fits}
 use Rattle.rt_runtime.specs.Starting.{IsHouse}
 use Rattle.rt_runtime.proofs.Started.{started}
 use Rattle.rt_runtime.proofs.runtime.Runtime.begin.Goals as goal
@@ -24,7 +25,8 @@ invariant_of-result g c =
             few_cores = numbers.cores_most;
             some_place = omega (arith, numbers.some_place);
             few_places = numbers.places_most;
-          }),
+          })
+          (Fits g.J.Task.SameTask g.J.Task.Answers),
       (record {
         cores_are = sym (ap (λ desk. desk.cores) desk);
         cap_is = sym (ap (λ desk. desk.cap) desk);
