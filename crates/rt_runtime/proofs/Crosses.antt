@@ -15,10 +15,10 @@ use Rattle.rt_worker.specs.contracts.worker.Worker.{the_row as worker}
 use Rattle.std.specs.contracts.impls.GlobalAllocator.TheImpl.{ghosts as its_alloc}
 
 pub slip_send : IsSend (slip global its_alloc)
-slip_send = search sendable
+slip_send = ?
 
 pub timeline_send : IsSend (timeline global its_alloc)
-timeline_send = search sendable
+timeline_send = ?
 
 pub linked_send : (J : RattleType) (t : Ghosts J.Denot ℕ) → IsSend J → IsSend (linked J t)
 linked_send J t j = ?

@@ -1,6 +1,6 @@
 //! The outside actor's calls.
 
-ghost use Rattle.std.specs.Prelude.{◌≡◌, ◌+◌, ◌<◌, ◌≤◌, ◌↔◌, IsTrue, length, slice_set};
+ghost use Rattle.std.specs.Prelude.{◌≡◌, ◌+◌, ◌<◌, ◌≤◌, ◌↔◌, IsTrue, length, false, slice_index_or, slice_set, ◌||◌};
 ghost use Rattle.rt_notes.specs.Journals.{free_notes};
 ghost use Rattle.rt_jobs.specs.Ready.{HasReadyJob};
 ghost use Rattle.rt_ids.specs.declared.order.Order.TheVariants.{CloseCore};
@@ -46,6 +46,15 @@ fn tells<J>(closing: bool, answer: &Result<Ticket, SendError<J>>) -> bool
         Err(SendError::Closed(_, _)) => true,
         Err(_) => false,
     }
+}
+
+/// Keeps in mind that a core is closed, if it was told so.
+fn mark(closing: &mut Vec<bool>, core: usize, told: bool)
+    requires { core < length closing.old.items }
+    ensures { closing.new.items ≡ slice_set closing.old.items core (slice_index_or closing.old.items core false || told) }
+{
+    let was = closing[core];
+    closing[core] = was || told;
 }
 
 /// Sends an order on the end to its core.
@@ -101,9 +110,7 @@ impl<J: Task<Out = u64>, C: Drop, G: Drop> Runtime<J, C, G> {
         let core = to.0 as usize;
         let closing = closes(&order);
         let answer = send_on(&mut self.desk, &mut self.ends, to, order);
-        if tells(closing, &answer) {
-            self.closing[core] = true;
-        }
+        mark(&mut self.closing, core, tells(closing, &answer));
         ring(&self.bells[core]);
         answer
     }

@@ -1,17 +1,16 @@
 use Rattle.std.proofs.Common.{◌≡◌, ◌+◌, ◌≤◌, ◌∙◌, ap, sym, subst, arith}
 use denote.Param.Send.{param_send}
 use Rattle.rt_runtime.proofs.Crosses.{worker_send, ended_send}
-use Rattle.rt_runtime.proofs.runtime.Runtime.begin.Lts.{arg-11-0, arg-11-1}
 use Rattle.rt_link.specs.Fits.{Fits}
 use Rattle.rt_runtime.specs.Starting.{IsHouse}
 use Rattle.rt_runtime.proofs.Started.{started}
 use Rattle.rt_runtime.proofs.runtime.Runtime.begin.Goals as goal
 
 pub start-requires-send-W : goal.start-requires-send-W
-start-requires-send-W g c κs within = param_send 0 (arg-11-0 g κs) (worker_send _ _ _ _ ? ? ?)
+start-requires-send-W g c κs within = param_send _ _ (worker_send _ _ _ _ ? ? ?)
 
 pub start-requires-send-W-Ended : goal.start-requires-send-W-Ended
-start-requires-send-W-Ended g c κs within = param_send 1 (arg-11-1 g κs) (ended_send _ _ ?)
+start-requires-send-W-Ended g c κs within = param_send _ _ (ended_send _ _ ?)
 
 pub invariant_of-result : goal.invariant_of-result
 invariant_of-result g c =
