@@ -3,28 +3,34 @@ use Prim.Native.Nat.{ℕ}
 use denote.RattleType.{RattleType}
 use denote.Param.Send.{IsSend, sendable}
 use Rattle.rt_jobs.specs.declared.job.Task.{Ghosts}
+use Rattle.std.proofs.Crossing.{crosses}
 use Rattle.std.specs.contracts.alloc.Global.{the_row as global}
-use Rattle.rt_timeline.specs.contracts.slip.Slip.{the_row as slip}
-use Rattle.rt_timeline.specs.contracts.timeline.Timeline.{the_row as timeline}
-use Rattle.rt_taskqueue.specs.contracts.queues.Queues.{the_row as queues}
+use Rattle.std.specs.contracts.impls.GlobalAllocator.TheImpl.{ghosts as its_alloc}
+use Rattle.std.below.core.specs.contracts.clone.Clone+copy.TheImpl.{ghosts as copied}
+use Rattle.rt_timeline.proofs.tree.Tree.TheLaws.TheKnot as tree
+use Rattle.rt_desk.proofs.trie.Trie.TheLaws.TheKnot as trie
 use Rattle.rt_core.specs.contracts.one_core.Core.{the_row as core}
+use Rattle.rt_journal.specs.contracts.desk.RecordedDesk.{the_row as desk}
 use Rattle.rt_journal.specs.contracts.recorded.Recorded.{the_row as recorded}
 use Rattle.rt_worker.specs.contracts.linked.Linked.{the_row as linked}
 use Rattle.rt_worker.specs.contracts.ended.Ended.{the_row as ended}
 use Rattle.rt_worker.specs.contracts.worker.Worker.{the_row as worker}
-use Rattle.std.specs.contracts.impls.GlobalAllocator.TheImpl.{ghosts as its_alloc}
 
-pub slip_send : IsSend (slip global its_alloc)
-slip_send = ?
+module _ (J : RattleType) (t : Ghosts J.Denot ℕ) (j : IsSend J) where
+  core_send : IsSend (core J global t its_alloc (copied global))
+  core_send = search (crosses, tree.crosses, sendable, j) depth 60 fits 20000
 
-pub timeline_send : IsSend (timeline global its_alloc)
-timeline_send = ?
+  desk_send : IsSend (desk J t)
+  desk_send = search (crosses, trie.crosses, sendable, j) depth 60 fits 20000
 
-pub linked_send : (J : RattleType) (t : Ghosts J.Denot ℕ) → IsSend J → IsSend (linked J t)
-linked_send J t j = ?
+  recorded_send : IsSend (recorded J global t its_alloc (copied global))
+  recorded_send = search (core_send, desk_send, crosses, sendable, j) depth 60 fits 20000
 
-pub ended_send : (J : RattleType) (t : Ghosts J.Denot ℕ) → IsSend J → IsSend (ended J t)
-ended_send J t j = ?
+  linked_send : IsSend (linked J t)
+  linked_send = search (recorded_send, crosses, sendable, j) depth 60 fits 20000
 
-pub worker_send : (J C G : RattleType) (t : Ghosts J.Denot ℕ) → IsSend J → IsSend C → IsSend G → IsSend (worker J C G t)
-worker_send J C G t j c g = ?
+  pub ended_send : IsSend (ended J t)
+  ended_send = search (linked_send, crosses, sendable, j) depth 60 fits 20000
+
+  pub worker_send : (C G : RattleType) → IsSend C → IsSend G → IsSend (worker J C G t)
+  worker_send C G c g = search (linked_send, crosses, sendable, j, c, g) depth 60 fits 20000
