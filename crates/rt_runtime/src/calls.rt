@@ -1,6 +1,6 @@
 //! The outside actor's calls.
 
-ghost use Rattle.std.specs.Prelude.{◌≡◌, ◌+◌, ◌<◌, ◌≤◌, ◌↔◌, IsTrue, length, false, slice_index_or, slice_set, ◌||◌};
+ghost use Rattle.std.specs.Prelude.{◌≡◌, ◌+◌, ◌<◌, ◌≤◌, ◌^◌, ◌↔◌, IsTrue, length, false, slice_index_or, slice_set, ◌||◌};
 ghost use Rattle.rt_notes.specs.Journals.{free_notes};
 ghost use Rattle.rt_jobs.specs.Ready.{HasReadyJob};
 ghost use Rattle.rt_ids.specs.declared.order.Order.TheVariants.{CloseCore};
@@ -79,12 +79,13 @@ fn send_on<J: Task<Out = u64>>(
 
 impl<J: Task<Out = u64>, C: Drop, G: Drop> Runtime<J, C, G> {
     /// How many submissions are outstanding on all links.
-    fn outstanding(&self) -> usize
-        ensures { result ≡ outstanding_upto self.now.desk.journal.notes self.now.desk.cores }
+    fn outstanding(&self) -> u128
+        ensures value { result ≡ outstanding_upto self.now.desk.journal.notes self.now.desk.cores }
+        ensures few { result < 2 ^ 72 }
     {
-        let mut count = 0;
+        let mut count: u128 = 0;
         for core in 0..self.cores as usize {
-            count += self.ends.outs[core].outstanding() as usize;
+            count += self.ends.outs[core].outstanding() as u128;
         }
         count
     }
@@ -94,8 +95,8 @@ impl<J: Task<Out = u64>, C: Drop, G: Drop> Runtime<J, C, G> {
     fn is_full(&self, each: u8) -> bool
         ensures { IsTrue result ↔ (free_notes self.now.desk.journal < room_left each self.now) }
     {
-        let places = 3 * (self.outstanding() + 1) + each as usize * self.cores as usize;
-        (self.desk.journal().free() as usize) < places
+        let places = 3 * (self.outstanding() + 1) + each as u128 * self.cores as u128;
+        (self.desk.journal().free() as u128) < places
     }
 
     /// Sends an order to a core.
