@@ -2,6 +2,7 @@
 use Prim.Native.Nat.{ℕ}
 use denote.RattleType.{RattleType}
 use denote.Param.Send.{IsSend, sendable}
+use denote.Struct.Field.{u64-field}
 use Rattle.rt_jobs.specs.declared.job.Task.{Ghosts}
 use Rattle.std.proofs.Crossing.{crosses}
 use Rattle.std.specs.contracts.alloc.Global.{the_row as global}
@@ -17,7 +18,7 @@ use Rattle.rt_worker.specs.contracts.ended.Ended.{the_row as ended}
 use Rattle.rt_worker.specs.contracts.worker.Worker.{the_row as worker}
 
 module _ (J : RattleType) (t : Ghosts J.Denot ℕ) (j : IsSend J) where
-  core_send : IsSend (core J global t its_alloc (copied global))
+  core_send : IsSend (core J global u64-field.row t its_alloc (copied global))
   core_send = search (crosses, tree.crosses, sendable, j) depth 60 fits 20000
 
   desk_send : IsSend (desk J t)

@@ -4,6 +4,7 @@ ghost use Rattle.std.specs.Prelude.{◌≡◌, ◌+◌, ◌<◌, ◌≤◌, ◌^
 ghost use Rattle.rt_notes.specs.Journals.{free_notes};
 ghost use Rattle.rt_jobs.specs.Ready.{HasReadyJob};
 ghost use Rattle.rt_ids.specs.declared.order.Order.TheVariants.{CloseCore};
+ghost use Rattle.rt_ids.specs.Outstanding.{outstanding_count};
 ghost use Rattle.rt_link.specs.Fits.{Fits};
 ghost use Rattle.rt_journal.specs.Ends.{IsOutOf};
 ghost use Rattle.rt_journal.specs.Submissions.{Submits};
@@ -77,6 +78,15 @@ fn send_on<J: Task<Out = u64>>(
     desk.submit(&mut ends.outs[to.0 as usize], to, order)
 }
 
+/// How many submissions to one core are outstanding.
+fn outstanding_at<J: Task<Out = u64>>(desk: &RecordedDesk<J>, ends: &Ends<J>, core: u8) -> u64
+    requires there { core < length ends.now.outs }
+    requires beside { IsOutOf core desk.now (out_at core ends.now).out (out_at core ends.now).credited }
+    ensures { result ≡ outstanding_count core desk.now.journal.notes }
+{
+    desk.outstanding(&ends.outs[core as usize], CoreNo(core))
+}
+
 impl<J: Task<Out = u64>, C: Drop, G: Drop> Runtime<J, C, G> {
     /// How many submissions are outstanding on all links.
     fn outstanding(&self) -> u128
@@ -84,8 +94,8 @@ impl<J: Task<Out = u64>, C: Drop, G: Drop> Runtime<J, C, G> {
         ensures few { result < 2 ^ 72 }
     {
         let mut count: u128 = 0;
-        for core in 0..self.cores as usize {
-            count += self.ends.outs[core].outstanding() as u128;
+        for core in 0..self.cores {
+            count += outstanding_at(&self.desk, &self.ends, core) as u128;
         }
         count
     }

@@ -7,9 +7,10 @@ use rt_runtime::{FinishError, Runtime, StartError};
 use rt_settings::{Clock, Config, Gate};
 use rt_shares::Shares;
 use std::alloc::{AllocError, Global};
-use std::sync::Arc;
 use std::sync::atomic::{AtomicU64, Ordering};
+use std::sync::{Arc, Wait};
 use std::test::Fail;
+use std::thread::Threads;
 
 /// A clock that rises by ten at each reading.
 #[derive(Drop)]
@@ -79,16 +80,20 @@ fn gates(
 }
 
 /// A house on threads, or why there is none.
-fn begin(
-    rt: HostRuntime,
+fn begin<R>(
+    rt: R,
+    alloc: Global,
     numbers: (u8, u16, u32),
     asked: &Arc<AtomicU64, Global>,
-) -> Result<Result<House, StartError>, AllocError> {
+) -> Result<Result<House, StartError>, AllocError>
+where
+    R: Threads + Wait + Copy + Drop + Send + 'static,
+{
     let (cores, cap, room) = numbers;
-    let config = config(rt.alloc(), cores, cap, room)?;
-    let clocks = clocks(rt.alloc(), cores)?;
-    let gates = gates(rt.alloc(), cores, asked)?;
-    Ok(House::start(rt, rt.alloc(), config, clocks, gates))
+    let config = config(alloc, cores, cap, room)?;
+    let clocks = clocks(alloc, cores)?;
+    let gates = gates(alloc, cores, asked)?;
+    Ok(House::start(rt, alloc, config, clocks, gates))
 }
 
 /// A name that the outside actor gave.
@@ -149,7 +154,7 @@ fn have_ended(assembly: &Assembly) -> bool {
 #[test]
 fn jobs_end_on_their_cores(rt: HostRuntime) -> Result<(), Fail> {
     let asked = Arc::new(rt.alloc(), AtomicU64::new(0))?;
-    let Ok(mut house) = begin(rt, (2, 8, 2000), &asked)? else {
+    let Ok(mut house) = begin(rt, rt.alloc(), (2, 8, 2000), &asked)? else {
         assert!(rt; false, "no house");
         return Ok(());
     };
@@ -167,7 +172,7 @@ fn jobs_end_on_their_cores(rt: HostRuntime) -> Result<(), Fail> {
 #[test]
 fn a_short_journal_hands_back(rt: HostRuntime) -> Result<(), Fail> {
     let asked = Arc::new(rt.alloc(), AtomicU64::new(0))?;
-    let Ok(mut house) = begin(rt, (1, 2, 97), &asked)? else {
+    let Ok(mut house) = begin(rt, rt.alloc(), (1, 2, 97), &asked)? else {
         assert!(rt; false, "no house");
         return Ok(());
     };
@@ -192,15 +197,21 @@ fn a_short_journal_hands_back(rt: HostRuntime) -> Result<(), Fail> {
 }
 
 /// Whether there is no house of these numbers, since they aren't good.
-fn is_refused(rt: HostRuntime, numbers: (u8, u16, u32)) -> Result<bool, AllocError> {
-    let asked = Arc::new(rt.alloc(), AtomicU64::new(0))?;
-    Ok(matches!(begin(rt, numbers, &asked)?, Err(StartError::BadConfig)))
+fn is_refused<R>(rt: R, alloc: Global, numbers: (u8, u16, u32)) -> Result<bool, AllocError>
+where
+    R: Threads + Wait + Copy + Drop + Send + 'static,
+{
+    let asked = Arc::new(alloc, AtomicU64::new(0))?;
+    Ok(matches!(
+        begin(rt, alloc, numbers, &asked)?,
+        Err(StartError::BadConfig)
+    ))
 }
 
 #[test]
 fn bad_numbers_are_refused(rt: HostRuntime) -> Result<(), Fail> {
     for numbers in [(0, 4, 2000), (1, 0, 2000), (1, 2, 96), (17, 4, 2000)] {
-        assert!(rt; is_refused(rt, numbers)?);
+        assert!(rt; is_refused(rt, rt.alloc(), numbers)?);
     }
     Ok(())
 }
@@ -208,7 +219,7 @@ fn bad_numbers_are_refused(rt: HostRuntime) -> Result<(), Fail> {
 #[test]
 fn a_core_that_is_open_is_told(rt: HostRuntime) -> Result<(), Fail> {
     let asked = Arc::new(rt.alloc(), AtomicU64::new(0))?;
-    let Ok(house) = begin(rt, (1, 2, 200), &asked)? else {
+    let Ok(house) = begin(rt, rt.alloc(), (1, 2, 200), &asked)? else {
         assert!(rt; false, "no house");
         return Ok(());
     };
