@@ -1,5 +1,5 @@
 -- A runtime after a send to one core.
-use Rattle.std.proofs.Common.{◌≡◌, ◌≢◌, ℕ, ◌+◌, ◌<◌, ◌≤◌, List, [], ◌∷◌, ◌++◌, length, map, set, get_or, refl, sym, ◌∙◌, ap, subst, arith, ⊎_elim, length-append, get_or-set_same, get_or-set_other, length-set}
+use Rattle.std.proofs.Common.{◌≡◌, ◌≢◌, ℕ, add-one, ◌+◌, ◌<◌, ◌≤◌, List, [], ◌∷◌, ◌++◌, length, map, set, get_or, refl, sym, ◌∙◌, ap, subst, arith, ⊎_elim, length-append, get_or-set_same, get_or-set_other, length-set}
 use Rattle.std.specs.Prelude.{Bool, false}
 use Rattle.std.proofs.lemmas.Bool.{cases_eq}
 use Rattle.std.proofs.lemmas.List.{get_or_default, length-map}
@@ -18,6 +18,9 @@ use Rattle.rt_worker.specs.Linked.{LinkedView}
 use Rattle.rt_worker.specs.Opening.{IsWorkerOf}
 use Rattle.rt_worker.specs.Together.{OutsideView, IsOutside, no_linked, worker_at}
 use Rattle.rt_worker.proofs.Ending.{before_last, at_last}
+use Rattle.rt_ids.specs.Journal.{Journal}
+use Rattle.rt_ids.specs.Outstanding.{outstanding_count}
+use Rattle.rt_runtime.specs.Calls.{outstanding_upto}
 use Rattle.rt_runtime.specs.State.{RuntimeView, IsRuntime, outside_of}
 
 module _ {J T : Type 0} where
@@ -115,3 +118,7 @@ module _ {J T : Type 0} where
       lanes = lanes_now;
       limits = subst (λ cores. IsWithinLimits cores desk.cap) (sym cores) (subst (IsWithinLimits view.desk.cores) (sym cap) is.limits);
     }
+
+-- one more core counted
+pub one_more_core : {T : Type 0} (notes : Journal T) (core count more : ℕ) → count ≡ outstanding_upto notes core → more ≡ outstanding_count core notes → count + more ≡ outstanding_upto notes (core + 1)
+one_more_core notes core count more was is = rw add-one (omega (arith, was, is))

@@ -1,6 +1,7 @@
 use Rattle.std.proofs.Common.{rules, ◌≡◌, ◌+◌, ◌≤◌, ◌∙◌, ap, sym, subst, arith}
 use denote.Param.{param}
-use denote.Param.Send.{IsSend, param_send}
+use denote.Param.Send.{IsSend, arg_send, param_send}
+use denote.Exit.{no}
 use Rattle.rt_runtime.proofs.Crosses.{worker_send, ended_send}
 use Rattle.rt_link.specs.Fits.{Fits}
 use Rattle.rt_runtime.specs.Starting.{IsHouse}
@@ -9,15 +10,15 @@ use Rattle.rt_runtime.proofs.runtime.Runtime.begin.Goals as goal
 
 pub start-requires-send-W : goal.start-requires-send-W
 start-requires-send-W g c κs within =
-    let j : IsSend (param 0 g.row.J) = search (rules, c.requires-raw) parts 8 in
-    let k : IsSend (param 1 g.row.C) = search (rules, c.requires-raw) parts 8 in
-    let l : IsSend (param 2 g.row.G) = search (rules, c.requires-raw) parts 8 in
-    param_send 0 _ (worker_send (param 0 g.row.J) g.J.Task j (param 1 g.row.C) (param 2 g.row.G) k l)
+    let j : IsSend (param 0 g.row.J) = search rules parts 8 in
+    let k : IsSend (param 1 g.row.C) = search rules parts 8 in
+    let l : IsSend (param 2 g.row.G) = search rules parts 8 in
+    param_send 0 _ (arg_send _ no _ (worker_send g.row.J g.J.Task j g.row.C g.row.G k l))
 
 pub start-requires-send-W-Ended : goal.start-requires-send-W-Ended
 start-requires-send-W-Ended g c κs within =
-    let j : IsSend (param 0 g.row.J) = search (rules, c.requires-raw) parts 8 in
-    param_send 1 _ (ended_send (param 0 g.row.J) g.J.Task j)
+    let j : IsSend (param 0 g.row.J) = search rules parts 8 in
+    param_send 1 _ (arg_send _ no _ (ended_send g.row.J g.J.Task j))
 
 pub invariant_of-result : goal.invariant_of-result
 invariant_of-result g c =
