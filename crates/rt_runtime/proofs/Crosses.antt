@@ -32,19 +32,13 @@ module _ (T : RattleType) (t : Ghosts (param 0 T).Denot ℕ) (j : IsSend (param 
   lane_send = search (crosses, trie.crosses, sendable) depth 60 fits 20000
 
   desk_send : IsSend (desk (param 0 T) t)
-  desk_send = first_of (
-    search (lane_send, journal.the_send, crosses, sendable) depth 60 fits 20000,
-    search (lane_send, journal.the_send, actor.the_send, memory.the_send, heap.the_send, journal.the_field_send, crosses, trie.crosses, sendable) depth 60 fits 20000,
-  )
+  desk_send = search (lane_send, journal.the_send, crosses, sendable) depth 60 fits 20000
 
   recorded_send : IsSend (recorded (param 0 T) global t its_alloc (copied global))
   recorded_send = search (core_send, desk_send, crosses, sendable) depth 60 fits 20000
 
   linked_send : IsSend (linked (param 0 T) t)
-  linked_send = first_of (
-    search (recorded_send, ends.the_send, crosses, sendable) depth 60 fits 20000,
-    search (recorded_send, ends.the_send, ends.the_field_send, crosses, sendable) depth 60 fits 20000,
-  )
+  linked_send = search (recorded_send, ends.the_send, crosses, sendable) depth 60 fits 20000
 
   pub ended_send : IsSend (ended (param 0 T) t)
   ended_send = search (linked_send, crosses, sendable) depth 60 fits 20000
