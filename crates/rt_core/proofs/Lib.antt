@@ -14,3 +14,4 @@ pub mod Awaited
 pub mod Closings
 pub mod Whole
 pub mod Turned
+pub mod AheadTaken

@@ -40,12 +40,14 @@ module _ {J : Type 0} where
   next_same : (view : CoreView J) (one other : ℕ) → IsNext view one → IsNext view other → (waiting_of one view.queues ≡ [] → ⊥) → (waiting_of other view.queues ≡ [] → ⊥) → one ≡ other
   next_same view one other first second some any = least_same (runtime_of one view) one (runtime_of other view) other (first.least other any) (second.least one some)
 
-module _ {J T : Type 0} (same : J → J → Type 0) (done : J → Bool) (can_poll : J → Type 0) (made : J → ℕ) (polls : Owed J T) (answers : J → T → Type 0) where
-  picks_ahead : (old mid : CoreView J) (queue vr : ℕ) (name : JobId) (started : Bool) (job : J) → TakesOut old name queue started job mid → return_reason queue old ≡ None → vr ≡ runtime_of queue old →
+-- the job that was told ahead goes out with these notes
+module _ {J : Type 0} (T : Type 0) where
+  pub picks_ahead : (old mid : CoreView J) (queue vr : ℕ) (name : JobId) (started : Bool) (job : J) → TakesOut old name queue started job mid → return_reason queue old ≡ None → vr ≡ runtime_of queue old →
       Picks {T = T} old (Ok (goes_out name queue started job)) mid (pick_notes queue vr name started)
   picks_ahead old mid queue vr name false job takes kept stands = (takes, kept, ap (λ at. notes.Pick queue at ∷ notes.Start name ∷ []) stands)
   picks_ahead old mid queue vr name true job takes kept stands = (takes, kept, ap (λ at. notes.Pick queue at ∷ notes.Resume name ∷ []) stands)
 
+module _ {J T : Type 0} (same : J → J → Type 0) (done : J → Bool) (can_poll : J → Type 0) (made : J → ℕ) (polls : Owed J T) (answers : J → T → Type 0) where
   pub TurnsWhole-first : (old new : CoreView J) (spent : ℕ) (before after : Journal T) (step : Step T) (time queue vr : ℕ) (name : JobId) (started : Bool) → IsAhead old queue vr name started →
       TurnsFirst same done can_poll made polls answers old spent before after step time new →
       TurnsWhole same done can_poll made polls answers old spent before after name queue started (pick_notes queue vr name started) (settled_of step) (settle_notes name time step) new
@@ -65,7 +67,7 @@ module _ {J T : Type 0} (same : J → J → Type 0) (done : J → Bool) (can_pol
       record {
         mid = turns.mid;
         ran = turns.ran;
-        picks = picks_ahead old turns.mid queue vr name started turns.ran.before takes is_ahead.kept is_ahead.stands;
+        picks = picks_ahead T old turns.mid queue vr name started turns.ran.before takes is_ahead.kept is_ahead.stands;
         polled = turns.polled;
         settles = by_step step turns.stepped (subst (λ (one : JobId). SettlesStep step turns.mid one turns.ran.job time new) named turns.settles);
       }

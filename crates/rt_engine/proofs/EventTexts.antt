@@ -7,10 +7,11 @@ use Rattle.std.specs.Io.KnownBytes.{Appends}
 use Rattle.rt_ids.specs.declared.note.Note.{Note}
 use Rattle.rt_jobs.specs.Scripts.{Script}
 use Rattle.rt_script.specs.declared.event.ScriptEvent.{ScriptEvent}
-use Rattle.rt_script.specs.declared.event.ScriptEvent.TheVariants.{Send, Deliver, Turn, Shut}
+use Rattle.rt_script.specs.declared.event.ScriptEvent.TheVariants.{Send, Deliver, Turn, Shut, Collect, Redeem, Detach}
 use Rattle.rt_world.specs.declared.event.Event.{Event}
 use Rattle.rt_world.specs.declared.event.Reply.{Reply}
-use Rattle.rt_world.specs.State.{journal_at}
+use Rattle.rt_ids.specs.Joining.{AreJoined}
+use Rattle.rt_world.specs.State.{journal_at, assembly_of}
 use Rattle.rt_world.specs.Sends.{actor_of}
 use Rattle.rt_text.specs.declared.reply.Ends.{Ends}
 use Rattle.rt_text.specs.declared.reply.Quiet.{Quiet}
@@ -22,14 +23,17 @@ use Rattle.rt_engine.specs.Outputs.{WritesAll}
 use Rattle.rt_engine.specs.Replies.{event_of, ends_of, quiet_of}
 use Rattle.rt_engine.specs.Rooms.{IsRoomy}
 use Rattle.rt_engine.specs.Transcripts.{ScriptWorld, Occurs, IsHeard, Prints, PrintsAll, event_text, note_lines, quiet_text, script_room}
-use Rattle.rt_engine.proofs.EventLimits.{are_there}
-use Rattle.rt_engine.proofs.WorldSteps.{event_grows, of_scripts, is_heard, is_free}
+use Rattle.rt_engine.proofs.EventLimits.{are_there, is_there}
+use Rattle.rt_engine.proofs.WorldSteps.{event_grows, is_heard, is_free}
 
 pub same_actor : (event : ScriptEvent) → (ends_of event).actor ≡ actor_of (event_of event)
 same_actor (Send sender core what) = refl
 same_actor (Deliver core sender) = refl
 same_actor (Turn core) = refl
 same_actor (Shut core sender) = refl
+same_actor (Collect sender core) = refl
+same_actor (Redeem name) = refl
+same_actor (Detach name) = refl
 
 -- what happened is the event that the script told
 pub happened : (event : Event Script) (told : ScriptEvent) (old new : ScriptWorld) (answer : Reply Script) → event ≡ event_of told → Occurs event old new answer → Occurs (event_of told) old new answer
@@ -50,15 +54,15 @@ new_notes notes before =
     ∙ ap (λ count. drop count (reverse before ++ reverse notes)) (sym (length-reverse before))
     ∙ drop-append_seam (reverse before) (reverse notes)
 
-module _ (event : ScriptEvent) (old new : ScriptWorld) (answer : Reply Script) (occurs : Occurs (event_of event) old new answer) (roomy : IsRoomy old.cores old.cap 32768 old) (here : IsEventOf old.cores event) where
+module _ (event : ScriptEvent) (old new : ScriptWorld) (answer : Reply Script) (occurs : Occurs (event_of event) old new answer) (roomy : IsRoomy old.cores old.cap 32768 old) (joined : AreJoined (assembly_of old)) (here : IsEventOf old.cores event) where
   heard : IsHeard answer
-  heard = is_heard (event_of event) old new answer occurs (are_there old.cores event here) (is_free (actor_of (event_of event)) old roomy)
+  heard = is_heard (event_of event) old new answer occurs (are_there old.cores event here) (is_free (actor_of (event_of event)) old (is_there old.cores event here) joined roomy)
 
   -- an event with new notes prints them
   pub prints_notes : length (journal_at (actor_of (event_of event)) old) < length (journal_at (actor_of (event_of event)) new) →
       Prints event old new (note_lines (ends_of event).actor (drop (length (journal_at (actor_of (event_of event)) old)) (reverse (journal_at (actor_of (event_of event)) new))))
   prints_notes more =
-      let grows = event_grows (event_of event) (of_scripts event) old new answer occurs in
+      let grows = event_grows (event_of event) old new answer occurs in
       let count = ap length grows.noted ∙ length-append grows.notes (journal_at (actor_of (event_of event)) old) in
       let turned = length-reverse grows.notes in
       let some : 1 ≤ length (reverse grows.notes) = omega arith in
@@ -77,7 +81,7 @@ module _ (event : ScriptEvent) (old new : ScriptWorld) (answer : Reply Script) (
   -- an event with none prints what its reply says
   pub prints_quiet : length (journal_at (actor_of (event_of event)) new) ≤ length (journal_at (actor_of (event_of event)) old) → Prints event old new (quiet_text (ends_of event) (quiet_of answer))
   prints_quiet same =
-      let grows = event_grows (event_of event) (of_scripts event) old new answer occurs in
+      let grows = event_grows (event_of event) old new answer occurs in
       let count = ap length grows.noted ∙ length-append grows.notes (journal_at (actor_of (event_of event)) old) in
       let none : grows.notes ≡ [] = no_notes grows.notes (omega arith) in
       record {
@@ -119,10 +123,10 @@ module _ (event : ScriptEvent) (old new : ScriptWorld) (answer : Reply Script) (
         printed ∙ ap (λ both. page_old ++ quiet_text both quiet) ends_are ∙ ap (λ said. page_old ++ quiet_text (ends_of event) said) quiet_is,
       )
 
--- an event adds at most four notes to a journal
-pub roomy_more : (cores cap notes more : ℕ) (event : ScriptEvent) (old new : ScriptWorld) (text : List ℕ) → IsRoomy cores cap notes old → Prints event old new text → notes + 4 ≤ more → IsRoomy cores cap more new
+-- an event adds at most six to a journal
+pub roomy_more : (cores cap notes more : ℕ) (event : ScriptEvent) (old new : ScriptWorld) (text : List ℕ) → IsRoomy cores cap notes old → Prints event old new text → notes + 6 ≤ more → IsRoomy cores cap more new
 roomy_more cores cap notes more event old new text roomy prints within =
-    let grows = event_grows (event_of event) (of_scripts event) old new prints.answer prints.occurs in
+    let grows = event_grows (event_of event) old new prints.answer prints.occurs in
     record {
       cores_are = grows.cores ∙ roomy.cores_are;
       cap_is = grows.cap ∙ roomy.cap_is;

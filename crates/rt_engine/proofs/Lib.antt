@@ -7,3 +7,5 @@ pub mod OneOutput
 pub mod RearLemmas
 pub mod PlayLemmas
 pub mod RunLemmas
+pub mod CollectedCounts
+pub mod CountLemmas

@@ -6,6 +6,7 @@ use Rattle.rt_script.specs.declared.event.ScriptEvent.{ScriptEvent}
 use Rattle.rt_world.specs.Opening.{IsFresh}
 use Rattle.rt_world.specs.State.{journal_at}
 use Rattle.rt_script.specs.Limits.{HasFewQueues, IsEventOf}
+use Rattle.rt_engine.proofs.CountLemmas.{sent_at_most}
 use Rattle.rt_engine.specs.Rooms.{MayMake, IsRoomy, IsOpened}
 use Rattle.rt_engine.specs.Transcripts.{ScriptWorld, script_room, with_queue, with_queues}
 
@@ -38,21 +39,21 @@ module _ (cores cap : ℕ) (queues : List (ℕ × ℕ)) (empty world : ScriptWor
   made_cap = ap (λ w. w.cap) made ∙ queues_cap queues empty ∙ fresh.cap_is
 
   -- its journals have their notes alone
-  pub made_roomy : MayMake [] world → IsRoomy world.cores world.cap 255 world
+  pub made_roomy : MayMake [] world → IsRoomy world.cores world.cap 510 world
   made_roomy may = record {
     cores_are = refl;
     cap_is = refl;
     room_is =
         ap (λ w. w.room) made ∙ queues_room queues empty ∙ fresh.room_is
         ∙ ap (λ size. script_room size cap) (sym made_cores) ∙ ap (λ size. script_room world.cores size) (sym made_cap);
-    short = λ actor. let few = may.notes actor in omega arith;
+    short = λ actor. let few = may.notes actor in let sent = sent_at_most (journal_at actor world) in omega arith;
   }
 
   pub made_events : (events : List ScriptEvent) → All (IsEventOf cores) events → All (IsEventOf world.cores) events
   made_events events all = subst (λ size. All (IsEventOf size) events) (sym made_cores) all
 
 module _ (cores cap : ℕ) (queues : List (ℕ × ℕ)) (world : ScriptWorld) (is : IsOpened cores cap queues world) where
-  pub opened_roomy : IsRoomy world.cores world.cap 255 world
+  pub opened_roomy : IsRoomy world.cores world.cap 510 world
   opened_roomy = made_roomy cores cap queues is.empty world is.fresh is.made is.may
 
   pub opened_events : (events : List ScriptEvent) → All (IsEventOf cores) events → All (IsEventOf world.cores) events

@@ -1,5 +1,5 @@
 -- The journals of a run can be spelled.
-use Rattle.std.proofs.Common.{◌≡◌, ℕ, List, [], ◌∷◌, ap, ◌∙◌, ⊎_elim, arith}
+use Rattle.std.proofs.Common.{◌≡◌, ℕ, List, [], ◌∷◌, ap, ◌∙◌, arith}
 use Rattle.rt_ids.specs.Assembly.{Assembly}
 use Rattle.rt_ids.specs.Joining.{AreJoined}
 use Rattle.rt_ids.specs.Spelled.{IsSpelled}
@@ -7,27 +7,19 @@ use Rattle.rt_ids.proofs.Joining.{joined_are_spelled}
 use Rattle.rt_jobs.specs.Scripts.{Script}
 use Rattle.rt_script.specs.Limits.{IsSize}
 use Rattle.rt_world.specs.declared.event.Event.{Event}
-use Rattle.rt_world.specs.declared.event.Reply.{Reply}
-use Rattle.rt_world.specs.ScriptRuns.{ScriptSame, script_made, ScriptPolls, ScriptAnswers}
-use Rattle.rt_world.proofs.KeptLists.{is_longer}
 use Rattle.rt_engine.specs.Rooms.{IsOpened}
-use Rattle.rt_engine.specs.Transcripts.{ScriptWorld, Occurs, RunOf, RunsOf}
+use Rattle.rt_engine.specs.Transcripts.{ScriptWorld, RunOf, RunsOf}
 use Rattle.rt_engine.proofs.OpeningLemmas.{opened_cores, opened_cap}
+use Rattle.rt_engine.proofs.WorldSteps.{event_grows}
 
--- an event keeps the size of its world, and so does a run
-event_size : (event : Event Script) (old new : ScriptWorld) (answer : Reply Script) → Occurs event old new answer → (new.cores ≡ old.cores) × (new.cap ≡ old.cap)
-event_size event old new answer occurs =
-    ⊎_elim (λ same. (ap (λ world. world.cores) same, ap (λ world. world.cap) same))
-    (λ longer. (ap (λ world. world.cores) longer.is, ap (λ world. world.cap) longer.is))
-    (is_longer ScriptSame script_made ScriptPolls ScriptAnswers event old new answer occurs)
-
+-- a run keeps the size of its world
 run_cores : (events : List (Event Script)) (old new : ScriptWorld) → RunOf events old new → new.cores ≡ old.cores
 run_cores [] old new same = ap (λ world. world.cores) same
-run_cores (event ∷ events) old new (between, answer, one, rest) = run_cores events between new rest ∙ (event_size event old between answer one).0
+run_cores (event ∷ events) old new (between, answer, one, rest) = run_cores events between new rest ∙ (event_grows event old between answer one).cores
 
 run_cap : (events : List (Event Script)) (old new : ScriptWorld) → RunOf events old new → new.cap ≡ old.cap
 run_cap [] old new same = ap (λ world. world.cap) same
-run_cap (event ∷ events) old new (between, answer, one, rest) = run_cap events between new rest ∙ (event_size event old between answer one).1
+run_cap (event ∷ events) old new (between, answer, one, rest) = run_cap events between new rest ∙ (event_grows event old between answer one).cap
 
 pub run_spelled : (cores cap : ℕ) (queues : List (ℕ × ℕ)) (model : ScriptWorld) → IsOpened cores cap queues model → IsSize cores cap → (events : List (Event Script)) (assembly : Assembly ℕ) → RunsOf events model assembly → AreJoined assembly → IsSpelled assembly
 run_spelled cores cap queues model opened size events assembly (end, runs, is) joined =

@@ -1,5 +1,5 @@
 -- Each script has one output, unless a core had no memory for a queue that it orders.
-use Rattle.std.specs.Prelude.{◌≡◌, ◌⊎◌, ℕ, List, map, Option, Some, false}
+use Rattle.std.specs.Prelude.{◌≡◌, ◌⊎◌, ℕ, List, map, Bool, Option, Some}
 use Rattle.rt_world.specs.Creations.{OrderNoQueues}
 use Rattle.rt_world.specs.Determined.{WasRefused}
 use Rattle.rt_script.specs.Drafts.{Drafted}
@@ -18,8 +18,8 @@ abbrev pub OutputOfJobsIsDetermined : Type 0
 OutputOfJobsIsDetermined =
     (script : Drafted) (output other : List ℕ) → OrderNoQueues (map event_of script.events) → IsOutput script output → IsOutput script other → output ≡ other
 
--- two runs that are done over one text wrote one output; else a journal behind one of them tells that there was no memory for a queue
+-- two runs that are done over one text, with the same flags, wrote one output; else a journal behind one of them tells that there was no memory for a queue
 abbrev pub TextHasOneOutput : Type 0
 TextHasOneOutput =
-    (text : List ℕ) (sink sink_new other_sink other_new : Option (List ℕ)) (first : IsDone false false (Some text) sink sink_new) (second : IsDone false false (Some text) other_sink other_new) →
+    (journal stats : Bool) (text : List ℕ) (sink sink_new other_sink other_new : Option (List ℕ)) (first : IsDone journal stats (Some text) sink sink_new) (second : IsDone journal stats (Some text) other_sink other_new) →
     (first.output ≡ second.output) ⊎ (WasRefused first.right.assembly.journals ⊎ WasRefused second.right.assembly.journals)

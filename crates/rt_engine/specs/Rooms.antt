@@ -4,14 +4,15 @@ use Rattle.rt_ids.specs.Commands.{created_count}
 use Rattle.rt_world.specs.Opening.{IsFresh, IsUnbegun}
 use Rattle.rt_world.specs.State.{journal_at}
 use Rattle.rt_script.specs.Drafts.{queue_lines}
+use Rattle.rt_engine.specs.Counts.{sent_count, collected_count}
 use Rattle.rt_engine.specs.Transcripts.{ScriptWorld, script_room, with_queues}
 
--- a world of this size, whose journals have at most so many notes
+-- a world of this size; in each journal there are at most so many notes together with its submissions, less the outcomes collected
 pub record IsRoomy (cores cap notes : ℕ) (world : ScriptWorld) : Type 0 where
   pub cores_are : world.cores ≡ cores
   pub cap_is : world.cap ≡ cap
   pub room_is : world.room ≡ script_room cores cap
-  pub short : (actor : ℕ) → length (journal_at actor world) ≤ notes
+  pub short : (actor : ℕ) → length (journal_at actor world) + sent_count (journal_at actor world) ≤ notes + collected_count (journal_at actor world)
 
 -- these queues may still be made: no event has happened, and each core has at most 255 queues with them
 pub record MayMake (left : List (ℕ × ℕ)) (world : ScriptWorld) : Type 0 where

@@ -29,15 +29,15 @@ ScriptWorld = WorldView Script ℕ
 -- one event of script jobs
 abbrev pub Occurs : Event Script → ScriptWorld → ScriptWorld → Reply Script → Type 0
 Occurs event old new answer =
-    Happens (λ job back. job.polls ≡ back.polls) (λ job. job.polled) (λ job made before after step told. Does (slice_get job.polls made) before after step told) (λ job out. IsAnswer job.polls out) event old new answer
+    Happens (λ job other. job.polls ≡ other.polls) (λ job. job.polled) (λ job made before after step told. Does (slice_get job.polls made) before after step told) (λ job out. IsAnswer job.polls out) event old new answer
 
 -- a run of events of script jobs
 abbrev pub RunOf : List (Event Script) → ScriptWorld → ScriptWorld → Type 0
-RunOf = IsRun (λ job back. job.polls ≡ back.polls) (λ job. job.polled) (λ job made before after step told. Does (slice_get job.polls made) before after step told) (λ job out. IsAnswer job.polls out)
+RunOf = IsRun (λ job other. job.polls ≡ other.polls) (λ job. job.polled) (λ job made before after step told. Does (slice_get job.polls made) before after step told) (λ job out. IsAnswer job.polls out)
 
 -- these are the journals after such a run
 abbrev pub RunsOf : List (Event Script) → ScriptWorld → Assembly ℕ → Type 0
-RunsOf = RunsTo (λ job back. job.polls ≡ back.polls) (λ job. job.polled) (λ job made before after step told. Does (slice_get job.polls made) before after step told) (λ job out. IsAnswer job.polls out)
+RunsOf = RunsTo (λ job other. job.polls ≡ other.polls) (λ job. job.polled) (λ job made before after step told. Does (slice_get job.polls made) before after step told) (λ job out. IsAnswer job.polls out)
 
 -- the event was not handed back: its actors exist, and their journals have room
 abbrev pub IsHeard : Reply Script → Type 0

@@ -12,7 +12,7 @@ pub fn output_of_jobs_is_determined()
     ensures { OutputOfJobsIsDetermined }
 {}
 
-/// Two runs that are done over one text wrote one output, unless a core had no memory for a queue.
+/// Two runs that are done over one text with the same flags wrote one output, unless a core had no memory for a queue.
 pub fn text_has_one_output()
     ensures { TextHasOneOutput }
 {}

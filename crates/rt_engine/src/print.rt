@@ -25,7 +25,8 @@ pub(crate) type Model = World<ScriptJob, Global>;
 /// A page of this many bytes is full, and is written.
 pub(crate) const FULL_PAGE: usize = 16384;
 
-/// More than the lines of one event, which fill the page a little above that: four notes of at most 128 bytes.
+/// More than the lines of most events: four notes of at most 128 bytes. If an event collects many outcomes, or a core has many
+/// queues, the page grows.
 pub(crate) const LONGEST_PRINT: usize = 1024;
 
 /// Lets the events happen, one after another. A full page is written to the sink at once.
@@ -35,7 +36,7 @@ pub(crate) fn print_events<W: Write>(
     page: &mut String,
     sink: &mut W,
 ) -> Result<(), EngineFault>
-    requires roomy { IsRoomy model.old.cores model.old.cap 255 model.old }
+    requires roomy { IsRoomy model.old.cores model.old.cap 510 model.old }
     requires there { AreEventsOf (Some (model.old.cores, model.old.cap)) events.items }
     requires short { length events.items ≤ 4096 }
     ensures ok { OnOk result (WritesAll events.items model.old model.new (string_bytes page.old) (string_bytes page.new)
@@ -60,6 +61,8 @@ fn print_event(model: &mut Model, event: ScriptEvent, page: &mut String) -> Resu
         × (string_bytes page.new ≡ string_bytes page.old ++ text)) }
     ensures device { IfErr result (IfUnread ⊥) }
 {
+    // Lawful journals have no more collected outcomes than submissions, so the event has room.
+    model.joined();
     let ends = ends_of(&event);
     let before = model.journal(ends.actor).len();
     let reply = model.step(event_of(event));

@@ -1,9 +1,10 @@
 //! The events of a script as events of the model, and what is printed of a reply.
 
-ghost use Rattle.std.specs.Prelude.{◌≡◌};
+ghost use Rattle.std.specs.Prelude.{◌≡◌, Some};
+ghost use Rattle.rt_world.specs.declared.event.Reply.TheVariants.{NoTicket};
 ghost use Rattle.rt_engine.specs.Replies as spec;
 
-use rt_ids::{ActorNo, SendError};
+use rt_ids::{ActorNo, JobId, SendError, Ticket, TicketError};
 use rt_jobs::ScriptJob;
 use rt_script::ScriptEvent;
 use rt_text::{Ends, Quiet};
@@ -18,6 +19,9 @@ pub fn event_of(event: ScriptEvent) -> Event<ScriptJob>
         ScriptEvent::Deliver(core, from) => Event::Deliver(core, from),
         ScriptEvent::Turn(core) => Event::Turn(core, 0),
         ScriptEvent::Shut(core, from) => Event::Shut(core, from),
+        ScriptEvent::Collect(from, to) => Event::Collect(from, to),
+        ScriptEvent::Redeem(name) => Event::Redeem(name.from, Ticket::named(name)),
+        ScriptEvent::Detach(name) => Event::Detach(name.from, Ticket::named(name)),
     }
 }
 
@@ -30,6 +34,9 @@ pub fn ends_of(event: &ScriptEvent) -> Ends
         ScriptEvent::Deliver(core, from) => ends(core.0, from.0),
         ScriptEvent::Turn(core) => ends(core.0, 0),
         ScriptEvent::Shut(core, from) => ends(core.0, from.0),
+        ScriptEvent::Collect(from, to) => ends(from.0, to.0),
+        ScriptEvent::Redeem(name) => ends_named(name),
+        ScriptEvent::Detach(name) => ends_named(name),
     }
 }
 
@@ -41,6 +48,28 @@ fn ends(actor: u8, other: u8) -> Ends
         actor: ActorNo(actor),
         other,
         number: 0,
+    }
+}
+
+/// The ends of an event that names this submission.
+fn ends_named(name: &JobId) -> Ends
+    ensures { result ≡ spec.ends_named name.now }
+{
+    Ends {
+        actor: name.from,
+        other: name.to.0,
+        number: name.number,
+    }
+}
+
+/// What the line says of a ticket that was refused.
+fn quiet_ticket(error: &TicketError) -> Quiet
+    ensures { Some result ≡ spec.quiet_of (NoTicket error.now) }
+{
+    match error {
+        TicketError::Pending => Quiet::Pending,
+        TicketError::Gone => Quiet::Gone,
+        TicketError::Unknown => Quiet::Unknown,
     }
 }
 
@@ -58,12 +87,12 @@ pub fn quiet_of(reply: &Reply<ScriptJob>) -> Option<Quiet>
         Reply::NotSent(SendError::NoCore(_)) => None,
         Reply::NotClosed => Some(Quiet::NotClosed),
         Reply::AlreadyShut => Some(Quiet::AlreadyShut),
-        Reply::Sent(_) => None,
-        Reply::Noted => None,
-        Reply::Collected(_) => None,
+        Reply::Collected(_) => Some(Quiet::Nothing),
+        Reply::NoTicket(error) => Some(quiet_ticket(error)),
         Reply::Redeemed(_) => None,
         Reply::Detached => None,
-        Reply::NoTicket(_) => None,
+        Reply::Sent(_) => None,
+        Reply::Noted => None,
         Reply::NoActor(_) => None,
         Reply::NoRoom(_) => None,
     }

@@ -45,3 +45,5 @@ pub mod Submitted
 pub mod SentNotes
 pub mod DeliveredNames
 pub mod Together
+pub mod WholeTurn
+pub mod WholeEnds

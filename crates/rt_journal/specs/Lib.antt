@@ -9,5 +9,6 @@ pub mod Ends
 pub mod Steps
 pub mod Turns
 pub mod Owed
+pub mod Whole
 pub mod Tickets
 pub mod Together

@@ -37,6 +37,8 @@ use rt_taskqueue::CreateError;
 use std::alloc::{AllocError, Allocator, Global};
 use std::marker::Model;
 
+mod whole;
+
 /// A core and its journal.
 ///
 /// A contract sees the core, its notes, and the orders that were delivered to it. What an end of a link is to them says `IsInOf`

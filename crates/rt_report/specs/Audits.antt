@@ -1,5 +1,5 @@
 -- What an audit of a text writes and answers.
-use Rattle.std.specs.Prelude.{◌≡◌, ℕ, Bool, List, Option}
+use Rattle.std.specs.Prelude.{◌≡◌, ◌↔◌, ℕ, Bool, List, Option}
 use Rattle.std.specs.Option.{IfSome}
 use Rattle.std.specs.Io.KnownBytes.{Appends}
 use Rattle.rt_ids.specs.Assembly.{Assembly}
@@ -7,16 +7,16 @@ use Rattle.rt_ids.specs.Sound.{IsSound}
 use Rattle.rt_ids.specs.Spelled.{IsSpelled}
 use Rattle.rt_audit.specs.declared.judge.Verdict.{Verdict}
 use Rattle.rt_audit.specs.declared.judge.Verdict.TheVariants.{Sound}
-use Rattle.rt_audit.specs.Verdicts.{KeepsRulesBefore, rule_named}
+use Rattle.rt_audit.specs.Verdicts.{IsFirstBroken, rule_named}
 use Rattle.rt_spelling.specs.Texts.{journal_text}
 use Rattle.rt_spelling.specs.Pages.{AppendsFront}
 use Rattle.rt_report.specs.VerdictTexts.{is_sound, verdict_text}
 
--- a verdict of these journals: `Sound` only of sound ones, and the rules before the one that it names are kept
+-- a verdict of these journals: `Sound` exactly of sound ones; else it names the first rule that is broken
 pub record IsJudged (assembly : Assembly ℕ) (verdict : Verdict) : Type 0 where
   pub spelled : IsSpelled assembly
-  pub sound : verdict ≡ Sound → IsSound assembly
-  pub first : KeepsRulesBefore assembly (rule_named verdict)
+  pub sound : verdict ≡ Sound ↔ IsSound assembly
+  pub rule : IsFirstBroken assembly (rule_named verdict)
 
 -- the text is that of some journals, and this is a verdict of them
 abbrev pub JudgesText : Verdict → List ℕ → Type 0

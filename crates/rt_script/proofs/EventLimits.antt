@@ -1,5 +1,6 @@
 -- The events that a script's lines tell: their actors exist, and their jobs have made no poll.
 use Rattle.std.proofs.Common.{◌≡◌, ℕ, ◌-◌, ◌≤◌, ◌<◌, List, [], ◌∷◌, length, Some, Ok, refl, arith}
+use Rattle.rt_ids.specs.declared.names.JobId.{JobId}
 use Rattle.rt_jobs.specs.declared.poll.Poll.{Poll}
 use Rattle.rt_jobs.specs.Scripts.{Script}
 use Rattle.rt_script.specs.declared.line.Line.{Line}
@@ -7,7 +8,7 @@ use Rattle.rt_words.specs.Numbers.{number_of}
 use Rattle.rt_words.specs.Words.{first, second, others}
 use Rattle.rt_words.specs.Fields.{core_field, actor_field}
 use Rattle.rt_script.specs.Polls.{polls_field, job_field}
-use Rattle.rt_script.specs.EventLines.{link_fields, gate_fields, submit_line, create_line, shares_line, close_line, closecore_line, deliver_line, turn_line, shut_line}
+use Rattle.rt_script.specs.EventLines.{link_fields, gate_fields, name_fields, submit_line, create_line, shares_line, close_line, closecore_line, deliver_line, turn_line, shut_line, collect_line, redeem_line, detach_line}
 use Rattle.rt_script.specs.Limits.{MayFollow}
 use Rattle.rt_words.proofs.FieldLemmas.{made_ok, both_ok, within_ok}
 
@@ -26,6 +27,13 @@ gate_ok : (cores : ℕ) (ws : List (List ℕ)) (gate : ℕ × ℕ) → 1 ≤ cor
 gate_ok cores ws gate some e =
     let b = both_ok _ _ _ e in
     (core_ok cores (first ws) gate.0 some b.0, actor_ok cores (second ws) gate.1 b.1)
+
+name_ok : (cores : ℕ) (ws : List (List ℕ)) (name : JobId) → 1 ≤ cores → name_fields cores ws ≡ Ok name → (name.from ≤ cores) × (name.to < cores)
+name_ok cores ws name some e =
+    let m = made_ok _ _ _ e in
+    let b = both_ok _ _ _ m.1 in
+    let link = link_ok cores ws (m.0).0 some b.0 in
+    rw m.2 (link.0, link.1)
 
 some_polls : (ws : List (List ℕ)) (polls : List Poll) → polls_field ws ≡ Ok polls → 1 ≤ length polls
 some_polls [] polls e = cc
@@ -90,3 +98,21 @@ shut_line_ok size ws line some e =
     let m = made_ok _ _ _ e in
     let gate = gate_ok size.0 ws m.0 some m.1 in
     rw m.2 (record { sender = gate.1; core = gate.0; some_polls = omega arith; none_made = refl })
+
+pub collect_line_ok : (size : ℕ × ℕ) (ws : List (List ℕ)) (line : Line) → 1 ≤ size.0 → collect_line size.0 ws ≡ Ok line → MayFollow (Some size) line
+collect_line_ok size ws line some e =
+    let m = made_ok _ _ _ e in
+    let link = link_ok size.0 ws m.0 some m.1 in
+    rw m.2 (record { sender = link.0; core = link.1; some_polls = omega arith; none_made = refl })
+
+pub redeem_line_ok : (size : ℕ × ℕ) (ws : List (List ℕ)) (line : Line) → 1 ≤ size.0 → redeem_line size.0 ws ≡ Ok line → MayFollow (Some size) line
+redeem_line_ok size ws line some e =
+    let m = made_ok _ _ _ e in
+    let name = name_ok size.0 ws m.0 some m.1 in
+    rw m.2 (record { sender = name.0; core = name.1; some_polls = omega arith; none_made = refl })
+
+pub detach_line_ok : (size : ℕ × ℕ) (ws : List (List ℕ)) (line : Line) → 1 ≤ size.0 → detach_line size.0 ws ≡ Ok line → MayFollow (Some size) line
+detach_line_ok size ws line some e =
+    let m = made_ok _ _ _ e in
+    let name = name_ok size.0 ws m.0 some m.1 in
+    rw m.2 (record { sender = name.0; core = name.1; some_polls = omega arith; none_made = refl })

@@ -15,7 +15,7 @@ use Rattle.rt_script.specs.Lines.{size_line, queue_line, line_of, first_line, ke
 use Rattle.rt_script.specs.Drafts.{Drafted, queue_lines}
 use Rattle.rt_script.specs.Limits.{ArePlaced, IsWithinLimits, IsCoreOf, MayFollow, AreEventsOf, IsEventFor, IsEventOf}
 use Rattle.rt_words.proofs.FieldLemmas.{made_ok, both_ok, within_ok}
-use Rattle.rt_script.proofs.EventLimits.{submit_line_ok, create_line_ok, shares_line_ok, close_line_ok, closecore_line_ok, deliver_line_ok, turn_line_ok, shut_line_ok}
+use Rattle.rt_script.proofs.EventLimits.{submit_line_ok, create_line_ok, shares_line_ok, close_line_ok, closecore_line_ok, deliver_line_ok, turn_line_ok, shut_line_ok, collect_line_ok, redeem_line_ok, detach_line_ok}
 
 size_line_ok : (ws : List (List ℕ)) (line : Line) → size_line ws ≡ Ok line → MayFollow None line
 size_line_ok ws line e =
@@ -44,6 +44,9 @@ line_of_ok keyword.CloseCore size ws line some e = closecore_line_ok size ws lin
 line_of_ok keyword.Deliver size ws line some e = deliver_line_ok size ws line some e
 line_of_ok keyword.Turn size ws line some e = turn_line_ok size ws line some e
 line_of_ok keyword.Shut size ws line some e = shut_line_ok size ws line some e
+line_of_ok keyword.Collect size ws line some e = collect_line_ok size ws line some e
+line_of_ok keyword.Redeem size ws line some e = redeem_line_ok size ws line some e
+line_of_ok keyword.Detach size ws line some e = detach_line_ok size ws line some e
 
 -- a choice that came to a value took a branch that has it
 cond_ok : {A : Type 0} (b : Bool) (r : Result A Cause) (cause : Cause) (value : A) → cond b r (Err cause) ≡ Ok value → r ≡ Ok value

@@ -1,12 +1,13 @@
 -- The lines of a script that let something happen, behind their first word.
 use Rattle.std.specs.Prelude.{ℕ, List, Result}
+use Rattle.rt_ids.specs.declared.names.JobId.{JobId}
 use Rattle.rt_ids.specs.declared.order.Order.TheVariants as order
-use Rattle.rt_script.specs.declared.event.ScriptEvent.TheVariants.{Send, Deliver, Turn, Shut}
+use Rattle.rt_script.specs.declared.event.ScriptEvent.TheVariants.{Send, Deliver, Turn, Shut, Collect, Redeem, Detach}
 use Rattle.rt_script.specs.declared.line.Line.{Line}
 use Rattle.rt_script.specs.declared.line.Line.TheVariants.{Step}
 use Rattle.rt_text.specs.declared.fault.Cause.{Cause}
 use Rattle.rt_words.specs.Words.{first, others, second, third, fourth}
-use Rattle.rt_words.specs.Fields.{both, made, core_field, actor_field, queue_field, shares_field, mode_field}
+use Rattle.rt_words.specs.Fields.{both, made, core_field, actor_field, queue_field, shares_field, submission_field, mode_field}
 use Rattle.rt_script.specs.Polls.{job_field}
 
 -- `s d`, the sender and the receiver of an order
@@ -16,6 +17,10 @@ link_fields cores ws = both (actor_field cores (first ws)) (core_field cores (se
 -- `d s`, a core and a sender of it
 abbrev pub gate_fields : ℕ → List (List ℕ) → Result (ℕ × ℕ) Cause
 gate_fields cores ws = both (core_field cores (first ws)) (actor_field cores (second ws))
+
+-- `s d n`, the name of a submission
+abbrev pub name_fields : ℕ → List (List ℕ) → Result JobId Cause
+name_fields cores ws = made (λ p. record { from = (p.0).0; to = (p.0).1; number = p.1 }) (both (link_fields cores ws) (submission_field (third ws)))
 
 -- `s d q POLL ..`
 abbrev pub submit_line : ℕ → List (List ℕ) → Result Line Cause
@@ -48,3 +53,15 @@ turn_line cores ws = made (λ core. Step (Turn core)) (core_field cores (first w
 -- `d s`
 abbrev pub shut_line : ℕ → List (List ℕ) → Result Line Cause
 shut_line cores ws = made (λ p. Step (Shut p.0 p.1)) (gate_fields cores ws)
+
+-- `s d`
+abbrev pub collect_line : ℕ → List (List ℕ) → Result Line Cause
+collect_line cores ws = made (λ p. Step (Collect p.0 p.1)) (link_fields cores ws)
+
+-- `s d n`
+abbrev pub redeem_line : ℕ → List (List ℕ) → Result Line Cause
+redeem_line cores ws = made (λ name. Step (Redeem name)) (name_fields cores ws)
+
+-- `s d n`
+abbrev pub detach_line : ℕ → List (List ℕ) → Result Line Cause
+detach_line cores ws = made (λ name. Step (Detach name)) (name_fields cores ws)

@@ -2,7 +2,7 @@
 use Rattle.std.specs.Prelude.{ℕ, ◌&&◌, Bool, true, false, List, codes, Option, Some, None, nat_le, ◌==◌, if◌then◌else◌}
 use Rattle.std.specs.Str.{bytes_eq}
 use Rattle.rt_script.specs.declared.keyword.Keyword.{Keyword}
-use Rattle.rt_script.specs.declared.keyword.Keyword.TheVariants.{Queue, Submit, Create, Shares, Close, CloseCore, Deliver, Turn, Shut}
+use Rattle.rt_script.specs.declared.keyword.Keyword.TheVariants.{Queue, Submit, Create, Shares, Close, CloseCore, Deliver, Turn, Shut, Collect, Redeem, Detach}
 
 -- what a line sends, by its first word
 abbrev pub order_keyword : List ℕ → Option Keyword
@@ -20,7 +20,10 @@ step_keyword word =
     if bytes_eq word (codes "deliver") then Some Deliver
     else (if bytes_eq word (codes "turn") then Some Turn
     else (if bytes_eq word (codes "shut") then Some Shut
-    else None))
+    else (if bytes_eq word (codes "collect") then Some Collect
+    else (if bytes_eq word (codes "redeem") then Some Redeem
+    else (if bytes_eq word (codes "detach") then Some Detach
+    else None)))))
 
 -- the first of two that is there
 abbrev pub either : Option Keyword → Option Keyword → Option Keyword
@@ -44,6 +47,9 @@ takes CloseCore count = count == 4
 takes Deliver count = count == 3
 takes Turn count = count == 2
 takes Shut count = count == 3
+takes Collect count = count == 3
+takes Redeem count = count == 4
+takes Detach count = count == 4
 
 abbrev pub is_queue : Keyword → Bool
 is_queue Queue = true

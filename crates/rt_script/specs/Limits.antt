@@ -3,7 +3,7 @@ use Rattle.std.specs.Prelude.{◌≡◌, ℕ, ◌≤◌, ◌<◌, [], ◌∷◌,
 use Rattle.rt_ids.specs.declared.order.Order.TheVariants as order
 use Rattle.rt_jobs.specs.Scripts.{Script}
 use Rattle.rt_script.specs.declared.event.ScriptEvent.{ScriptEvent}
-use Rattle.rt_script.specs.declared.event.ScriptEvent.TheVariants.{Send, Deliver, Turn, Shut}
+use Rattle.rt_script.specs.declared.event.ScriptEvent.TheVariants.{Send, Deliver, Turn, Shut, Collect, Redeem, Detach}
 use Rattle.rt_jobs.specs.declared.poll.Poll.TheVariants.{Yield}
 use Rattle.rt_script.specs.declared.line.Line.{Line}
 use Rattle.rt_script.specs.declared.line.Line.TheVariants.{Size, Queue, Step}
@@ -36,12 +36,18 @@ sender_of (Send sender core order) = sender
 sender_of (Deliver core sender) = sender
 sender_of (Turn core) = core
 sender_of (Shut core sender) = sender
+sender_of (Collect sender core) = sender
+sender_of (Redeem name) = name.from
+sender_of (Detach name) = name.from
 
 abbrev pub core_of : ScriptEvent → ℕ
 core_of (Send sender core order) = core
 core_of (Deliver core sender) = core
 core_of (Turn core) = core
 core_of (Shut core sender) = core
+core_of (Collect sender core) = core
+core_of (Redeem name) = name.to
+core_of (Detach name) = name.to
 
 -- the job that an event sends; where it sends none, one of a single poll that isn't made
 abbrev pub job_of : ScriptEvent → Script

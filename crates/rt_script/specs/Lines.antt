@@ -11,7 +11,7 @@ use Rattle.rt_words.specs.Numbers.{number_of, within}
 use Rattle.rt_words.specs.Words.{first, others, second, third, word_count}
 use Rattle.rt_script.specs.Keywords.{keyword_of, takes, is_queue}
 use Rattle.rt_words.specs.Fields.{both, made, core_field, shares_field, fixed_field}
-use Rattle.rt_script.specs.EventLines.{submit_line, create_line, shares_line, close_line, closecore_line, deliver_line, turn_line, shut_line}
+use Rattle.rt_script.specs.EventLines.{submit_line, create_line, shares_line, close_line, closecore_line, deliver_line, turn_line, shut_line, collect_line, redeem_line, detach_line}
 
 -- `C cap K`
 abbrev pub size_line : List (List ℕ) → Result Line Cause
@@ -32,6 +32,9 @@ line_of keyword.CloseCore cores ws = closecore_line cores ws
 line_of keyword.Deliver cores ws = deliver_line cores ws
 line_of keyword.Turn cores ws = turn_line cores ws
 line_of keyword.Shut cores ws = shut_line cores ws
+line_of keyword.Collect cores ws = collect_line cores ws
+line_of keyword.Redeem cores ws = redeem_line cores ws
+line_of keyword.Detach cores ws = detach_line cores ws
 
 -- a line has this many words, none of them empty
 abbrev pub counts : (ℕ → Bool) → Option ℕ → Bool

@@ -1,6 +1,6 @@
 //! What the lines of a script let happen.
 
-use rt_ids::{ActorNo, CoreNo, Order};
+use rt_ids::{ActorNo, CoreNo, JobId, Order};
 use rt_jobs::ScriptJob;
 
 /// What one line of a script lets happen, after its `queue` lines.
@@ -14,4 +14,10 @@ pub enum ScriptEvent {
     Turn(CoreNo),
     /// The core shuts the gate of its link from the actor.
     Shut(CoreNo, ActorNo),
+    /// The actor collects the outcomes that came back from the core.
+    Collect(ActorNo, CoreNo),
+    /// The sender of this name redeems its outcome.
+    Redeem(JobId),
+    /// The sender of this name lets go of its outcome.
+    Detach(JobId),
 }

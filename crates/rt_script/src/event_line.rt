@@ -7,11 +7,13 @@ ghost use Rattle.rt_script.specs.EventLines as spec;
 use crate::event::ScriptEvent;
 use crate::line::Line;
 use crate::polls::read_job;
-use rt_ids::{ActorNo, CoreNo, Order};
+use rt_ids::{ActorNo, CoreNo, JobId, Order};
 use rt_jobs::ScriptJob;
 use rt_text::Cause;
 use rt_words::Words;
-use rt_words::field::{actor_field, both, core_field, mode_field, queue_field, shares_field};
+use rt_words::field::{
+    actor_field, both, core_field, mode_field, queue_field, shares_field, submission_field,
+};
 
 /// The sender and the receiver of an order.
 fn link_fields(cores: u8, fields: &mut Words<'_>) -> Result<(ActorNo, CoreNo), Cause>
@@ -136,4 +138,42 @@ pub(crate) fn shut_line(cores: u8, fields: &mut Words<'_>) -> Result<Line, Cause
 {
     let (core, from) = gate_fields(cores, fields)?;
     Ok(Line::Step(ScriptEvent::Shut(core, from)))
+}
+
+/// `s d`
+pub(crate) fn collect_line(cores: u8, fields: &mut Words<'_>) -> Result<Line, Cause>
+    requires { 1 ≤ cores }
+    ensures { result ≡ spec.collect_line cores fields.old }
+{
+    let (from, to) = link_fields(cores, fields)?;
+    Ok(Line::Step(ScriptEvent::Collect(from, to)))
+}
+
+/// The name of a submission, by its sender, its receiver and its number.
+fn name_fields(cores: u8, fields: &mut Words<'_>) -> Result<JobId, Cause>
+    requires { 1 ≤ cores }
+    ensures { result ≡ spec.name_fields cores fields.old }
+{
+    let link = link_fields(cores, fields);
+    let number = submission_field(fields.next_word());
+    let ((from, to), number) = both(link, number)?;
+    Ok(JobId { from, to, number })
+}
+
+/// `s d n`
+pub(crate) fn redeem_line(cores: u8, fields: &mut Words<'_>) -> Result<Line, Cause>
+    requires { 1 ≤ cores }
+    ensures { result ≡ spec.redeem_line cores fields.old }
+{
+    let name = name_fields(cores, fields)?;
+    Ok(Line::Step(ScriptEvent::Redeem(name)))
+}
+
+/// `s d n`
+pub(crate) fn detach_line(cores: u8, fields: &mut Words<'_>) -> Result<Line, Cause>
+    requires { 1 ≤ cores }
+    ensures { result ≡ spec.detach_line cores fields.old }
+{
+    let name = name_fields(cores, fields)?;
+    Ok(Line::Step(ScriptEvent::Detach(name)))
 }

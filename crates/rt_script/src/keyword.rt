@@ -26,6 +26,12 @@ pub enum Keyword {
     Turn,
     /// `shut d s`
     Shut,
+    /// `collect s d`
+    Collect,
+    /// `redeem s d n`
+    Redeem,
+    /// `detach s d n`
+    Detach,
 }
 
 /// What a line that begins with the word does, if there is such a line.
@@ -76,6 +82,15 @@ fn step_keyword(word: &[u8]) -> Option<Keyword>
     if is_word(word, "shut") {
         return Some(Keyword::Shut);
     }
+    if is_word(word, "collect") {
+        return Some(Keyword::Collect);
+    }
+    if is_word(word, "redeem") {
+        return Some(Keyword::Redeem);
+    }
+    if is_word(word, "detach") {
+        return Some(Keyword::Detach);
+    }
     None
 }
 
@@ -94,6 +109,9 @@ impl Keyword {
             Keyword::Deliver => count == 3,
             Keyword::Turn => count == 2,
             Keyword::Shut => count == 3,
+            Keyword::Collect => count == 3,
+            Keyword::Redeem => count == 4,
+            Keyword::Detach => count == 4,
         }
     }
 

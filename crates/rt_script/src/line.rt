@@ -76,6 +76,9 @@ fn line_of(keyword: Keyword, cores: u8, fields: &mut Words<'_>, count: usize) ->
         Keyword::Deliver => event::deliver_line(cores, fields),
         Keyword::Turn => event::turn_line(cores, fields),
         Keyword::Shut => event::shut_line(cores, fields),
+        Keyword::Collect => event::collect_line(cores, fields),
+        Keyword::Redeem => event::redeem_line(cores, fields),
+        Keyword::Detach => event::detach_line(cores, fields),
     }
 }
 

@@ -83,7 +83,7 @@ impl<J: Task<Out = u64>, C: Drop, G: Drop> Worker<J, C, G> {
     ///
     /// # Errors
     ///
-    /// Where there is no memory.
+    /// If there is no memory.
     pub fn open(
         alloc: Global,
         config: &Config,

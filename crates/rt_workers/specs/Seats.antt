@@ -1,4 +1,4 @@
--- Where a worker is.
+-- The place of a worker.
 use Rattle.std.specs.Prelude.{◌≡◌, List}
 use Rattle.rt_workers.specs.declared.seat.Seat.{Seat}
 use Rattle.rt_workers.specs.declared.seat.Seat.TheVariants.{Thread, Here}

@@ -25,7 +25,7 @@ pub(crate) const BEGIN: u64 = 1;
 /// A thread could not be made: each gives its worker back.
 pub(crate) const LEAVE: u64 = 2;
 
-/// Where a worker is.
+/// The place of a worker.
 #[derive(Drop)]
 pub(crate) enum Seat<W: Promised> {
     /// On a thread of its own.

@@ -1,7 +1,5 @@
 -- A world at rest stays one as a core does something on its link to another.
 use Rattle.std.proofs.Common.{◌≡◌, ℕ, ◌<◌, ◌≤◌, sym, ◌∙◌, ap, subst, arith, set}
-use Rattle.rt_ids.specs.declared.order.Order.{Order}
-use Rattle.rt_ids.specs.declared.order.Outcome.{Outcome}
 use Rattle.rt_jobs.specs.Steps.{Owed}
 use Rattle.rt_link.specs.declared.plain.Whole.{Whole}
 use Rattle.rt_link.specs.Fits.{Fits}

@@ -12,6 +12,7 @@ pub mod CoreSteps
 pub mod SentLinks
 pub mod Sending
 pub mod CoreSending
+pub mod StatsTold
 pub mod Collecting
 pub mod Ticketing
 pub mod Receiving
@@ -40,3 +41,4 @@ pub mod OneJobRow
 pub mod TwoQueuesRow
 pub mod TwoSendersRow
 pub mod ClosedRow
+pub mod InPlace

@@ -15,7 +15,7 @@ use Rattle.rt_ids.specs.Journal.{Journal}
 use Rattle.rt_jobs.specs.Steps.{AfterPoll, Owed}
 use Rattle.rt_core.specs.State.{JobOut}
 use Rattle.rt_core.specs.declared.turn.Turn.{Turn}
-use Rattle.rt_core.specs.declared.turn.Turn.TheVariants.{Back, Idle}
+use Rattle.rt_core.specs.declared.turn.Turn.TheVariants.{Back}
 use Rattle.rt_core.specs.declared.turn.PickError.{PickError}
 use Rattle.rt_core.specs.declared.turn.PickError.TheVariants.{Busy}
 use Rattle.rt_core.specs.declared.turn.Settled.{Settled}
@@ -75,7 +75,7 @@ pub keeps_outs-then : {J T : Type 0} (old middle new : DeskView J T) → KeepsOu
 keeps_outs-then old middle new first then = λ core. record { each = λ out credited is. (then core).each out credited ((first core).each out credited is) }
 
 -- the notes of a pick settle no poll
-polls_made-picked : {T : Type 0} (name which : JobId) (queue runtime : ℕ) (was_started : Bool) (notes : Journal T) →
+pub polls_made-picked : {T : Type 0} (name which : JobId) (queue runtime : ℕ) (was_started : Bool) (notes : Journal T) →
     polls_made which (poll_note name was_started ∷ writes.Pick queue runtime ∷ notes) ≡ polls_made which notes
 polls_made-picked name which queue runtime false notes = add-zero (polls_made which notes + 0) ∙ add-zero (polls_made which notes)
 polls_made-picked name which queue runtime true notes = add-zero (polls_made which notes + 0) ∙ add-zero (polls_made which notes)

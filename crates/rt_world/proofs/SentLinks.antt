@@ -1,5 +1,5 @@
 -- A send as its world sees it: what the link's sender did on it, and what the sender is told.
-use Rattle.std.proofs.Common.{◌≡◌, ◌≢◌, ℕ, ◌+◌, ◌<◌, ◌≤◌, Bool, true, false, List, [], ◌∷◌, ◌++◌, length, refl, sym, ◌∙◌, ap, subst, arith, get_or, set}
+use Rattle.std.proofs.Common.{◌≡◌, ℕ, ◌<◌, ◌≤◌, Bool, true, false, List, [], ◌∷◌, ◌++◌, length, refl, sym, ◌∙◌, ap, subst, arith, get_or, set}
 use Rattle.std.specs.Prelude.{Some, Result, Ok, Err, map}
 use Rattle.std.proofs.lemmas.Bool.{true≢false}
 use Rattle.std.proofs.lemmas.List.{append-nil, set-get_or}
@@ -19,7 +19,6 @@ use Rattle.rt_link.specs.declared.plain.Whole.{Whole}
 use Rattle.rt_link.specs.Calls.{Sends as SendsOn, final_of}
 use Rattle.rt_link.specs.Whole.{out_of, inward_of, gate_number, kept_by_sender}
 use Rattle.rt_journal.specs.Submissions.{DeskView, Submits, numbered, opened_desk, terms_of_desk}
-use Rattle.rt_journal.specs.Ends.{IsOutOf, KeepsOut}
 use Rattle.rt_world.specs.State.{WorldView, journal_at, terms_at}
 use Rattle.rt_world.specs.Sends.{Sends, sent_reply}
 use Rattle.rt_world.specs.Links.{link_at}

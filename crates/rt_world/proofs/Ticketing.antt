@@ -23,12 +23,12 @@ use Rattle.rt_link.proofs.Lists.{slice_get-behind}
 use Rattle.rt_desk.specs.Lanes.{IsGot, FitsSent}
 use Rattle.rt_journal.specs.Submissions.{DeskView, opened_desk}
 use Rattle.rt_journal.specs.Ends.{named_outcomes}
-use Rattle.rt_journal.specs.Tickets.{HasLane, CollectsFrom, GetsAll, RefusesTicket, RedeemsTicket, DetachesTicket}
+use Rattle.rt_journal.specs.Tickets.{CollectsFrom, GetsAll, RefusesTicket, RedeemsTicket, DetachesTicket}
 use Rattle.rt_world.specs.declared.event.Reply.TheVariants as reply
 use Rattle.rt_world.specs.State.{WorldView, journal_at, noted}
 use Rattle.rt_world.specs.Collections.{WasAccepted, collected_notes, uncollected, Collects, Redeems, Detaches, FitsUnder, redeemed_reply, detached_reply}
 use Rattle.rt_world.specs.Links.{link_at}
-use Rattle.rt_world.specs.Inside.{Parts, core_at, desks, desk_at, notes_at, world_of, IsWorld}
+use Rattle.rt_world.specs.Inside.{Parts, desks, desk_at, notes_at, world_of, IsWorld}
 use Rattle.rt_world.proofs.Desks.{journal_at-world, sent_at-world, journals-noted}
 use Rattle.rt_world.proofs.LinkRows.{with_link, same_sent}
 use Rattle.rt_world.proofs.LinkSteps.{as_long, OnlySent}

@@ -1,9 +1,9 @@
 -- Outcomes that come back, as the journals of a world tell them: what a sender collects, redeems and detaches.
-use Rattle.std.specs.Prelude.{◌≡◌, ℕ, true, false, drop, length, List, [], ◌∷◌, ◌++◌, Some, None, Result, Ok, Err}
+use Rattle.std.specs.Prelude.{◌≡◌, ℕ, drop, length, List, [], ◌∷◌, ◌++◌, Some, Result, Ok, Err}
 use Rattle.std.specs.Option.{IsSome}
 use Rattle.rt_ids.specs.declared.names.JobId.{JobId}
 use Rattle.rt_ids.specs.declared.names.TicketError.{TicketError}
-use Rattle.rt_ids.specs.declared.names.TicketError.TheVariants.{Unknown, Gone, Pending}
+use Rattle.rt_ids.specs.declared.names.TicketError.TheVariants.{Unknown, Gone}
 use Rattle.rt_ids.specs.declared.note.Note.{Note}
 use Rattle.rt_ids.specs.declared.note.Note.TheVariants as writes
 use Rattle.rt_ids.specs.declared.order.Order.{Order}
@@ -11,9 +11,8 @@ use Rattle.rt_ids.specs.declared.order.Outcome.{Outcome}
 use Rattle.rt_ids.specs.Assembly.{first_under}
 use Rattle.rt_ids.specs.Collecting.{IsRedeemable, IsDetachable}
 use Rattle.rt_ids.specs.Filters.{Outcomes, accepted_orders, given_outcomes, collected_outcomes}
-use Rattle.rt_ids.specs.Journal.{Journal, is_told}
+use Rattle.rt_ids.specs.Journal.{Journal}
 use Rattle.rt_ids.specs.Outcomes.{outcome_note}
-use Rattle.rt_ids.specs.Outstanding.{is_gone, name_collected}
 use Rattle.rt_link.specs.Fits.{Fits}
 pub use Rattle.rt_journal.specs.Tickets.{RefusesTicket}
 use Rattle.rt_world.specs.declared.event.Reply.{Reply}

@@ -1,6 +1,7 @@
 pub mod State
 pub mod Closings
 pub mod Collections
+pub mod Stats
 pub mod Sends
 pub mod Deliveries
 pub mod OneTurn

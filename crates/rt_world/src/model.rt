@@ -17,6 +17,7 @@ mod closings;
 mod events;
 mod opening;
 mod sound;
+mod stats;
 mod steps;
 mod tickets;
 

@@ -155,3 +155,11 @@ pub fn has_shut(world: &World<ScriptJob>, core: u8, from: u8) -> bool {
         && world.is_closed(CoreNo(core))
         && world.is_shut(CoreNo(core), ActorNo(from))
 }
+
+/// Whether there is such a core, with one queue, and it has made so many turns.
+pub fn has_turns(world: &World<ScriptJob>, core: u8, turns: u64) -> bool {
+    match world.stats(CoreNo(core)) {
+        Some((told, queues)) => told.turns == turns && queues.len() == 1,
+        None => false,
+    }
+}

@@ -1,6 +1,6 @@
 //! The model by its events: how a world opens, what is refused, and what a run answers.
 
-use crate::acts::{Act, Became, event_of, run};
+use crate::acts::{Act, Became, event_of, has_turns, run};
 use rt_ids::{ActorNo, CoreNo, JobId, Note, QueueNo, TicketError};
 use rt_jobs::{ScriptJob, Task};
 use rt_shares::Shares;
@@ -123,5 +123,6 @@ fn outcomes_come_back(rt: HostRuntime) -> Result<(), Fail> {
         (Act::Redeem(1, 0, 2), Became::NoTicket(TicketError::Unknown)),
     ];
     assert!(rt; run(&rt, &mut world, &row));
+    assert!(rt; has_turns(&world, 0, 1) && !has_turns(&world, 1, 0));
     Ok(())
 }

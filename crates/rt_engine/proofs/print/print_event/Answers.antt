@@ -1,4 +1,4 @@
-use Rattle.std.proofs.Common.{sym, ◌∙◌, append-nil, string_bytes, None, arith}
+use Rattle.std.proofs.Common.{sym, ◌∙◌, append-nil, string_bytes, None, Some, arith}
 use Rattle.std.proofs.lemmas.Result.{on_ok_weaker}
 use Rattle.rt_engine.proofs.EventTexts.{happened, notes_printed, quiet_printed}
 use Rattle.rt_engine.proofs.print.print_event.Goals as goal
@@ -8,7 +8,7 @@ returns-then-len-before-clause-ok c =
     let count = c.len.ensures.value in
     let more = c.if-len-before.true in
     on_ok_weaker c.print_notes.result
-    (notes_printed c.args.event c.args.model.now c.step-reply.new.self c.step-reply.result (happened _ c.args.event c.args.model.now c.step-reply.new.self c.step-reply.result c.event_of.ensures c.step-reply.ensures) c.requires.roomy c.requires.there
+    (notes_printed c.args.event c.args.model.now c.step-reply.new.self c.step-reply.result (happened _ c.args.event c.args.model.now c.step-reply.new.self c.step-reply.result c.event_of.ensures c.step-reply.ensures) c.requires.roomy c.joined.ensures c.requires.there
     c.ends_of-ends.result c.journal.result.now.notes c.journal-journal.result.now.notes c.len-before.result (string_bytes c.args.page.now) (string_bytes c.print_notes.new.page)
     c.ends_of-ends.ensures c.journal.ensures.notes c.journal-journal.ensures.notes c.len-before.ensures.value (omega arith))
     c.print_notes.ensures.ok
@@ -17,7 +17,16 @@ pub returns-in_default-clause-ok : goal.returns-in_default-clause-ok
 returns-in_default-clause-ok c =
     let count = c.len.ensures.value in
     let none = c.if-len-before.false in
-    quiet_printed c.args.event c.args.model.now c.step-reply.new.self c.step-reply.result (happened _ c.args.event c.args.model.now c.step-reply.new.self c.step-reply.result c.event_of.ensures c.step-reply.ensures) c.requires.roomy c.requires.there
+    quiet_printed c.args.event c.args.model.now c.step-reply.new.self c.step-reply.result (happened _ c.args.event c.args.model.now c.step-reply.new.self c.step-reply.result c.event_of.ensures c.step-reply.ensures) c.requires.roomy c.joined.ensures c.requires.there
     c.ends_of-ends.result c.journal.result.now.notes c.journal-journal.result.now.notes c.len-before.result None (string_bytes c.args.page.now) (string_bytes c.args.page.now)
     c.ends_of-ends.ensures c.journal.ensures.notes c.journal-journal.ensures.notes c.len-before.ensures.value (omega arith)
     (sym c.in_default.is ∙ c.quiet_of.ensures) (sym (append-nil (string_bytes c.args.page.now)))
+
+pub returns-in_ok-writeln-clause-ok : goal.returns-in_ok-writeln-clause-ok
+returns-in_ok-writeln-clause-ok c =
+    let count = c.len.ensures.value in
+    let none = c.if-len-before.false in
+    quiet_printed c.args.event c.args.model.now c.step-reply.new.self c.step-reply.result (happened _ c.args.event c.args.model.now c.step-reply.new.self c.step-reply.result c.event_of.ensures c.step-reply.ensures) c.requires.roomy c.joined.ensures c.requires.there
+    c.ends_of-ends.result c.journal.result.now.notes c.journal-journal.result.now.notes c.len-before.result (Some c.in-Some.quiet) (string_bytes c.args.page.now) (string_bytes c.writeln.new.self)
+    c.ends_of-ends.ensures c.journal.ensures.notes c.journal-journal.ensures.notes c.len-before.ensures.value (omega arith)
+    (sym c.in-Some.is ∙ c.quiet_of.ensures) c.in_ok-writeln.ensures.bytes

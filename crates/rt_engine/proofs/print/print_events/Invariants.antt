@@ -7,5 +7,5 @@ use Rattle.rt_engine.proofs.print.print_events.Given as goal
 abbrev pub invariant-loop-event : goal.invariant-loop-event
 invariant-loop-event g l = record {
   writes : WritesAll l.yielded l.initial.model l.model (string_bytes l.initial.page) (string_bytes l.page) (g.W.Write.contents l.initial.sink) (g.W.Write.contents l.sink);
-  roomy : IsRoomy l.initial.model.cores l.initial.model.cap (255 + 4 * length l.yielded) l.model;
+  roomy : IsRoomy l.initial.model.cores l.initial.model.cap (510 + 6 * length l.yielded) l.model;
 }

@@ -1,4 +1,4 @@
-use Rattle.std.proofs.Common.{◌≡◌, ◌≢◌, ◌≤◌, ◌∙◌, refl, sym, ap, subst, arith, vec_items}
+use Rattle.std.proofs.Common.{◌≡◌, ◌≤◌, ◌∙◌, refl, sym, ap, subst, arith, vec_items}
 use Rattle.std.specs.Prelude.{Some}
 use Rattle.std.specs.Vec.{with_item}
 use Rattle.rt_ids.specs.declared.note.OutcomeNote.TheVariants as outcomes

@@ -1,0 +1,40 @@
+use Rattle.std.proofs.Common.{◌≡◌, ℕ, ◌<◌, ◌≤◌, refl, sym, ◌∙◌, ap, subst, arith}
+use Rattle.std.specs.Prelude.{◌↔◌, IsTrue, Some, slice_get}
+use Rattle.std.proofs.lemmas.Bool.{true≢false}
+use Rattle.arrayvec.specs.ArrayVec.{array_vec_len}
+use Rattle.rt_ids.specs.declared.stats.CoreStats.{CoreStats}
+use Rattle.rt_ids.specs.Journal.{Journal}
+use Rattle.rt_taskqueue.specs.Queues.{queue_count}
+use Rattle.rt_core.specs.Closing as core
+use Rattle.rt_core.specs.Figures.{core_stats, queue_stats}
+use Rattle.rt_world.specs.State.{journal_at}
+use Rattle.rt_world.specs.Stats.{TellsCore, TellsQueues}
+use Rattle.rt_world.proofs.CoreSteps.{viewed, journal_is, cores_are}
+use Rattle.rt_world.proofs.StatsTold.{core_told, queues_told}
+use Rattle.rt_world.proofs.model.World.stats.Goals as goal
+
+told_of : {T : Type 0} {cores count : ℕ} {notes journal : Journal T} {told : CoreStats} → cores ≡ count → notes ≡ journal → TellsCore cores notes told → TellsCore count journal told
+told_of {cores = cores} {journal = journal} {told = told} counted noted is = subst (λ count. TellsCore count journal told) counted (subst (λ notes. TellsCore cores notes told) noted is)
+
+pub returns-then-core-self : goal.returns-then-core-self
+returns-then-core-self g c =
+    let past : c.args.self.now.cores ≤ c.args.core = omega (arith, c.if-core-self.true, c.core.view_is, ap (λ world. world.cores) c.self.view_is) in
+    record { missing = ((λ none. past), (λ is. refl)); core = tt; queues = tt }
+
+pub returns : goal.returns
+returns g c =
+    let there = c.if-core-self.false in
+    let view = viewed c.self.invariant.1 c.core.inside.0 there c.index.result.now c.index.ensures in
+    let recorded = c.self.invariant.1.recorded c.core.inside.0 there in
+    let its = c.core-2.ensures ∙ ap (λ at. at.core) view in
+    let cores = cores_are c.self.invariant.1 c.core.inside.0 there ∙ ap (λ world. world.cores) c.self.view_is in
+    let notes = sym (journal_is c.self.invariant.1 c.core.inside.0 there) ∙ (λ i. journal_at (c.core.view_is i) (c.self.view_is i)) in
+    let told = core_told _ recorded c.stats.result.0 (subst (λ core. c.stats.result.0 ≡ core_stats core c.stats.result.0.drained) its c.stats.ensures.core)
+    (subst (λ view. IsTrue c.stats.result.0.drained ↔ core.IsDrained view) its c.stats.ensures.drained) in
+    let all = queues_told _ recorded (array_vec_len c.stats.result.1) c.stats.result.1.items (c.stats.ensures.count ∙ ap (λ core. queue_count core.queues) its)
+    (subst (λ core. (queue : _) → queue < queue_count core.queues → slice_get c.stats.result.1.items queue ≡ Some (queue_stats queue core)) its c.stats.ensures.queues) in
+    record {
+      missing = ((λ none. absurd (true≢false none)), (λ past. absurd (omega (arith, past, there, c.core.view_is, ap (λ world. world.cores) c.self.view_is))));
+      core = told_of cores notes told;
+      queues = subst (λ notes. TellsQueues notes (array_vec_len c.stats.result.1) c.stats.result.1.items) notes all;
+    }

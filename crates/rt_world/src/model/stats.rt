@@ -1,0 +1,26 @@
+//! What a core tells of itself in numbers.
+
+ghost use Rattle.std.specs.Prelude.{◌≡◌, ◌↔◌, ◌≤◌, IfSome, IsNone};
+ghost use Rattle.arrayvec.specs.ArrayVec.{array_vec_len};
+ghost use Rattle.rt_world.specs.State.{journal_at};
+ghost use Rattle.rt_world.specs.Stats.{TellsCore, TellsQueues};
+
+use super::World;
+use arrayvec::ArrayVec;
+use rt_ids::{CoreNo, CoreStats, QueueStats};
+use rt_jobs::Task;
+use std::alloc::Allocator;
+
+impl<J: Task<Out = u64>, A: Allocator + Clone> World<J, A> {
+    /// The numbers of a core and of its queues, by number. None where there is no such core. Times are in nanoseconds.
+    pub fn stats(&self, core: CoreNo) -> Option<(CoreStats, ArrayVec<QueueStats, 256>)>
+        ensures missing { IsNone result ↔ (self.now.cores ≤ core) }
+        ensures core { IfSome result (λ told. TellsCore self.now.cores (journal_at core self.now) told.0) }
+        ensures queues { IfSome result (λ told. TellsQueues (journal_at core self.now) (array_vec_len told.1) told.1.items) }
+    {
+        if core.0 >= self.cores {
+            return None;
+        }
+        Some(self.inside[core.0 as usize].core().stats())
+    }
+}
