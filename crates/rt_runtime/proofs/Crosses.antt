@@ -13,9 +13,6 @@ use Rattle.rt_timeline.proofs.tree.Tree.TheLaws.TheKnot as tree
 use Rattle.rt_desk.proofs.trie.Trie.TheLaws.TheKnot as trie
 use Rattle.rt_desk.specs.contracts.lane.Lane.{the_row as lane}
 use Rattle.rt_notes.proofs.journal.Journal.TheSendSync as journal
-use Rattle.rt_ids.proofs.names.ActorNo.TheSendSync as actor
-use Rattle.std.proofs.rt.Memory.TheSendSync as memory
-use Rattle.std.proofs.alloc.Global.TheSendSync as heap
 use Rattle.rt_grid.proofs.ends.Ends.TheSendSync as ends
 use Rattle.rt_core.specs.contracts.one_core.Core.{the_row as core}
 use Rattle.rt_journal.specs.contracts.desk.RecordedDesk.{the_row as desk}

@@ -1,5 +1,5 @@
 -- Workers that have ended, and the outside actor, are a house whose links are reunited.
-use Rattle.std.proofs.Common.{◌≡◌, ◌≢◌, ℕ, zero, suc, ◌+◌, ◌<◌, ◌≤◌, List, [], ◌∷◌, ◌++◌, length, map, get_or, refl, sym, ◌∙◌, ap, subst, arith, ⊎_elim, length-append}
+use Rattle.std.proofs.Common.{◌≡◌, ◌≢◌, ℕ, zero, suc, ◌+◌, ◌<◌, List, [], ◌∷◌, ◌++◌, length, map, get_or, refl, sym, ◌∙◌, ap, subst, arith, ⊎_elim, length-append}
 use Rattle.std.specs.Prelude.{All, Some, unwrap_or, slice_get, true}
 use Rattle.std.proofs.lemmas.Bool.{cases_eq}
 use Rattle.std.proofs.lemmas.List.{length-map}
@@ -12,7 +12,7 @@ use Rattle.rt_jobs.specs.Steps.{Owed}
 use Rattle.rt_notes.specs.Journals.{JournalView}
 use Rattle.rt_journal.specs.Recorded.{terms_at, desk_of}
 use Rattle.rt_journal.specs.Together.{IsAssemblyOf}
-use Rattle.rt_grid.specs.Ends.{EndsView, SameEnds}
+use Rattle.rt_grid.specs.Ends.{EndsView}
 use Rattle.rt_grid.specs.Grid.{IsGrid, AreSameEnds, AreReunited, ends_at, no_ends}
 use Rattle.rt_grid.specs.Laws.{GridIsKept}
 use Rattle.rt_grid.proofs.Using.{ends_same}

@@ -1,6 +1,6 @@
 -- A runtime after a send to one core.
-use Rattle.std.proofs.Common.{◌≡◌, ◌≢◌, ℕ, add-one, ◌+◌, ◌<◌, ◌≤◌, List, [], ◌∷◌, ◌++◌, length, map, set, get_or, refl, sym, ◌∙◌, ap, subst, arith, ⊎_elim, length-append, get_or-set_same, get_or-set_other, length-set}
-use Rattle.std.specs.Prelude.{Bool, false}
+use Rattle.std.proofs.Common.{◌≡◌, ◌≢◌, ℕ, add-one, ◌+◌, ◌<◌, List, [], ◌∷◌, ◌++◌, length, map, set, get_or, refl, sym, ◌∙◌, ap, subst, arith, ⊎_elim, length-append, get_or-set_same, get_or-set_other, length-set}
+use Rattle.std.specs.Prelude.{Bool}
 use Rattle.std.proofs.lemmas.Bool.{cases_eq}
 use Rattle.std.proofs.lemmas.List.{get_or_default, length-map}
 use Rattle.rt_ring.specs.declared.ring_out.Sending.{Sending}
@@ -11,17 +11,17 @@ use Rattle.rt_journal.specs.Submissions.{DeskView}
 use Rattle.rt_journal.specs.Ends.{IsOutOf}
 use Rattle.rt_journal.specs.Tickets.{HasLane, StaysBeside}
 use Rattle.rt_grid.specs.Ends.{EndsView, SameEnds, out_at, no_out}
-use Rattle.rt_grid.specs.Grid.{IsGrid, AreSameEnds, ends_at, no_ends}
+use Rattle.rt_grid.specs.Grid.{IsGrid, AreSameEnds, no_ends}
 use Rattle.rt_grid.proofs.Using.{out_used, ends_same}
 use Rattle.rt_grid.proofs.Keeping.{grid_kept}
 use Rattle.rt_worker.specs.Linked.{LinkedView}
 use Rattle.rt_worker.specs.Opening.{IsWorkerOf}
-use Rattle.rt_worker.specs.Together.{OutsideView, IsOutside, no_linked, worker_at}
+use Rattle.rt_worker.specs.Together.{no_linked, worker_at}
 use Rattle.rt_worker.proofs.Ending.{before_last, at_last}
 use Rattle.rt_ids.specs.Journal.{Journal}
 use Rattle.rt_ids.specs.Outstanding.{outstanding_count}
 use Rattle.rt_runtime.specs.Calls.{outstanding_upto}
-use Rattle.rt_runtime.specs.State.{RuntimeView, IsRuntime, outside_of}
+use Rattle.rt_runtime.specs.State.{RuntimeView, IsRuntime}
 
 module _ {J T : Type 0} where
   -- the same links, where one actor's ends are of the same links as before

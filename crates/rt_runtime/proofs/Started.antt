@@ -1,7 +1,7 @@
 -- A house that was just opened, and a runtime over it.
-use Rattle.std.proofs.Common.{◌≡◌, ℕ, zero, suc, ◌+◌, ◌<◌, ◌≤◌, List, [], ◌∷◌, ◌++◌, length, map, replicate, get_or, refl, sym, ◌∙◌, ap, subst, arith, length-append}
+use Rattle.std.proofs.Common.{◌≡◌, ℕ, ◌+◌, ◌<◌, List, [], ◌∷◌, ◌++◌, length, map, replicate, get_or, refl, sym, ◌∙◌, ap, subst, arith, length-append}
 use Rattle.std.specs.Prelude.{All, Bool, false}
-use Rattle.std.proofs.lemmas.List.{get_or_append_left, get_or_default, length-map, length-replicate}
+use Rattle.std.proofs.lemmas.List.{get_or_append_left, get_or_default, length-replicate}
 use Rattle.std.proofs.Math.Seq.{get_or-append_seam}
 use Rattle.rt_ids.specs.Spelled.{IsWithinLimits}
 use Rattle.rt_link.specs.Whole.{fresh, out_of}
@@ -21,10 +21,10 @@ use Rattle.rt_grid.specs.Ends.{EndsView, AreFresh, out_at}
 use Rattle.rt_grid.specs.Grid.{IsGrid, AreAllFresh, ends_at, no_ends}
 use Rattle.rt_grid.proofs.Parts.{at_end}
 use Rattle.rt_worker.specs.Linked.{LinkedView}
-use Rattle.rt_worker.specs.Opening.{AreEndsOf, IsWorkerOf, IsOpenedOver}
-use Rattle.rt_worker.specs.Together.{OutsideView, IsOutside, no_linked, worker_at}
+use Rattle.rt_worker.specs.Opening.{IsWorkerOf, IsOpenedOver}
+use Rattle.rt_worker.specs.Together.{IsOutside, no_linked, worker_at}
 use Rattle.rt_worker.proofs.Opened.{fresh_out}
-use Rattle.rt_runtime.specs.State.{RuntimeView, IsRuntime}
+use Rattle.rt_runtime.specs.State.{IsRuntime}
 use Rattle.rt_runtime.specs.Starting.{AreOpening, IsHouse}
 use Rattle.rt_runtime.proofs.Finished.{together_at}
 

@@ -1,5 +1,5 @@
 -- What the calls of a runtime do.
-use Rattle.std.specs.Prelude.{◌≡◌, ◌≢◌, ℕ, zero, suc, ◌+◌, ◌*◌, ◌<◌, ◌≤◌, Bool, true, false, ◌||◌, List, length, replicate, Result, Ok, Err, slice_set}
+use Rattle.std.specs.Prelude.{◌≡◌, ℕ, zero, suc, ◌+◌, ◌*◌, ◌<◌, ◌≤◌, Bool, true, false, ◌||◌, List, replicate, Result, Ok, Err, slice_set}
 use Rattle.rt_ids.specs.declared.names.JobId.{JobId}
 use Rattle.rt_ids.specs.declared.order.Order.{Order}
 use Rattle.rt_ids.specs.declared.order.Order.TheVariants.{CloseCore}
@@ -13,7 +13,7 @@ use Rattle.rt_ids.specs.Outstanding.{outstanding_count}
 use Rattle.rt_ids.specs.Sound.{IsSound}
 use Rattle.rt_ids.specs.Spelled.{IsSpelled}
 use Rattle.rt_notes.specs.Journals.{free_notes}
-use Rattle.rt_journal.specs.Submissions.{DeskView, Submits, opened_desk}
+use Rattle.rt_journal.specs.Submissions.{Submits, opened_desk}
 use Rattle.rt_worker.specs.Rooms.{ClosesRightly, least_free}
 use Rattle.rt_runtime.specs.declared.error.SubmitError.{SubmitError}
 use Rattle.rt_runtime.specs.declared.error.SubmitError.TheVariants.{JournalFull, Send}

@@ -1,8 +1,7 @@
-use Rattle.std.proofs.Common.{◌≡◌, ◌∙◌, sym, subst, ap, set}
+use Rattle.std.proofs.Common.{◌∙◌, sym, subst, ap, set}
 use Rattle.rt_link.specs.Fits.{Fits}
 use Rattle.rt_journal.specs.Ends.{IsOutOf}
 use Rattle.rt_journal.specs.Tickets.{HasLane, StaysBeside}
-use Rattle.rt_grid.specs.Ends.{out_at}
 use Rattle.rt_runtime.proofs.Sent.{lent_out, put_seen, put_at}
 use Rattle.rt_runtime.proofs.calls.send_on.Goals as goal
 

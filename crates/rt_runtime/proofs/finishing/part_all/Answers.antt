@@ -1,6 +1,6 @@
-use Rattle.std.proofs.Common.{◌∙◌, refl, sym, ap, subst}
+use Rattle.std.proofs.Common.{◌∙◌, refl}
 use Rattle.std.specs.Vec.Iter.{into_iter_items, into_iter_len}
-use Rattle.rt_runtime.proofs.Parted.{IsParted, parted_first, parted_more, parted_all}
+use Rattle.rt_runtime.proofs.Parted.{parted_first, parted_more, parted_all}
 use Rattle.rt_runtime.proofs.finishing.part_all.Goals as goal
 
 pub loop-one-init : goal.loop-one-init

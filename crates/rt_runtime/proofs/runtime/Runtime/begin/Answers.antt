@@ -1,4 +1,4 @@
-use Rattle.std.proofs.Common.{rules, ◌≡◌, ◌+◌, ◌≤◌, ◌∙◌, ap, sym, subst, arith}
+use Rattle.std.proofs.Common.{rules, ap, sym, subst, arith}
 use denote.Param.{param}
 use denote.Param.Send.{IsSend, arg_send, param_send}
 use denote.Exit.{no}

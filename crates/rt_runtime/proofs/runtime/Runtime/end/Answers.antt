@@ -1,4 +1,4 @@
-use Rattle.std.proofs.Common.{◌≡◌, ◌+◌, ◌<◌, ◌≤◌, ℕ, ◌∙◌, [], ◌∷◌, ◌++◌, ap, sym, subst, length, arith}
+use Rattle.std.proofs.Common.{◌≡◌, ◌<◌, ℕ, ◌∙◌, [], ◌∷◌, ◌++◌, ap, sym, subst, length, arith}
 use Rattle.std.specs.Prelude.{true}
 use Rattle.rt_grid.specs.Grid.{IsGrid}
 use Rattle.rt_runtime.specs.Calls.{HasFinished}

@@ -1,5 +1,5 @@
-use Rattle.std.proofs.Common.{◌≡◌, ◌<◌, ℕ, refl, subst, ap, arith, length, sym, ◌∙◌}
-use Rattle.std.specs.Prelude.{Some, Bool}
+use Rattle.std.proofs.Common.{refl, subst}
+use Rattle.std.specs.Prelude.{Some}
 use Rattle.rt_runtime.specs.Finishing.{IsFirstOpenOf}
 use Rattle.rt_runtime.proofs.Finished.{first_open_of}
 use Rattle.rt_runtime.proofs.runtime.Runtime.finish.Goals as goal

@@ -1,4 +1,4 @@
-use Rattle.std.proofs.Common.{◌≡◌, ◌+◌, ◌*◌, ◌≤◌, ap, ◌∙◌, arith}
+use Rattle.std.proofs.Common.{ap, ◌∙◌, arith}
 use Rattle.rt_ids.specs.Outstanding.{outstanding_count}
 use Rattle.rt_runtime.proofs.Sent.{one_more_core}
 use Rattle.rt_runtime.proofs.runtime.Runtime.outstanding.Goals as goal
