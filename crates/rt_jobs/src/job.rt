@@ -74,6 +74,7 @@ pub trait Job: Task {
         ensures same { OnYield result (Self.SameTask self.old self.new) }
         ensures later { OnYield result (OwesOn Self.made Self.Polls self.old self.new) }
         ensures done { Self.done self.new ≡ is_done_step result }
+        ensures follows { P.Follows post.old post.new }
         ensures ready { OnYield result (Self.CanPoll self.new) };
 }
 
@@ -113,6 +114,7 @@ impl<J: Job> Ran<J> {
         ensures answers { IfDone result.step (J.Answers job) }
         ensures same { OnYield result.step (J.SameTask job result.job) }
         ensures later { OnYield result.step (OwesOn J.made J.Polls job result.job) }
+        ensures follows { P.Follows post.old post.new }
     {
         let before = Snapshot::of(&job);
         let mut job = job;

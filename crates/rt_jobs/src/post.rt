@@ -21,6 +21,13 @@ pub trait Post<J: Task, T> {
     /// The submission of this name waits for its outcome: it can be detached.
     ghost Waits: { Self → JobId → Type 0 };
 
+    /// The second post is the first, after some calls of it.
+    ghost Follows: { Self → Self → Type 0 };
+
+    ghost follows_itself: { (post : Self) → Follows post post };
+
+    ghost follows_along: { (first middle last : Self) → Follows first middle → Follows middle last → Follows first last };
+
     /// Sends an order to a core, under the next number of that link.
     ///
     /// # Errors
@@ -29,7 +36,8 @@ pub trait Post<J: Task, T> {
     fn submit(&mut self, to: CoreNo, order: Order<J>) -> Result<Ticket, SendError<J>>
         requires ready { HasReadyJob J.done J.CanPoll order }
         ensures noted { NotesSubmit (notes self.old) to order result (notes self.new) }
-        ensures waits { IfOk result (Waits self.new) };
+        ensures waits { IfOk result (Waits self.new) }
+        ensures follows { Follows self.old self.new };
 
     /// The outcome of a submission, which is gone from then on.
     ///
@@ -37,7 +45,8 @@ pub trait Post<J: Task, T> {
     ///
     /// `Unknown`, `Gone` and `Pending`, as a desk.
     fn redeem(&mut self, ticket: Ticket) -> Result<Outcome<J, T>, TicketError>
-        ensures noted { NotesRedeem (notes self.old) ticket result (notes self.new) };
+        ensures noted { NotesRedeem (notes self.old) ticket result (notes self.new) }
+        ensures follows { Follows self.old self.new };
 
     /// Nobody will ask for the outcome of a submission.
     ///
@@ -46,7 +55,8 @@ pub trait Post<J: Task, T> {
     /// `Unknown` and `Gone`, as a desk.
     fn detach(&mut self, ticket: Ticket) -> Result<(), TicketError>
         ensures noted { NotesDetach (notes self.old) ticket result (notes self.new) }
-        ensures waits { Waits self.old ticket → IsOk result };
+        ensures waits { Waits self.old ticket → IsOk result }
+        ensures follows { Follows self.old self.new };
 }
 
 /// A post of an actor that has no links: there is no core for it, and it notes nothing.
@@ -59,6 +69,12 @@ impl<J: Task, T> Post<J, T> for NoPost {
     ghost notes = { λ _. [] };
 
     ghost Waits = { λ _ _. ⊥ };
+
+    ghost Follows = { λ _ _. Unit {0} };
+
+    ghost follows_itself = { λ _. tt };
+
+    ghost follows_along = { λ _ _ _ _ _. tt };
 
     fn submit(&mut self, _to: CoreNo, order: Order<J>) -> Result<Ticket, SendError<J>>
         requires { HasReadyJob J.done J.CanPoll order }

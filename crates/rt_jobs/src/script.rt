@@ -173,7 +173,8 @@ impl Job for ScriptJob {
 
 /// What a poll that yields does at its post: nothing, or it submits the job `d1=0` and detaches it if it is accepted.
 fn post_as<P: Post<ScriptJob, u64>>(yielding: Yielding, post: &mut P)
-    ensures { PostsAs yielding (P.notes post.old) (P.notes post.new) }
+    ensures posts { PostsAs yielding (P.notes post.old) (P.notes post.new) }
+    ensures follows { P.Follows post.old post.new }
 {
     let Some(place) = yielding.to else {
         return;

@@ -10,7 +10,7 @@ use Rattle.rt_journal.specs.Submissions.{DeskView}
 use Rattle.rt_journal.specs.Tickets.{StaysBeside, CollectsFrom, GetsAll, GetsNext}
 
 -- what begins a beginning
-starts_then : {A : Type 0} (whole middle front : List A) → StartsWith whole middle → StartsWith middle front → StartsWith whole front
+pub starts_then : {A : Type 0} (whole middle front : List A) → StartsWith whole middle → StartsWith middle front → StartsWith whole front
 starts_then whole middle front along before = (before.0 ++ along.0, along.1 ∙ (ap (λ list. list ++ along.0) before.1 ∙ append_assoc front before.0 along.0))
 
 module _ {J T : Type 0} {fits : Order J → Outcome J T → Type 0} (core : ℕ) (old mid new : DeskView J T) where

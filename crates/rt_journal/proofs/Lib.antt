@@ -41,6 +41,10 @@ pub mod Redeemed
 pub mod CollectedNext
 pub mod CollectedAll
 pub mod LaneEnds
+pub mod Spending
+pub mod Posting
+pub mod Posted
+pub mod PolledDesks
 pub mod Submitted
 pub mod SentNotes
 pub mod DeliveredNames

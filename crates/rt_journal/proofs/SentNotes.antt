@@ -26,6 +26,7 @@ use Rattle.rt_journal.specs.Polls.{polls_made}
 use Rattle.rt_journal.specs.Submissions.{DeskView, IsWritten, Submits, terms_of_desk}
 use Rattle.rt_journal.specs.Recorded.{RecordedView, IsRecorded, desk_of, terms_at, delivered_count, given_count}
 use Rattle.rt_journal.specs.Ends.{KeepsIn}
+use Rattle.rt_journal.specs.Posts.{ArePosts}
 use Rattle.rt_journal.specs.Tickets.{AreCollected, CollectsFrom, RedeemsTicket, DetachesTicket}
 use Rattle.rt_journal.proofs.KeptModes.{same_modes, closing-stays}
 use Rattle.rt_journal.proofs.Kept.{agrees_unmoved, calm_sent, calm_collected, calm_redeemed, calm_detached}
@@ -107,6 +108,14 @@ module _ {T : Type 0} where
   all_collected core (writes.Collected name outcome ∷ notes) before are =
       no_more_then before (notes ++ before) (writes.Collected name outcome ∷ notes ++ before) (all_collected core notes before are.1) (collected_no_more (notes ++ before) name outcome)
   all_collected core (_ ∷ notes) before are = absurd are
+
+module _ {T : Type 0} where
+  pub all_posted : (notes before : Journal T) → ArePosts notes → SaysNoMore before (notes ++ before)
+  all_posted [] before are = no_more before
+  all_posted (writes.Sent name order ∷ notes) before are = no_more_then before (notes ++ before) (writes.Sent name order ∷ notes ++ before) (all_posted notes before are) (sent_no_more (notes ++ before) name order)
+  all_posted (writes.Redeemed name outcome ∷ notes) before are = no_more_then before (notes ++ before) (writes.Redeemed name outcome ∷ notes ++ before) (all_posted notes before are) (redeemed_no_more (notes ++ before) name outcome)
+  all_posted (writes.Detached name ∷ notes) before are = no_more_then before (notes ++ before) (writes.Detached name ∷ notes ++ before) (all_posted notes before are) (detached_no_more (notes ++ before) name)
+  all_posted (_ ∷ notes) before are = absurd are
 
 module _ {J T : Type 0} (old : RecordedView J T) (longer : Journal T) (lanes : List (Lane J T)) where
   abbrev new : RecordedView J T

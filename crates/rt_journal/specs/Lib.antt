@@ -11,4 +11,6 @@ pub mod Turns
 pub mod Owed
 pub mod Whole
 pub mod Tickets
+pub mod Spending
+pub mod Posts
 pub mod Together

@@ -10,6 +10,7 @@ ghost use Rattle.rt_desk.specs.Lanes.{fresh_lane, IsGot, FitsSent};
 ghost use Rattle.rt_journal.specs.Submissions.{opened_desk, terms_of_desk, desk_with, IsWritten, Submits, numbered};
 ghost use Rattle.rt_journal.specs.Ends.{IsOutOf, KeepsOut, KeepsSent};
 ghost use Rattle.rt_journal.specs.Tickets.{HasLane, KnowsLanes, StaysBeside, RefusesTicket, RedeemsTicket, DetachesTicket, CollectsFrom, GetsAll, GetsNext};
+ghost use Rattle.rt_journal.specs.Spending.{Spends};
 
 use rt_desk::lane::Lane;
 use rt_ids::{ActorNo, CoreNo, JobId, Note, Order, Outcome, SendError, Ticket, TicketError};
@@ -68,6 +69,19 @@ impl<J: Task<Out = u64>> RecordedDesk<J> {
         })
     }
 
+    /// A desk of no core and no note, which takes no memory.
+    pub(crate) fn nothing(alloc: Global) -> Self
+        ensures { result ≡ opened_desk 0 0 0 0 }
+    {
+        RecordedDesk {
+            actor: ActorNo(0),
+            cores: 0,
+            cap: 0,
+            journal: Journal::of(Vec::new(alloc)),
+            lanes: Vec::new(alloc),
+        }
+    }
+
     /// How many submissions to one core may be outstanding.
     pub fn cap(&self) -> u16
         ensures { result ≡ self.now.cap }
@@ -108,6 +122,7 @@ impl<J: Task<Out = u64>> RecordedDesk<J> {
         ensures sends { Sends (O.out end.old) (O.credited end.old) order (O.out end.new) (numbered result) }
         ensures credited { O.credited end.new ≡ O.credited end.old }
         ensures stays { StaysBeside (Fits J.SameTask J.Answers) to self.old self.new (O.out end.new) (O.credited end.new) }
+        ensures spends { IfOk result (λ _. Spends to self.old self.new) }
         ensures untouched { O.untouched end.new ≡ O.untouched end.old }
     {
         let what = order.without_job();
@@ -189,6 +204,7 @@ impl<J: Task<Out = u64>> RecordedDesk<J> {
         ensures fits { IfOk result (FitsSent (Fits J.SameTask J.Answers) (O.out end.old) ticket.number) }
         ensures out { O.out end.new ≡ O.out end.old }
         ensures stays { StaysBeside (Fits J.SameTask J.Answers) ticket.to self.old self.new (O.out end.new) (O.credited end.new) }
+        ensures spends { IfOk result (λ _. Spends ticket.to self.old self.new) }
         ensures untouched { O.untouched end.new ≡ O.untouched end.old }
     {
         let name = ticket.name();
@@ -217,6 +233,7 @@ impl<J: Task<Out = u64>> RecordedDesk<J> {
         ensures detaches { DetachesTicket ticket self.old result self.new }
         ensures out { O.out end.new ≡ O.out end.old }
         ensures stays { StaysBeside (Fits J.SameTask J.Answers) ticket.to self.old self.new (O.out end.new) (O.credited end.new) }
+        ensures spends { IfOk result (λ _. Spends ticket.to self.old self.new) }
         ensures untouched { O.untouched end.new ≡ O.untouched end.old }
     {
         let name = ticket.name();
@@ -240,6 +257,14 @@ impl<J: Task<Out = u64>> RecordedDesk<J> {
     {
         let _core = core;
         end.outstanding()
+    }
+
+    /// For the proofs alone: the lanes know what the journal says.
+    pub(crate) fn see_lanes(&self)
+        ensures known { KnowsLanes self.now }
+        ensures written { IsWritten (terms_of_desk self.now) self.now.journal.notes }
+    {
+        let _lanes = &self.lanes;
     }
 
     /// Adds these notes one after another, so that the last of them is the newest. None of them is of a submission.

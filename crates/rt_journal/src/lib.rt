@@ -4,8 +4,10 @@
 pub mod desk;
 mod given;
 pub mod laws;
+pub mod post;
 pub mod recorded;
 
 pub use desk::RecordedDesk;
+pub use post::RecordedPost;
 pub use recorded::Recorded;
 pub use rt_notes::{Assembly, Journal};

@@ -37,6 +37,7 @@ use rt_taskqueue::CreateError;
 use std::alloc::{AllocError, Allocator, Global};
 use std::marker::Model;
 
+mod polled;
 mod whole;
 
 /// A core and its journal.

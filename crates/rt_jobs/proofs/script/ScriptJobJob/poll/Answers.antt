@@ -20,4 +20,4 @@ returns-clause-owed g c =
     rw (← c.self.view_is, add-one)
     (Does-early job.yields.items job.last_told job.answer job.polled c.index-deref-place.result (g.P.Post.notes c.args.post.now) (g.P.Post.notes c.post_as.new.post) (omega arith)
     (subst (λ yielding. PostsAs yielding (g.P.Post.notes c.args.post.now) (g.P.Post.notes c.post_as.new.post))
-    (c.index-deref-place.is ∙ ap (λ yields. get_or yields job.polled c.index-deref-place.result) c.deref.ensures.0) c.post_as.ensures))
+    (c.index-deref-place.is ∙ ap (λ yields. get_or yields job.polled c.index-deref-place.result) c.deref.ensures.0) c.post_as.ensures.posts))

@@ -1,4 +1,4 @@
-use Rattle.std.proofs.Common.{sym, subst, ◌∙◌, ap, set, Ok, Err}
+use Rattle.std.proofs.Common.{Err, Ok, ap, arith, refl, set, subst, sym, ◌∙◌}
 use Rattle.rt_ids.specs.Orders.{IsSpelledOrder}
 use Rattle.rt_link.specs.Fits.{Fits}
 use Rattle.rt_desk.specs.Lanes.{IsLaneOf}
@@ -7,6 +7,7 @@ use Rattle.rt_journal.specs.Submissions.{Submits}
 use Rattle.rt_journal.specs.Tickets.{HasLane, StaysBeside}
 use Rattle.rt_journal.proofs.Desked.{name_at, lane_there, lane_beside, desk_same, stays_refused}
 use Rattle.rt_journal.proofs.Submitted.{stays-now, submits-now, beside-refused, submits-refused}
+use Rattle.rt_journal.proofs.Spending.{spent_sent, carried_spends}
 use Rattle.rt_journal.proofs.desk.RecordedDesk.submit.Goals as goal
 
 pub submit-requires-clause-lane : goal.submit-requires-clause-lane
@@ -65,3 +66,10 @@ returns-in-Err-clause-stays g c =
     (subst (IsOutOf c.to.inside.0 (record { actor = c.self.inside.actor; cores = c.self.inside.cores; cap = c.self.inside.cap; journal = c.self.inside.journal; lanes = c.self.inside.lanes.items }) (g.O.OutEnd.out c.submit.new.end)) (sym c.in-Err.ensures.credited) (beside-refused c.to.inside.0 (record { actor = c.self.inside.actor; cores = c.self.inside.cores; cap = c.self.inside.cap; journal = c.self.inside.journal; lanes = c.self.inside.lanes.items }) (g.O.OutEnd.out c.args.end.now) (g.O.OutEnd.out c.submit.new.end) (g.O.OutEnd.credited c.args.end.now) beside c.args.order c.self.invariant.0 c.self.invariant.1 _ c.submit.new.self there c.in-Err.error c.in-Err.ensures.sends)) c.in-Err.ensures.lane in
     subst (λ desk. StaysBeside (Fits g.J.Task.SameTask g.J.Task.Answers) c.args.to desk (record { actor = c.self.inside.actor; cores = c.self.inside.cores; cap = c.self.inside.cap; journal = c.self.inside.journal; lanes = set c.self.inside.lanes.items c.to.inside.0 c.submit.new.self }) (g.O.OutEnd.out c.submit.new.end) (g.O.OutEnd.credited c.submit.new.end)) c.self.view_is
     (subst (λ core. StaysBeside (Fits g.J.Task.SameTask g.J.Task.Answers) core (record { actor = c.self.inside.actor; cores = c.self.inside.cores; cap = c.self.inside.cap; journal = c.self.inside.journal; lanes = c.self.inside.lanes.items }) (record { actor = c.self.inside.actor; cores = c.self.inside.cores; cap = c.self.inside.cap; journal = c.self.inside.journal; lanes = set c.self.inside.lanes.items c.to.inside.0 c.submit.new.self }) (g.O.OutEnd.out c.submit.new.end) (g.O.OutEnd.credited c.submit.new.end)) c.to.view_is stays)
+
+pub returns-in-Ok-clause-spends : goal.returns-in-Ok-clause-spends
+returns-in-Ok-clause-spends g c =
+    let beside = (subst (λ core. IsOutOf core (record { actor = c.self.inside.actor; cores = c.self.inside.cores; cap = c.self.inside.cap; journal = c.self.inside.journal; lanes = c.self.inside.lanes.items }) (g.O.OutEnd.out c.args.end.now) (g.O.OutEnd.credited c.args.end.now)) (sym c.to.view_is) (subst (λ desk. IsOutOf c.args.to desk (g.O.OutEnd.out c.args.end.now) (g.O.OutEnd.credited c.args.end.now)) (sym c.self.view_is) c.requires.beside)) in
+    let there = (lane_there (record { actor = c.self.inside.actor; cores = c.self.inside.cores; cap = c.self.inside.cap; journal = c.self.inside.journal; lanes = c.self.inside.lanes.items }) c.self.invariant.1 c.to.inside.0 beside _ c.index_mut-lane.ensures.value) in
+    let lane_of = lane_beside {fits = (Fits g.J.Task.SameTask g.J.Task.Answers)} (record { actor = c.self.inside.actor; cores = c.self.inside.cores; cap = c.self.inside.cap; journal = c.self.inside.journal; lanes = c.self.inside.lanes.items }) c.self.invariant.1 c.to.inside.0 (subst (λ core. HasLane (Fits g.J.Task.SameTask g.J.Task.Answers) core (record { actor = c.self.inside.actor; cores = c.self.inside.cores; cap = c.self.inside.cap; journal = c.self.inside.journal; lanes = c.self.inside.lanes.items }) (g.O.OutEnd.out c.args.end.now) (g.O.OutEnd.credited c.args.end.now)) (sym c.to.view_is) (subst (λ desk. HasLane (Fits g.J.Task.SameTask g.J.Task.Answers) c.args.to desk (g.O.OutEnd.out c.args.end.now) (g.O.OutEnd.credited c.args.end.now)) (sym c.self.view_is) c.requires.lane)) _ there in
+    carried_spends (record { actor = c.self.inside.actor; cores = c.self.inside.cores; cap = c.self.inside.cap; journal = c.self.inside.journal; lanes = c.self.inside.lanes.items }) c.args.self.now (record { actor = c.self.inside.actor; cores = c.self.inside.cores; cap = c.self.inside.cap; journal = c.push.new.self; lanes = set c.self.inside.lanes.items c.to.inside.0 c.submit.new.self }) c.self.view_is c.to.inside.0 c.args.to c.to.view_is c.index_mut-lane.result.now c.submit.new.self there refl (spent_sent c.index_mut-lane.result.now c.submit.new.self c.in-Ok.number (c.in-Ok.ensures.lane.room ∙ (ap (λ end. end.capacity) c.in-Ok.ensures.sends.4 ∙ sym lane_of.room)) c.in-Ok.ensures.accepted (omega (arith, lane_of.outstanding, lane_of.room, c.in-Ok.ensures.sends.1)))

@@ -1,0 +1,5 @@
+use Rattle.rt_journal.proofs.Posting.{lent_first}
+use Rattle.rt_journal.proofs.post.RecordedPost.lend.Goals as goal
+
+pub invariant_of-result : goal.invariant_of-result
+invariant_of-result g c = lent_first c.args.said c.args.ends.items c.requires.outs c.see_lanes.ensures.known c.requires.room
