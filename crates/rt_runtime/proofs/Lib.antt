@@ -1,0 +1,5 @@
+pub mod Parted
+pub mod Finished
+pub mod Started
+pub mod Sent
+pub mod Crosses

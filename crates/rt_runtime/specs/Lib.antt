@@ -1,0 +1,4 @@
+pub mod State
+pub mod Starting
+pub mod Calls
+pub mod Finishing
