@@ -1,0 +1,5 @@
+//! Tests of the runtime on threads, over its public calls.
+#![tactic(auto)]
+
+#[cfg(test)]
+mod house;
