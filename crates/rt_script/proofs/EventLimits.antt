@@ -35,13 +35,13 @@ name_ok cores ws name some e =
     let link = link_ok cores ws (m.0).0 some b.0 in
     rw m.2 (link.0, link.1)
 
-some_polls : (ws : List (List ℕ)) (polls : List Poll) → polls_field ws ≡ Ok polls → 1 ≤ length polls
-some_polls [] polls e = cc
-some_polls (word ∷ []) polls e = let m = made_ok _ _ _ e in rw m.2 (omega arith)
-some_polls (word ∷ next ∷ rest) polls e = let m = made_ok _ _ _ e in rw m.2 (omega arith)
+some_polls : (cores : ℕ) (ws : List (List ℕ)) (polls : List Poll) → polls_field cores ws ≡ Ok polls → 1 ≤ length polls
+some_polls cores [] polls e = cc
+some_polls cores (word ∷ []) polls e = let m = made_ok _ _ _ e in rw m.2 (omega arith)
+some_polls cores (word ∷ next ∷ rest) polls e = let m = made_ok _ _ _ e in rw m.2 (omega arith)
 
-fresh_ok : (ws : List (List ℕ)) (job : Script) → job_field ws ≡ Ok job → (job.polled ≡ 0) × (1 ≤ length job.polls)
-fresh_ok ws job e = let m = made_ok _ _ _ e in rw m.2 (refl, some_polls ws m.0 m.1)
+fresh_ok : (cores : ℕ) (ws : List (List ℕ)) (job : Script) → job_field cores ws ≡ Ok job → (job.polled ≡ 0) × (1 ≤ length job.polls)
+fresh_ok cores ws job e = let m = made_ok _ _ _ e in rw m.2 (refl, some_polls cores ws m.0 m.1)
 
 pub submit_line_ok : (size : ℕ × ℕ) (ws : List (List ℕ)) (line : Line) → 1 ≤ size.0 → submit_line size.0 ws ≡ Ok line → MayFollow (Some size) line
 submit_line_ok size ws line some e =
@@ -49,7 +49,7 @@ submit_line_ok size ws line some e =
     let b = both_ok _ _ _ m.1 in
     let d = both_ok _ _ _ b.1 in
     let link = link_ok size.0 ws (m.0).0 some b.0 in
-    let fresh = fresh_ok (others (others (others ws))) ((m.0).1).1 d.1 in
+    let fresh = fresh_ok size.0 (others (others (others ws))) ((m.0).1).1 d.1 in
     rw m.2 (record { sender = link.0; core = link.1; some_polls = fresh.1; none_made = fresh.0 })
 
 pub create_line_ok : (size : ℕ × ℕ) (ws : List (List ℕ)) (line : Line) → 1 ≤ size.0 → create_line size.0 ws ≡ Ok line → MayFollow (Some size) line

@@ -3,4 +3,5 @@ pub mod LimitLemmas
 pub mod PollLemmas
 pub mod ReaderLemmas
 pub mod SubmitLemmas
+pub mod SubmitPolls
 pub mod TextLemmas

@@ -24,7 +24,7 @@ name_fields cores ws = made (λ p. record { from = (p.0).0; to = (p.0).1; number
 
 -- `s d q POLL ..`
 abbrev pub submit_line : ℕ → List (List ℕ) → Result Line Cause
-submit_line cores ws = made (λ p. Step (Send (p.0).0 (p.0).1 (order.Job (p.1).0 (p.1).1))) (both (link_fields cores ws) (both (queue_field (third ws)) (job_field (others (others (others ws))))))
+submit_line cores ws = made (λ p. Step (Send (p.0).0 (p.0).1 (order.Job (p.1).0 (p.1).1))) (both (link_fields cores ws) (both (queue_field (third ws)) (job_field cores (others (others (others ws))))))
 
 -- `s d w`
 abbrev pub create_line : ℕ → List (List ℕ) → Result Line Cause

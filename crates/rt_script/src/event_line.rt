@@ -37,7 +37,7 @@ pub(crate) fn submit_line(cores: u8, fields: &mut Words<'_>, polls: usize) -> Re
     let link = link_fields(cores, fields);
     let queue = queue_field(fields.next_word());
     let mut job = ScriptJob::done(0, 0);
-    let found = read_job(fields, polls, &mut job);
+    let found = read_job(fields, cores, polls, &mut job);
     match both(link, both(queue, found)) {
         Ok(((from, to), (queue, ()))) => {
             let order = Order::Job(queue, job);

@@ -6,5 +6,5 @@ use Rattle.rt_script.proofs.polls.read_job.Given as goal
 abbrev pub invariant-loop-i : goal.invariant-loop-i
 invariant-loop-i l = record {
   left : l._i + length l.words ≡ l.count + 1;
-  part : IsPartOf (polls_field l.initial.words) l.found l.job l.words;
+  part : IsPartOf l.cores (polls_field l.cores l.initial.words) l.found l.job l.words;
 }
