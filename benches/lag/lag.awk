@@ -1,0 +1,95 @@
+# Reads the text of journals. For each core and each two queues of it that had work at once: the greatest lead of either over the
+# other while both kept work, in virtual runtime, and the bound, which is the greatest charge of the one and of the other together.
+# One line each: core D qQ ahead L qR ahead M bound B
+# The status is 1 if a lead is above its bound. One pass; the memory is that of the jobs and of each two queues.
+
+function shares_of(core, queue) { return (core, queue) in shares ? shares[core, queue] : 1000 }
+
+function has_work(core, queue) { return entered[core, queue] > left[core, queue] }
+
+function charge(time, weight) {
+    if (time < 1) time = 1
+    if (time > 1099511627775) time = 1099511627775
+    return int((time * 1000 + weight - 1) / weight)
+}
+
+# The queue is there, so each two of it and another are looked at.
+function meet(core, queue) {
+    if ((core, queue) in met) return
+    met[core, queue] = 1
+    order[core, count[core]++] = queue
+}
+
+# From here on both queues have work: what each gained is counted from now.
+function begin(core, one, two) {
+    both[core, one, two] = 1
+    difference[core, one, two] = low[core, one, two] = high[core, one, two] = 0
+}
+
+# The two queues of a pair after a note that is about one of them.
+function look(core, queue, gain,    place, other, one, two) {
+    for (place = 0; place < count[core]; place++) {
+        other = order[core, place]
+        if (other == queue) continue
+        one = other + 0 < queue + 0 ? other : queue
+        two = other + 0 < queue + 0 ? queue : other
+        if (!(has_work(core, one) && has_work(core, two))) { delete both[core, one, two]; continue }
+        if (!((core, one, two) in both)) { begin(core, one, two); continue }
+        difference[core, one, two] += queue == one ? gain : -gain
+        lead(core, one, two, difference[core, one, two])
+    }
+}
+
+# The greatest rise and the greatest fall of the difference so far.
+function lead(core, one, two, now) {
+    if (now < low[core, one, two]) low[core, one, two] = now
+    if (now > high[core, one, two]) high[core, one, two] = now
+    if (now - low[core, one, two] > ahead[core, one, two]) ahead[core, one, two] = now - low[core, one, two]
+    if (high[core, one, two] - now > behind[core, one, two]) behind[core, one, two] = high[core, one, two] - now
+    pair[core, one, two] = 1
+}
+
+# A note charges a queue.
+function charged(core, queue, time,    cost) {
+    cost = charge(time, shares_of(core, queue))
+    if (cost > greatest[core, queue]) greatest[core, queue] = cost
+    return cost
+}
+
+($2 == "queue" || $2 == "shares") && $3 ~ /^q/ { shares[$1, substr($3, 2)] = $4 }
+
+$2 == "took" {
+    queue = substr($4, 2)
+    queue_of[$3] = queue
+    meet($1, queue)
+    entered[$1, queue]++
+    look($1, queue, 0)
+}
+
+$2 == "yield" { look($1, queue_of[$3], charged($1, queue_of[$3], $4)) }
+
+$2 == "done" {
+    queue = queue_of[$3]
+    left[$1, queue]++
+    cost = charged($1, queue, $4)
+    look($1, queue, cost)
+    delete queue_of[$3]
+}
+
+$2 == "returned" && $3 in queue_of {
+    queue = queue_of[$3]
+    left[$1, queue]++
+    look($1, queue, 0)
+    delete queue_of[$3]
+}
+
+END {
+    for (each in pair) {
+        split(each, part, SUBSEP)
+        bound = greatest[part[1], part[2]] + greatest[part[1], part[3]]
+        most = ahead[each] > behind[each] ? ahead[each] : behind[each]
+        printf "core %d q%d ahead %d q%d ahead %d bound %d\n", part[1], part[2], ahead[each], part[3], behind[each], bound
+        if (most > bound) worse = 1
+    }
+    exit worse
+}
