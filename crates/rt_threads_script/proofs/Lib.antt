@@ -1,0 +1,2 @@
+pub mod LimitLemmas
+pub mod ReaderLemmas

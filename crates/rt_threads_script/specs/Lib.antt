@@ -1,0 +1,8 @@
+pub mod Faults
+pub mod Lines
+pub mod Drafts
+pub mod Limits
+pub mod Scripts
+pub mod ScriptFaults
+pub mod Telling
+pub mod Whole
