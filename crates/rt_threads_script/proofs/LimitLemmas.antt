@@ -1,5 +1,5 @@
 -- What the lines of a script for threads say keeps within the limits.
-use Rattle.std.proofs.Common.{IfOk, ◌∙◌, ◌≡◌, ℕ, ◌+◌, ◌≤◌, ◌<◌, ◌++◌, Bool, true, false, cond, List, [], ◌∷◌, Option, Some, None, Result, Ok, Err, refl}
+use Rattle.std.proofs.Common.{IfOk, ◌∙◌, ◌≡◌, ℕ, ◌+◌, ◌≤◌, ◌<◌, ◌++◌, Bool, true, false, cond, List, [], ◌∷◌, Option, Some, None, Result, Ok, Err, refl, ap, zero-add, arith}
 use Rattle.std.proofs.lemmas.List.Elements.{All-push}
 use Rattle.std.proofs.lemmas.List.Sums.{sum_by-append}
 use Rattle.rt_ids.specs.declared.order.Order.{Order}
@@ -17,7 +17,7 @@ use Rattle.rt_script.specs.Lines.{first_line, later_line}
 use Rattle.rt_threads_script.specs.declared.fault.ThreadsCause.{ThreadsCause}
 use Rattle.rt_threads_script.specs.Lines.{of_script, is_barred, size_told, line_told}
 use Rattle.rt_threads_script.specs.Drafts.{Told, Drafted, polls_of, polls_in}
-use Rattle.rt_threads_script.specs.Limits.{HasFreshJob, IsToldOf, IsToldFor, AreTold, IsWithinLimits}
+use Rattle.rt_threads_script.specs.Limits.{IsToldOf, IsToldFor, AreTold, IsWithinLimits}
 
 of_script_ok : (r : Result Line Cause) (line : Line) → of_script r ≡ Ok line → r ≡ Ok line
 of_script_ok (Ok read) line e = cc
@@ -35,21 +35,21 @@ line_told_ok size late ws line some e =
     later_line_ok size late ws line some (of_script_ok (later_line size.0 late ws) line (not_barred_ok (is_barred (keyword_of (first ws)) size.0 (others ws)) _ _ line e))
 
 -- an order that is sent is told
-sent_fresh : (sender core : ℕ) (one : Order Script) (cores : ℕ) → script.IsEventOf cores (Send sender core one) → HasFreshJob one
-sent_fresh sender core (order.Job queue job) cores h = (h.some_polls, h.none_made)
-sent_fresh sender core (order.Create weight) cores h = tt
-sent_fresh sender core (order.SetShares queue weight) cores h = tt
-sent_fresh sender core (order.Close queue mode) cores h = tt
-sent_fresh sender core (order.CloseCore mode) cores h = tt
+sent_of : (cores sender core : ℕ) (one : Order Script) → script.IsEventOf cores (Send sender core one) → IsToldOf cores (core, one)
+sent_of cores sender core (order.Job queue job) h = record { core = h.core; some_polls = h.some_polls; none_made = h.none_made }
+sent_of cores sender core (order.Create weight) h = record { core = h.core; some_polls = h.some_polls; none_made = h.none_made }
+sent_of cores sender core (order.SetShares queue weight) h = record { core = h.core; some_polls = h.some_polls; none_made = h.none_made }
+sent_of cores sender core (order.Close queue mode) h = record { core = h.core; some_polls = h.some_polls; none_made = h.none_made }
+sent_of cores sender core (order.CloseCore mode) h = record { core = h.core; some_polls = h.some_polls; none_made = h.none_made }
 
 pub sent_told : (size : Option (ℕ × ℕ)) (sender core : ℕ) (one : Order Script) → script.IsEventFor size (Send sender core one) → IsToldFor size (core, one)
 sent_told None sender core one h = h
-sent_told (Some size) sender core one h = (h.core, sent_fresh sender core one size.0 h)
+sent_told (Some size) sender core one h = sent_of size.0 sender core one h
 
 -- one queue more
 no_events : (size : Option (ℕ × ℕ)) → script.AreEventsOf size []
 no_events None = refl
-no_events (Some size) = tt
+no_events (Some size) = λ i x h. absurd (omega arith)
 
 pub queue_more : (draft : Drafted) (queue : ℕ × ℕ) → IsWithinLimits draft → script.IsCoreOf draft.size queue.0 → queue_lines queue.0 draft.queues < 255 → IsWithinLimits (record { size = draft.size; queues = draft.queues ++ queue ∷ []; orders = draft.orders })
 queue_more draft queue limits core room =
@@ -70,7 +70,7 @@ order_more draft told limits one = record {
 }
 
 pub polls_more : (orders : List Told) (told : Told) → polls_in (orders ++ told ∷ []) ≡ polls_in orders + polls_of told.1
-polls_more orders told = sum_by-append (λ t. polls_of t.1) orders (told ∷ []) ∙ cc
+polls_more orders told = sum_by-append (λ t. polls_of t.1) orders (told ∷ []) ∙ ap (λ n. polls_in orders + n) (zero-add (polls_of told.1))
 
 pub IfOk-from_each : {A : Type 0} (r : Result A ThreadsCause) (P : A → Type 0) → ((a : A) → r ≡ Ok a → P a) → IfOk r P
 IfOk-from_each (Ok a) P each = each a refl

@@ -1,5 +1,5 @@
 -- What the reader of a script for threads answers at each byte.
-use Rattle.std.proofs.Common.{◌≡◌, ℕ, ◌≤◌, ◌++◌, ◌==◌, false, List, [], ◌∷◌, length, Result, Ok, Err, IfOk, IfErr, refl, ap, sym, ◌∙◌, append_assoc, arith}
+use Rattle.std.proofs.Common.{◌≡◌, ℕ, ◌+◌, ◌≤◌, ◌++◌, ◌==◌, false, List, [], ◌∷◌, length, Result, Ok, Err, IfOk, IfErr, refl, ap, sym, ◌∙◌, append_assoc, arith}
 use Rattle.std.proofs.lemmas.List.Elements.{All-push}
 use Rattle.std.proofs.lemmas.Result.{IfOk-weaker, IfErr-weaker}
 use Rattle.rt_threads_script.specs.declared.fault.ThreadsCause.{ThreadsCause}

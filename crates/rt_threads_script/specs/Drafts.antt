@@ -1,5 +1,5 @@
 -- A script for threads as far as its lines are judged.
-use Rattle.std.specs.Prelude.{ℕ, ◌+◌, ◌==◌, ◌++◌, ◌∷◌, [], Bool, List, length, Option, Some, None, Result, Ok, Err, nat_lt, nat_le, if◌then◌else◌, count_by, sum_by}
+use Rattle.std.specs.Prelude.{ℕ, ◌+◌, ◌-◌, ◌==◌, ◌++◌, ◌∷◌, [], Bool, List, length, Option, Some, None, Result, Ok, Err, nat_lt, nat_le, if◌then◌else◌, count_by, sum_by}
 use Rattle.rt_ids.specs.declared.order.Order.{Order}
 use Rattle.rt_ids.specs.declared.order.Order.TheVariants as order
 use Rattle.rt_jobs.specs.Scripts.{Script}
@@ -11,7 +11,7 @@ use Rattle.rt_script.specs.Drafts.{queue_lines, is_skipped}
 use Rattle.rt_text.specs.declared.fault.Cause.TheVariants.{TooManyLines, LineTooLong, TooManyQueues}
 use Rattle.rt_words.specs.Words.{words}
 use Rattle.rt_threads_script.specs.declared.fault.ThreadsCause.{ThreadsCause}
-use Rattle.rt_threads_script.specs.declared.fault.ThreadsCause.TheVariants as cause
+use Rattle.rt_threads_script.specs.declared.fault.ThreadsCause.TheVariants as why
 use Rattle.rt_threads_script.specs.Lines.{size_told, line_told}
 
 -- an order and the core that gets it
@@ -46,12 +46,12 @@ abbrev pub cap_of : Option (ℕ × ℕ) → ℕ
 cap_of None = 0
 cap_of (Some size) = size.1
 
--- why there is no room for an order to this core with so many polls: a core gets fewer orders than its capacity, and one place stays for
--- the order that closes it; all jobs have at most 4096 polls
+-- why there is no room for an order to this core with so many polls: a core gets fewer orders than the capacity, since one place stays for
+-- the order that closes it; all jobs together have at most 4096 polls
 abbrev pub refusal : Drafted → ℕ → ℕ → Option ThreadsCause
 refusal draft core polls =
-    if nat_le (cap_of draft.size) (orders_to core draft.orders + 1) then Some cause.TooManyForCap
-    else (if nat_lt 4096 (polls_in draft.orders + polls) then Some cause.TooManyPolls else None)
+    if nat_le (cap_of draft.size - 1) (orders_to core draft.orders) then Some why.TooManyForCap
+    else (if nat_lt 4096 (polls_in draft.orders + polls) then Some why.TooManyPolls else None)
 
 -- the draft and one order more, unless there is no room for it
 abbrev pub unless : Option ThreadsCause → Drafted → Told → Result Drafted ThreadsCause
@@ -64,13 +64,13 @@ with_order draft told = unless (refusal draft told.0 (polls_of told.1)) draft to
 -- what a line lets happen is an order of the outside actor; lines with anything else are refused before
 abbrev pub with_event : Drafted → ScriptEvent → Result Drafted ThreadsCause
 with_event draft (Send sender core order) = with_order draft (core, order)
-with_event draft _ = Err cause.NotForThreads
+with_event draft _ = Err why.NotForThreads
 
 -- the draft and one queue more; a core has at most 255 `queue` lines
 abbrev pub with_queue : Drafted → ℕ → ℕ → Result Drafted ThreadsCause
 with_queue draft core shares =
     if nat_lt (queue_lines core draft.queues) 255 then Ok (record { size = draft.size; queues = draft.queues ++ (core, shares) ∷ []; orders = draft.orders })
-    else Err (cause.Line TooManyQueues)
+    else Err (why.Line TooManyQueues)
 
 -- the draft and one line more
 abbrev pub with_line : Drafted → Line → Result Drafted ThreadsCause
@@ -97,6 +97,6 @@ with_text draft line =
 -- a line, by its number from 1
 abbrev pub judged : Drafted → ℕ → List ℕ → Result Drafted ThreadsCause
 judged draft number line =
-    if nat_lt 4096 number then Err (cause.Line TooManyLines)
-    else (if nat_lt 2048 (length line) then Err (cause.Line LineTooLong)
+    if nat_lt 4096 number then Err (why.Line TooManyLines)
+    else (if nat_lt 2048 (length line) then Err (why.Line LineTooLong)
     else with_text draft line)

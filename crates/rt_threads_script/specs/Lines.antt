@@ -9,7 +9,7 @@ use Rattle.rt_text.specs.declared.fault.Cause.{Cause}
 use Rattle.rt_words.specs.Numbers.{number_of, within}
 use Rattle.rt_words.specs.Words.{first, others}
 use Rattle.rt_threads_script.specs.declared.fault.ThreadsCause.{ThreadsCause}
-use Rattle.rt_threads_script.specs.declared.fault.ThreadsCause.TheVariants as cause
+use Rattle.rt_threads_script.specs.declared.fault.ThreadsCause.TheVariants as why
 
 -- something was read
 abbrev pub is_read : Result ℕ Cause → Bool
@@ -42,7 +42,7 @@ is_barred (Some keyword) cores ws = bars keyword cores ws
 -- what a line of any script says
 abbrev pub of_script : Result Line Cause → Result Line ThreadsCause
 of_script (Ok line) = Ok line
-of_script (Err cause) = Err (cause.Line cause)
+of_script (Err cause) = Err (why.Line cause)
 
 -- the first line that isn't skipped
 abbrev pub size_told : List (List ℕ) → Result Line ThreadsCause
@@ -51,5 +51,5 @@ size_told ws = of_script (script.first_line ws)
 -- a line after it; `late` says that a line other than a `queue` line came before
 abbrev pub line_told : ℕ → Bool → List (List ℕ) → Result Line ThreadsCause
 line_told cores late ws =
-    if is_barred (keyword_of (first ws)) cores (others ws) then Err cause.NotForThreads
+    if is_barred (keyword_of (first ws)) cores (others ws) then Err why.NotForThreads
     else of_script (script.later_line cores late ws)

@@ -2,7 +2,7 @@
 use Rattle.std.specs.Prelude.{ℕ}
 use Rattle.rt_threads_script.specs.declared.fault.ThreadsCause.{ThreadsCause}
 use Rattle.rt_threads_script.specs.declared.fault.ThreadsFault.{ThreadsFault}
-use Rattle.rt_threads_script.specs.declared.fault.ThreadsFault.TheVariants.{Text, Read, Write, Memory, Thread}
+use Rattle.rt_threads_script.specs.declared.fault.ThreadsFault.TheVariants.{Text, Write, Memory, Thread}
 
 -- a fact of the faulty line and its cause, where the text is at fault
 abbrev pub IfText : (ℕ × ThreadsCause → Type 0) → ThreadsFault → Type 0

@@ -3,7 +3,7 @@ use Rattle.std.specs.Prelude.{◌≡◌, ℕ, ◌+◌, ◌-◌, ◌*◌, ◌++�
 use Rattle.rt_script.specs.Scripts.{text_lines}
 use Rattle.rt_text.specs.declared.fault.Cause.TheVariants.{CoresLineExpected}
 use Rattle.rt_threads_script.specs.declared.fault.ThreadsCause.{ThreadsCause}
-use Rattle.rt_threads_script.specs.declared.fault.ThreadsCause.TheVariants as cause
+use Rattle.rt_threads_script.specs.declared.fault.ThreadsCause.TheVariants as why
 use Rattle.rt_threads_script.specs.Drafts.{Drafted, empty_draft, judged}
 
 -- what a faulty line is told by: its number from 1 and the cause
@@ -12,7 +12,7 @@ Fault = ℕ × ThreadsCause
 
 -- at the end of the text, before this line, the size has to be known
 abbrev pub whole : ℕ → Drafted → Option (ℕ × ℕ) → Result Drafted Fault
-whole number draft None = Err (number, cause.Line CoresLineExpected)
+whole number draft None = Err (number, why.Line CoresLineExpected)
 whole number draft (Some size) = Ok draft
 
 -- what comes of a line, and then of those after it

@@ -1,9 +1,10 @@
 //! A script for threads as far as its lines are judged.
 
-ghost use Rattle.std.specs.Prelude.{◌≡◌, Ok, Err, IfOk, IfErr, IfSome, IsNone, None, OnOk, OnErr, length, nat_lt, ◌<◌, ◌≤◌, ◌+◌, ◌↔◌};
+ghost use Rattle.std.specs.Prelude.{◌≡◌, Ok, Err, IfOk, IfErr, IfSome, IsNone, None, OnOk, OnErr, length, nat_lt, ◌≤◌, ◌+◌, ◌++◌, ◌∷◌, [], ◌↔◌};
 ghost use Rattle.rt_words.specs.Words.{words};
 ghost use Rattle.rt_script.specs.Drafts.{is_skipped, queue_lines};
 ghost use Rattle.rt_script.specs.Limits.{IsCoreOf, MayFollow, IsEventFor};
+ghost use Rattle.rt_threads_script.specs.declared.fault.ThreadsFault.TheVariants.{Memory};
 ghost use Rattle.rt_threads_script.specs.Drafts as spec;
 ghost use Rattle.rt_threads_script.specs.Limits.{IsToldFor};
 ghost use Rattle.rt_threads_script.specs.ScriptFaults.{IfFaulty};
@@ -169,7 +170,12 @@ impl Draft {
     }
 
     /// Takes an order to a core.
-    fn add_order(&mut self, number: u32, core: CoreNo, order: Order<ScriptJob>) -> Result<(), ThreadsFault>
+    fn add_order(
+        &mut self,
+        number: u32,
+        core: CoreNo,
+        order: Order<ScriptJob>,
+    ) -> Result<(), ThreadsFault>
         requires { IsToldFor self.old.size (core, order) }
         ensures ok { OnOk result (spec.with_order self.old (core, order) ≡ Ok self.new) }
         ensures faulty { IfErr result (IfFaulty (λ fault.
@@ -177,12 +183,30 @@ impl Draft {
         ensures err { OnErr result (self.new ≡ self.old) }
     {
         let polls = polls_of(&order);
-        if let Some(cause) = self.refuses(core, polls) {
-            return Err(ThreadsFault::Text {
+        match self.refuses(core, polls) {
+            Some(cause) => Err(ThreadsFault::Text {
                 line: number,
                 cause,
-            });
+            }),
+            None => self.push_order(core, order, polls),
         }
+    }
+
+    /// Takes an order to a core that there is room for.
+    fn push_order(
+        &mut self,
+        core: CoreNo,
+        order: Order<ScriptJob>,
+        polls: u32,
+    ) -> Result<(), ThreadsFault>
+        requires told { IsToldFor self.old.size (core, order) }
+        requires polls { polls ≡ spec.polls_of order }
+        requires few { spec.polls_in self.old.orders + polls ≤ 4096 }
+        ensures ok { OnOk result (self.new
+            ≡ record self.old { orders = self.old.orders ++ (core, order) ∷ [] }) }
+        ensures fault { IfErr result (λ fault. fault ≡ Memory) }
+        ensures err { OnErr result (self.new ≡ self.old) }
+    {
         self.orders.push((core, order))?;
         self.polls += polls;
         Ok(())
@@ -193,7 +217,8 @@ impl Draft {
         requires { polls ≤ 64 }
         ensures { result ≡ spec.refusal self.now core polls }
     {
-        if self.orders_to(core) + 1 >= self.cap() as usize {
+        let most = self.cap().saturating_sub(1);
+        if self.orders_to(core) >= most as usize {
             return Some(ThreadsCause::TooManyForCap);
         }
         if self.polls + polls > MOST_POLLS {

@@ -20,7 +20,10 @@ const CHUNK: usize = 8192;
 /// # Errors
 ///
 /// The first faulty line and its cause (`Text`), a failed read (`Read`), want of memory (`Memory`).
-pub fn read_threads_script<R: Read>(alloc: Global, source: &mut R) -> Result<ThreadsScript, ThreadsFault>
+pub fn read_threads_script<R: Read>(
+    alloc: Global,
+    source: &mut R,
+) -> Result<ThreadsScript, ThreadsFault>
     ensures ok { IfOk result (λ script.
         IfSome (R.remaining source.old) (λ text. threads_script_of text ≡ Ok (drafted script))) }
     ensures faulty { IfErr result (IfText (λ fault.
