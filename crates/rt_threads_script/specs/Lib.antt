@@ -6,3 +6,4 @@ pub mod Scripts
 pub mod ScriptFaults
 pub mod Telling
 pub mod Whole
+pub mod Taking

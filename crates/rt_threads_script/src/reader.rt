@@ -5,6 +5,7 @@ ghost use Rattle.rt_threads_script.specs.Scripts as spec;
 ghost use Rattle.rt_threads_script.specs.ScriptFaults.{IfFaulty};
 ghost use Rattle.rt_script.specs.Feeds.{HasNoFeed};
 ghost use Rattle.rt_threads_script.specs.Drafts.{judged};
+ghost use Rattle.rt_threads_script.specs.Taking.{TakesByte, TakesAll};
 ghost use Rattle.rt_threads_script.specs.Whole.{drafted};
 
 use crate::draft::Draft;
@@ -62,6 +63,7 @@ impl ThreadsReader {
             spec.script_from self.old (bytes.now ++ rest) ≡ spec.script_from self.new rest) }
         ensures faulty { IfErr result (IfFaulty (λ fault. (rest : List ℕ) →
             spec.script_from self.old (bytes.now ++ rest) ≡ Err fault)) }
+        ensures taken { OnOk result (TakesAll bytes.now self.old self.new) }
         ensures room { OnOk result (spec.room_left self.new + length bytes.now ≤ spec.room_left self.old) }
     {
         for byte in bytes {
@@ -121,6 +123,7 @@ impl ThreadsReader {
             spec.script_from self.old (byte ∷ rest) ≡ spec.script_from self.new rest) }
         ensures faulty { IfErr result (IfFaulty (λ fault. (rest : List ℕ) →
             spec.script_from self.old (byte ∷ rest) ≡ Err fault)) }
+        ensures taken { OnOk result (TakesByte byte self.old self.new) }
         ensures room { OnOk result (spec.room_left self.new + 1 ≤ spec.room_left self.old) }
     {
         if byte == LINE_FEED {

@@ -3,6 +3,7 @@
 ghost use Rattle.std.specs.Prelude.{◌≡◌, Ok, Err, IfOk, IfErr, IfSome};
 ghost use Rattle.rt_threads_script.specs.Scripts.{threads_script_of};
 ghost use Rattle.rt_threads_script.specs.ScriptFaults.{IfText, IsOfReading};
+ghost use Rattle.rt_threads_script.specs.Taking.{IsPrompt};
 ghost use Rattle.rt_threads_script.specs.Whole.{drafted};
 
 use crate::fault::ThreadsFault;
@@ -15,7 +16,7 @@ use std::io::Read;
 /// The most bytes that are read at once.
 const CHUNK: usize = 8192;
 
-/// The script for threads that the source tells, read and judged to its end.
+/// The script for threads that the source tells, read and judged to its end. Each line is judged before the next read.
 ///
 /// # Errors
 ///
@@ -29,6 +30,7 @@ pub fn read_threads_script<R: Read>(
     ensures faulty { IfErr result (IfText (λ fault.
         IfSome (R.remaining source.old) (λ text. threads_script_of text ≡ Err fault))) }
     ensures device { IfErr result IsOfReading }
+    ensures prompt { IfErr result (IsPrompt (R.remaining source.old) (R.remaining source.new)) }
 {
     let mut chunk = [0u8; CHUNK];
     let mut reader = ThreadsReader::new(alloc);
