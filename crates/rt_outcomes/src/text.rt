@@ -12,8 +12,8 @@ use rt_rules::links::{outcome_under, outcomes_given};
 use rt_tables::{NameTable, note_at};
 use std::alloc::{AllocError, Global};
 
-/// The outcomes that were given, a table for each actor.
-type Outcomes = [NameTable<OutcomeNote<u64>>];
+/// The outcomes that one actor gave.
+type Outcomes = NameTable<OutcomeNote<u64>>;
 
 /// Puts a line on the page for each submission of the outside actor that has an outcome, by core and number.
 ///
@@ -26,14 +26,19 @@ pub fn put_outcomes(alloc: Global, assembly: &Assembly, page: &mut String) -> Re
     let outcomes = outcomes_given(alloc, assembly)?;
     let outside = assembly.cores();
     for core in 0..outside {
-        put_core(&outcomes, CoreNo(core), assembly.journal(ActorNo(outside)), page)?;
+        put_core(
+            &outcomes,
+            CoreNo(core),
+            assembly.journal(ActorNo(outside)),
+            page,
+        )?;
     }
     Ok(())
 }
 
 /// Puts the lines of the submissions to one core.
 fn put_core(
-    outcomes: &Outcomes,
+    outcomes: &[Outcomes],
     core: CoreNo,
     sent: &Journal<u64>,
     page: &mut String,
@@ -49,7 +54,7 @@ fn put_core(
 }
 
 /// Puts the line of a submission, if there is one.
-fn put_line(outcomes: &Outcomes, name: Option<JobId>, page: &mut String) -> Result<(), AllocError>
+fn put_line(outcomes: &[Outcomes], name: Option<JobId>, page: &mut String) -> Result<(), AllocError>
     ensures { OnOk result ((assembly : AllJournals ℕ) → KnowsOutcomes outcomes.now assembly
         → string_bytes page.new ≡ string_bytes page.old ++ spec.line_told assembly name) }
 {
@@ -80,13 +85,7 @@ fn name_sent(core: CoreNo, note: &Note<u64>) -> Option<JobId>
     ensures { result ≡ spec.name_sent core note.now }
 {
     match *note {
-        Note::Sent(name, _) => {
-            if name.to == core {
-                Some(name)
-            } else {
-                None
-            }
-        }
+        Note::Sent(name, _) => { if name.to == core { Some(name) } else { None } }
         _ => None,
     }
 }

@@ -6,7 +6,7 @@ use Rattle.rt_outcomes.proofs.write.write_out.Goals as goal
 pub returns-in_err-write_all-clause-err : goal.returns-in_err-write_all-clause-err
 returns-in_err-write_all-clause-err g c =
     let out = c.in_err-write_all.ensures.err in
-    OnErr-any c.from_residual-in_err-write_all.result (front_of_count _ _ c.args.bytes.now out.0 out.2)
+    OnErr-any c.from_residual.result (front_of_count _ _ c.args.bytes.now out.0 out.2)
 
 pub returns-clause-ok : goal.returns-clause-ok
 returns-clause-ok g c = OnOk-any c.flush.result (Appends-more_kept _ _ _ c.args.bytes.now c.in_ok-write_all.ensures.ok c.flush.ensures)
