@@ -10,10 +10,11 @@ use Rattle.rt_jobs.specs.declared.job.Step.TheVariants as steps
 use Rattle.rt_jobs.specs.Steps.{Owed}
 use Rattle.rt_timeline.specs.Rising.{first_key}
 use Rattle.rt_taskqueue.specs.Queues.{waiting_of}
+use Rattle.rt_taskqueue.specs.Fronts.{OfFront}
 use Rattle.rt_core.specs.State.{CoreView, runtime_of}
 use Rattle.rt_core.specs.Closing.{return_reason}
 use Rattle.rt_core.specs.Turns.{IsNext, TakesOut, Picks, SettlesOut}
-use Rattle.rt_core.specs.Whole.{IsAhead, TurnsFirst, TurnsWhole, SettlesStep, goes_out, pick_notes, settled_of, settle_notes}
+use Rattle.rt_core.specs.Whole.{IsAhead, OfNext, TurnsFirst, TurnsWhole, SettlesStep, goes_out, pick_notes, settled_of, settle_notes}
 use Rattle.rt_core.proofs.PollsSettled.{settles_yield, settles_done}
 
 -- the first of a list of keys
@@ -39,6 +40,17 @@ module _ {J : Type 0} where
   -- only one queue is next
   next_same : (view : CoreView J) (one other : ℕ) → IsNext view one → IsNext view other → (waiting_of one view.queues ≡ [] → ⊥) → (waiting_of other view.queues ≡ [] → ⊥) → one ≡ other
   next_same view one other first second some any = least_same (runtime_of one view) one (runtime_of other view) other (first.least other any) (second.least one some)
+
+  -- what is said of the next job is said of the one that was told ahead
+  pub said_ahead : (fact : J → Type 0) (view : CoreView J) (queue vr : ℕ) (name : JobId) (started : Bool) → IsAhead view queue vr name started → OfNext fact view → OfFront fact (waiting_of queue view.queues)
+  said_ahead fact view queue vr name started is_ahead said =
+      let front = is_ahead.front in
+      let here = some_front (waiting_of queue view.queues) (name, started, front.0) front.1 front.2 in
+      subst (λ (at : ℕ). OfFront fact (waiting_of at view.queues)) (next_same view said.0 queue said.1 is_ahead.next (λ none. subst (OfFront fact) none said.2) here) said.2
+
+  -- what is said of the first job of a queue is said of the one that goes out
+  pub said_taken : (fact : J → Type 0) (old mid : CoreView J) (name : JobId) (queue : ℕ) (started : Bool) (job : J) → TakesOut old name queue started job mid → OfFront fact (waiting_of queue old.queues) → fact job
+  said_taken fact old mid name queue started job takes said = subst (OfFront fact) takes.first said
 
 -- the job that was told ahead goes out with these notes
 module _ {J : Type 0} (T : Type 0) where

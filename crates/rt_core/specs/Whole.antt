@@ -8,7 +8,7 @@ use Rattle.rt_jobs.specs.declared.job.Step.{Step}
 use Rattle.rt_jobs.specs.declared.job.Step.TheVariants as steps
 use Rattle.rt_jobs.specs.Steps.{Owed, AfterPoll}
 use Rattle.rt_taskqueue.specs.Queues.{waiting_of}
-use Rattle.rt_taskqueue.specs.Fronts.{IsPolled, HasFront}
+use Rattle.rt_taskqueue.specs.Fronts.{IsPolled, HasFront, OfFront}
 use Rattle.rt_core.specs.declared.turn.Ahead.{Ahead}
 use Rattle.rt_core.specs.declared.turn.Ahead.TheVariants as ahead
 use Rattle.rt_core.specs.declared.turn.PickError.{PickError}
@@ -35,6 +35,10 @@ module _ {J : Type 0} where
     pub front : HasFront view.queues queue name started
     pub kept : return_reason queue view ≡ None
     pub left : view.turns < 2 ^ 64 - 1
+
+  -- this is said of the first job of the next queue
+  abbrev pub OfNext : (J → Type 0) → CoreView J → Type 0
+  OfNext fact view = (queue : ℕ) × IsNext view queue × OfFront fact (waiting_of queue view.queues)
 
   -- what the next pick would come to, told before it is made; a job that is out comes before turns that are used up
   abbrev pub TellsAhead : CoreView J → Result Ahead PickError → Type 0

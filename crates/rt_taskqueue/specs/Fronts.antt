@@ -30,6 +30,11 @@ module _ {J : Type 0} where
   IsFrontReady done can_poll [] = ⊥
   IsFrontReady done can_poll (waiting ∷ others) = IsReady done can_poll waiting.2
 
+  -- a line has a head, and this is said of its job
+  abbrev pub OfFront : (J → Type 0) → List (JobId × Bool × J) → Type 0
+  OfFront fact [] = ⊥
+  OfFront fact (waiting ∷ others) = fact waiting.2
+
   -- the head of a line leaves it, and joins it again at the tail, as started
   pub record TurnsLine (old new : QueuesView J) (queue : ℕ) : Type 0 where
     pub name : JobId

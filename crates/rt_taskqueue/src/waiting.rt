@@ -86,7 +86,9 @@ pub fn poll_at<J: Job, A: Allocator, P: Post<J, J::Out>>(
 ) -> (Step<J::Out>, Option<u64>)
     requires there { ContainsKey jobs.old key }
     requires ready { IfSome (get jobs.old key) (λ waiting. IsReady J.done J.CanPoll waiting.job) }
-    ensures { PollsAt J.SameTask J.done J.CanPoll J.made J.Polls J.Answers jobs.old key (P.notes post.old) (P.notes post.new) result.0 result.1 jobs.new }
+    ensures polls { PollsAt J.SameTask J.done J.CanPoll J.made J.Polls J.Answers jobs.old key (P.notes post.old) (P.notes post.new) result.0 result.1 jobs.new }
+    ensures asks { IfSome (get jobs.old key) (λ waiting. J.Asks P P.Does waiting.job (J.made waiting.job) post.old post.new) }
+    ensures follows { P.Follows post.old post.new }
 {
     let front = &mut jobs[key];
     let step = front.job.poll(post);

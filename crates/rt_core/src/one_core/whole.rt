@@ -3,8 +3,9 @@ ghost use Rattle.std.specs.Prelude.{◌≡◌, ℕ, ◌-◌, ◌^◌, ◌<◌, [
 ghost use Rattle.rt_ids.specs.Work.{number_if};
 ghost use Rattle.rt_jobs.specs.Steps.{is_done_step};
 ghost use Rattle.rt_taskqueue.specs.Queues.{waiting_of};
+ghost use Rattle.rt_taskqueue.specs.Fronts.{OfFront};
 ghost use Rattle.rt_core.specs.State.{IsBounded};
-ghost use Rattle.rt_core.specs.Whole.{IsAhead, TellsAhead, TurnsFirst, TurnsWhole, pick_notes, settled_of, settle_notes};
+ghost use Rattle.rt_core.specs.Whole.{IsAhead, OfNext, TellsAhead, TurnsFirst, TurnsWhole, pick_notes, settled_of, settle_notes};
 
 use super::Core;
 use crate::tally::place;
@@ -92,6 +93,8 @@ impl<J: Job, A: Allocator + Clone> Core<J, A> {
     ) -> (Step<J::Out>, u64)
         requires ahead { IsAhead self.old next.now.queue next.now.vr next.now.name next.now.started }
         ensures whole { TurnsWhole J.SameTask J.done J.CanPoll J.made J.Polls J.Answers self.old spent (P.notes post.old) (P.notes post.new) next.now.name next.now.queue next.now.started (pick_notes next.now.queue next.now.vr next.now.name next.now.started) (settled_of result.0) (settle_notes next.now.name result.1 result.0) self.new }
+        ensures asks { OfFront (λ job. J.Asks P P.Does job (J.made job) post.old post.new) (waiting_of next.now.queue self.old.queues) }
+        ensures follows { P.Follows post.old post.new }
         ensures bounded { IsBounded self.new }
     {
         let _named = next;
@@ -108,6 +111,8 @@ impl<J: Job, A: Allocator + Clone> Core<J, A> {
         requires turns { self.old.turns < 2 ^ 64 - 1 }
         requires work { (queue : ℕ) × (waiting_of queue self.old.queues ≡ [] → ⊥) }
         ensures turns { TurnsFirst J.SameTask J.done J.CanPoll J.made J.Polls J.Answers self.old spent (P.notes post.old) (P.notes post.new) result.0 result.1 self.new }
+        ensures asks { OfNext (λ job. J.Asks P P.Does job (J.made job) post.old post.new) self.old }
+        ensures follows { P.Follows post.old post.new }
         ensures bounded { IsBounded self.new }
     {
         let Some((key, slip)) = self.ready.take_least() else {

@@ -1,7 +1,7 @@
 //! The job at the head of a line: it is polled where it stands, and goes to the tail by links alone.
 ghost use Rattle.std.specs.Prelude.{◌≡◌, ◌<◌, [], IfSome, IfNone};
 ghost use Rattle.rt_taskqueue.specs.Slips.{queue_count, waiting_of, IsWithinLimits, queues_alone};
-ghost use Rattle.rt_taskqueue.specs.Fronts.{HasFront, IsFrontReady, PollsFront, TurnsLine, TurnsFront};
+ghost use Rattle.rt_taskqueue.specs.Fronts.{HasFront, IsFrontReady, OfFront, PollsFront, TurnsLine, TurnsFront};
 
 use super::Queues;
 use crate::waiting::{poll_at, requeue};
@@ -49,6 +49,8 @@ impl<J: Job, A: Allocator + Clone> Queues<J, A> {
         requires exists { queue < queue_count self.old }
         requires ready { IsFrontReady J.done J.CanPoll (waiting_of queue self.old) }
         ensures polls { PollsFront J.SameTask J.done J.CanPoll J.made J.Polls J.Answers (queues_alone self.old) queue (P.notes post.old) (P.notes post.new) result.0 result.1 (queues_alone self.new) }
+        ensures asks { OfFront (λ job. J.Asks P P.Does job (J.made job) post.old post.new) (waiting_of queue self.old) }
+        ensures follows { P.Follows post.old post.new }
         ensures slips { self.new.slips ≡ self.old.slips }
         ensures limits { IsWithinLimits self.new }
     {
@@ -67,6 +69,8 @@ impl<J: Job, A: Allocator + Clone> Queues<J, A> {
         requires exists { queue < queue_count self.old }
         requires ready { IsFrontReady J.done J.CanPoll (waiting_of queue self.old) }
         ensures turns { TurnsFront J.SameTask J.done J.CanPoll J.made J.Polls J.Answers (queues_alone self.old) queue (P.notes post.old) (P.notes post.new) result.0 result.1 (queues_alone self.new) }
+        ensures asks { OfFront (λ job. J.Asks P P.Does job (J.made job) post.old post.new) (waiting_of queue self.old) }
+        ensures follows { P.Follows post.old post.new }
         ensures slips { self.new.slips ≡ self.old.slips }
         ensures limits { IsWithinLimits self.new }
     {

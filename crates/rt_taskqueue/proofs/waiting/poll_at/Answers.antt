@@ -5,8 +5,8 @@ use Rattle.slab.proofs.SlabLemmas.{Updates-with_value, ContainsKey-within}
 use Rattle.rt_taskqueue.specs.declared.waiting.Waiting.{Waiting}
 use Rattle.rt_taskqueue.proofs.waiting.poll_at.Goals as goal
 
-pub returns : goal.returns
-returns g c =
+pub returns-clause-polls : goal.returns-clause-polls
+returns-clause-polls g c =
     let jobs = c.args.jobs.now in
     let was = c.index_mut-front.result.now in
     let polled = c.poll-step.ensures in

@@ -1,5 +1,5 @@
 use Rattle.rt_taskqueue.specs.Queues.{waiting_of}
-use Rattle.rt_core.proofs.Turned.{TurnsWhole-first, some_front}
+use Rattle.rt_core.proofs.Turned.{TurnsWhole-first, some_front, said_ahead}
 use Rattle.rt_core.proofs.one_core.Core.turn.Goals as goal
 
 pub turn_first-requires : goal.turn_first-requires
@@ -19,6 +19,15 @@ returns-clause-whole g c =
     let turned = c.turn_first in
     TurnsWhole-first g.J.Task.SameTask g.J.Task.done g.J.Task.CanPoll g.J.Task.made g.J.Task.Polls g.J.Task.Answers c.args.self.now turned.new.self c.args.spent
     (g.P.Post.notes c.args.post.now) (g.P.Post.notes turned.new.post) turned.result.0 turned.result.1 next.queue next.vr next.name next.started c.requires.ahead turned.ensures.turns
+
+pub returns-clause-asks : goal.returns-clause-asks
+returns-clause-asks g c =
+    let next = c.args.next.now in
+    let asked : g.row.J.Denot → Type 0 = λ job. g.J.Task.Asks g.row.P.Denot g.P.Post.Does job (g.J.Task.made job) c.args.post.now c.turn_first.new.post in
+    said_ahead asked c.args.self.now next.queue next.vr next.name next.started c.requires.ahead c.turn_first.ensures.asks
+
+pub returns-clause-follows : goal.returns-clause-follows
+returns-clause-follows g c = c.turn_first.ensures.follows
 
 pub returns-clause-bounded : goal.returns-clause-bounded
 returns-clause-bounded g c = c.turn_first.ensures.bounded

@@ -284,6 +284,19 @@ returns-clause-turns g c =
           (λ i. core_view inside.core inside.cores (queues_alone c.turn_front-step.new.self) (written i) (floor i) (inside.turns + 1) (free i) inside.senders inside.mode);
     })
 
+pub returns-clause-asks : goal.returns-clause-asks
+returns-clause-asks g c =
+    let inside = c.self.inside in
+    let core = c.self.invariant in
+    let key = c.in-Some.key in
+    let old = core_view inside.core inside.cores (queues_alone inside.queues) inside.tallies.items inside.floor inside.turns (job_out inside.out) inside.senders inside.mode in
+    let free : job_out inside.out ≡ None = subst (λ (view : CoreView g.row.J.Denot). view.out ≡ None) (sym c.self.view_is) c.requires.free in
+    let next = first_is_next old inside.ready.keys key c.take_least.new.self.keys c.in-Some.ensures.least core.listed free c.take_least.ensures.rising in
+    rw (← c.self.view_is) (key.queue, next, c.turn_front-step.ensures.asks)
+
+pub returns-clause-follows : goal.returns-clause-follows
+returns-clause-follows g c = c.turn_front-step.ensures.follows
+
 pub returns-clause-bounded : goal.returns-clause-bounded
 returns-clause-bounded g c =
     let inside = c.self.inside in
