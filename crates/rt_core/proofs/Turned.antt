@@ -3,18 +3,17 @@ use Rattle.std.proofs.Common.{◌≡◌, ℕ, Bool, true, false, List, [], ◌�
 use Rattle.rt_ids.specs.declared.names.JobId.{JobId}
 use Rattle.rt_ids.specs.declared.names.Key.{Key}
 use Rattle.rt_ids.specs.declared.note.Note.TheVariants as notes
-use Rattle.rt_ids.specs.Journal.{Journal}
 use Rattle.rt_ids.specs.Keys.{KeyAtMost}
+use Rattle.rt_jobs.specs.Calls.{Call}
 use Rattle.rt_jobs.specs.declared.job.Step.{Step}
 use Rattle.rt_jobs.specs.declared.job.Step.TheVariants as steps
 use Rattle.rt_jobs.specs.Steps.{Owed}
 use Rattle.rt_timeline.specs.Rising.{first_key}
 use Rattle.rt_taskqueue.specs.Queues.{waiting_of}
-use Rattle.rt_taskqueue.specs.Fronts.{OfFront}
 use Rattle.rt_core.specs.State.{CoreView, runtime_of}
 use Rattle.rt_core.specs.Closing.{return_reason}
 use Rattle.rt_core.specs.Turns.{IsNext, TakesOut, Picks, SettlesOut}
-use Rattle.rt_core.specs.Whole.{IsAhead, OfNext, TurnsFirst, TurnsWhole, SettlesStep, goes_out, pick_notes, settled_of, settle_notes}
+use Rattle.rt_core.specs.Whole.{IsAhead, TurnsFirst, TurnsWhole, SettlesStep, goes_out, pick_notes, settled_of, settle_notes}
 use Rattle.rt_core.proofs.PollsSettled.{settles_yield, settles_done}
 
 -- the first of a list of keys
@@ -41,17 +40,6 @@ module _ {J : Type 0} where
   next_same : (view : CoreView J) (one other : ℕ) → IsNext view one → IsNext view other → (waiting_of one view.queues ≡ [] → ⊥) → (waiting_of other view.queues ≡ [] → ⊥) → one ≡ other
   next_same view one other first second some any = least_same (runtime_of one view) one (runtime_of other view) other (first.least other any) (second.least one some)
 
-  -- what is said of the next job is said of the one that was told ahead
-  pub said_ahead : (fact : J → Type 0) (view : CoreView J) (queue vr : ℕ) (name : JobId) (started : Bool) → IsAhead view queue vr name started → OfNext fact view → OfFront fact (waiting_of queue view.queues)
-  said_ahead fact view queue vr name started is_ahead said =
-      let front = is_ahead.front in
-      let here = some_front (waiting_of queue view.queues) (name, started, front.0) front.1 front.2 in
-      subst (λ (at : ℕ). OfFront fact (waiting_of at view.queues)) (next_same view said.0 queue said.1 is_ahead.next (λ none. subst (OfFront fact) none said.2) here) said.2
-
-  -- what is said of the first job of a queue is said of the one that goes out
-  pub said_taken : (fact : J → Type 0) (old mid : CoreView J) (name : JobId) (queue : ℕ) (started : Bool) (job : J) → TakesOut old name queue started job mid → OfFront fact (waiting_of queue old.queues) → fact job
-  said_taken fact old mid name queue started job takes said = subst (OfFront fact) takes.first said
-
 -- the job that was told ahead goes out with these notes
 module _ {J : Type 0} (T : Type 0) where
   pub picks_ahead : (old mid : CoreView J) (queue vr : ℕ) (name : JobId) (started : Bool) (job : J) → TakesOut old name queue started job mid → return_reason queue old ≡ None → vr ≡ runtime_of queue old →
@@ -60,10 +48,10 @@ module _ {J : Type 0} (T : Type 0) where
   picks_ahead old mid queue vr name true job takes kept stands = (takes, kept, ap (λ at. notes.Pick queue at ∷ notes.Resume name ∷ []) stands)
 
 module _ {J T : Type 0} (same : J → J → Type 0) (done : J → Bool) (can_poll : J → Type 0) (made : J → ℕ) (polls : Owed J T) (answers : J → T → Type 0) where
-  pub TurnsWhole-first : (old new : CoreView J) (spent : ℕ) (before after : Journal T) (step : Step T) (time queue vr : ℕ) (name : JobId) (started : Bool) → IsAhead old queue vr name started →
-      TurnsFirst same done can_poll made polls answers old spent before after step time new →
-      TurnsWhole same done can_poll made polls answers old spent before after name queue started (pick_notes queue vr name started) (settled_of step) (settle_notes name time step) new
-  TurnsWhole-first old new spent before after step time queue vr name started is_ahead turns =
+  pub TurnsWhole-first : (old new : CoreView J) (spent : ℕ) (calls : List (Call J T)) (step : Step T) (time queue vr : ℕ) (name : JobId) (started : Bool) → IsAhead old queue vr name started →
+      TurnsFirst same done can_poll made polls answers old spent calls step time new →
+      TurnsWhole same done can_poll made polls answers old spent calls name queue started (pick_notes queue vr name started) (settled_of step) (settle_notes name time step) new
+  TurnsWhole-first old new spent calls step time queue vr name started is_ahead turns =
       let front = is_ahead.front in
       let there = some_front (waiting_of turns.queue old.queues) (turns.name, turns.started, turns.ran.before) turns.takes.others turns.takes.first in
       let here = some_front (waiting_of queue old.queues) (name, started, front.0) front.1 front.2 in

@@ -13,7 +13,7 @@ use Rattle.rt_taskqueue.specs.Queues.{QueuesView, waiting_of, ChangesLine}
 use Rattle.rt_taskqueue.specs.Linked.{line_at, next_of, key_at, IsLinked, IsKept}
 use Rattle.rt_taskqueue.specs.Entries.{Appends, Requeues, Renews, Relinks}
 use Rattle.rt_jobs.specs.Ready.{IsReady}
-use Rattle.rt_taskqueue.specs.Fronts.{TurnsLine, IsFrontReady, OfFront}
+use Rattle.rt_taskqueue.specs.Fronts.{TurnsLine, IsFrontReady}
 use Rattle.rt_taskqueue.proofs.Chains.{key_at-same}
 use Rattle.rt_taskqueue.proofs.Changes.{ChangesOne-set}
 use Rattle.rt_taskqueue.proofs.Leaves.{Leaves, IsKept-left, waiting_of-left, ChangesLine-left}
@@ -187,14 +187,6 @@ module _ {J : Type 0} {room line_places : ℕ} {jobs : Slab (Waiting J)} {lines 
       let found = some_of (get jobs (line_at lines queue).head) (head_filled kept queue (line_at lines queue) refl some) in
       let shown = head_shown kept queue found.0 found.1 within some in
       subst (λ (entry : Option (Waiting J)). IfSome entry (λ waiting. IsReady done can_poll waiting.job)) (sym found.1) (subst (IsFrontReady done can_poll) shown.1 ready)
-
-  -- what is said of the entry at the head is said of the job at the front
-  pub front_said : (fact : J → Type 0) → IsKept room line_places jobs lines → (queue : ℕ) → queue < length lines → 0 < (line_at lines queue).count →
-      IfSome (get jobs (line_at lines queue).head) (λ waiting. fact waiting.job) → OfFront fact (waiting_of queue (alone room jobs lines))
-  front_said fact kept queue within some said =
-      let found = some_of (get jobs (line_at lines queue).head) (head_filled kept queue (line_at lines queue) refl some) in
-      let shown = head_shown kept queue found.0 found.1 within some in
-      subst (OfFront fact) (sym shown.1) (subst (λ (entry : Option (Waiting J)). IfSome entry (λ waiting. fact waiting.job)) found.1 said)
 
 module _ {J : Type 0} {room line_places : ℕ} {old new : Slab (Waiting J)} {lines : List Line} where
   -- the head is polled where it stands
