@@ -9,10 +9,10 @@ abbrev pub keys_after : Bool → ℕ → ℕ → List Key → List Key
 keys_after true vr queue keys = inserted (record { vr = vr; queue = queue }) keys
 keys_after false vr queue keys = keys
 
--- its slip goes there, and that of a queue in which none waits comes back
+-- its slip, which had come back, goes there
 abbrev pub slips_after : Bool → ℕ → List Bool → List Bool
-slips_after true queue slips = slice_set (slice_set slips queue true) queue false
-slips_after false queue slips = slice_set slips queue true
+slips_after true queue slips = slice_set slips queue false
+slips_after false queue slips = slips
 
 abbrev pub relisted : {J : Type 0} → Bool → ℕ → SlippedView J → SlippedView J
-relisted any queue view = record view { slips = slips_after any queue view.slips }
+relisted any queue view = record view { slips = slips_after any queue (slice_set view.slips queue true) }
