@@ -1,7 +1,5 @@
-use Rattle.std.proofs.Common.{◌≡◌, ◌++◌, ℕ, sym, subst, string_bytes, OnOk, arith}
-use Rattle.rt_ids.specs.Assembly.{Assembly}
+use Rattle.std.proofs.Common.{◌≡◌, ◌++◌, ℕ, sym, subst, string_bytes, arith}
 use Rattle.rt_ids.specs.Journal.{Journal, at_place}
-use Rattle.rt_rules.specs.Links.{KnowsOutcomes}
 use Rattle.rt_tables.proofs.Walks.{at_start, whole_walk}
 use Rattle.rt_outcomes.specs.Outcomes.{lines_told, line_told}
 use Rattle.rt_outcomes.proofs.TextLemmas.{before_notes, after_note}
