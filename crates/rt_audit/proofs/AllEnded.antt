@@ -16,7 +16,7 @@ use Rattle.rt_ids.specs.Sound.{AllEnded}
 use Rattle.rt_ids.proofs.NameLemmas.{one_name}
 use Rattle.rt_tables.specs.Names.{value_under, has_name}
 use Rattle.rt_tables.specs.Told.{order_told}
-use Rattle.rt_rules.proofs.FirstUnder.{first_under-with_last, under-order}
+use Rattle.rt_tables.proofs.FirstUnder.{first_under-with_last, under-order}
 use Rattle.rt_rules.proofs.LinkTables.{no_journal}
 use Rattle.rt_audit.specs.declared.lost.Held.{Held}
 use Rattle.rt_audit.specs.Held.{KnowsHeld, HasEnded, EndedUnder, EndedIfSent}

@@ -3,7 +3,7 @@ use Rattle.std.specs.Prelude.{◌||◌}
 use Rattle.rt_ids.specs.Clauses.{name_answered}
 use Rattle.rt_ids.specs.Names.{is_name}
 use Rattle.rt_ids.specs.Outstanding.{name_redeemed}
-use Rattle.rt_rules.proofs.FirstUnder.{next_collected}
+use Rattle.rt_tables.proofs.FirstUnder.{next_collected}
 use Rattle.rt_rules.proofs.outcomes.Ends.add.Goals as goal
 
 pub returns : goal.returns
