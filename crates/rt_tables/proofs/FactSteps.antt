@@ -10,7 +10,7 @@ use Rattle.rt_tables.specs.declared.histories.Fact.{Fact}
 use Rattle.rt_tables.specs.Histories.{no_fact, name_asked, FitsPlace, IsAsCollected, HistorySoFar}
 
 -- a fact fits the newest note of a journal
-FitsNewest : Fact → Journal ℕ → Type 0
+abbrev FitsNewest : Fact → Journal ℕ → Type 0
 FitsNewest fact [] = Unit {0}
 FitsNewest fact (note ∷ before) = FitsPlace fact note before
 

@@ -21,11 +21,12 @@ pub loop-place-preserved : goal.loop-place-preserved
 loop-place-preserved c =
     let read : length (at_place c.loop-place.place c.args.journal.now.notes) < greatest_count =
     omega (arith, length-at_place c.loop-place.place c.args.journal.now.notes, c.loop-place-test.true, c.len-place-end.type_inv) in
-    let right = c.picks_right.ensures.right _ c.loop-place.invariant.known c.if-not-picks_right.false in
+    let facts = c.fact-fact.ensures c.args.journal.now.notes _ _ c.requires (omega arith) c.note_at-note.ensures in
+    let right = c.picks_right.ensures.right _ c.loop-place.invariant.known facts c.if-not-picks_right.false in
     subst (λ (before : Journal ℕ). PicksSoFar c.add.new.self before) (sym c.note_at-note.ensures)
     (
     record {
-      known = c.in_ok-add.ensures _ read right.1 c.loop-place.invariant.known;
+      known = c.add.ensures _ read facts right.1 c.loop-place.invariant.known;
       right = (right.0, c.loop-place.invariant.right);
     }
     )
@@ -46,11 +47,12 @@ returns-then-not-picks_right-clause-only c =
     let right =
     subst (λ (journal : Journal ℕ). EachNote PicksRight journal) c.note_at-note.ensures
     (each_before PicksRight (c.loop-place.place + 1) c.args.journal.now.notes each) in
+    let facts = c.fact-fact.ensures c.args.journal.now.notes c.note_at-note.result read c.requires (omega arith) c.note_at-note.ensures in
     let written = each_before (λ note before. IsSpelledNote terms note) c.loop-place.place c.args.journal.now.notes spelled in
     absurd
     (
     both_ways c.picks_right.result c.if-not-picks_right.true
-    (c.picks_right.ensures.only read c.loop-place.invariant.known (are_below terms read written right.1 short) right.1 right.0)
+    (c.picks_right.ensures.only read c.loop-place.invariant.known facts (are_below terms read written right.1 short) right.1 right.0)
     )
 
 pub returns-then-is_some-clause-only : goal.returns-then-is_some-clause-only
