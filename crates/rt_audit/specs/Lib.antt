@@ -1,3 +1,5 @@
-pub mod Held
+pub mod Ends
 pub mod Places
+pub mod Faults
+pub mod Histories
 pub mod Verdicts

@@ -61,9 +61,10 @@ impl Numbers {
         ensures raises { Raises self.old self.new name.now.from queue name.now.number }
         ensures rows { length self.new.started ≡ length self.old.started }
     {
-        let next = name.number;
-        if let Some(number) = self.started.get_mut(slot(name.from, queue)) {
-            *number = next.max(*number);
+        let at = slot(name.from, queue);
+        if at < self.started.len() {
+            let number = self.started[at];
+            self.started[at] = name.number.max(number);
         }
     }
 

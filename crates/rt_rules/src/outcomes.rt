@@ -1,6 +1,6 @@
 //! Rule 4: nothing ends twice, what is collected and redeemed is what was given, and a drained core has ended all.
 
-ghost use Rattle.std.specs.Prelude.{◌≡◌, ℕ, IfSome, IsTrue, None, Some, false};
+ghost use Rattle.std.specs.Prelude.{◌≡◌, ℕ, IfSome, IsTrue, None, Some, false, true};
 ghost use Rattle.rt_ids.specs.Assembly.{Assembly, outcome_of, IsAcceptedJob};
 ghost use Rattle.rt_ids.specs.Clauses.{OutcomesRight};
 ghost use Rattle.rt_ids.specs.Filters.{name_ended};
@@ -38,6 +38,14 @@ fn is_given(
     }
 }
 
+/// Whether the outcome that was collected is redeemed, and for the first time.
+fn may_redeem(fact: &Fact) -> bool
+    ensures right { IsTrue result → (fact.now.collected ≡ true) × (fact.now.redeemed ≡ false) }
+    ensures only { fact.now.collected ≡ true → fact.now.redeemed ≡ false → IsTrue result }
+{
+    fact.collected && !fact.redeemed
+}
+
 /// Whether a note ends, answers, collects or redeems as it may.
 fn outcomes_right(
     orders: &[NameTable<Order<()>>],
@@ -54,9 +62,7 @@ fn outcomes_right(
         Note::Returned(name, _) => may_end(orders, fact, &name),
         Note::Answered(name, _) => is_accepted_command(orders, &name) && !fact.answered,
         Note::Collected(name, outcome) => is_given(outcomes, &name, &outcome),
-        Note::Redeemed(name, outcome) => {
-            is_given(outcomes, &name, &outcome) && fact.collected && !fact.redeemed
-        }
+        Note::Redeemed(name, outcome) => may_redeem(fact) && is_given(outcomes, &name, &outcome),
         _ => true,
     }
 }

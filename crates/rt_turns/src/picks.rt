@@ -1,6 +1,6 @@
 //! Rule 5: each pick takes the least pair of virtual runtime and number among the queues that have work.
 
-ghost use Rattle.std.specs.Prelude.{◌≡◌, ◌<◌, ◌≤◌, ◌∷◌, ℕ, IsTrue, None, Some, [], is_some, true, length, get_or};
+ghost use Rattle.std.specs.Prelude.{◌≡◌, ◌<◌, ◌≤◌, ◌∷◌, ℕ, IfSome, IsTrue, None, Some, [], is_some, true, length, get_or};
 ghost use Rattle.rt_ids.specs.Clauses.{PicksRight, IsRightIfPick};
 ghost use Rattle.rt_ids.specs.Journal.{Journal as Notes, EachNote};
 ghost use Rattle.rt_ids.specs.Keys.{KeyAtMost};
@@ -10,6 +10,7 @@ ghost use Rattle.rt_ids.specs.Terms.{Terms};
 ghost use Rattle.rt_accounts.specs.Accounts.{fresh_account, has_jobs, greatest_count, greatest_runtime};
 ghost use Rattle.rt_tables.specs.Histories.{FitsPlace, IsHistory};
 ghost use Rattle.rt_least.specs.Winners.{IsTree};
+ghost use Rattle.rt_turns.specs.PickFaults.{IsPickFault, IsLineOf};
 ghost use Rattle.rt_turns.specs.Picks.{KnowsTurns, FitsOut, Follows, out_after, IsAt, IsBelowAll, IsPlaced, AreBelow, runtime_waiting, key_waiting};
 
 use rt_accounts::{Account, Accounts, queue_touched};
@@ -263,6 +264,7 @@ fn picks_right(turns: &Turns, fact: &Fact, note: &Note<u64>) -> bool
 /// The line of a wrong note, or of the pick before it, if that isn't followed as it should be.
 fn line_at(turns: &Turns, fact: &Fact, note: &Note<u64>, place: usize) -> usize
     requires { place < greatest_count }
+    ensures { (before : Notes ℕ) → KnowsTurns turns.now before → FitsPlace fact.now note.now before → IsLineOf note.now before place result }
 {
     if turns.picked.is_some() && !is_followed(turns, fact, note) {
         place
@@ -276,6 +278,7 @@ pub fn picks_fault(history: &History, journal: &Journal<u64>) -> Option<usize>
     requires { IsHistory history.now journal.now.notes }
     ensures kept { result ≡ None → EachNote PicksRight journal.now.notes × (spec.queue_just_picked journal.now.notes ≡ None) }
     ensures only { (terms : Terms) → AreSpelledNotes terms journal.now.notes → EachNote PicksRight journal.now.notes → spec.queue_just_picked journal.now.notes ≡ None → result ≡ None }
+    ensures named { IfSome result (λ at. (terms : Terms) → AreSpelledNotes terms journal.now.notes → IsPickFault journal.now.notes at) }
 {
     let mut turns = Turns::new();
     for place in 0..journal.len() {

@@ -88,3 +88,34 @@ pub returns-in-Collected-clause-only : goal.returns-in-Collected-clause-only
 returns-in-Collected-clause-only c =
     λ assembly before orders outcomes.
     rw c.in-Collected.is (λ facts. c.is_given.ensures.only assembly outcomes)
+
+pub returns-then-may_redeem-clause-right : goal.returns-then-may_redeem-clause-right
+returns-then-may_redeem-clause-right c =
+    λ assembly before orders outcomes.
+    rw c.in-Redeemed.is
+    (
+    λ facts yes.
+    let may = c.may_redeem.ensures.right c.if-may_redeem.true in (
+      facts.collected.0 may.0,
+      c.is_given-then-may_redeem.ensures.right assembly outcomes yes,
+      sym (facts.told c.in-Redeemed.name refl).redeemed ∙ may.1,
+    )
+    )
+
+pub returns-then-may_redeem-clause-only : goal.returns-then-may_redeem-clause-only
+returns-then-may_redeem-clause-only c =
+    λ assembly before orders outcomes.
+    rw c.in-Redeemed.is (λ facts right. c.is_given-then-may_redeem.ensures.only assembly outcomes right.1)
+
+pub returns-else-may_redeem-clause-only : goal.returns-else-may_redeem-clause-only
+returns-else-may_redeem-clause-only c =
+    λ assembly before orders outcomes.
+    rw c.in-Redeemed.is
+    (
+    λ facts right.
+    absurd
+    (
+    both_ways c.may_redeem.result c.if-may_redeem.false
+    (c.may_redeem.ensures.only (facts.collected.1 right.0) ((facts.told c.in-Redeemed.name refl).redeemed ∙ right.2))
+    )
+    )
