@@ -6,6 +6,7 @@ use Rattle.rt_ids.specs.Sound.{IsSound, OrderIsSound, OutcomesAreSound}
 use Rattle.rt_tables.specs.Faults.{IsFirstFault}
 use Rattle.rt_tables.proofs.FirstFaults.{fault_breaks}
 use Rattle.rt_turns.proofs.PickLines.{pick_breaks}
+use Rattle.rt_audit.proofs.LinksOff.{order_broken}
 use Rattle.rt_audit.specs.Faults.{IsFirstPlace, IsPlaceOf, StartsFault, OrderFault, ClosesFault, OutcomesFault, PicksFault}
 use Rattle.rt_audit.specs.Places.{StartsOf, IsInOrder, ClosesOf, LosesNothing, OutcomesOf, PicksOf}
 use Rattle.rt_audit.specs.Verdicts.{BreaksRule, IsFault}
@@ -30,7 +31,7 @@ module _ (assembly : Assembly ℕ) where
     starts = λ is sound.
         let at = place.starts is in
         fault_breaks (StartsRight assembly) (journal_of actor assembly) line at.here (sound.notes actor (omega (arith, at.within)));
-    order = λ is sound. let at = place.order is in at.here (in_order sound actor (omega (arith, at.within)));
+    order = λ is sound. let at = place.order is in order_broken assembly actor line at.here.0 (in_order sound actor (omega (arith, at.within)));
     closes = λ is sound.
         let at = place.closes is in
         fault_breaks (RespectsCloses assembly actor) (journal_of actor assembly) line at.here (sound.notes actor at.within);

@@ -24,8 +24,3 @@ module _ {T : Type 0} (P : Note T → Journal T → Type 0) (journal : Journal T
 
   pub no_fault : (line : Option ℕ) → is_some line ≡ true → IfSome line (IsFirstFault P journal) → EachNote P journal → ⊥
   no_fault line some fault each = some_none line some (none_if line fault each)
-
--- what is there breaks what would have left nothing
-pub if_some : {A B : Type 0} (there : Option A) → (B → there ≡ None) → IfSome there (λ item. B → ⊥)
-if_some None only = tt
-if_some (Some item) only = λ holds. some_none (Some item) refl (only holds)

@@ -1,9 +1,10 @@
 -- At which place a rule is broken first.
-use Rattle.std.specs.Prelude.{◌≡◌, ℕ, ◌+◌, ◌<◌, ◌⊎◌}
+use Rattle.std.specs.Prelude.{◌≡◌, ℕ, ◌+◌, ◌<◌, ◌⊎◌, Some}
 use Rattle.rt_ids.specs.Assembly.{Assembly, journal_of}
 use Rattle.rt_ids.specs.Clauses.{StartsRight, RespectsCloses, OutcomesRight}
 use Rattle.rt_tables.specs.Faults.{IsFirstFault}
 use Rattle.rt_turns.specs.PickFaults.{IsPickFault}
+use Rattle.rt_audit.specs.OrderFaults.{IsLeast, OrderOff}
 use Rattle.rt_audit.specs.Places.{StartsOf, IsInOrder, ClosesOf, LosesNothing, OutcomesOf, PicksOf}
 
 -- of so many actors this is the first that doesn't keep to a rule, and this is the line of its fault
@@ -16,9 +17,9 @@ pub record IsFirstPlace (count : ℕ) (Keeps : ℕ → Type 0) (IsAt : ℕ → �
 abbrev pub StartsFault : Assembly ℕ → ℕ → ℕ → Type 0
 StartsFault assembly actor line = IsFirstFault (StartsRight assembly) (journal_of actor assembly) line
 
--- of the second rule
+-- of the second rule: the least of all lines at which it is broken
 abbrev pub OrderFault : Assembly ℕ → ℕ → ℕ → Type 0
-OrderFault assembly actor line = IsInOrder assembly actor → ⊥
+OrderFault assembly actor line = IsLeast (OrderOff assembly actor) (Some line)
 
 -- of the third rule
 abbrev pub ClosesFault : Assembly ℕ → ℕ → ℕ → Type 0

@@ -13,7 +13,7 @@ ghost use Rattle.rt_accounts.specs.AllAccounts.{KnowsAccounts};
 ghost use Rattle.rt_ids.specs.declared.note.Note.{Note};
 ghost use Rattle.rt_rules.specs.Links.{KnowsOrders};
 ghost use Rattle.rt_tables.specs.Histories.{IsHistory};
-ghost use Rattle.rt_audit.specs.Ends.{HasEnded, EndedUnder, EndedIfSent};
+ghost use Rattle.rt_audit.specs.Ends.{ended_by, EndedUnder, EndedIfSent};
 
 use rt_accounts::{Account, Accounts, queue_touched};
 use rt_ids::{ActorNo, CoreNo, JobId, Note, Order};
@@ -23,7 +23,7 @@ use rt_tables::{History, NameTable, note_at};
 
 /// Whether the job has ended, or the command was answered.
 fn has_ended(history: &History, name: &JobId, order: &Order<()>) -> bool
-    ensures { (journal : Notes ℕ) → IsHistory history.now journal → (IsTrue result ↔ HasEnded journal name.now order.now) }
+    ensures { (journal : Notes ℕ) → IsHistory history.now journal → result ≡ ended_by journal name.now order.now }
 {
     match *order {
         Order::Job(_, _) => history.has_ended(name),

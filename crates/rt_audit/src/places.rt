@@ -8,6 +8,7 @@ ghost use Rattle.rt_ids.specs.Spelled.{IsSpelled};
 ghost use Rattle.rt_tables.specs.Histories.{IsHistory};
 ghost use Rattle.rt_audit.specs.Faults.{IsFirstPlace, StartsFault, OrderFault, ClosesFault, OutcomesFault, PicksFault};
 ghost use Rattle.rt_audit.specs.Histories.{AreHistories};
+ghost use Rattle.rt_audit.specs.OrderFaults.{IsLeast, DeliveriesOff, CollectionsOff, LinksOff, lesser};
 ghost use Rattle.rt_audit.specs.Places.{StartsOf, DeliveriesOf, CollectionsOf, IsInOrder, ClosesOf, LosesNothing, OutcomesOf, PicksOf};
 ghost use Rattle.rt_rules.specs.Links.{KnowsOrders, KnowsOutcomes};
 
@@ -34,6 +35,7 @@ pub(crate) struct Place {
 fn first_line(one: Option<usize>, other: Option<usize>) -> Option<usize>
     ensures kept { result ≡ None → (one ≡ None) × (other ≡ None) }
     ensures only { one ≡ None → other ≡ None → result ≡ None }
+    ensures value { result ≡ lesser one other }
 {
     let Some(line) = one else {
         return other;
@@ -75,6 +77,7 @@ fn deliveries_line(assembly: &Assembly, core: CoreNo) -> Option<usize>
     requires here { core < assembly.now.cores }
     ensures kept { result ≡ None → DeliveriesOf assembly.now core }
     ensures only { DeliveriesOf assembly.now core → result ≡ None }
+    ensures least { IsLeast (DeliveriesOff assembly.now core (assembly.now.cores + 1)) result }
 {
     let mut line = None;
     let delivered = assembly.journal(ActorNo(core.0));
@@ -91,6 +94,7 @@ fn collections_line(assembly: &Assembly, sender: ActorNo) -> Option<usize>
     requires { sender ≤ assembly.now.cores }
     ensures kept { result ≡ None → CollectionsOf assembly.now sender }
     ensures only { CollectionsOf assembly.now sender → result ≡ None }
+    ensures least { IsLeast (CollectionsOff assembly.now sender assembly.now.cores) result }
 {
     let mut line = None;
     let collected = assembly.journal(sender);
@@ -108,6 +112,7 @@ fn links_line(assembly: &Assembly, actor: u8) -> Option<usize>
     requires here { actor ≤ assembly.now.cores }
     ensures kept { result ≡ None → (actor < assembly.now.cores → DeliveriesOf assembly.now actor) × CollectionsOf assembly.now actor }
     ensures only { (actor < assembly.now.cores → DeliveriesOf assembly.now actor) → CollectionsOf assembly.now actor → result ≡ None }
+    ensures least { IsLeast (LinksOff assembly.now actor) result }
 {
     let collections = collections_line(assembly, ActorNo(actor));
     if actor < assembly.cores() {

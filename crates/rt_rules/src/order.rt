@@ -61,10 +61,11 @@ impl Numbers {
         ensures raises { Raises self.old self.new name.now.from queue name.now.number }
         ensures rows { length self.new.started ≡ length self.old.started }
     {
+        let next = name.number;
         let at = slot(name.from, queue);
         if at < self.started.len() {
             let number = self.started[at];
-            self.started[at] = name.number.max(number);
+            self.started[at] = next.max(number);
         }
     }
 

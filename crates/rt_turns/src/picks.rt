@@ -266,7 +266,10 @@ fn line_at(turns: &Turns, fact: &Fact, note: &Note<u64>, place: usize) -> usize
     requires { place < greatest_count }
     ensures { (before : Notes ℕ) → KnowsTurns turns.now before → FitsPlace fact.now note.now before → IsLineOf note.now before place result }
 {
-    if turns.picked.is_some() && !is_followed(turns, fact, note) {
+    if is_followed(turns, fact, note) {
+        return place + 1;
+    }
+    if turns.picked.is_some() {
         place
     } else {
         place + 1

@@ -7,11 +7,6 @@ use Rattle.rt_tables.specs.Histories.{IsHistory}
 use Rattle.rt_audit.proofs.AllEnded.{all_ended, each_ended, is_kept}
 use Rattle.rt_audit.proofs.lost.has_lost.Goals as goal
 
-pub accounts_after-requires : goal.accounts_after-requires
-accounts_after-requires c =
-    let notes = c.journal-journal.ensures ∙ ap (λ (actor : ℕ). journal_of actor c.args.assembly.now) c.core.view_is in
-    subst (λ (journal : Journal ℕ). IsHistory c.args.history.now journal) (sym notes) c.requires.history
-
 pub returns-then-not-are_emptied-clause-kept : goal.returns-then-not-are_emptied-clause-kept
 returns-then-not-are_emptied-clause-kept c =
     λ lost drained.

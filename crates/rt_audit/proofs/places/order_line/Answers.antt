@@ -1,8 +1,12 @@
-use Rattle.std.proofs.Common.{ℕ, sym, subst, refl}
+use Rattle.std.proofs.Common.{ℕ, subst, refl}
 use Rattle.rt_ids.specs.Clauses.{StandsInOrder}
 use Rattle.rt_ids.specs.Journal.{Journal, EachNote}
 use Rattle.rt_ids.specs.Terms.{terms_of}
-use Rattle.rt_audit.proofs.NoFaults.{none_if, if_found, if_some}
+use Rattle.rt_ids.specs.Assembly.{journal_of}
+use Rattle.rt_tables.specs.Faults.{IsFirstFault}
+use Rattle.rt_audit.specs.OrderFaults.{IsLeast, LinksOff, OrderOff}
+use Rattle.rt_audit.proofs.LeastLines.{both_least, notes_least, least_some}
+use Rattle.rt_audit.proofs.NoFaults.{if_found}
 use Rattle.rt_audit.proofs.places.order_line.Goals as goal
 
 pub returns-clause-kept : goal.returns-clause-kept
@@ -25,12 +29,16 @@ returns-clause-kept c =
 
 pub returns-clause-named : goal.returns-clause-named
 returns-clause-named c =
-    if_some c.first_line.result
+    let P = StandsInOrder c.args.assembly.now in
+    let notes : IsLeast (IsFirstFault P (journal_of c.args.actor c.args.assembly.now)) c.order_fault-notes.result =
+    subst (λ (journal : Journal ℕ). IsLeast (IsFirstFault P journal) c.order_fault-notes.result) c.journal-journal.ensures
     (
-    λ order.
-    c.first_line.ensures.only
+    notes_least P c.journal-journal.result.now.notes c.order_fault-notes.result
     (
-    none_if (StandsInOrder c.args.assembly.now) c.journal-journal.result.now.notes c.order_fault-notes.result
+    λ none.
+    c.order_fault-notes.ensures.kept none c.args.assembly.now c.requires.orders
+    (rw c.journal-journal.ensures (c.requires.starts.notes c.args.actor c.requires.here))
+    )
     (
     if_found c.order_fault-notes.result _ _
     (
@@ -41,7 +49,12 @@ returns-clause-named c =
     )
     c.order_fault-notes.ensures.named
     )
-    (rw c.journal-journal.ensures order.notes)
+    ) in
+    least_some (OrderOff c.args.assembly.now c.args.actor) c.first_line.result
+    (
+    rw c.first_line.ensures.value
+    (
+    both_least (IsFirstFault P (journal_of c.args.actor c.args.assembly.now)) (LinksOff c.args.assembly.now c.args.actor) c.order_fault-notes.result
+    c.links_line.result notes c.links_line.ensures.least
     )
-    (c.links_line.ensures.only order.deliveries order.collections)
     )

@@ -2,12 +2,6 @@ use Rattle.std.proofs.Common.{ℕ, arith, below_more}
 use Rattle.rt_audit.specs.Places.{OutcomesOf}
 use Rattle.rt_audit.proofs.places.outcomes_place.Goals as goal
 
-pub history_of-requires : goal.history_of-requires
-history_of-requires c = omega (arith, c.requires.histories.counted)
-
-pub outcomes_line-requires-history : goal.outcomes_line-requires-history
-outcomes_line-requires-history c = c.requires.histories.each c.loop-actor.actor c.history_of-history.result.now c.history_of-history.ensures
-
 pub loop-actor-preserved : goal.loop-actor-preserved
 loop-actor-preserved c =
     below_more (OutcomesOf c.args.assembly.now) c.loop-actor.actor c.loop-actor.invariant (c.outcomes_line.ensures.kept c.in_default.is)

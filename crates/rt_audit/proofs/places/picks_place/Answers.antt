@@ -8,9 +8,6 @@ use Rattle.rt_turns.specs.PickFaults.{IsPickFault}
 use Rattle.rt_audit.specs.Places.{PicksOf}
 use Rattle.rt_audit.proofs.places.picks_place.Goals as goal
 
-pub history_of-requires : goal.history_of-requires
-history_of-requires c = omega (arith, c.requires.histories.counted)
-
 pub picks_fault-requires : goal.picks_fault-requires
 picks_fault-requires c =
     subst (λ (journal : Journal ℕ). IsHistory c.history_of-history.result.now journal) (sym c.journal-journal.ensures)

@@ -6,9 +6,6 @@ use Rattle.rt_tables.specs.Histories.{IsHistory}
 use Rattle.rt_audit.specs.Places.{StartsOf}
 use Rattle.rt_audit.proofs.places.starts_place.Goals as goal
 
-pub history_of-requires : goal.history_of-requires
-history_of-requires c = omega (arith, c.requires.histories.counted)
-
 pub starts_fault-requires : goal.starts_fault-requires
 starts_fault-requires c =
     subst (λ (journal : Journal ℕ). IsHistory c.history_of-history.result.now journal) (sym c.journal-journal.ensures)
