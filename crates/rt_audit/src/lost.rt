@@ -27,7 +27,10 @@ fn has_ended(history: &History, name: &JobId, order: &Order<()>) -> bool
 {
     match *order {
         Order::Job(_, _) => history.has_ended(name),
-        _ => history.is_answered(name),
+        Order::Create(_) => history.is_answered(name),
+        Order::SetShares(_, _) => history.is_answered(name),
+        Order::Close(_, _) => history.is_answered(name),
+        Order::CloseCore(_) => history.is_answered(name),
     }
 }
 

@@ -2,6 +2,10 @@ use Rattle.std.proofs.Common.{ℕ, arith, below_more}
 use Rattle.rt_audit.specs.Places.{OutcomesOf}
 use Rattle.rt_audit.proofs.places.outcomes_place.Goals as goal
 
+pub outcomes_line-requires-clause-history : goal.outcomes_line-requires-clause-history
+outcomes_line-requires-clause-history c =
+    c.requires.histories.each c.loop-actor.actor c.history_of-history.result.now c.history_of-history.ensures
+
 pub loop-actor-preserved : goal.loop-actor-preserved
 loop-actor-preserved c =
     below_more (OutcomesOf c.args.assembly.now) c.loop-actor.actor c.loop-actor.invariant (c.outcomes_line.ensures.kept c.in_default.is)

@@ -1,4 +1,4 @@
-use Rattle.std.specs.List.{All}
+use Rattle.std.specs.Prelude.{All}
 use Rattle.journal_bench.specs.Ready.{IsReadyEvent}
 use Rattle.journal_bench.proofs.made.events_of.Given as goal
 
