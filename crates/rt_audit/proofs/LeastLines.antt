@@ -35,6 +35,7 @@ module _ (F G : ℕ → Type 0) where
       by_order : (line < second) ⊎ (second ≤ line) → F (min line second) ⊎ G (min line second)
       by_order (inl before) = inl (subst F (omega (arith, before)) least.0)
       by_order (inr behind) = inr (subst G (omega (arith, behind)) less.0)
+
       above : (other : ℕ) → F other ⊎ G other → min line second ≤ other
       above other (inl at) = let more = least.1 other at in omega (arith, more)
       above other (inr at) = let more = less.1 other at in omega (arith, more)
@@ -66,8 +67,8 @@ module _ {T : Type 0} where
     no_earlier : (line at : ℕ) → at < line → IsFirstFault P journal line → IsFirstFault P journal at → ⊥
     no_earlier line at less fault other =
         let rest : fault.before ≡ at_place (line - 1) journal =
-            ap (drop 1) (sym fault.there) ∙
-            (drop-drop 1 (length journal - line) journal ∙ ap (λ (count : ℕ). drop count journal) (omega (arith, less, fault.within))) in
+        ap (drop 1) (sym fault.there) ∙
+        (drop-drop 1 (length journal - line) journal ∙ ap (λ (count : ℕ). drop count journal) (omega (arith, less, fault.within))) in
         let each = each_before P at (at_place (line - 1) journal) (subst (λ (read : Journal T). EachNote P read) rest fault.kept) in
         let here = at_within journal at (line - 1) (omega (arith, less)) (omega (arith, fault.within)) in
         let both = subst (λ (read : Journal T). EachNote P read) (here ∙ other.there) each in

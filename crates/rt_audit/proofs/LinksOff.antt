@@ -83,6 +83,7 @@ module _ (assembly : Assembly ℕ) (actor : ℕ) where
       forth : (at : ℕ) → DeliveriesOff assembly actor (assembly.cores + 1) at ⊎ CollectionsOff assembly actor assembly.cores at → LinksOff assembly actor at
       forth at (inl off) = inl (within, off)
       forth at (inr off) = inr off
+
       back : (at : ℕ) → LinksOff assembly actor at → DeliveriesOff assembly actor (assembly.cores + 1) at ⊎ CollectionsOff assembly actor assembly.cores at
       back at (inl off) = inl off.1
       back at (inr off) = inr off
@@ -94,6 +95,7 @@ module _ (assembly : Assembly ℕ) (actor : ℕ) where
     where
       forth : (at : ℕ) → CollectionsOff assembly actor assembly.cores at → LinksOff assembly actor at
       forth at off = inr off
+
       back : (at : ℕ) → LinksOff assembly actor at → CollectionsOff assembly actor assembly.cores at
       back at (inl off) = absurd (outside off.0)
       back at (inr off) = off

@@ -33,7 +33,7 @@ returns-clause-named c =
     inr (
       c.is_lost.ensures.kept c.if-is_lost.false,
       subst (λ (journal : Journal ℕ). IsFirstFault (OutcomesRight c.args.assembly.now) journal at) c.journal-journal.ensures
-      (found c.args.assembly.now c.requires.orders c.requires.outcomes),
+          (found c.args.assembly.now c.requires.orders c.requires.outcomes),
     )
     )
     c.outcomes_fault.ensures.named

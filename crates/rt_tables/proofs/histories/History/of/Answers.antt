@@ -10,10 +10,10 @@ pub loop-place-preserved : goal.loop-place-preserved
 loop-place-preserved c =
     let before = at_place c.loop-place.place c.args.journal.now.notes in (
       rw c.in_ok-push.ensures.items
-      (
-      one_more c.loop-place.facts.items c.before-in-loop-place.result c.args.journal.now.notes c.loop-place.place c.note_at-note.result before
-      c.loop-place.invariant.0 c.note_at-note.ensures (c.before-in-loop-place.ensures before c.loop-place.invariant.1)
-      ),
+          (
+          one_more c.loop-place.facts.items c.before-in-loop-place.result c.args.journal.now.notes c.loop-place.place c.note_at-note.result before
+          c.loop-place.invariant.0 c.note_at-note.ensures (c.before-in-loop-place.ensures before c.loop-place.invariant.1)
+          ),
       subst (λ (read : Journal ℕ). KnowsPast c.add.new.self read) (sym c.note_at-note.ensures) (c.in_ok-add.ensures before c.loop-place.invariant.1),
     )
 
