@@ -12,7 +12,7 @@ use Rattle.rt_audit.specs.Places.{StartsOf, IsInOrder, ClosesOf, LosesNothing, O
 use Rattle.rt_audit.specs.Verdicts.{BreaksRule, IsFault}
 
 module _ (assembly : Assembly ℕ) where
-  -- the second rule, of one actor, where it is kept
+  -- the second rule, of one actor, if it is kept
   pub in_order : OrderIsSound assembly → (actor : ℕ) → actor ≤ assembly.cores → IsInOrder assembly actor
   in_order sound actor within = record {
     notes = sound.notes actor within;

@@ -52,7 +52,7 @@ module _ (assembly : Assembly ℕ) (rule : ℕ) where
     picks = λ more. absurd (omega (arith, is, more));
   }
 
--- where all rules are kept, so are those before any rule
+-- if all rules are kept, so are those before any rule
 pub all_before : (assembly : Assembly ℕ) (rule : ℕ) → IsSound assembly → KeepsRulesBefore assembly rule
 all_before assembly rule sound = record {
   starts = λ more. sound.starts;

@@ -62,7 +62,7 @@ module _ (assembly : Assembly ℕ) (actor count : ℕ) where
               let same : off.core ≡ count = omega (arith, off.few, more) in inr (subst (λ (core : ℕ). Collected core at) same off.off)
 
 module _ (assembly : Assembly ℕ) (actor : ℕ) where
-  -- where a line is off, the second rule is broken
+  -- if a line is off, the second rule is broken
   pub order_broken : (line : ℕ) → OrderOff assembly actor line → IsInOrder assembly actor → ⊥
   order_broken line (inl fault) order = fault_breaks (StandsInOrder assembly) (journal_of actor assembly) line fault order.notes
   order_broken line (inr (inl off)) order =

@@ -37,6 +37,6 @@ abbrev pub LinksOff : Assembly ℕ → ℕ → ℕ → Type 0
 LinksOff assembly actor line =
     ((actor < assembly.cores) × DeliveriesOff assembly actor (assembly.cores + 1) line) ⊎ CollectionsOff assembly actor assembly.cores line
 
--- a line at which an actor breaks the second rule: of its first note that doesn't stand in order, or where a link is off
+-- a line at which an actor breaks the second rule: that of its first note that doesn't stand in order, or one at which a link is off
 abbrev pub OrderOff : Assembly ℕ → ℕ → ℕ → Type 0
 OrderOff assembly actor line = IsFirstFault (StandsInOrder assembly) (journal_of actor assembly) line ⊎ LinksOff assembly actor line

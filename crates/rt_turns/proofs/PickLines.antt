@@ -46,7 +46,7 @@ module _ (journal : Journal ℕ) where
         unfollowed = inl last;
       })
 
-  -- where a line is named, the journal breaks the rule
+  -- if a line is named, the journal breaks the rule
   pub pick_breaks : (line : ℕ) → IsPickFault journal line → EachNote PicksRight journal → queue_just_picked journal ≡ None → ⊥
   pick_breaks line (inr wrong) each last = fault_breaks PicksRight journal line wrong.fault each
   pick_breaks line (inl pick) each last = by_end pick.unfollowed
