@@ -41,4 +41,5 @@ pub mod OneJobRow
 pub mod TwoQueuesRow
 pub mod TwoSendersRow
 pub mod ClosedRow
-pub mod InPlace
+pub mod Posting
+mod Polling

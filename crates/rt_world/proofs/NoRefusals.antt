@@ -38,21 +38,10 @@ use Rattle.rt_world.specs.Runs.{Steps, Happens}
 use Rattle.rt_world.specs.Opening.{IsUnbegun}
 use Rattle.rt_world.specs.Determined.{is_refusal, tells_refusal, WasRefused, IsToldRun}
 use Rattle.rt_world.specs.Creations.{IsNoCreation, OrdersNoQueue, OrderNoQueues, RunOfJobsIsDetermined}
+use Rattle.rt_world.proofs.WorldAfter.{set_or}
 use Rattle.rt_world.proofs.KeptLists.{turn_notes, back_notes}
 use Rattle.rt_world.proofs.DeterminedRefusals.{was_refused}
 use Rattle.rt_world.proofs.DeterminedRuns.{run_once}
-
--- after one place of a list was set, each place has the new item or what it had
-pub set_or : {A : Type 0} (items : List A) (place : ℕ) (item : A) (at : ℕ) (default : A) →
-    (get_or (set items place item) at default ≡ item) ⊎ (get_or (set items place item) at default ≡ get_or items at default)
-set_or items place item at default =
-    ⊎_elim
-    (
-    λ here.
-    ⊎_elim (λ within. inl (ap (λ at. get_or (set items place item) at default) here ∙ get_or-set_same items place item default within))
-    (λ past. inr (ap (λ all. get_or all at default) (set_past items place item past))) (cases_lt place (length items))
-    )
-    (λ other. inr (get_or-set_other items place at item default other)) (cases_eq at place)
 
 -- an item of a longer list is one of the shorter list, or the last
 last_or : {A : Type 0} (items : List A) (last item : A) (place : ℕ) → slice_get (items ++ last ∷ []) place ≡ Some item → (slice_get items place ≡ Some item) ⊎ (last ≡ item)
