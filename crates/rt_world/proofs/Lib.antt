@@ -42,4 +42,4 @@ pub mod TwoQueuesRow
 pub mod TwoSendersRow
 pub mod ClosedRow
 pub mod Posting
-mod Polling
+pub mod Polling

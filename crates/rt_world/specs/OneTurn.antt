@@ -10,7 +10,7 @@ use Rattle.rt_ids.specs.Picks.{turns}
 use Rattle.rt_jobs.specs.Steps.{AfterPoll, Owed, OwesAt}
 use Rattle.rt_core.specs.declared.turn.Settled.{Settled}
 use Rattle.rt_journal.specs.Calls.{Does}
-use Rattle.rt_journal.specs.Posts.{PostView, AreOutsOf}
+use Rattle.rt_journal.specs.Posts.{PostView, AreOutsOf, HasPosted}
 use Rattle.rt_journal.specs.Recorded.{RecordedView, IsRecorded, desk_of}
 use Rattle.rt_journal.specs.Turns.{IsPick, IsHandBack, IsPolled, Settles}
 use Rattle.rt_journal.specs.Ends.{IsInOwing, LeavesOwed, KeepsOuts, IsSameSeat}
@@ -74,6 +74,7 @@ module _ {J : Type 0} (same : J → J → Type 0) (made : J → ℕ) (polls : Ow
     pub owed : OwesAt polls (Does (Fits same answers) out_of (λ link. link.credited) kept_by_sender) job (made job)
         (post_of old (row_of number before)) (post_of new (row_of number after)) ran.step ran.told
     pub polled : IsPolled same made polls answers ran
+    pub posted : HasPosted out_of kept_by_sender (post_of old (row_of number before)) (post_of new (row_of number after))
     pub rest : new ≡ record old { journal = new.journal; lanes = new.lanes }
     pub seat : IsSameSeat old new
     pub sound : IsRecorded same made polls new
