@@ -22,6 +22,7 @@ use Rattle.rt_journal.specs.Ends.{IsOutOf}
 use Rattle.rt_journal.specs.Polls.{polls_made, poll_note, settle_note}
 use Rattle.rt_journal.specs.Recorded.{RecordedView, desk_of, order_taken}
 use Rattle.rt_journal.specs.Steps.{opened_beside, with_notes}
+use Rattle.rt_journal.specs.Whole.{post_of}
 use Rattle.rt_journal.proofs.SentNotes.{all_posted}
 use Rattle.rt_world.specs.declared.event.Reply.{Reply}
 use Rattle.rt_world.specs.declared.event.Reply.TheVariants as reply
@@ -63,10 +64,10 @@ module _ {J : Type 0} {same : J → J → Type 0} {made : J → ℕ} {polls : Ow
 
     module _ (did : one.PollsOne same made polls answers number spent view new old.links after) where
       abbrev first : Post old number there did.picked
-      first = one.post_of did.picked (row_of number old.links)
+      first = post_of did.picked (row_of number old.links)
 
       abbrev last : Post old number there did.picked
-      last = one.post_of did.posted (row_of number did.links)
+      last = post_of did.posted (row_of number did.links)
 
       -- the world after the pick
       picked_world : IsWorld same made polls answers (parts_now world number there did.picked old.links)

@@ -10,9 +10,10 @@ use Rattle.rt_ids.specs.Picks.{turns}
 use Rattle.rt_jobs.specs.Steps.{AfterPoll, Owed, OwesAt}
 use Rattle.rt_core.specs.declared.turn.Settled.{Settled}
 use Rattle.rt_journal.specs.Calls.{Does}
-use Rattle.rt_journal.specs.Posts.{PostView, AreOutsOf, HasPosted}
+use Rattle.rt_journal.specs.Posts.{AreOutsOf, HasPosted}
 use Rattle.rt_journal.specs.Recorded.{RecordedView, IsRecorded, desk_of}
 use Rattle.rt_journal.specs.Turns.{IsPick, IsHandBack, IsPolled, Settles}
+use Rattle.rt_journal.specs.Whole.{post_of}
 use Rattle.rt_journal.specs.Ends.{IsInOwing, LeavesOwed, KeepsOuts, IsSameSeat}
 use Rattle.rt_link.specs.declared.plain.Whole.{Whole}
 use Rattle.rt_link.specs.Fits.{Fits}
@@ -31,10 +32,6 @@ module _ {J T : Type 0} where
     pub rows : (sender : ℕ) → sender ≤ view.core.cores → sender < length links
     pub cores : (sender : ℕ) → sender ≤ view.core.cores → number < length (row_of sender links)
     pub ins : (sender : ℕ) → sender ≤ view.core.cores → IsInOwing sender (owed sender) view (inward_of (link_at sender number links))
-
--- a core's desk, with the links on which it sends
-abbrev pub post_of : {J T : Type 0} → RecordedView J T → List (Whole J T) → PostView J T (Whole J T)
-post_of view row = record { desk = desk_of view; ends = row }
 
 -- there is a link from this core to each core, beside its desk
 abbrev pub HasOuts : {J T : Type 0} → (Order J → Outcome J T → Type 0) → ℕ → RecordedView J T → List (List (Whole J T)) → Type 0
