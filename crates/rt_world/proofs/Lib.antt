@@ -41,5 +41,6 @@ pub mod OneJobRow
 pub mod TwoQueuesRow
 pub mod TwoSendersRow
 pub mod ClosedRow
+pub mod Posted
 pub mod Posting
 pub mod Polling

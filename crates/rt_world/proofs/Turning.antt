@@ -1,41 +1,35 @@
--- A world at rest stays one as a core makes a turn, or creates a queue before the first event.
-use Rattle.std.proofs.Common.{◌≡◌, ℕ, ◌+◌, ◌-◌, ◌^◌, ◌<◌, ◌≤◌, [], ◌∷◌, ◌++◌, inl, inr, ⊎_elim, refl, sym, ◌∙◌, ap, subst, arith, set}
-use Rattle.std.specs.Prelude.{List, map, Some, Result, Ok, Err, unwrap_or, slice_get}
+-- A world stays one as a core makes a step that sends nothing, or creates a queue before the first event.
+use Rattle.std.proofs.Common.{◌≡◌, ℕ, ◌+◌, ◌-◌, ◌^◌, ◌<◌, ◌≤◌, [], ◌∷◌, ◌++◌, refl, sym, ◌∙◌, ap, subst, arith, set}
+use Rattle.std.specs.Prelude.{List, map, Some, None, Result, Ok, Err, slice_get}
 use Rattle.std.proofs.lemmas.List.{set-get_or}
-use Rattle.rt_ids.specs.declared.names.JobId.{JobId}
+use Rattle.std.proofs.lemmas.Option.{slice_get_within, get_or_from_slice_get}
+use Rattle.rt_ids.specs.declared.note.Note.{Note}
 use Rattle.rt_ids.specs.declared.note.Note.TheVariants as writes
-use Rattle.rt_ids.specs.declared.order.Order.{Order}
-use Rattle.rt_ids.specs.declared.order.Order.TheVariants.{Job}
 use Rattle.rt_ids.specs.Commands.{created_count, return_reason}
-use Rattle.rt_ids.specs.Filters.{name_started}
-use Rattle.rt_ids.specs.Journal.{is_told}
 use Rattle.rt_ids.specs.Lines.{line}
 use Rattle.rt_ids.specs.Picks.{IsRightPick, turns}
-use Rattle.rt_ids.specs.Work.{has_work}
 use Rattle.rt_jobs.specs.Steps.{Owed}
 use Rattle.rt_taskqueue.specs.declared.queues.CreateError.{CreateError}
 use Rattle.rt_taskqueue.specs.declared.queues.CreateError.TheVariants.{TooMany, Memory}
-use Rattle.rt_journal.specs.Polls.{polls_made, poll_note, settle_note}
-use Rattle.rt_journal.specs.Recorded.{RecordedView, desk_of, order_taken}
-use Rattle.rt_journal.specs.Steps.{CreatesQueue}
+use Rattle.rt_journal.specs.Recorded.{RecordedView, desk_of}
+use Rattle.rt_journal.specs.Steps.{CreatesQueue, with_notes}
+use Rattle.rt_journal.specs.Tickets.{HasLane}
 use Rattle.rt_link.specs.declared.plain.Whole.{Whole}
+use Rattle.rt_link.specs.Fits.{Fits}
 use Rattle.rt_link.specs.Whole.{out_of}
 use Rattle.rt_journal.specs.Ends.{IsOutOf}
-use Rattle.rt_world.specs.declared.event.Reply.{Reply}
-use Rattle.rt_world.specs.declared.event.Reply.TheVariants as reply
-use Rattle.rt_world.specs.State.{journal_at, order_under}
-use Rattle.rt_world.specs.Turns.{IsPoll, IsHandBack, Turns}
+use Rattle.rt_world.specs.State.{journal_at, noted}
+use Rattle.rt_world.specs.Turns.{IsHandBack}
 use Rattle.rt_world.specs.OneTurn as one
 use Rattle.rt_world.specs.Opening.{CreatesAtOpening}
-use Rattle.rt_world.specs.Links.{link_at}
+use Rattle.rt_world.specs.Links.{no_link, row_of, link_at}
 use Rattle.rt_world.specs.Inside.{Parts, core_at, world_of, IsWorld, IsAtRest}
-use Rattle.rt_world.proofs.Desks.{sent_at-world}
 use Rattle.rt_world.proofs.LinkRows.{same_sent}
 use Rattle.rt_world.proofs.LinkSteps.{OnlyReceived, OnlySent, received-same, received-given, sent-same, each_link, other_link, out_stays}
 use Rattle.rt_world.proofs.WorldAfter.{rest_after}
 use Rattle.rt_world.proofs.LentLinks.{no_gift}
 use Rattle.rt_world.proofs.OneTurn.{beside_then}
-use Rattle.rt_world.proofs.CoreSteps.{cores_are, number_is, desk_is, parts_now, lanes_kept, rests, journal_is, journals_now}
+use Rattle.rt_world.proofs.CoreSteps.{cores_are, desk_is, parts_now, lanes_kept, rests, journal_is, journals_now}
 
 -- a core that makes a step has each end beside it, and nothing is owed
 pub all_beside : {J T : Type 0} {same : J → J → Type 0} {made : J → ℕ} {polls : Owed J T} {answers : J → T → Type 0} {old : Parts J T}
