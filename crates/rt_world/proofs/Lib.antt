@@ -27,9 +27,10 @@ pub mod KeptLists
 pub mod DeterminedRefusals
 pub mod DeterminedSends
 pub mod DeterminedDeliveries
-pub mod DeterminedTurns
 pub mod DeterminedShuts
 pub mod DeterminedTickets
+pub mod DeterminedCalls
+pub mod DeterminedTurns
 pub mod DeterminedRuns
 pub mod DeterminedOpenings
 pub mod DeterminedScripts

@@ -1,6 +1,6 @@
 use Rattle.std.proofs.Common.{◌≡◌, ℕ, ◌≤◌, ◌<◌, ◌+◌, ◌*◌, length, sym, ◌∙◌, ap, subst, arith, vec_items}
 use Rattle.std.specs.Prelude.{map}
-use Rattle.std.proofs.Math.Nat.{mul-comm, mul-assoc}
+use Rattle.std.proofs.Math.Nat.{mul_comm, mul_assoc}
 use Rattle.rt_link.specs.Fits.{Fits}
 use Rattle.rt_journal.specs.Recorded.{IsRecorded}
 use Rattle.rt_world.specs.State.{journal_at}
@@ -12,7 +12,7 @@ use Rattle.rt_world.proofs.model.World.turn.Goals as goal
 
 -- the notes that the calls of a poll may make, said otherwise
 calls_fit : (cores cap its_cores its_cap : ℕ) → its_cores ≡ cores → its_cap ≡ cap → 3 * cores * cap ≡ its_cores * (3 * its_cap)
-calls_fit cores cap its_cores its_cap one two = rw (one, two) (ap (λ count. count * cap) (mul-comm 3 cores) ∙ mul-assoc cores 3 cap)
+calls_fit cores cap its_cores its_cap one two = rw (one, two) (ap (λ count. count * cap) (mul_comm 3 cores) ∙ mul_assoc cores 3 cap)
 
 pub turn_of-requires : goal.turn_of-requires
 turn_of-requires g c =
