@@ -63,10 +63,10 @@ module _ {J : Type 0} {same : J → J → Type 0} {made : J → ℕ} {polls : Ow
     turned = parts_now world number there new after
 
     module _ (did : one.PollsOne same made polls answers number spent view new old.links after) where
-      abbrev first : Post old number there did.picked
+      abbrev first : Post J
       first = post_of did.picked (row_of number old.links)
 
-      abbrev last : Post old number there did.picked
+      abbrev last : Post J
       last = post_of did.posted (row_of number did.links)
 
       -- the world after the pick
@@ -83,18 +83,18 @@ module _ {J : Type 0} {same : J → J → Type 0} {made : J → ℕ} {polls : Ow
         ins = λ sender known. (did.keeps.ins sender).each _ (world.beside.ins sender number known there);
       })
 
-      first_is : parts_at old number there did.picked first ≡ parts_now world number there did.picked old.links
+      first_is : parts_at old number did.picked first ≡ parts_now world number there did.picked old.links
       first_is = λ i. record old { inside = set old.inside number did.picked; links = set-get_or old.links number [] i }
 
-      called : IsAt {same = same} {made = made} {polls = polls} {answers = answers} old number there did.picked last
-          × Makes (CallsAt same answers number) did.posts.owed.calls (world_of (parts_at old number there did.picked first)) (world_of (parts_at old number there did.picked last))
+      called : IsAt same made polls answers old number did.picked last
+          × Makes (CallsAt same answers number) did.posts.owed.calls (world_of (parts_at old number did.picked first)) (world_of (parts_at old number did.picked last))
       called = calls_now old number there did.picked did.posts.owed.calls first last (record { world = subst (IsWorld same made polls answers) (sym first_is) picked_world; desk = refl }) did.posts.owed.makes
 
       -- the world after the poll
       abbrev mid : Parts J ℕ
       mid = record old { inside = set old.inside number did.posted; links = did.links }
 
-      last_is : parts_at old number there did.picked last ≡ mid
+      last_is : parts_at old number did.picked last ≡ mid
       last_is = λ i. record old { inside = set old.inside number (sym did.posts.rest i); links = sym did.posts.links i }
 
       mid_world : IsWorld same made polls answers mid
@@ -141,7 +141,7 @@ module _ {J : Type 0} {same : J → J → Type 0} {made : J → ℕ} {polls : Ow
       abbrev before : Journal ℕ
       before = journal_at number (world_of old)
 
-      picked_noted : world_of (parts_at old number there did.picked first) ≡ noted number (pick_notes did.name did.queue did.picks.runtime before) (world_of old)
+      picked_noted : world_of (parts_at old number did.picked first) ≡ noted number (pick_notes did.name did.queue did.picks.runtime before) (world_of old)
       picked_noted =
           ap world_of first_is
           ∙ ((λ i. record {
@@ -179,22 +179,22 @@ module _ {J : Type 0} {same : J → J → Type 0} {made : J → ℕ} {polls : Ow
         answered = did.settles.answered;
         posted = world_of mid;
         posts = subst (λ start. Makes (CallsAt same answers number) did.posts.owed.calls start (world_of mid)) picked_noted
-            (subst (λ parts. Makes (CallsAt same answers number) did.posts.owed.calls (world_of (parts_at old number there did.picked first)) (world_of parts)) last_is called.1);
+            (subst (λ parts. Makes (CallsAt same answers number) did.posts.owed.calls (world_of (parts_at old number did.picked first)) (world_of parts)) last_is called.1);
         notes = settled_noted;
       }
 
     -- after a turn the world is one at rest again, and the turn is the step of its event
     pub record IsTurned (answer : Reply J) : Type 0 where
-      pub world : IsWorld same made polls answers turned
-      pub rest : IsAtRest old → IsAtRest turned
-      pub turns : Turns same made polls answers number spent (world_of old) (world_of turned) answer
+      pub holds : IsWorld same made polls answers turned
+      pub at_rest : IsAtRest old → IsAtRest turned
+      pub does : Turns same made polls answers number spent (world_of old) (world_of turned) answer
 
     module _ (stays : one.StaysBeside same made polls number view new old.links after) where
       without_poll : (answer : Reply J) → Turns same made polls answers number spent (world_of old) (world_of turned) answer → IsTurned answer
-      without_poll answer turns = record { world = quiet_rests world number there new after stays; rest = quiet_at_rest world number there new after stays; turns = turns }
+      without_poll answer turns = record { holds = quiet_rests world number there new after stays; at_rest = quiet_at_rest world number there new after stays; does = turns }
 
     pub turns_now : (answer : Reply J) → one.Turns same made polls answers number spent view new old.links after answer → IsTurned answer
-    turns_now reply.Noted (inl poll) = record { world = polled_rests poll; rest = λ rest. rest_after old number new after rest poll.stays.at_rest; turns = inl (polled poll) }
+    turns_now reply.Noted (inl poll) = record { holds = polled_rests poll; at_rest = λ rest. rest_after old number new after rest poll.stays.at_rest; does = inl (polled poll) }
     turns_now reply.Noted (inr back) = without_poll back.1 reply.Noted (inr (handed_back world number there new after back.1 back.0))
     turns_now reply.Idle did = without_poll did.2 reply.Idle ((λ queue. ap (has_work queue) here ∙ did.0 queue), unchanged world number there new after did.2 did.1)
     turns_now reply.Spent did =

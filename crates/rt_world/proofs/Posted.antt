@@ -53,13 +53,19 @@ module _ {J T : Type 0} (number : ℕ) (view now : RecordedView J T) (links : Li
   its : (sender : ℕ) → sender ≤ now.core.cores → sender ≤ view.core.cores
   its sender there = subst (λ cores. sender ≤ cores) seat.cores there
 
+  abbrev old_end : Whole J T
+  old_end = get_or (row_of number links) number (no_link number number)
+
+  abbrev new_end : Whole J T
+  new_end = get_or row number (no_link number number)
+
   own : IsInOf number now (inward_of (link_at number number later))
   own =
       let was = slice_get-get_or (row_of number links) number (no_link number number) (beside.cores number known) in
       let is = slice_get-get_or row number (no_link number number) (omega (arith, beside.cores number known, posted.count)) in
-      let did = posted.ends number _ _ was is in
+      let did = posted.ends number old_end new_end was is in
       subst (λ link. IsInOf number now (inward_of link)) (ap (λ row. get_or row number (no_link number number)) (sym row_now))
-      (in_stays number now _ _ (posts_only _ _ did.0 did.1) ((keeps number).each _ (beside.ins number known)))
+      (in_stays number now old_end new_end (posts_only old_end new_end did.0 did.1) ((keeps number).each _ (beside.ins number known)))
 
   -- each end is beside the core
   pub beside_posted : IsBesideAll number none_owed now later

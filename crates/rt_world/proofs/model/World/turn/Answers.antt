@@ -39,11 +39,11 @@ invariant_of-self g c =
     let view = viewed c.self.invariant.1 c.core.inside.0 there _ c.index_mut.ensures.value in
     let turns = subst (λ at. one.Turns g.J.Task.SameTask g.J.Task.made g.J.Task.Polls g.J.Task.Answers c.core.inside.0 c.args.spent at c.turn_of.new.core (map vec_items c.self.inside.links.items) (map vec_items c.turn_of.new.links.items) c.turn_of.result) view c.turn_of.ensures in
     let turned = turns_now c.self.invariant.1 c.core.inside.0 there c.args.spent c.turn_of.new.core _ c.turn_of.result turns in
-    (c.self.invariant.0, turned.world, c.self.invariant.2, turned.rest c.self.invariant.3)
+    (c.self.invariant.0, turned.holds, c.self.invariant.2, turned.at_rest c.self.invariant.3)
 
 pub returns : goal.returns
 returns g c =
     let there : c.core.inside.0 < c.self.inside.cores = omega (arith, c.core.view_is, c.requires.core, ap (λ world. world.cores) c.self.view_is) in
     let view = viewed c.self.invariant.1 c.core.inside.0 there _ c.index_mut.ensures.value in
     let turns = subst (λ at. one.Turns g.J.Task.SameTask g.J.Task.made g.J.Task.Polls g.J.Task.Answers c.core.inside.0 c.args.spent at c.turn_of.new.core (map vec_items c.self.inside.links.items) (map vec_items c.turn_of.new.links.items) c.turn_of.result) view c.turn_of.ensures in
-    rw (← c.self.view_is, ← c.core.view_is) (turns_now c.self.invariant.1 c.core.inside.0 there c.args.spent c.turn_of.new.core _ c.turn_of.result turns).turns
+    rw (← c.self.view_is, ← c.core.view_is) (turns_now c.self.invariant.1 c.core.inside.0 there c.args.spent c.turn_of.new.core _ c.turn_of.result turns).does

@@ -1,4 +1,4 @@
-use Rattle.std.proofs.Common.{◌∙◌, sym, ap, subst, arith, vec_items}
+use Rattle.std.proofs.Common.{◌≤◌, sym, ap, subst, arith, vec_items}
 use Rattle.std.specs.Prelude.{map, sum_by}
 use Rattle.std.proofs.lemmas.List.{map-set}
 use Rattle.rt_jobs.specs.Steps.{IfDone, OnYield, OwesAt, OwesOn}
@@ -21,7 +21,7 @@ poll-requires-clause-outs g c =
 
 pub returns : goal.returns
 returns g c =
-    let known = omega (arith, c.requires.number) in
+    let known : c.args.number ≤ c.args.core.now.core.cores = omega (arith, c.requires.number) in
     let within = row_within vec_items c.args.links.now.items c.args.number none_owed c.args.core.now c.requires.beside c.args.number known in
     let row = sym (row_of-borrowed vec_items c.args.links.now.items c.args.number within _ c.index_mut.ensures.value) in
     let done = c.poll.ensures in
