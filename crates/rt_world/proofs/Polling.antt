@@ -88,7 +88,7 @@ module _ {J : Type 0} {same : J → J → Type 0} {made : J → ℕ} {polls : Ow
 
       called : IsAt same made polls answers old number did.picked last
           × Makes (CallsAt same answers number) did.posts.owed.calls (world_of (parts_at old number did.picked first)) (world_of (parts_at old number did.picked last))
-      called = calls_now old number there did.picked did.posts.owed.calls first last (record { world = subst (IsWorld same made polls answers) (sym first_is) picked_world; desk = refl }) did.posts.owed.makes
+      called = calls_now same made polls answers old number there did.picked did.posts.owed.calls first last (record { world = subst (IsWorld same made polls answers) (sym first_is) picked_world; desk = refl }) did.posts.owed.makes
 
       -- the world after the poll
       abbrev mid : Parts J ℕ

@@ -56,7 +56,7 @@ module _ {J : Type 0} (same : J → J → Type 0) (made : J → ℕ) (polls : Ow
     pub world : IsWorld same made polls answers (parts_at base number picked post)
     pub desk : post.desk ≡ desk_of (view_at base number picked post)
 
-module _ {J : Type 0} {same : J → J → Type 0} {made : J → ℕ} {polls : Owed J ℕ} {answers : J → ℕ → Type 0} (base : Parts J ℕ) (number : ℕ) (there : number < base.cores) (picked : RecordedView J ℕ) where
+module _ {J : Type 0} (same : J → J → Type 0) (made : J → ℕ) (polls : Owed J ℕ) (answers : J → ℕ → Type 0) (base : Parts J ℕ) (number : ℕ) (there : number < base.cores) (picked : RecordedView J ℕ) where
   abbrev Here : Post J → Type 0
   Here = IsAt same made polls answers base number picked
 
@@ -129,7 +129,7 @@ module _ {J : Type 0} {same : J → J → Type 0} {made : J → ℕ} {polls : Ow
       }
 
       pub did : IsDoneBy same made polls answers to (core_at number (parts post)) (link_at number to (parts post).links) (view next) lent.later
-      did = subst (λ view. IsDoneBy same made polls answers to view (link_at number to (parts post).links) (view next) lent.later) (sym core_is)
+      did = subst (λ at. IsDoneBy same made polls answers to at (link_at number to (parts post).links) (view next) lent.later) (sym core_is)
           (subst (λ link. IsDoneBy same made polls answers to (view post) link (view next) lent.later) link_is done_by)
 
       -- the world after it is the one where the post stands as it does then
