@@ -28,7 +28,10 @@ module _ {J : Type 0} where
   sent_same (Err error) (Ok name) same = cc
   sent_same (Err error) (Err other) same = cc
 
-  detached_same : (answer other : Result (Unit {0}) TicketError) → detached_reply {J} answer ≡ detached_reply other → answer ≡ other
+  no_error : (error : TicketError) (back : Outcome J ℕ) → reply.Redeemed back ≡ reply.NoTicket error → ⊥
+  no_error error back is = cc
+
+  detached_same : (answer other : Result (Unit {0}) TicketError) → detached_reply {J = J} answer ≡ detached_reply other → answer ≡ other
   detached_same (Ok done) (Ok other) same = refl
   detached_same (Ok done) (Err error) same = cc
   detached_same (Err error) (Ok done) same = cc
@@ -45,14 +48,8 @@ module _ {J : Type 0} (same : J → J → Type 0) (answers : J → ℕ → Type 
     where
       by_both : (outcome back first second : Outcome J ℕ) → reply.Redeemed outcome ≡ reply.Redeemed first → reply.Redeemed back ≡ reply.Redeemed second → outcome_note first ≡ outcome_note second → told_of (Ok outcome) ≡ told_of (Ok back)
       by_both outcome back first second is other tells = cc
-  told_same (Ok outcome) (Err error) (inr both) = absurd (no_error error both.back both.other_redeemed)
-    where
-      no_error : (error : TicketError) (back : Outcome J ℕ) → reply.NoTicket {J} error ≡ reply.Redeemed back → ⊥
-      no_error error back is = cc
-  told_same (Err error) other (inr both) = absurd (no_error error both.outcome both.redeemed)
-    where
-      no_error : (error : TicketError) (back : Outcome J ℕ) → reply.NoTicket {J} error ≡ reply.Redeemed back → ⊥
-      no_error error back is = cc
+  told_same (Ok outcome) (Err error) (inr both) = absurd (no_error error both.back (sym both.other_redeemed))
+  told_same (Err error) other (inr both) = absurd (no_error error both.outcome (sym both.redeemed))
 
   module _ (core : ℕ) where
     submits_once : (to : ℕ) (order : Order J) (answer other : Result JobId (SendError J)) (old new then : WorldView J ℕ) →

@@ -14,8 +14,7 @@ use Rattle.rt_ids.specs.Filters.{accepted_orders}
 use Rattle.rt_ids.specs.Journal.{Journal}
 use Rattle.rt_ids.specs.Outcomes.{outcome_note}
 use Rattle.rt_jobs.specs.Calls.{Call, Makes}
-use Rattle.rt_jobs.specs.Calls.Call.{Submit}
-use Rattle.rt_jobs.specs.Calls.Call as call
+use Rattle.rt_jobs.specs.Calls.Call.{Submit, Redeem as RedeemCall, Detach as DetachCall}
 use Rattle.rt_jobs.specs.Steps.{Owed}
 use Rattle.rt_world.specs.declared.event.Event.{Event}
 use Rattle.rt_world.specs.declared.event.Event.TheVariants.{Send, Deliver, Turn, Shut, Collect, Redeem, Detach}
@@ -176,8 +175,8 @@ module _ {J : Type 0} (same : J → J → Type 0) (made : J → ℕ) (polls : Ow
   called : (core : ℕ) (call : Call J ℕ) (old new : WorldView J ℕ) → CallsAt same answers core old call new → IsLater old new
   called core (Submit to order answer) old new (inl none) = later_same old new none.2
   called core (Submit to order answer) old new (inr sent) = later old new (sends core to order old new (sent_reply answer) sent.1)
-  called core (call.Redeem name answer) old new does = later old new (redeems core name old new (redeemed_reply answer) does)
-  called core (call.Detach name answer) old new does = later old new (detaches core name old new (detached_reply answer) does)
+  called core (RedeemCall name answer) old new does = later old new (redeems core name old new (redeemed_reply answer) does)
+  called core (DetachCall name answer) old new does = later old new (detaches core name old new (detached_reply answer) does)
 
   all_called : (core : ℕ) (calls : List (Call J ℕ)) (old new : WorldView J ℕ) → Makes (CallsAt same answers core) calls old new → IsLater old new
   all_called core [] old new makes = later_same old new makes

@@ -22,8 +22,7 @@ use Rattle.rt_ids.specs.Journal.{Journal, is_told}
 use Rattle.rt_ids.specs.Commands.{IsOpening}
 use Rattle.rt_ids.specs.Outcomes.{outcome_note}
 use Rattle.rt_jobs.specs.Calls.{Call, Makes}
-use Rattle.rt_jobs.specs.Calls.Call.{Submit}
-use Rattle.rt_jobs.specs.Calls.Call as call
+use Rattle.rt_jobs.specs.Calls.Call.{Submit, Redeem as RedeemCall, Detach as DetachCall}
 use Rattle.rt_jobs.specs.declared.job.Step.{Step}
 use Rattle.rt_jobs.specs.Steps.{Owed}
 use Rattle.rt_jobs.specs.declared.job.Step.TheVariants as steps
@@ -97,11 +96,11 @@ module _ (T : Type 0) where
   close_core_plain name mode true = refl
   close_core_plain name mode false = refl
 
-module _ {T : Type 0} where
   pick_plain : (name : JobId) (queue runtime : ℕ) (started : Bool) → tells_refusal {T = T} (poll_note name started ∷ writes.Pick queue runtime ∷ []) ≡ false
   pick_plain name queue runtime true = refl
   pick_plain name queue runtime false = refl
 
+module _ {T : Type 0} where
   settle_plain : (name : JobId) (time : ℕ) (step : Step T) → tells_refusal (settle_note name time step ∷ []) ≡ false
   settle_plain name time (steps.Done out) = refl
   settle_plain name time steps.Yield = refl
@@ -228,14 +227,14 @@ module _ {J : Type 0} (same : J → J → Type 0) (made : J → ℕ) (polls : Ow
       submit_plain : (then : WorldView J ℕ) → CallsAt same answers core old (Submit to order answer) then → IsPlain then
       submit_plain then (inl refused) = subst (λ world. IsPlain world) (sym refused.2) plain
       submit_plain then (inr sent) = sends_plain core to order none.0 old then (sent_reply answer) sent.1 plain
-  calls_plain core (call.Redeem name answer ∷ calls) none old new makes plain = calls_plain core calls none makes.0 new makes.2 (redeems_plain core name old makes.0 (redeemed_reply answer) makes.1 plain)
-  calls_plain core (call.Detach name answer ∷ calls) none old new makes plain = calls_plain core calls none makes.0 new makes.2 (detaches_plain core name old makes.0 (detached_reply answer) makes.1 plain)
+  calls_plain core (RedeemCall name answer ∷ calls) none old new makes plain = calls_plain core calls none makes.0 new makes.2 (redeems_plain core name old makes.0 (redeemed_reply answer) makes.1 plain)
+  calls_plain core (DetachCall name answer ∷ calls) none old new makes plain = calls_plain core calls none makes.0 new makes.2 (detaches_plain core name old makes.0 (detached_reply answer) makes.1 plain)
 
   module _ (orders_none : PollsOrderNone polls) where
     turns_plain : (core spent : ℕ) (old new : WorldView J ℕ) (answer : Reply J) → Turns same made polls answers core spent old new answer → IsPlain old → IsPlain new
     turns_plain core spent old new reply.Noted (inl poll) plain =
         let notes = pick_notes poll.name poll.queue poll.runtime (journal_at core old) in
-        let picked = plain_noted old core notes (pick_plain poll.name poll.queue poll.runtime (is_told name_started poll.name (journal_at core old))) plain in
+        let picked = plain_noted old core notes (pick_plain ℕ poll.name poll.queue poll.runtime (is_told name_started poll.name (journal_at core old))) plain in
         let posted = calls_plain core poll.calls (orders_none _ _ _ _ _ poll.owed) (noted core notes old) poll.posted poll.posts picked in
         subst (λ world. IsPlain world) (sym poll.notes) (plain_noted poll.posted core (settle_note poll.name (unwrap_or poll.told spent) poll.step ∷ []) (settle_plain poll.name (unwrap_or poll.told spent) poll.step) posted)
     turns_plain core spent old new reply.Noted (inr back) plain =
