@@ -41,10 +41,12 @@ collect_from-requires g c =
     let room = subst (λ world. length (journal_at c.from.inside.0 world) + world.cap ≤ world.room) (sym c.self.view_is)
     (subst (λ actor. length (journal_at actor c.args.self.now) + c.args.self.now.cap ≤ c.args.self.now.room) (sym c.from.view_is) c.requires.room) in
     let places = free c.self.invariant.1 c.from.inside.0 sender_there c.self.inside.cap room in
+    let beside = may_send c.self.invariant.1 c.from.inside.0 c.args.to there to_there _ desk _ link in
+    let lane = may_ask c.self.invariant.1 c.from.inside.0 c.args.to there to_there _ desk _ link in
     record {
-      beside = may_send c.self.invariant.1 c.from.inside.0 c.args.to there to_there _ desk _ link;
-      lane = may_ask c.self.invariant.1 c.from.inside.0 c.args.to there to_there _ desk _ link;
-      room = omega (arith, places, ap (λ at. length at.journal.notes) view, ap (λ at. at.journal.room) view, ap (λ at. at.cap) view, core_cap c.self.invariant.1 c.from.inside.0 sender_there);
+      beside = beside;
+      lane = lane;
+      room = omega (arith, lane.lane_of.sound.room, lane.lane_of.sound.credits, beside.capacity, places, ap (λ at. length at.journal.notes) view, ap (λ at. at.journal.room) view, ap (λ at. at.cap) view, core_cap c.self.invariant.1 c.from.inside.0 sender_there);
     }
 
 pub invariant_of-self : goal.invariant_of-self
@@ -111,10 +113,12 @@ collect_from-requires-2 g c =
     let room = subst (λ world. length (journal_at c.from.inside.0 world) + world.cap ≤ world.room) (sym c.self.view_is)
     (subst (λ actor. length (journal_at actor c.args.self.now) + c.args.self.now.cap ≤ c.args.self.now.room) (sym c.from.view_is) c.requires.room) in
     let places = outside_free c.self.invariant.1 c.from.inside.0 is_last c.self.inside.cap room in
+    let beside = may_send c.self.invariant.1 c.from.inside.0 c.args.to there to_there _ desk _ link in
+    let lane = may_ask c.self.invariant.1 c.from.inside.0 c.args.to there to_there _ desk _ link in
     record {
-      beside = may_send c.self.invariant.1 c.from.inside.0 c.args.to there to_there _ desk _ link;
-      lane = may_ask c.self.invariant.1 c.from.inside.0 c.args.to there to_there _ desk _ link;
-      room = omega (arith, places, outside_cap c.self.invariant.1 c.from.inside.0 is_last);
+      beside = beside;
+      lane = lane;
+      room = omega (arith, lane.lane_of.sound.room, lane.lane_of.sound.credits, beside.capacity, places, outside_cap c.self.invariant.1 c.from.inside.0 is_last);
     }
 
 pub invariant_of-self-2 : goal.invariant_of-self-2

@@ -44,7 +44,7 @@ detach-requires g c =
     record {
       beside = may_send c.self.invariant.1 c.from.inside.0 c.args.ticket.to there to_there _ desk _ link;
       lane = may_ask c.self.invariant.1 c.from.inside.0 c.args.ticket.to there to_there _ desk _ link;
-      room = omega (arith, places, ap (λ at. length at.journal.notes) view, ap (λ at. at.journal.room) view);
+      room = λ held. omega (arith, places, ap (λ at. length at.journal.notes) view, ap (λ at. at.journal.room) view);
     }
 
 pub invariant_of-self : goal.invariant_of-self
@@ -113,7 +113,7 @@ detach-requires-2 g c =
     record {
       beside = may_send c.self.invariant.1 c.from.inside.0 c.args.ticket.to there to_there _ desk _ link;
       lane = may_ask c.self.invariant.1 c.from.inside.0 c.args.ticket.to there to_there _ desk _ link;
-      room = omega (arith, places);
+      room = λ held. omega (arith, places);
     }
 
 pub invariant_of-self-2 : goal.invariant_of-self-2
