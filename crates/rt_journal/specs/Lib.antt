@@ -13,4 +13,5 @@ pub mod Whole
 pub mod Tickets
 pub mod Spending
 pub mod Posts
+pub mod Calls
 pub mod Together
