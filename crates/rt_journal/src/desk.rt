@@ -145,6 +145,7 @@ impl<J: Task<Out = u64>> RecordedDesk<J> {
         requires room { length self.old.journal.notes + length (O.out end.old).sent ≤ self.old.journal.room + (O.out end.old).got }
         ensures collects { CollectsFrom core self.old result self.new }
         ensures books { booked self.new ≡ booked self.old }
+        ensures few { length self.new.journal.notes ≤ length self.old.journal.notes + self.old.cap }
         ensures end { GetsAll (O.out end.old) (O.out end.new) }
         ensures stays { StaysBeside (Fits J.SameTask J.Answers) core self.old self.new (O.out end.new) (O.credited end.new) }
         ensures untouched { O.untouched end.new ≡ O.untouched end.old }

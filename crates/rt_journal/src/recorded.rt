@@ -367,6 +367,7 @@ impl<J: Task<Out = u64>, A: Allocator + Clone> Recorded<J, A> {
         requires room { length self.old.journal.notes + length (O.out end.old).sent ≤ self.old.journal.room + (O.out end.old).got }
         ensures collects { CollectsFrom core (desk_of self.old) result (desk_of self.new) }
         ensures books { booked (desk_of self.new) ≡ booked (desk_of self.old) }
+        ensures few { length self.new.journal.notes ≤ length self.old.journal.notes + self.old.cap }
         ensures end { GetsAll (O.out end.old) (O.out end.new) }
         ensures stays { StaysBeside (Fits J.SameTask J.Answers) core (desk_of self.old) (desk_of self.new) (O.out end.new) (O.credited end.new) }
         ensures rest { self.new ≡ record self.old { journal = self.new.journal; lanes = self.new.lanes } }
