@@ -2,16 +2,10 @@
 use Rattle.std.proofs.Common.{◌≡◌, ℕ, List, ◌++◌, sym, ◌∙◌, ap, subst}
 use Rattle.rt_link.specs.declared.ends.Outward.{Outward}
 use Rattle.rt_journal.specs.Submissions.{DeskView}
-use Rattle.rt_journal.specs.Posts.{PostView, HasPosted, GoesOn}
-use Rattle.rt_journal.proofs.Posting.{posted_nothing}
+use Rattle.rt_journal.specs.Posts.{HasPosted}
 use Rattle.rt_journal.proofs.SentNotes.{SaysNoMore, all_posted}
 
 module _ {J T E : Type 0} {out : E → Outward J T} {untouched : E → List ℕ} where
-  -- what was posted, as the parts tell it
-  pub posted_parts : (old lent post new : PostView J T E) → lent ≡ old → GoesOn out untouched lent post → post ≡ new → HasPosted out untouched old new
-  posted_parts old lent post new lent_is goes new_is =
-      subst (HasPosted out untouched old) new_is (subst (λ old. HasPosted out untouched old post) lent_is (goes lent (posted_nothing lent)))
-
   module _ (said now : DeskView J T) (ends later : List E) (posted : HasPosted out untouched (record { desk = said; ends = ends }) (record { desk = now; ends = later })) where
     pub posted_rest : now ≡ record said { journal = record said.journal { notes = now.journal.notes }; lanes = now.lanes }
     posted_rest =

@@ -69,12 +69,6 @@ impl<J: Task<Out = u64>, O: OutEnd<J>> Post<J, u64> for RecordedPost<J, O> {
 
     ghost Does = { Does (Fits J.SameTask J.Answers) O.out O.credited O.untouched };
 
-    ghost Follows = { λ _ _. Unit {0} };
-
-    ghost follows_itself = { λ _. tt };
-
-    ghost follows_along = { λ _ _ _ _ _. tt };
-
     fn submit(&mut self, to: CoreNo, order: Order<J>) -> Result<Ticket, SendError<J>>
         requires ready { HasReadyJob J.done J.CanPoll order }
         ensures noted { NotesSubmit self.old.desk.journal.notes to order result self.new.desk.journal.notes }
