@@ -30,7 +30,7 @@ use Rattle.rt_journal.specs.Ends.{IsOutOf, name_of}
 use Rattle.rt_journal.specs.Tickets.{KnowsLanes, HasLane, StaysBeside, RedeemsTicket, DetachesTicket}
 use Rattle.rt_journal.specs.Spending.{Spends}
 use Rattle.rt_journal.specs.Posts.{PostView, SendsMore, IsLent, HasPosted}
-use Rattle.rt_journal.specs.Calls.{LendsEnd, SubmitsOn, RedeemsOn, DetachesOn, Does}
+use Rattle.rt_journal.specs.Calls.{Knows, LendsEnd, SubmitsOn, RedeemsOn, DetachesOn, Does}
 use Rattle.rt_journal.proofs.Named.{numbered-missing}
 use Rattle.rt_journal.proofs.NumberedOrders.{length-numbered}
 use Rattle.rt_journal.proofs.Posting.{NotesOne, sends_nothing, lent_noted, posted_noted, posted_nothing, posted_then}
@@ -102,7 +102,7 @@ module _ {J T E : Type 0} (fits : Order J → Outcome J T → Type 0) (out : E �
   -- a call on the end that stands at its core's place
   module _ (desk later : DeskView J T) (ends : List E) (core to : ℕ) (core_is : core ≡ to) (end now : E) (there : slice_get ends core ≡ Some end)
       (stays : StaysBeside fits to desk later (out now) (credited now)) (same : untouched now ≡ untouched end) where
-    lends_end : LendsEnd fits out credited untouched to (record { desk = desk; ends = ends }) (record { desk = later; ends = set ends core now })
+    abbrev lends_end : LendsEnd fits out credited untouched to (record { desk = desk; ends = ends }) (record { desk = later; ends = set ends core now })
     lends_end = record {
       end = end;
       later = now;
@@ -117,16 +117,16 @@ module _ {J T E : Type 0} (fits : Order J → Outcome J T → Type 0) (out : E �
     submitted_on order answer submits sends credit spends = record { lent = lends_end; submits = submits; sends = sends; credited = credit; spends = spends }
 
   module _ (desk later : DeskView J T) (ends : List E) (core : ℕ) (name : JobId) (core_is : core ≡ name.to) (end now : E) (there : slice_get ends core ≡ Some end)
-      (stays : StaysBeside fits name.to desk later (out now) (credited now)) (same : untouched now ≡ untouched end) (out_is : out now ≡ out end) where
+      (stays : StaysBeside fits name.to desk later (out now) (credited now)) (same : untouched now ≡ untouched end) (out_is : out now ≡ out end) (knows : Knows desk name) where
     pub redeemed_on : (answer : Result (Outcome J T) TicketError) → RedeemsTicket name desk answer later → IfOk answer (IsGot (out end) name.number) → IfOk answer (FitsSent fits (out end) name.number) → IfOk answer (λ _. Spends name.to 0 desk later) →
         RedeemsOn fits out credited untouched name answer (record { desk = desk; ends = ends }) (record { desk = later; ends = set ends core now })
     redeemed_on answer redeems given fit spends =
-        record { lent = lends_end desk later ends core name.to core_is end now there stays same; redeems = redeems; given = given; fits = fit; out = out_is; spends = spends }
+        record { knows = knows; lent = lends_end desk later ends core name.to core_is end now there stays same; redeems = redeems; given = given; fits = fit; out = out_is; spends = spends }
 
     pub detached_on : (answer : Result (Unit {0}) TicketError) → DetachesTicket name desk answer later → IfOk answer (λ _. Spends name.to 0 desk later) →
         DetachesOn fits out credited untouched name answer (record { desk = desk; ends = ends }) (record { desk = later; ends = set ends core now })
     detached_on answer detaches spends =
-        record { lent = lends_end desk later ends core name.to core_is end now there stays same; detaches = detaches; out = out_is; spends = spends }
+        record { knows = knows; lent = lends_end desk later ends core name.to core_is end now there stays same; detaches = detaches; out = out_is; spends = spends }
 
 -- a submission that was accepted waits for its outcome
 pub waits_sent : {J T : Type 0} (desk later : DeskView J T) (known : KnowsLanes desk) (to : ℕ) {fits : Order J → Outcome J T → Type 0} (out : Outward J T) (credited : ℕ) → IsOutOf to desk out credited → HasLane fits to desk out credited →

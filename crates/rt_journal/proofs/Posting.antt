@@ -44,7 +44,7 @@ item_at items place within = elim (option_cases (slice_get items place)) [
 
 module _ {J T E : Type 0} {fits : Order J → Outcome J T → Type 0} {out : E → Outward J T} {credited : E → ℕ} where
   -- the room that is asked for is enough for all that can be noted
-  room_for : (desk : DeskView J T) (ends : List E) → AreOutsOf fits out credited desk ends → KnowsLanes desk → sum_by left_of desk.lanes ≤ desk.cores * (3 * desk.cap)
+  pub room_for : (desk : DeskView J T) (ends : List E) → AreOutsOf fits out credited desk ends → KnowsLanes desk → sum_by left_of desk.lanes ≤ desk.cores * (3 * desk.cap)
   room_for desk ends outs known =
       subst (λ count. sum_by left_of desk.lanes ≤ count * (3 * desk.cap)) known.cores_are
       (sum_by-le left_of (3 * desk.cap) desk.lanes (λ place default within. low place default within (end_at place within)))
@@ -143,7 +143,7 @@ module _ {J T E : Type 0} {fits : Order J → Outcome J T → Type 0} {out : E �
     lent_noted is = record {
       outs = outs_now is.outs;
       spare = elim notes [
-        | inl same ↦ subst (λ desk. length desk.journal.notes + sum_by left_of desk.lanes < desk.journal.room) (sym same.0) is.spare
+        | inl same ↦ subst (λ desk. length desk.journal.notes + sum_by left_of desk.lanes < desk.journal.room) (sym same) is.spare
         | inr one ↦ omega (arith, is.spare, fewer_left core one.3 old.desk new.desk one.4, ap (λ journal. length journal.notes) one.2, ap (λ journal. journal.room) one.2)
       ];
     }
@@ -166,8 +166,8 @@ module _ {J T E : Type 0} {fits : Order J → Outcome J T → Type 0} {out : E �
       | inl same ↦ record {
         notes = [];
         posts = tt;
-        desk = subst (λ later. later ≡ record old.desk { journal = record old.desk.journal { notes = old.desk.journal.notes }; lanes = later.lanes }) (sym same.0) refl;
-        few = omega (arith, ap (λ (desk : DeskView J T). sum_by left_of desk.lanes) same.0);
+        desk = subst (λ later. later ≡ record old.desk { journal = record old.desk.journal { notes = old.desk.journal.notes }; lanes = later.lanes }) (sym same) refl;
+        few = omega (arith, ap (λ (desk : DeskView J T). sum_by left_of desk.lanes) same);
         count = ap length lent.ends ∙ length-set old.ends core lent.later;
         ends = ends_now sends;
       }

@@ -21,38 +21,40 @@ use Rattle.rt_journal.specs.Posts.{PostView}
 abbrev pub Knows : {J T : Type 0} → DeskView J T → JobId → Type 0
 Knows desk name = (name.from ≡ desk.actor) × (name.to < desk.cores)
 
-module _ {J T E : Type 0} (fits : Order J → Outcome J T → Type 0) (out : E → Outward J T) (credited : E → ℕ) (untouched : E → List ℕ) where
+module _ {J T E : Type 0} (fit : Order J → Outcome J T → Type 0) (out_of : E → Outward J T) (credits : E → ℕ) (keeps : E → List ℕ) where
   -- a call on the end of one core, which stays beside the desk; no other end changes
   pub record LendsEnd (core : ℕ) (old new : PostView J T E) : Type 0 where
     pub end : E
     pub later : E
     pub is : slice_get old.ends core ≡ Some end
     pub ends : new.ends ≡ slice_set old.ends core later
-    pub stays : StaysBeside fits core old.desk new.desk (out later) (credited later)
-    pub untouched : untouched later ≡ untouched end
+    pub stays : StaysBeside fit core old.desk new.desk (out_of later) (credits later)
+    pub untouched : keeps later ≡ keeps end
 
   -- an order is sent to a core that there is, and noted if it is accepted
   pub record SubmitsOn (to : ℕ) (order : Order J) (answer : Result JobId (SendError J)) (old new : PostView J T E) : Type 0 where
     pub lent : LendsEnd to old new
     pub submits : Submits to order old.desk answer new.desk
-    pub sends : Sends (out lent.end) (credited lent.end) order (out lent.later) (numbered answer)
-    pub credited : credited lent.later ≡ credited lent.end
+    pub sends : Sends (out_of lent.end) (credits lent.end) order (out_of lent.later) (numbered answer)
+    pub credited : credits lent.later ≡ credits lent.end
     pub spends : IfOk answer (λ _. Spends to 3 old.desk new.desk)
 
   -- the outcome of a submission is redeemed and noted, or the ticket is refused
   pub record RedeemsOn (name : JobId) (answer : Result (Outcome J T) TicketError) (old new : PostView J T E) : Type 0 where
+    pub knows : Knows old.desk name
     pub lent : LendsEnd name.to old new
     pub redeems : RedeemsTicket name old.desk answer new.desk
-    pub given : IfOk answer (IsGot (out lent.end) name.number)
-    pub fits : IfOk answer (FitsSent fits (out lent.end) name.number)
-    pub out : out lent.later ≡ out lent.end
+    pub given : IfOk answer (IsGot (out_of lent.end) name.number)
+    pub fits : IfOk answer (FitsSent fit (out_of lent.end) name.number)
+    pub out : out_of lent.later ≡ out_of lent.end
     pub spends : IfOk answer (λ _. Spends name.to 0 old.desk new.desk)
 
   -- a submission is detached and noted, or the ticket is refused
   pub record DetachesOn (name : JobId) (answer : Result (Unit {0}) TicketError) (old new : PostView J T E) : Type 0 where
+    pub knows : Knows old.desk name
     pub lent : LendsEnd name.to old new
     pub detaches : DetachesTicket name old.desk answer new.desk
-    pub out : out lent.later ≡ out lent.end
+    pub out : out_of lent.later ≡ out_of lent.end
     pub spends : IfOk answer (λ _. Spends name.to 0 old.desk new.desk)
 
   -- a ticket that isn't known is refused, and nothing changes

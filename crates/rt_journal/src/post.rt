@@ -1,6 +1,6 @@
 //! A desk and its ends, lent to a job for one poll.
 
-ghost use Rattle.std.specs.Prelude.{◌≡◌, ℕ, ◌+◌, ◌*◌, ◌<◌, length, IfOk, IsOk};
+ghost use Rattle.std.specs.Prelude.{◌≡◌, ℕ, ◌+◌, ◌*◌, ◌<◌, ◌≤◌, length, sum_by, IfOk, IsOk};
 ghost use Rattle.rt_ids.specs.Collecting.{IsDetachable};
 ghost use Rattle.rt_jobs.specs.Ready.{HasReadyJob};
 ghost use Rattle.rt_jobs.specs.Posts.{NotesSubmit, NotesRedeem, NotesDetach};
@@ -8,6 +8,7 @@ ghost use Rattle.rt_link.specs.Fits.{Fits};
 ghost use Rattle.rt_jobs.specs.Calls.Call.{Submit, Redeem, Detach};
 ghost use Rattle.rt_journal.specs.Posts.{AreOutsOf, IsLent};
 ghost use Rattle.rt_journal.specs.Calls.{Does};
+ghost use Rattle.rt_journal.specs.Spending.{left_of};
 
 use crate::desk::RecordedDesk;
 use rt_ids::{CoreNo, Order, Outcome, SendError, Ticket, TicketError};
@@ -41,7 +42,8 @@ impl<J: Task<Out = u64>, O: OutEnd<J>> RecordedPost<J, O> {
     pub fn lend(said: RecordedDesk<J>, ends: Vec<O, Global>) -> Self
         requires outs { AreOutsOf (Fits J.SameTask J.Answers) O.out O.credited said ends.items }
         requires room { length said.journal.notes + said.cores * (3 * said.cap) < said.journal.room }
-        ensures { result ≡ record { desk = said; ends = ends.items } }
+        ensures lent { result ≡ record { desk = said; ends = ends.items } }
+        ensures few { sum_by left_of said.lanes ≤ said.cores * (3 * said.cap) }
     {
         said.see_lanes();
         RecordedPost { said, ends }
