@@ -94,7 +94,7 @@ module _ {J T : Type 0} {same : J → J → Type 0} (view : RecordedView J T) (n
   gave_back after gives = subst (IsInOf name.from view) (sym gives) (gave_one view name (Job under.queue under.sent) under.task inward (outcome.Returned reason order) owing_back)
 
 -- the outcome of a turn may be given, if the job is done
-module _ {J T : Type 0} {same : J → J → Type 0} {made : J → ℕ} {polls : Owed J T} {answers : J → T → Type 0} (view : RecordedView J T) (recorded : IsRecorded same made polls view) (name : JobId) (inward : Inward J T) where
+module _ {J T : Type 0} {same : J → J → Type 0} {made : J → ℕ} {polls : Owed J T} (answers : J → T → Type 0) (view : RecordedView J T) (recorded : IsRecorded same made polls view) (name : JobId) (inward : Inward J T) where
   pub may_give_done : (settled : Settled T) → MayAnswer answers view.took name settled → IsInOwing name.from (told_under name (option_map outcome_note (outcome_settled {J = J} settled)) name.from) view inward →
       IfSome (outcome_settled settled) (λ outcome. MayGive (Fits same answers) inward name.number outcome)
   may_give_done Yielded may is = tt

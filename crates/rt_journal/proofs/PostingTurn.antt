@@ -8,11 +8,13 @@ use Rattle.rt_ids.specs.declared.order.Envelope.{Envelope}
 use Rattle.rt_ids.specs.declared.order.Order.{Order}
 use Rattle.rt_ids.specs.declared.order.Outcome.{Outcome}
 use Rattle.rt_ids.specs.Picks.{turns}
+use Rattle.rt_jobs.specs.declared.job.Step.{Step}
+use Rattle.rt_jobs.specs.declared.job.Step.TheVariants as steps
 use Rattle.rt_jobs.specs.Steps.{Owed}
 use Rattle.rt_core.specs.declared.turn.Turn.TheVariants.{Start, Resume}
 use Rattle.rt_core.specs.State.{CoreView}
 use Rattle.rt_core.specs.Turns.{Picks as CorePicks}
-use Rattle.rt_core.specs.Whole.{IsAhead, goes_out, pick_notes}
+use Rattle.rt_core.specs.Whole.{IsAhead, goes_out, pick_notes, settle_notes}
 use Rattle.rt_core.proofs.AheadTaken.{ahead_picks}
 use Rattle.rt_link.specs.declared.ends.Outward.{Outward}
 use Rattle.rt_journal.specs.Submissions.{DeskView, IsWritten, terms_of_desk, desk_with}
@@ -101,3 +103,22 @@ module _ {J T : Type 0} {same : J → J → Type 0} {made : J → ℕ} {polls : 
   outs_note_pick ends outs noted wrote =
       let picks = ahead_picks T core queue vr name started ahead in
       outs_picked core took said invariant left queue vr name started picks.0 picks.1 picks.2 slice slice_is noted wrote ends outs
+
+-- the notes of a pick are two, and that of a settling is one
+module _ {J T : Type 0} (said noted : DeskView J T) (slice : List (Note T)) (wrote : noted ≡ desk_with (reverse slice) said) where
+  written_length : length noted.journal.notes ≡ length (reverse slice ++ said.journal.notes)
+  written_length = ap (λ (desk : DeskView J T). length desk.journal.notes) wrote
+
+  pub noted_pick : (queue vr : ℕ) (name : JobId) (started : Bool) → slice ≡ pick_notes queue vr name started → length noted.journal.notes ≡ length said.journal.notes + 2
+  noted_pick queue vr name started slice_is = written_length ∙ (ap (λ slice. length (reverse slice ++ said.journal.notes)) slice_is ∙ by_started started)
+    where
+      by_started : (started : Bool) → length (reverse (pick_notes {T = T} queue vr name started) ++ said.journal.notes) ≡ length said.journal.notes + 2
+      by_started false = omega arith
+      by_started true = omega arith
+
+  pub noted_settled : (name : JobId) (time : ℕ) (step : Step T) → slice ≡ settle_notes name time step → length noted.journal.notes ≡ length said.journal.notes + 1
+  noted_settled name time step slice_is = written_length ∙ (ap (λ slice. length (reverse slice ++ said.journal.notes)) slice_is ∙ by_step step)
+    where
+      by_step : (step : Step T) → length (reverse (settle_notes name time step) ++ said.journal.notes) ≡ length said.journal.notes + 1
+      by_step (steps.Done out) = omega arith
+      by_step steps.Yield = omega arith
