@@ -34,13 +34,13 @@ use Rattle.rt_journal.proofs.SettledPolls.{step-settled, settles-now}
 use Rattle.rt_journal.proofs.Wrote.{view_of, quiet_written, quiet_sent, now_is, quiet_invariant, quiet_seat, quiet_ins, quiet_outs}
 
 module _ {J T E : Type 0} {same : J → J → Type 0} {done : J → Bool} {can_poll : J → Type 0} {made : J → ℕ} {polls : Owed J T} {answers : J → T → Type 0} (is_same : IsSameTask same)
-    (answers_same : (a b : J) (out : T) → same a b → answers a out → answers b out) {does : Doing (PostView J T E) J T} {out : E → Outward J T} {untouched : E → List ℕ} {tells : ℕ → Type 0}
+    (answers_same : (a b : J) (out : T) → same a b → answers a out → answers b out) {out : E → Outward J T} {untouched : E → List ℕ}
     (core : CoreView J) (took : List (Envelope J)) (said : DeskView J T)
     (invariant : IsRecorded same made polls (view_of core took said) × (said ≡ desk_of (view_of core took said))) (few_turns : turns said.journal.notes < most_turns)
-    (queue vr : ℕ) (name : JobId) (started : Bool) (spent : ℕ) (told_it : tells spent) (calls : List (Call J T)) (step : Step T) (time : ℕ) (core_now : CoreView J)
+    (queue vr : ℕ) (name : JobId) (started : Bool) (spent : ℕ) (calls : List (Call J T)) (step : Step T) (time : ℕ) (core_now : CoreView J)
     (whole : TurnsWhole same done can_poll made polls answers core spent calls name queue started (pick_notes queue vr name started) (settled_of step) (settle_notes name time step) core_now)
     (slice : List (Note T)) (slice_is : slice ≡ pick_notes queue vr name started) (noted : DeskView J T) (wrote : noted ≡ desk_with (reverse slice) said)
-    (left : DeskView J T) (ends later : List E) (makes : Makes does calls (record { desk = noted; ends = ends }) (record { desk = left; ends = later }))
+    (left : DeskView J T) (ends later : List E)
     (posted : HasPosted out untouched (record { desk = noted; ends = ends }) (record { desk = left; ends = later })) (written : IsWritten (terms_of_desk left) left.journal.notes) where
   abbrev old : RecordedView J T
   old = view_of core took said
@@ -116,8 +116,9 @@ module _ {J T E : Type 0} {same : J → J → Type 0} {done : J → Bool} {can_p
       keeps_picked : (sender : ℕ) → KeepsIn sender old picked
       keeps_picked = keeps_in core took said invariant few_turns queue vr name started whole.ran.before whole.mid whole.picks slice slice_is noted wrote
 
-      pub turned : IsPostingTurn same made polls answers does out untouched tells old ends name queue started (settled_of step) new later
-      turned = record {
+      pub turned : {does : Doing (PostView J T E) J T} {tells : ℕ → Type 0} → tells spent → Makes does calls (record { desk = noted; ends = ends }) (record { desk = left; ends = later }) →
+          IsPostingTurn same made polls answers does out untouched tells old ends name queue started (settled_of step) new later
+      turned {does} told_it makes = record {
         picked = picked;
         left = polled_view;
         ran = whole.ran;

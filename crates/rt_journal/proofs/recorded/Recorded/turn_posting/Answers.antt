@@ -47,8 +47,8 @@ write-requires-2-clause-written g c =
     let left : turns c.self.inside.said.journal.notes < most_turns = omega (arith, turns-within c.self.inside.said.journal.notes, c.requires.room, ap (λ view. view.journal.room) c.self.view_is, ap (λ view. length view.journal.notes) c.self.view_is, ap (λ view. view.room) c.journal.ensures, c.room-room.ensures.value) in
     let makes = made_parts (Does (Fits g.J.Task.SameTask g.J.Task.Answers) g.O.OutEnd.out g.O.OutEnd.credited g.O.OutEnd.untouched) c.turn_metered-step.ensures.whole.0 (record { desk = c.write.new.self; ends = c.args.ends.now.items }) c.lend-post.result c.turn_metered-step.new.post (record { desk = c.into_parts-desk.result.0; ends = c.into_parts-desk.result.1.items }) (c.lend-post.ensures.lent ∙ (λ i. record { desk = c.replace-desk.ensures.value i; ends = (c.replace-lent.ensures.value i).items })) c.turn_metered-step.ensures.whole.1 (λ i. record { desk = sym c.into_parts-desk.ensures.desk i; ends = sym c.into_parts-desk.ensures.ends i }) in
     let posted = posted_made (Fits g.J.Task.SameTask g.J.Task.Answers) g.O.OutEnd.out g.O.OutEnd.credited g.O.OutEnd.untouched c.turn_metered-step.ensures.whole.0 (record { desk = c.write.new.self; ends = c.args.ends.now.items }) (record { desk = c.into_parts-desk.result.0; ends = c.into_parts-desk.result.1.items }) makes in
-    may_settle g.met.J.Task.same_task g.met.J.Task.answers_same c.self.inside.core c.self.inside.took.items c.self.inside.said c.self.invariant left next.queue next.vr next.name next.started c.turn_metered-step.ensures.whole.2.0 c.turn_metered-step.ensures.whole.2.1 c.turn_metered-step.ensures.whole.0 c.turn_metered-step.result.0 c.turn_metered-step.result.1 c.turn_metered-step.new.self c.turn_metered-step.ensures.whole.2.2
-    c.picked_notes-picked.result c.picked_notes-picked.ensures c.write.new.self c.write.ensures c.into_parts-desk.result.0 c.args.ends.now.items c.into_parts-desk.result.1.items makes posted c.see_lanes.ensures.written
+    may_settle g.met.J.Task.same_task g.met.J.Task.answers_same c.self.inside.core c.self.inside.took.items c.self.inside.said c.self.invariant left next.queue next.vr next.name next.started c.turn_metered-step.ensures.whole.2.0 c.turn_metered-step.ensures.whole.0 c.turn_metered-step.result.0 c.turn_metered-step.result.1 c.turn_metered-step.new.self c.turn_metered-step.ensures.whole.2.2
+    c.picked_notes-picked.result c.picked_notes-picked.ensures c.write.new.self c.write.ensures c.into_parts-desk.result.0 c.args.ends.now.items c.into_parts-desk.result.1.items posted c.see_lanes.ensures.written
     c.settled_notes-told.result c.settled_notes-told.ensures
 
 pub write-requires-2-clause-sent : goal.write-requires-2-clause-sent
@@ -57,8 +57,8 @@ write-requires-2-clause-sent g c =
     let left : turns c.self.inside.said.journal.notes < most_turns = omega (arith, turns-within c.self.inside.said.journal.notes, c.requires.room, ap (λ view. view.journal.room) c.self.view_is, ap (λ view. length view.journal.notes) c.self.view_is, ap (λ view. view.room) c.journal.ensures, c.room-room.ensures.value) in
     let makes = made_parts (Does (Fits g.J.Task.SameTask g.J.Task.Answers) g.O.OutEnd.out g.O.OutEnd.credited g.O.OutEnd.untouched) c.turn_metered-step.ensures.whole.0 (record { desk = c.write.new.self; ends = c.args.ends.now.items }) c.lend-post.result c.turn_metered-step.new.post (record { desk = c.into_parts-desk.result.0; ends = c.into_parts-desk.result.1.items }) (c.lend-post.ensures.lent ∙ (λ i. record { desk = c.replace-desk.ensures.value i; ends = (c.replace-lent.ensures.value i).items })) c.turn_metered-step.ensures.whole.1 (λ i. record { desk = sym c.into_parts-desk.ensures.desk i; ends = sym c.into_parts-desk.ensures.ends i }) in
     let posted = posted_made (Fits g.J.Task.SameTask g.J.Task.Answers) g.O.OutEnd.out g.O.OutEnd.credited g.O.OutEnd.untouched c.turn_metered-step.ensures.whole.0 (record { desk = c.write.new.self; ends = c.args.ends.now.items }) (record { desk = c.into_parts-desk.result.0; ends = c.into_parts-desk.result.1.items }) makes in
-    sent_settled g.met.J.Task.same_task g.met.J.Task.answers_same c.self.inside.core c.self.inside.took.items c.self.inside.said c.self.invariant left next.queue next.vr next.name next.started c.turn_metered-step.ensures.whole.2.0 c.turn_metered-step.ensures.whole.2.1 c.turn_metered-step.ensures.whole.0 c.turn_metered-step.result.0 c.turn_metered-step.result.1 c.turn_metered-step.new.self c.turn_metered-step.ensures.whole.2.2
-    c.picked_notes-picked.result c.picked_notes-picked.ensures c.write.new.self c.write.ensures c.into_parts-desk.result.0 c.args.ends.now.items c.into_parts-desk.result.1.items makes posted c.see_lanes.ensures.written
+    sent_settled g.met.J.Task.same_task g.met.J.Task.answers_same c.self.inside.core c.self.inside.took.items c.self.inside.said c.self.invariant left next.queue next.vr next.name next.started c.turn_metered-step.ensures.whole.2.0 c.turn_metered-step.ensures.whole.0 c.turn_metered-step.result.0 c.turn_metered-step.result.1 c.turn_metered-step.new.self c.turn_metered-step.ensures.whole.2.2
+    c.picked_notes-picked.result c.picked_notes-picked.ensures c.write.new.self c.write.ensures c.into_parts-desk.result.0 c.args.ends.now.items c.into_parts-desk.result.1.items posted c.see_lanes.ensures.written
     c.settled_notes-told.result c.settled_notes-told.ensures
 
 pub invariant_of-self : goal.invariant_of-self
@@ -67,8 +67,8 @@ invariant_of-self g c =
     let left : turns c.self.inside.said.journal.notes < most_turns = omega (arith, turns-within c.self.inside.said.journal.notes, c.requires.room, ap (λ view. view.journal.room) c.self.view_is, ap (λ view. length view.journal.notes) c.self.view_is, ap (λ view. view.room) c.journal.ensures, c.room-room.ensures.value) in
     let makes = made_parts (Does (Fits g.J.Task.SameTask g.J.Task.Answers) g.O.OutEnd.out g.O.OutEnd.credited g.O.OutEnd.untouched) c.turn_metered-step.ensures.whole.0 (record { desk = c.write.new.self; ends = c.args.ends.now.items }) c.lend-post.result c.turn_metered-step.new.post (record { desk = c.into_parts-desk.result.0; ends = c.into_parts-desk.result.1.items }) (c.lend-post.ensures.lent ∙ (λ i. record { desk = c.replace-desk.ensures.value i; ends = (c.replace-lent.ensures.value i).items })) c.turn_metered-step.ensures.whole.1 (λ i. record { desk = sym c.into_parts-desk.ensures.desk i; ends = sym c.into_parts-desk.ensures.ends i }) in
     let posted = posted_made (Fits g.J.Task.SameTask g.J.Task.Answers) g.O.OutEnd.out g.O.OutEnd.credited g.O.OutEnd.untouched c.turn_metered-step.ensures.whole.0 (record { desk = c.write.new.self; ends = c.args.ends.now.items }) (record { desk = c.into_parts-desk.result.0; ends = c.into_parts-desk.result.1.items }) makes in
-    turned_invariant g.met.J.Task.same_task g.met.J.Task.answers_same c.self.inside.core c.self.inside.took.items c.self.inside.said c.self.invariant left next.queue next.vr next.name next.started c.turn_metered-step.ensures.whole.2.0 c.turn_metered-step.ensures.whole.2.1 c.turn_metered-step.ensures.whole.0 c.turn_metered-step.result.0 c.turn_metered-step.result.1 c.turn_metered-step.new.self c.turn_metered-step.ensures.whole.2.2
-    c.picked_notes-picked.result c.picked_notes-picked.ensures c.write.new.self c.write.ensures c.into_parts-desk.result.0 c.args.ends.now.items c.into_parts-desk.result.1.items makes posted c.see_lanes.ensures.written
+    turned_invariant g.met.J.Task.same_task g.met.J.Task.answers_same c.self.inside.core c.self.inside.took.items c.self.inside.said c.self.invariant left next.queue next.vr next.name next.started c.turn_metered-step.ensures.whole.2.0 c.turn_metered-step.ensures.whole.0 c.turn_metered-step.result.0 c.turn_metered-step.result.1 c.turn_metered-step.new.self c.turn_metered-step.ensures.whole.2.2
+    c.picked_notes-picked.result c.picked_notes-picked.ensures c.write.new.self c.write.ensures c.into_parts-desk.result.0 c.args.ends.now.items c.into_parts-desk.result.1.items posted c.see_lanes.ensures.written
     c.settled_notes-told.result c.settled_notes-told.ensures c.write-2.new.self c.write-2.ensures
 
 pub returns-clause-turns : goal.returns-clause-turns
@@ -77,9 +77,9 @@ returns-clause-turns g c =
     let left : turns c.self.inside.said.journal.notes < most_turns = omega (arith, turns-within c.self.inside.said.journal.notes, c.requires.room, ap (λ view. view.journal.room) c.self.view_is, ap (λ view. length view.journal.notes) c.self.view_is, ap (λ view. view.room) c.journal.ensures, c.room-room.ensures.value) in
     let makes = made_parts (Does (Fits g.J.Task.SameTask g.J.Task.Answers) g.O.OutEnd.out g.O.OutEnd.credited g.O.OutEnd.untouched) c.turn_metered-step.ensures.whole.0 (record { desk = c.write.new.self; ends = c.args.ends.now.items }) c.lend-post.result c.turn_metered-step.new.post (record { desk = c.into_parts-desk.result.0; ends = c.into_parts-desk.result.1.items }) (c.lend-post.ensures.lent ∙ (λ i. record { desk = c.replace-desk.ensures.value i; ends = (c.replace-lent.ensures.value i).items })) c.turn_metered-step.ensures.whole.1 (λ i. record { desk = sym c.into_parts-desk.ensures.desk i; ends = sym c.into_parts-desk.ensures.ends i }) in
     let posted = posted_made (Fits g.J.Task.SameTask g.J.Task.Answers) g.O.OutEnd.out g.O.OutEnd.credited g.O.OutEnd.untouched c.turn_metered-step.ensures.whole.0 (record { desk = c.write.new.self; ends = c.args.ends.now.items }) (record { desk = c.into_parts-desk.result.0; ends = c.into_parts-desk.result.1.items }) makes in
-    rw (← c.self.view_is, c.settled.ensures) (turned g.met.J.Task.same_task g.met.J.Task.answers_same c.self.inside.core c.self.inside.took.items c.self.inside.said c.self.invariant left next.queue next.vr next.name next.started c.turn_metered-step.ensures.whole.2.0 c.turn_metered-step.ensures.whole.2.1 c.turn_metered-step.ensures.whole.0 c.turn_metered-step.result.0 c.turn_metered-step.result.1 c.turn_metered-step.new.self c.turn_metered-step.ensures.whole.2.2
-    c.picked_notes-picked.result c.picked_notes-picked.ensures c.write.new.self c.write.ensures c.into_parts-desk.result.0 c.args.ends.now.items c.into_parts-desk.result.1.items makes posted c.see_lanes.ensures.written
-    c.settled_notes-told.result c.settled_notes-told.ensures c.write-2.new.self c.write-2.ensures)
+    rw (← c.self.view_is, c.settled.ensures) (turned g.met.J.Task.same_task g.met.J.Task.answers_same c.self.inside.core c.self.inside.took.items c.self.inside.said c.self.invariant left next.queue next.vr next.name next.started c.turn_metered-step.ensures.whole.2.0 c.turn_metered-step.ensures.whole.0 c.turn_metered-step.result.0 c.turn_metered-step.result.1 c.turn_metered-step.new.self c.turn_metered-step.ensures.whole.2.2
+    c.picked_notes-picked.result c.picked_notes-picked.ensures c.write.new.self c.write.ensures c.into_parts-desk.result.0 c.args.ends.now.items c.into_parts-desk.result.1.items posted c.see_lanes.ensures.written
+    c.settled_notes-told.result c.settled_notes-told.ensures c.write-2.new.self c.write-2.ensures c.turn_metered-step.ensures.whole.2.1 makes)
 
 pub returns-clause-owes : goal.returns-clause-owes
 returns-clause-owes g c =
@@ -87,8 +87,8 @@ returns-clause-owes g c =
     let left : turns c.self.inside.said.journal.notes < most_turns = omega (arith, turns-within c.self.inside.said.journal.notes, c.requires.room, ap (λ view. view.journal.room) c.self.view_is, ap (λ view. length view.journal.notes) c.self.view_is, ap (λ view. view.room) c.journal.ensures, c.room-room.ensures.value) in
     let makes = made_parts (Does (Fits g.J.Task.SameTask g.J.Task.Answers) g.O.OutEnd.out g.O.OutEnd.credited g.O.OutEnd.untouched) c.turn_metered-step.ensures.whole.0 (record { desk = c.write.new.self; ends = c.args.ends.now.items }) c.lend-post.result c.turn_metered-step.new.post (record { desk = c.into_parts-desk.result.0; ends = c.into_parts-desk.result.1.items }) (c.lend-post.ensures.lent ∙ (λ i. record { desk = c.replace-desk.ensures.value i; ends = (c.replace-lent.ensures.value i).items })) c.turn_metered-step.ensures.whole.1 (λ i. record { desk = sym c.into_parts-desk.ensures.desk i; ends = sym c.into_parts-desk.ensures.ends i }) in
     let posted = posted_made (Fits g.J.Task.SameTask g.J.Task.Answers) g.O.OutEnd.out g.O.OutEnd.credited g.O.OutEnd.untouched c.turn_metered-step.ensures.whole.0 (record { desk = c.write.new.self; ends = c.args.ends.now.items }) (record { desk = c.into_parts-desk.result.0; ends = c.into_parts-desk.result.1.items }) makes in
-    rw (← c.self.view_is, c.settled.ensures) (turned_owes g.met.J.Task.same_task g.met.J.Task.answers_same c.self.inside.core c.self.inside.took.items c.self.inside.said c.self.invariant left next.queue next.vr next.name next.started c.turn_metered-step.ensures.whole.2.0 c.turn_metered-step.ensures.whole.2.1 c.turn_metered-step.ensures.whole.0 c.turn_metered-step.result.0 c.turn_metered-step.result.1 c.turn_metered-step.new.self c.turn_metered-step.ensures.whole.2.2
-    c.picked_notes-picked.result c.picked_notes-picked.ensures c.write.new.self c.write.ensures c.into_parts-desk.result.0 c.args.ends.now.items c.into_parts-desk.result.1.items makes posted c.see_lanes.ensures.written
+    rw (← c.self.view_is, c.settled.ensures) (turned_owes g.met.J.Task.same_task g.met.J.Task.answers_same c.self.inside.core c.self.inside.took.items c.self.inside.said c.self.invariant left next.queue next.vr next.name next.started c.turn_metered-step.ensures.whole.2.0 c.turn_metered-step.ensures.whole.0 c.turn_metered-step.result.0 c.turn_metered-step.result.1 c.turn_metered-step.new.self c.turn_metered-step.ensures.whole.2.2
+    c.picked_notes-picked.result c.picked_notes-picked.ensures c.write.new.self c.write.ensures c.into_parts-desk.result.0 c.args.ends.now.items c.into_parts-desk.result.1.items posted c.see_lanes.ensures.written
     c.settled_notes-told.result c.settled_notes-told.ensures c.write-2.new.self c.write-2.ensures)
 
 pub returns-clause-may_answer : goal.returns-clause-may_answer
@@ -97,8 +97,8 @@ returns-clause-may_answer g c =
     let left : turns c.self.inside.said.journal.notes < most_turns = omega (arith, turns-within c.self.inside.said.journal.notes, c.requires.room, ap (λ view. view.journal.room) c.self.view_is, ap (λ view. length view.journal.notes) c.self.view_is, ap (λ view. view.room) c.journal.ensures, c.room-room.ensures.value) in
     let makes = made_parts (Does (Fits g.J.Task.SameTask g.J.Task.Answers) g.O.OutEnd.out g.O.OutEnd.credited g.O.OutEnd.untouched) c.turn_metered-step.ensures.whole.0 (record { desk = c.write.new.self; ends = c.args.ends.now.items }) c.lend-post.result c.turn_metered-step.new.post (record { desk = c.into_parts-desk.result.0; ends = c.into_parts-desk.result.1.items }) (c.lend-post.ensures.lent ∙ (λ i. record { desk = c.replace-desk.ensures.value i; ends = (c.replace-lent.ensures.value i).items })) c.turn_metered-step.ensures.whole.1 (λ i. record { desk = sym c.into_parts-desk.ensures.desk i; ends = sym c.into_parts-desk.ensures.ends i }) in
     let posted = posted_made (Fits g.J.Task.SameTask g.J.Task.Answers) g.O.OutEnd.out g.O.OutEnd.credited g.O.OutEnd.untouched c.turn_metered-step.ensures.whole.0 (record { desk = c.write.new.self; ends = c.args.ends.now.items }) (record { desk = c.into_parts-desk.result.0; ends = c.into_parts-desk.result.1.items }) makes in
-    rw (c.settled.ensures) (turned_answer g.met.J.Task.same_task g.met.J.Task.answers_same c.self.inside.core c.self.inside.took.items c.self.inside.said c.self.invariant left next.queue next.vr next.name next.started c.turn_metered-step.ensures.whole.2.0 c.turn_metered-step.ensures.whole.2.1 c.turn_metered-step.ensures.whole.0 c.turn_metered-step.result.0 c.turn_metered-step.result.1 c.turn_metered-step.new.self c.turn_metered-step.ensures.whole.2.2
-    c.picked_notes-picked.result c.picked_notes-picked.ensures c.write.new.self c.write.ensures c.into_parts-desk.result.0 c.args.ends.now.items c.into_parts-desk.result.1.items makes posted c.see_lanes.ensures.written
+    rw (c.settled.ensures) (turned_answer g.met.J.Task.same_task g.met.J.Task.answers_same c.self.inside.core c.self.inside.took.items c.self.inside.said c.self.invariant left next.queue next.vr next.name next.started c.turn_metered-step.ensures.whole.2.0 c.turn_metered-step.ensures.whole.0 c.turn_metered-step.result.0 c.turn_metered-step.result.1 c.turn_metered-step.new.self c.turn_metered-step.ensures.whole.2.2
+    c.picked_notes-picked.result c.picked_notes-picked.ensures c.write.new.self c.write.ensures c.into_parts-desk.result.0 c.args.ends.now.items c.into_parts-desk.result.1.items posted c.see_lanes.ensures.written
     c.settled_notes-told.result c.settled_notes-told.ensures c.write-2.new.self c.write-2.ensures)
 
 pub returns-clause-outs : goal.returns-clause-outs
@@ -107,8 +107,8 @@ returns-clause-outs g c =
     let left : turns c.self.inside.said.journal.notes < most_turns = omega (arith, turns-within c.self.inside.said.journal.notes, c.requires.room, ap (λ view. view.journal.room) c.self.view_is, ap (λ view. length view.journal.notes) c.self.view_is, ap (λ view. view.room) c.journal.ensures, c.room-room.ensures.value) in
     let makes = made_parts (Does (Fits g.J.Task.SameTask g.J.Task.Answers) g.O.OutEnd.out g.O.OutEnd.credited g.O.OutEnd.untouched) c.turn_metered-step.ensures.whole.0 (record { desk = c.write.new.self; ends = c.args.ends.now.items }) c.lend-post.result c.turn_metered-step.new.post (record { desk = c.into_parts-desk.result.0; ends = c.into_parts-desk.result.1.items }) (c.lend-post.ensures.lent ∙ (λ i. record { desk = c.replace-desk.ensures.value i; ends = (c.replace-lent.ensures.value i).items })) c.turn_metered-step.ensures.whole.1 (λ i. record { desk = sym c.into_parts-desk.ensures.desk i; ends = sym c.into_parts-desk.ensures.ends i }) in
     let posted = posted_made (Fits g.J.Task.SameTask g.J.Task.Answers) g.O.OutEnd.out g.O.OutEnd.credited g.O.OutEnd.untouched c.turn_metered-step.ensures.whole.0 (record { desk = c.write.new.self; ends = c.args.ends.now.items }) (record { desk = c.into_parts-desk.result.0; ends = c.into_parts-desk.result.1.items }) makes in
-    turned_outs g.met.J.Task.same_task g.met.J.Task.answers_same c.self.inside.core c.self.inside.took.items c.self.inside.said c.self.invariant left next.queue next.vr next.name next.started c.turn_metered-step.ensures.whole.2.0 c.turn_metered-step.ensures.whole.2.1 c.turn_metered-step.ensures.whole.0 c.turn_metered-step.result.0 c.turn_metered-step.result.1 c.turn_metered-step.new.self c.turn_metered-step.ensures.whole.2.2
-    c.picked_notes-picked.result c.picked_notes-picked.ensures c.write.new.self c.write.ensures c.into_parts-desk.result.0 c.args.ends.now.items c.into_parts-desk.result.1.items makes posted c.see_lanes.ensures.written
+    turned_outs g.met.J.Task.same_task g.met.J.Task.answers_same c.self.inside.core c.self.inside.took.items c.self.inside.said c.self.invariant left next.queue next.vr next.name next.started c.turn_metered-step.ensures.whole.2.0 c.turn_metered-step.ensures.whole.0 c.turn_metered-step.result.0 c.turn_metered-step.result.1 c.turn_metered-step.new.self c.turn_metered-step.ensures.whole.2.2
+    c.picked_notes-picked.result c.picked_notes-picked.ensures c.write.new.self c.write.ensures c.into_parts-desk.result.0 c.args.ends.now.items c.into_parts-desk.result.1.items posted c.see_lanes.ensures.written
     c.settled_notes-told.result c.settled_notes-told.ensures c.write-2.new.self c.write-2.ensures
     (subst (λ (post : PostView _ _ _). AreOutsOf (Fits g.J.Task.SameTask g.J.Task.Answers) g.O.OutEnd.out g.O.OutEnd.credited post.desk post.ends) (λ i. record { desk = sym c.into_parts-desk.ensures.desk i; ends = sym c.into_parts-desk.ensures.ends i }) c.into_parts-desk.ensures.lent.outs)
 
@@ -138,8 +138,8 @@ returns-clause-at_rest g c =
     let left : turns c.self.inside.said.journal.notes < most_turns = omega (arith, turns-within c.self.inside.said.journal.notes, c.requires.room, ap (λ view. view.journal.room) c.self.view_is, ap (λ view. length view.journal.notes) c.self.view_is, ap (λ view. view.room) c.journal.ensures, c.room-room.ensures.value) in
     let makes = made_parts (Does (Fits g.J.Task.SameTask g.J.Task.Answers) g.O.OutEnd.out g.O.OutEnd.credited g.O.OutEnd.untouched) c.turn_metered-step.ensures.whole.0 (record { desk = c.write.new.self; ends = c.args.ends.now.items }) c.lend-post.result c.turn_metered-step.new.post (record { desk = c.into_parts-desk.result.0; ends = c.into_parts-desk.result.1.items }) (c.lend-post.ensures.lent ∙ (λ i. record { desk = c.replace-desk.ensures.value i; ends = (c.replace-lent.ensures.value i).items })) c.turn_metered-step.ensures.whole.1 (λ i. record { desk = sym c.into_parts-desk.ensures.desk i; ends = sym c.into_parts-desk.ensures.ends i }) in
     let posted = posted_made (Fits g.J.Task.SameTask g.J.Task.Answers) g.O.OutEnd.out g.O.OutEnd.credited g.O.OutEnd.untouched c.turn_metered-step.ensures.whole.0 (record { desk = c.write.new.self; ends = c.args.ends.now.items }) (record { desk = c.into_parts-desk.result.0; ends = c.into_parts-desk.result.1.items }) makes in
-    turned_rest g.met.J.Task.same_task g.met.J.Task.answers_same c.self.inside.core c.self.inside.took.items c.self.inside.said c.self.invariant left next.queue next.vr next.name next.started c.turn_metered-step.ensures.whole.2.0 c.turn_metered-step.ensures.whole.2.1 c.turn_metered-step.ensures.whole.0 c.turn_metered-step.result.0 c.turn_metered-step.result.1 c.turn_metered-step.new.self c.turn_metered-step.ensures.whole.2.2
-    c.picked_notes-picked.result c.picked_notes-picked.ensures c.write.new.self c.write.ensures c.into_parts-desk.result.0 c.args.ends.now.items c.into_parts-desk.result.1.items makes posted c.see_lanes.ensures.written
+    turned_rest g.met.J.Task.same_task g.met.J.Task.answers_same c.self.inside.core c.self.inside.took.items c.self.inside.said c.self.invariant left next.queue next.vr next.name next.started c.turn_metered-step.ensures.whole.2.0 c.turn_metered-step.ensures.whole.0 c.turn_metered-step.result.0 c.turn_metered-step.result.1 c.turn_metered-step.new.self c.turn_metered-step.ensures.whole.2.2
+    c.picked_notes-picked.result c.picked_notes-picked.ensures c.write.new.self c.write.ensures c.into_parts-desk.result.0 c.args.ends.now.items c.into_parts-desk.result.1.items posted c.see_lanes.ensures.written
     c.settled_notes-told.result c.settled_notes-told.ensures c.write-2.new.self c.write-2.ensures
 
 pub returns-clause-seat : goal.returns-clause-seat
@@ -148,8 +148,8 @@ returns-clause-seat g c =
     let left : turns c.self.inside.said.journal.notes < most_turns = omega (arith, turns-within c.self.inside.said.journal.notes, c.requires.room, ap (λ view. view.journal.room) c.self.view_is, ap (λ view. length view.journal.notes) c.self.view_is, ap (λ view. view.room) c.journal.ensures, c.room-room.ensures.value) in
     let makes = made_parts (Does (Fits g.J.Task.SameTask g.J.Task.Answers) g.O.OutEnd.out g.O.OutEnd.credited g.O.OutEnd.untouched) c.turn_metered-step.ensures.whole.0 (record { desk = c.write.new.self; ends = c.args.ends.now.items }) c.lend-post.result c.turn_metered-step.new.post (record { desk = c.into_parts-desk.result.0; ends = c.into_parts-desk.result.1.items }) (c.lend-post.ensures.lent ∙ (λ i. record { desk = c.replace-desk.ensures.value i; ends = (c.replace-lent.ensures.value i).items })) c.turn_metered-step.ensures.whole.1 (λ i. record { desk = sym c.into_parts-desk.ensures.desk i; ends = sym c.into_parts-desk.ensures.ends i }) in
     let posted = posted_made (Fits g.J.Task.SameTask g.J.Task.Answers) g.O.OutEnd.out g.O.OutEnd.credited g.O.OutEnd.untouched c.turn_metered-step.ensures.whole.0 (record { desk = c.write.new.self; ends = c.args.ends.now.items }) (record { desk = c.into_parts-desk.result.0; ends = c.into_parts-desk.result.1.items }) makes in
-    rw (← c.self.view_is) (turned_seat g.met.J.Task.same_task g.met.J.Task.answers_same c.self.inside.core c.self.inside.took.items c.self.inside.said c.self.invariant left next.queue next.vr next.name next.started c.turn_metered-step.ensures.whole.2.0 c.turn_metered-step.ensures.whole.2.1 c.turn_metered-step.ensures.whole.0 c.turn_metered-step.result.0 c.turn_metered-step.result.1 c.turn_metered-step.new.self c.turn_metered-step.ensures.whole.2.2
-    c.picked_notes-picked.result c.picked_notes-picked.ensures c.write.new.self c.write.ensures c.into_parts-desk.result.0 c.args.ends.now.items c.into_parts-desk.result.1.items makes posted c.see_lanes.ensures.written
+    rw (← c.self.view_is) (turned_seat g.met.J.Task.same_task g.met.J.Task.answers_same c.self.inside.core c.self.inside.took.items c.self.inside.said c.self.invariant left next.queue next.vr next.name next.started c.turn_metered-step.ensures.whole.2.0 c.turn_metered-step.ensures.whole.0 c.turn_metered-step.result.0 c.turn_metered-step.result.1 c.turn_metered-step.new.self c.turn_metered-step.ensures.whole.2.2
+    c.picked_notes-picked.result c.picked_notes-picked.ensures c.write.new.self c.write.ensures c.into_parts-desk.result.0 c.args.ends.now.items c.into_parts-desk.result.1.items posted c.see_lanes.ensures.written
     c.settled_notes-told.result c.settled_notes-told.ensures c.write-2.new.self c.write-2.ensures)
 
 pub returns-clause-sound : goal.returns-clause-sound
@@ -158,6 +158,6 @@ returns-clause-sound g c =
     let left : turns c.self.inside.said.journal.notes < most_turns = omega (arith, turns-within c.self.inside.said.journal.notes, c.requires.room, ap (λ view. view.journal.room) c.self.view_is, ap (λ view. length view.journal.notes) c.self.view_is, ap (λ view. view.room) c.journal.ensures, c.room-room.ensures.value) in
     let makes = made_parts (Does (Fits g.J.Task.SameTask g.J.Task.Answers) g.O.OutEnd.out g.O.OutEnd.credited g.O.OutEnd.untouched) c.turn_metered-step.ensures.whole.0 (record { desk = c.write.new.self; ends = c.args.ends.now.items }) c.lend-post.result c.turn_metered-step.new.post (record { desk = c.into_parts-desk.result.0; ends = c.into_parts-desk.result.1.items }) (c.lend-post.ensures.lent ∙ (λ i. record { desk = c.replace-desk.ensures.value i; ends = (c.replace-lent.ensures.value i).items })) c.turn_metered-step.ensures.whole.1 (λ i. record { desk = sym c.into_parts-desk.ensures.desk i; ends = sym c.into_parts-desk.ensures.ends i }) in
     let posted = posted_made (Fits g.J.Task.SameTask g.J.Task.Answers) g.O.OutEnd.out g.O.OutEnd.credited g.O.OutEnd.untouched c.turn_metered-step.ensures.whole.0 (record { desk = c.write.new.self; ends = c.args.ends.now.items }) (record { desk = c.into_parts-desk.result.0; ends = c.into_parts-desk.result.1.items }) makes in
-    (turned_invariant g.met.J.Task.same_task g.met.J.Task.answers_same c.self.inside.core c.self.inside.took.items c.self.inside.said c.self.invariant left next.queue next.vr next.name next.started c.turn_metered-step.ensures.whole.2.0 c.turn_metered-step.ensures.whole.2.1 c.turn_metered-step.ensures.whole.0 c.turn_metered-step.result.0 c.turn_metered-step.result.1 c.turn_metered-step.new.self c.turn_metered-step.ensures.whole.2.2
-    c.picked_notes-picked.result c.picked_notes-picked.ensures c.write.new.self c.write.ensures c.into_parts-desk.result.0 c.args.ends.now.items c.into_parts-desk.result.1.items makes posted c.see_lanes.ensures.written
+    (turned_invariant g.met.J.Task.same_task g.met.J.Task.answers_same c.self.inside.core c.self.inside.took.items c.self.inside.said c.self.invariant left next.queue next.vr next.name next.started c.turn_metered-step.ensures.whole.2.0 c.turn_metered-step.ensures.whole.0 c.turn_metered-step.result.0 c.turn_metered-step.result.1 c.turn_metered-step.new.self c.turn_metered-step.ensures.whole.2.2
+    c.picked_notes-picked.result c.picked_notes-picked.ensures c.write.new.self c.write.ensures c.into_parts-desk.result.0 c.args.ends.now.items c.into_parts-desk.result.1.items posted c.see_lanes.ensures.written
     c.settled_notes-told.result c.settled_notes-told.ensures c.write-2.new.self c.write-2.ensures).0
