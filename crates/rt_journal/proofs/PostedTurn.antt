@@ -128,7 +128,7 @@ module _ {J T E : Type 0} {same : J → J → Type 0} {done : J → Bool} {can_p
         keeps = keeps_picked;
         owed = record { calls = calls; owed = whole.polled.owed; makes = posts_of (Makes does calls) makes };
         posted = posts_of (HasPosted out untouched) posted;
-        rest = ap (view_of whole.mid took) rest;
+        rest = λ i. record { cap = ap (λ desk. desk.cap) rest i; core = whole.mid; journal = left.journal; took = took; lanes = left.lanes };
         silent = silent;
         polled = polled;
         settles = settles_it;
@@ -142,8 +142,9 @@ module _ {J T E : Type 0} {same : J → J → Type 0} {done : J → Bool} {can_p
 
       pub turned_answer : MayAnswer answers took name (settled_of step)
       turned_answer =
-          subst (λ name. MayAnswer answers took name (settled_of step)) its_name
-          (its_answer answers took whole.settles.0.name whole.settles.0.queue settles_it.sent settles_it.task whole.ran.step (settled_of step) settles_it.tells settles_it.answered)
+          let job_is = same_Some _ _ (sym settles_it.was_out ∙ went_out core took said invariant few_turns queue vr name started whole.ran.before whole.mid started (pick_notes queue vr name started) whole.picks) in
+          subst (λ name. MayAnswer answers took name (settled_of step)) (ap (λ (job : JobOut J). job.name) job_is)
+          (its_answer answers took settles_it.out.name settles_it.out.queue settles_it.sent settles_it.task whole.ran.step (settled_of step) settles_it.tells settles_it.answered)
 
       pub turned_outs : {fits : Order J → Outcome J T → Type 0} {credited : E → ℕ} → AreOutsOf fits out credited left later → AreOutsOf fits out credited (desk_of new) later
       turned_outs {fits} {credited} outs =
