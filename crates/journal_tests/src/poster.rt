@@ -78,7 +78,7 @@ impl<O: OutEnd<ScriptJob> + Drop, I: InEnd<ScriptJob> + Drop> Poster<O, I> {
     }
 
     /// Whether a job was polled in its place in the core.
-    pub fn turn(&mut self, alloc: Global) -> bool {
+    fn turn(&mut self, alloc: Global) -> bool {
         let cap = self.core.cap();
         if self.core.journal().free() < 3 * cap as u32 + 3 {
             return false;
@@ -92,6 +92,16 @@ impl<O: OutEnd<ScriptJob> + Drop, I: InEnd<ScriptJob> + Drop> Poster<O, I> {
             self.core.give_done(&mut self.own, next.name, &settled);
         } else if next.name.from == OUTSIDE {
             self.core.give_done(&mut self.outside, next.name, &settled);
+        }
+        true
+    }
+
+    /// Whether so many jobs were polled so.
+    pub fn turns(&mut self, alloc: Global, count: u64) -> bool {
+        for _ in 0..count {
+            if !self.turn(alloc) {
+                return false;
+            }
         }
         true
     }
