@@ -1,0 +1,3 @@
+pub mod Rooming
+pub mod Sending
+pub mod Good
