@@ -1,3 +1,4 @@
 pub mod Rooming
 pub mod Sending
 pub mod Good
+pub mod Walking

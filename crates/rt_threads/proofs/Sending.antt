@@ -111,7 +111,7 @@ grows (told ∷ rest) old new (between, one, others) =
       each = λ core. let a = first.each core in let b = later.each core in let c = sum_by-cons (λ t. cond (t.0 == core) 1 0) told rest in omega (arith, a, b, c);
     }
 
-script_kept : (orders : List Told) (old new : View) → Grows orders old new → IsOfScript old → IsOfScript new
+pub script_kept : (orders : List Told) (old new : View) → Grows orders old new → IsOfScript old → IsOfScript new
 script_kept orders old new more of = record {
   some_cores = rw more.cores of.some_cores;
   few_cores = rw more.cores of.few_cores;
@@ -131,7 +131,7 @@ offers_both [] second old between new same then = subst (λ view. OffersAll seco
 offers_both (told ∷ rest) second old between new (next, done, others) then = (next, done, offers_both rest second next between new others then)
 
 -- a runtime that was just started
-started_of : (cores cap : ℕ) (view : View) → IsStarted cores cap (room_of cores cap) view → IsSize cores cap → IsOfScript view × (length view.desk.journal.notes ≡ 0) × ((core : ℕ) → sent_to core view ≡ 0) × (view.desk.cap ≡ cap)
+pub started_of : (cores cap : ℕ) (view : View) → IsStarted cores cap (room_of cores cap) view → IsSize cores cap → IsOfScript view × (length view.desk.journal.notes ≡ 0) × ((core : ℕ) → sent_to core view ≡ 0) × (view.desk.cap ≡ cap)
 started_of cores cap view started size =
     let cores_are : view.desk.cores ≡ cores = ap (λ desk. desk.cores) started.desk in
     let cap_is : view.desk.cap ≡ cap = ap (λ desk. desk.cap) started.desk in
