@@ -2,3 +2,4 @@ pub mod Rooming
 pub mod Sending
 pub mod Good
 pub mod Walking
+pub mod Running
