@@ -1,15 +1,14 @@
 -- A rule whose first fault has a place is broken.
-use Rattle.std.proofs.Common.{◌≡◌, ℕ, ◌+◌, ◌≤◌, ◌⊎◌, inl, inr, zero, suc, refl, arith}
+use Rattle.std.proofs.Common.{◌≡◌, ℕ, ◌+◌, ◌≤◌, inl, inr, zero, suc, refl, arith}
 use Rattle.rt_ids.specs.Assembly.{Assembly, journal_of}
 use Rattle.rt_ids.specs.Clauses.{StartsRight, RespectsCloses, OutcomesRight}
 use Rattle.rt_ids.specs.Sound.{IsSound, OrderIsSound, OutcomesAreSound}
-use Rattle.rt_tables.specs.Faults.{IsFirstFault}
 use Rattle.rt_tables.proofs.FirstFaults.{fault_breaks}
 use Rattle.rt_turns.proofs.PickLines.{pick_breaks}
 use Rattle.rt_audit.proofs.LinksOff.{order_broken}
 use Rattle.rt_audit.specs.Faults.{IsFirstPlace, IsPlaceOf, StartsFault, OrderFault, ClosesFault, OutcomesFault, PicksFault}
-use Rattle.rt_audit.specs.Places.{StartsOf, IsInOrder, ClosesOf, LosesNothing, OutcomesOf, PicksOf}
-use Rattle.rt_audit.specs.Verdicts.{BreaksRule, IsFault}
+use Rattle.rt_audit.specs.Places.{StartsOf, IsInOrder, ClosesOf, OutcomesOf, PicksOf}
+use Rattle.rt_audit.specs.Verdicts.{BreaksRule}
 
 module _ (assembly : Assembly ℕ) where
   -- the second rule, of one actor, if it is kept

@@ -1,10 +1,10 @@
 -- What a verdict says of the rules.
-use Rattle.std.proofs.Common.{◌≡◌, ℕ, ◌≤◌, refl, arith}
+use Rattle.std.proofs.Common.{◌≡◌, ℕ, refl, arith}
 use Rattle.rt_ids.specs.Assembly.{Assembly}
 use Rattle.rt_ids.specs.Sound.{IsSound}
 use Rattle.rt_audit.specs.declared.judge.Verdict.{Verdict}
 use Rattle.rt_audit.specs.declared.judge.Verdict.TheVariants.{Sound, Fault}
-use Rattle.rt_audit.specs.Verdicts.{KeepsRulesBefore, BreaksRule, IsFirstBroken, IsVerdict, rule_named}
+use Rattle.rt_audit.specs.Verdicts.{KeepsRulesBefore, IsFirstBroken, IsVerdict, rule_named}
 use Rattle.rt_audit.proofs.BrokenRules.{breaks, no_fault_if_sound}
 use Rattle.rt_audit.proofs.KeptRules.{all_before}
 

@@ -1,5 +1,5 @@
 -- At which lines the second rule is broken.
-use Rattle.std.specs.Prelude.{◌≡◌, ℕ, ◌+◌, ◌<◌, ◌≤◌, ◌⊎◌, min, Option, Some, None}
+use Rattle.std.specs.Prelude.{ℕ, ◌+◌, ◌<◌, ◌≤◌, ◌⊎◌, min, Option, Some, None}
 use Rattle.rt_ids.specs.Assembly.{Assembly, journal_of, names_of}
 use Rattle.rt_ids.specs.Clauses.{StandsInOrder}
 use Rattle.rt_ids.specs.Filters.{accepted_orders, delivered_names, given_outcomes, collected_outcomes}

@@ -1,5 +1,5 @@
 -- The line of a core's journal that is named, and that it isn't right.
-use Rattle.std.proofs.Common.{◌≡◌, ℕ, ◌+◌, ◌<◌, ◌≤◌, ◌⊎◌, inl, inr, true, ◌∷◌, length, refl, sym, ◌∙◌, ap, subst, arith}
+use Rattle.std.proofs.Common.{◌≡◌, ℕ, ◌+◌, ◌<◌, ◌⊎◌, inl, inr, true, ◌∷◌, length, sym, ◌∙◌, ap, subst, arith}
 use Rattle.std.specs.Prelude.{None, is_some}
 use Rattle.std.proofs.lemmas.Bool.{true≢false}
 use Rattle.rt_ids.specs.declared.note.Note.{Note}
@@ -8,8 +8,7 @@ use Rattle.rt_ids.specs.Journal.{Journal, EachNote, at_place}
 use Rattle.rt_ids.specs.Picks.{queue_just_picked}
 use Rattle.rt_tables.proofs.FirstFaults.{each_before, fault_breaks}
 use Rattle.rt_tables.proofs.Walks.{at_end}
-use Rattle.rt_turns.specs.PickFaults.{IsCutOff, IsUnfollowed, IsWrongNote, IsPickFault, IsLineOf}
-use Rattle.rt_turns.specs.Picks.{Follows}
+use Rattle.rt_turns.specs.PickFaults.{IsCutOff, IsPickFault, IsLineOf}
 
 module _ (journal : Journal ℕ) where
   -- behind notes that are right, a wrong note names its line, or that of the pick before it

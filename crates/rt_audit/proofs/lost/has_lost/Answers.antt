@@ -3,7 +3,6 @@ use Rattle.std.proofs.lemmas.Bool.{both_ways, not_from_true}
 use Rattle.rt_ids.specs.Assembly.{journal_of}
 use Rattle.rt_ids.specs.Closing.{IsDrained}
 use Rattle.rt_ids.specs.Journal.{Journal}
-use Rattle.rt_tables.specs.Histories.{IsHistory}
 use Rattle.rt_audit.proofs.AllEnded.{all_ended, each_ended, is_kept}
 use Rattle.rt_audit.proofs.lost.has_lost.Goals as goal
 

@@ -1,4 +1,4 @@
-use Rattle.std.proofs.Common.{ℕ, arith, below_more}
+use Rattle.std.proofs.Common.{arith, below_more}
 use Rattle.rt_audit.specs.Places.{IsInOrder}
 use Rattle.rt_audit.proofs.places.order_place.Goals as goal
 
