@@ -1,5 +1,0 @@
-pub mod Rooming
-pub mod Sending
-pub mod Good
-pub mod Walking
-pub mod Running

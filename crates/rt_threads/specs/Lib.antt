@@ -1,5 +1,0 @@
-pub mod Rooms
-pub mod Starting
-pub mod Offers
-pub mod Counting
-pub mod Runs
