@@ -56,7 +56,7 @@ prefix_along front middle whole first second =
 
 module _ {T : Type 0} where
   -- what stood at a place stood there at each later place
-  at_within : (journal : Journal T) (place later : ℕ) → place ≤ later → later ≤ length journal → at_place place (at_place later journal) ≡ at_place place journal
+  pub at_within : (journal : Journal T) (place later : ℕ) → place ≤ later → later ≤ length journal → at_place place (at_place later journal) ≡ at_place place journal
   at_within journal place later first within =
       let read : length (drop (length journal - later) journal) ≡ length journal - (length journal - later) = length-drop (length journal - later) journal in
       drop-drop (length (drop (length journal - later) journal) - place) (length journal - later) journal ∙
