@@ -1,5 +1,5 @@
 -- The journals determine the verdict.
-use Rattle.std.proofs.Common.{◌≡◌, ℕ, ◌+◌, ◌≤◌, ◌⊎◌, inl, inr, zero, suc, refl, sym, ◌∙◌, subst, arith}
+use Rattle.std.proofs.Common.{◌≡◌, ℕ, ◌+◌, ◌≤◌, inl, inr, zero, suc, refl, sym, ◌∙◌, subst, arith}
 use Rattle.rt_ids.specs.Assembly.{Assembly, journal_of}
 use Rattle.rt_ids.specs.Clauses.{StartsRight, RespectsCloses, OutcomesRight}
 use Rattle.rt_tables.proofs.FirstFaults.{fault_breaks}
@@ -8,7 +8,7 @@ use Rattle.rt_audit.specs.declared.judge.Verdict.{Verdict}
 use Rattle.rt_audit.specs.declared.judge.Verdict.TheVariants.{Sound, Fault}
 use Rattle.rt_audit.specs.Faults.{IsPlaceOf, StartsFault, OrderFault, ClosesFault, OutcomesFault, PicksFault}
 use Rattle.rt_audit.specs.Places.{StartsOf, IsInOrder, ClosesOf, OutcomesOf, PicksOf}
-use Rattle.rt_audit.specs.Verdicts.{IsVerdict, rule_named}
+use Rattle.rt_audit.specs.Verdicts.{IsVerdict}
 use Rattle.rt_audit.proofs.FirstRules.{one_first}
 use Rattle.rt_audit.proofs.LinksOff.{order_broken}
 use Rattle.rt_audit.proofs.OneLine.{one_first_fault, one_pick_fault, one_place}
