@@ -56,19 +56,23 @@ prefix_along front middle whole first second =
 
 module _ {T : Type 0} where
   -- what stood at a place stood there at each later place
-  at_within : (journal : Journal T) (place later : ℕ) → place ≤ later → later ≤ length journal → at_place place (at_place later journal) ≡ at_place place journal
+  pub at_within : (journal : Journal T) (place later : ℕ) → place ≤ later → later ≤ length journal → at_place place (at_place later journal) ≡ at_place place journal
   at_within journal place later first within =
       let read : length (drop (length journal - later) journal) ≡ length journal - (length journal - later) = length-drop (length journal - later) journal in
       drop-drop (length (drop (length journal - later) journal) - place) (length journal - later) journal ∙
       ap (λ (count : ℕ). drop count journal) (omega (arith, read, first, within))
 
   module _ (P : Note T → Journal T → Type 0) (journal : Journal T) where
-    -- the notes before a first fault have none
-    no_earlier : (line at : ℕ) → at < line → IsFirstFault P journal line → IsFirstFault P journal at → ⊥
-    no_earlier line at less fault other =
-        let rest : fault.before ≡ at_place (line - 1) journal =
+    -- before a first fault stand the notes before its place
+    pub fault_behind : (line : ℕ) → 1 ≤ line → (fault : IsFirstFault P journal line) → fault.before ≡ at_place (line - 1) journal
+    fault_behind line some fault =
         ap (drop 1) (sym fault.there) ∙
-        (drop-drop 1 (length journal - line) journal ∙ ap (λ (count : ℕ). drop count journal) (omega (arith, less, fault.within))) in
+        (drop-drop 1 (length journal - line) journal ∙ ap (λ (count : ℕ). drop count journal) (omega (arith, some, fault.within)))
+
+    -- the notes before a first fault have none
+    pub no_earlier : (line at : ℕ) → at < line → IsFirstFault P journal line → IsFirstFault P journal at → ⊥
+    no_earlier line at less fault other =
+        let rest = fault_behind line (omega (arith, less)) fault in
         let each = each_before P at (at_place (line - 1) journal) (subst (λ (read : Journal T). EachNote P read) rest fault.kept) in
         let here = at_within journal at (line - 1) (omega (arith, less)) (omega (arith, fault.within)) in
         let both = subst (λ (read : Journal T). EachNote P read) (here ∙ other.there) each in

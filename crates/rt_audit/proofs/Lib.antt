@@ -6,4 +6,6 @@ pub mod KeptRules
 pub mod LeastLines
 pub mod LinksOff
 pub mod NoFaults
+pub mod OneLine
+pub mod OneVerdict
 pub mod VerdictLaws

@@ -49,3 +49,7 @@ pub record IsFault (assembly : Assembly ℕ) (actor line rule : ℕ) : Type 0 wh
 abbrev pub IsVerdict : Assembly ℕ → Verdict → Type 0
 IsVerdict assembly Sound = IsSound assembly
 IsVerdict assembly (Fault actor line rule) = IsFault assembly actor line rule
+
+-- the journals determine the verdict, if they are spelled
+abbrev pub OneVerdictHolds : Type 0
+OneVerdictHolds = (assembly : Assembly ℕ) (one other : Verdict) → IsVerdict assembly one → IsVerdict assembly other → one ≡ other
