@@ -1,6 +1,7 @@
--- What the steps of a worker do: a gate is shut, an order is delivered, a turn is made.
-use Rattle.std.specs.Prelude.{◌≡◌, ℕ, ◌-◌, ◌^◌, Bool, true, false, []}
+-- What the steps of a worker do: a gate is shut, an order is delivered, a turn is made, outcomes are collected.
+use Rattle.std.specs.Prelude.{◌≡◌, ℕ, ◌+◌, ◌*◌, ◌-◌, ◌^◌, ◌≤◌, Bool, true, false, List, length}
 use Rattle.rt_ids.specs.declared.names.JobId.{JobId}
+use Rattle.rt_ids.specs.declared.note.Note.{Note}
 use Rattle.rt_ids.specs.declared.order.Order.{Order}
 use Rattle.rt_ids.specs.declared.order.Reason.{Reason}
 use Rattle.rt_ids.specs.Picks.{turns}
@@ -8,10 +9,12 @@ use Rattle.rt_ids.specs.Work.{has_work}
 use Rattle.rt_jobs.specs.Steps.{AfterPoll, Owed}
 use Rattle.rt_core.specs.declared.turn.Settled.{Settled}
 use Rattle.rt_link.specs.Calls.{Shuts}
-use Rattle.rt_journal.specs.Recorded.{RecordedView}
-use Rattle.rt_journal.specs.Steps.{Delivers, TellsShut}
+use Rattle.rt_journal.specs.Recorded.{RecordedView, desk_of}
+use Rattle.rt_journal.specs.Steps.{Delivers, TellsShut, with_notes}
+use Rattle.rt_journal.specs.Posts.{ArePosts}
+use Rattle.rt_journal.specs.Tickets.{CollectsFrom, GetsAll}
 use Rattle.rt_journal.specs.Turns.{IsPick, IsHandBack, Settles}
-use Rattle.rt_grid.specs.Ends.{in_at}
+use Rattle.rt_grid.specs.Ends.{in_at, out_at}
 use Rattle.rt_worker.specs.Linked.{LinkedView, StaysLinked}
 use Rattle.rt_worker.specs.declared.turn.Made.{Made}
 use Rattle.rt_worker.specs.declared.turn.Made.TheVariants.{Polled, Returned, Idle, Spent}
@@ -29,6 +32,21 @@ module _ {J T : Type 0} where
     pub delivers : Delivers old.recorded (in_at sender old.ends).inward new.recorded (in_at sender new.ends).inward found
     pub stays : StaysLinked old new
 
+  -- all outcomes that the end to this core shows are collected, at most as many as the link has places
+  pub record CollectsOf (core : ℕ) (old : LinkedView J T) (count : ℕ) (new : LinkedView J T) : Type 0 where
+    pub collects : CollectsFrom core (desk_of old.recorded) count (desk_of new.recorded)
+    pub all : GetsAll (out_at core old.ends).out (out_at core new.ends).out
+    pub few : count ≤ old.recorded.cap
+    pub rest : new.recorded ≡ record old.recorded { journal = new.recorded.journal; lanes = new.recorded.lanes }
+    pub stays : StaysLinked old new
+
+  -- what a poll submitted, redeemed and detached is noted, and nothing else changes but what this actor knows of its submissions
+  pub record Posts (old new : RecordedView J T) : Type 0 where
+    pub notes : List (Note T)
+    pub are : ArePosts notes
+    pub few : length notes ≤ old.core.cores * (3 * old.cap)
+    pub rest : new ≡ record old { journal = with_notes notes old.journal; lanes = new.lanes }
+
 module _ {J T : Type 0} (same : J → J → Type 0) where
   -- the first job of the right pick is handed back
   pub record HandsBack (old new : RecordedView J T) : Type 0 where
@@ -38,15 +56,17 @@ module _ {J T : Type 0} (same : J → J → Type 0) where
     pub did : IsHandBack same old name reason order new
 
 module _ {J T : Type 0} (made : J → ℕ) (polls : Owed J T) (answers : J → T → Type 0) where
-  -- the poll of the job that was out is settled
+  -- the job that was out is polled once, with a post over this actor's own ends, and the poll is settled
   pub record SettlesPoll (old new : RecordedView J T) : Type 0 where
+    pub polled : RecordedView J T
+    pub posts : Posts old polled
     pub ran : AfterPoll J T
-    pub owed : polls ran.before (made ran.before) [] [] ran.step ran.told
+    pub owed : polls ran.before (made ran.before) old.journal.notes polled.journal.notes ran.step ran.told
     pub spent : ℕ
     pub settled : Settled T
-    pub settles : Settles made polls answers old ran spent settled new
+    pub settles : Settles made polls answers polled ran spent settled new
 
-  -- the first job of the right pick is polled once, with a post that notes nothing, and its poll is settled
+  -- the first job of the right pick is polled once, and its poll is settled
   pub record PollsOne (old new : RecordedView J T) : Type 0 where
     pub name : JobId
     pub queue : ℕ

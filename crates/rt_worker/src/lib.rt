@@ -1,6 +1,7 @@
 //! One worker: a core beside its journal, over its actor's ends of the links.
 #![tactic(auto)]
 
+pub mod bell;
 pub mod ended;
 mod gates;
 pub mod laws;
@@ -12,8 +13,9 @@ pub mod served;
 pub mod turn;
 pub mod worker;
 
+pub use bell::{Bell, ring};
 pub use ended::Ended;
 pub use linked::Linked;
 pub use served::Served;
 pub use turn::Made;
-pub use worker::{Bell, Worker};
+pub use worker::Worker;
