@@ -34,6 +34,8 @@ impl Task for Number {
 
     ghost Polls = { λ job made before after step told. told ≡ None };
 
+    ghost Asks = { λ P does job made old new. Unit {0} };
+
     ghost Answers = { λ job out. out ≡ job.value };
 
     ghost same_task = { record { itself = λ a. refl; back = λ a b same. sym same; along = λ a b c one two. one ∙ two } };

@@ -27,6 +27,8 @@ impl Task for Steps {
 
     ghost Polls = { λ _ _ _ _ _ _. Unit {0} };
 
+    ghost Asks = { λ P does job made old new. Unit {0} };
+
     ghost Answers = { λ _ _. Unit {0} };
 
     ghost same_task = { record { itself = λ _. tt; back = λ _ _ _. tt; along = λ _ _ _ _ _. tt } };

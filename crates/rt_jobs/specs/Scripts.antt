@@ -5,6 +5,7 @@ use Rattle.rt_ids.specs.declared.names.JobId.{JobId}
 use Rattle.rt_ids.specs.declared.note.Note.TheVariants.{Sent, Detached}
 use Rattle.rt_ids.specs.declared.order.Order.TheVariants.{Job}
 use Rattle.rt_ids.specs.Journal.{Journal}
+use Rattle.rt_jobs.specs.Calls.{Doing, Sends}
 use Rattle.rt_jobs.specs.declared.poll.Poll.{Poll}
 use Rattle.rt_jobs.specs.declared.poll.Poll.TheVariants as poll
 use Rattle.rt_jobs.specs.declared.poll.Yielding.{Yielding}
@@ -59,6 +60,26 @@ Does None before after step told = ⊥
 Does (Some (poll.Yield time)) before after step told = (after ≡ before) × (step ≡ steps.Yield) × (told ≡ Some time)
 Does (Some (poll.Submit time core queue)) before after step told = SubmitsDetached core queue before after × (step ≡ steps.Yield) × (told ≡ Some time)
 Does (Some (poll.Done time value)) before after step told = (after ≡ before) × (step ≡ steps.Done value) × (told ≡ Some time)
+
+-- the job that a poll submits: it takes a nanosecond, and is done with zero
+abbrev pub small_job : Script
+small_job = record { polls = poll.Done 1 0 ∷ []; polled = 0 }
+
+module _ {P : Type 0} (does : Doing P Script ℕ) where
+  -- what a poll that yields asks of its post: that the small job is sent to this queue of this core, or nothing
+  abbrev pub AsksTo : Option (ℕ × ℕ) → P → P → Type 0
+  AsksTo None old new = new ≡ old
+  AsksTo (Some (core, queue)) old new = Sends does core (Job queue small_job) old new
+
+  abbrev pub AsksAs : Yielding → P → P → Type 0
+  AsksAs kept old new = AsksTo kept.to old new
+
+  -- what a poll asks that is written so
+  abbrev pub Asks : Option Poll → P → P → Type 0
+  Asks None old new = ⊥
+  Asks (Some (poll.Yield time)) old new = new ≡ old
+  Asks (Some (poll.Submit time core queue)) old new = Sends does core (Job queue small_job) old new
+  Asks (Some (poll.Done time value)) old new = new ≡ old
 
 -- the time that a poll tells
 abbrev pub time_of : Poll → ℕ

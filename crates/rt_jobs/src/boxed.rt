@@ -104,6 +104,8 @@ impl<B: Drop, C: Drop, M: Meaning> Task for BoxedJob<B, C, M> {
 
     ghost Polls = { λ job made before after step told. PostsNothing before after told };
 
+    ghost Asks = { λ P does job made old new. new ≡ old };
+
     ghost Answers = { λ job out. M.answers job.key out };
 
     ghost same_task = { same_value (λ job. job.key) };

@@ -53,6 +53,8 @@ impl<C: Called> Task for OnceOf<C> {
 
     ghost Polls = { λ job made before after step told. AnswersAtOnce before after step told };
 
+    ghost Asks = { λ P does job made old new. new ≡ old };
+
     ghost Answers = { λ job out. IfSome job.call (λ call. C.gives call out) };
 
     ghost same_task = { same_value (λ job. job.call) };

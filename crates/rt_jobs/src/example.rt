@@ -39,6 +39,8 @@ impl Task for Work {
 
     ghost Polls = { λ job made before after step told. PostsNothing before after told };
 
+    ghost Asks = { λ P does job made old new. new ≡ old };
+
     ghost Answers = { MayAnswer };
 
     ghost same_task = { same_answers MayAnswer };

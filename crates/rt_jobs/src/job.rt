@@ -3,6 +3,7 @@
 ghost use Rattle.std.specs.Prelude.{◌≡◌, ℕ, Bool, true, false, Option};
 ghost use Rattle.rt_jobs.specs.declared.job.Step.{Step};
 ghost use Rattle.rt_ids.specs.Journal.{Journal};
+ghost use Rattle.rt_jobs.specs.Calls.{Doing};
 ghost use Rattle.rt_jobs.specs.Steps.{IfDone, OnYield, OwesOn, OwesOnce, is_done_step, IsSameTask};
 
 use crate::post::Post;
@@ -41,6 +42,9 @@ pub trait Task: Drop {
     /// What a poll owes: of the task, the polls made before, the notes of its post before and after, the step and the told time.
     ghost Polls: { Self → ℕ → Journal Self.Out → Journal Self.Out → Step Self.Out → Option ℕ → Type 0 };
 
+    /// What a poll asks of its post, whatever that post does at a call: of the job, the polls made before, and the post before and after.
+    ghost Asks: { (P : Type 0) → Doing P Self Self.Out → Self → ℕ → P → P → Type 0 };
+
     /// Which answers the task may have.
     ghost Answers: { Self → Self.Out → Type 0 };
 
@@ -75,6 +79,7 @@ pub trait Job: Task {
         ensures later { OnYield result (OwesOn Self.made Self.Polls self.old self.new) }
         ensures done { Self.done self.new ≡ is_done_step result }
         ensures follows { P.Follows post.old post.new }
+        ensures asks { Self.Asks P P.Does self.old (Self.made self.old) post.old post.new }
         ensures ready { OnYield result (Self.CanPoll self.new) };
 }
 
@@ -115,6 +120,7 @@ impl<J: Job> Ran<J> {
         ensures same { OnYield result.step (J.SameTask job result.job) }
         ensures later { OnYield result.step (OwesOn J.made J.Polls job result.job) }
         ensures follows { P.Follows post.old post.new }
+        ensures asks { J.Asks P P.Does job (J.made job) post.old post.new }
     {
         let before = Snapshot::of(&job);
         let mut job = job;

@@ -43,6 +43,8 @@ impl<R: Drop, F: FnOnce() -> R + Drop> Task for Once<F> {
 
     ghost Polls = { λ job made before after step told. AnswersAtOnce before after step told };
 
+    ghost Asks = { λ P does job made old new. new ≡ old };
+
     ghost Answers = { λ job out. IfSome job.call (λ f. F.post f out) };
 
     ghost same_task = { same_value (λ job. job.call) };

@@ -2,7 +2,7 @@
 
 ghost use Rattle.std.specs.Prelude.{◌≡◌, ◌∷◌, [], ◌↔◌, length, IsSome, IfSome};
 ghost use Rattle.rt_jobs.specs.declared.poll.Poll.TheVariants.{Done};
-ghost use Rattle.rt_jobs.specs.Scripts.{IsScript, PostsAs};
+ghost use Rattle.rt_jobs.specs.Scripts.{IsScript, PostsAs, AsksAs};
 
 use crate::job::{Job, Step, Task};
 use crate::poll::{Poll, Yielding};
@@ -116,7 +116,7 @@ impl ScriptJob {
 impl Task for ScriptJob {
     ghost use Rattle.std.specs.Prelude.{◌≡◌, ◌==◌, length, slice_get};
     ghost use Rattle.rt_jobs.specs.Same.{same_value};
-    ghost use Rattle.rt_jobs.specs.Scripts.{Does, IsAnswer, time_told};
+    ghost use Rattle.rt_jobs.specs.Scripts.{Does, Asks, IsAnswer, time_told};
     ghost use Rattle.std.proofs.Common.{subst};
 
     type Out = u64;
@@ -130,6 +130,8 @@ impl Task for ScriptJob {
     ghost says = { λ job. time_told job.polls job.polled };
 
     ghost Polls = { λ job made before after step told. Does (slice_get job.polls made) before after step told };
+
+    ghost Asks = { λ P does job made old new. Asks does (slice_get job.polls made) old new };
 
     ghost Answers = { λ job out. IsAnswer job.polls out };
 
@@ -174,6 +176,7 @@ impl Job for ScriptJob {
 /// What a poll that yields does at its post: nothing, or it submits the job `d1=0` and detaches it if it is accepted.
 fn post_as<P: Post<ScriptJob, u64>>(yielding: Yielding, post: &mut P)
     ensures posts { PostsAs yielding (P.notes post.old) (P.notes post.new) }
+    ensures asks { AsksAs P.Does yielding post.old post.new }
     ensures follows { P.Follows post.old post.new }
 {
     let Some(place) = yielding.to else {
