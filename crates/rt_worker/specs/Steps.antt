@@ -10,6 +10,7 @@ use Rattle.rt_jobs.specs.Steps.{AfterPoll, Owed}
 use Rattle.rt_core.specs.declared.turn.Settled.{Settled}
 use Rattle.rt_link.specs.Calls.{Shuts}
 use Rattle.rt_journal.specs.Recorded.{RecordedView, desk_of}
+use Rattle.rt_journal.specs.Ends.{IsSameSeat}
 use Rattle.rt_journal.specs.Steps.{Delivers, TellsShut, with_notes}
 use Rattle.rt_journal.specs.Posts.{ArePosts}
 use Rattle.rt_journal.specs.Tickets.{CollectsFrom, GetsAll}
@@ -74,6 +75,7 @@ module _ {J T : Type 0} (made : J → ℕ) (polls : Owed J T) (answers : J → T
     pub job : J
     pub out : RecordedView J T
     pub picks : IsPick old name queue was_started job out
+    pub seat : IsSameSeat old out
     pub settles : SettlesPoll out new
 
 module _ {J T : Type 0} (same : J → J → Type 0) (made : J → ℕ) (polls : Owed J T) (answers : J → T → Type 0) where

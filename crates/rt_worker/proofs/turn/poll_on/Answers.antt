@@ -1,18 +1,35 @@
-use Rattle.std.proofs.Common.{ap}
-use Rattle.rt_worker.proofs.Stepping.{lent_beside}
-use Rattle.rt_worker.proofs.Polled.{polls_linked, polls_stays}
+use Rattle.std.proofs.Common.{sym, subst, ap, length, arith}
+use Rattle.std.proofs.lemmas.List.{length-append}
+use Rattle.rt_journal.specs.Turns.{IsOut, IsOutUnder}
+use Rattle.rt_worker.proofs.Along.{stays_along}
+use Rattle.rt_worker.proofs.Posted.{posts_seat}
 use Rattle.rt_worker.proofs.turn.poll_on.Goals as goal
 
-pub poll_out-requires-clause-beside : goal.poll_out-requires-clause-beside
-poll_out-requires-clause-beside g c =
-    lent_beside c.args.name.from c.args.recorded.now c.args.ends.now c.name.inside.0.0.0 _ c.index_mut-end.result.now (record { number = ap (λ name. name.from) c.name.view_is; seen = c.ends.view_is }) c.requires.beside c.requires.known c.index_mut-end.ensures.value
+pub settle_on-requires : goal.settle_on-requires
+settle_on-requires g c =
+    let posts = c.post_on-ran.ensures.posts in
+    record {
+      out = subst (λ out. IsOut out c.post_on-ran.result.before) (sym (ap (λ view. view.core.out) posts.rest)) (subst (IsOut c.args.recorded.now.core.out) (sym c.post_on-ran.ensures.before) c.requires.out);
+      named = subst (λ out. IsOutUnder out c.args.name) (sym (ap (λ view. view.core.out) posts.rest)) c.requires.named;
+      known = omega (arith, c.requires.known, ap (λ view. view.core.cores) posts.rest);
+      beside = c.post_on-ran.ensures.beside;
+      polled = c.post_on-ran.ensures.polled;
+      room = omega (arith, c.requires.room, posts.few, ap (λ view. length view.journal.notes) posts.rest, length-append posts.notes c.args.recorded.now.journal.notes, ap (λ view. view.journal.room) posts.rest);
+    }
 
-pub returns-clause-linked : goal.returns-clause-linked
-returns-clause-linked g c =
-    polls_linked c.args.name.from c.args.recorded.now c.poll_out.new.recorded c.args.ends.now c.name.inside.0.0.0 _ c.index_mut-end.result.now c.poll_out.new.end (record { number = ap (λ name. name.from) c.name.view_is; seen = c.ends.view_is }) c.requires.beside c.requires.known c.index_mut-end.ensures.value
-    c.poll_out.ensures.beside c.poll_out.ensures.others c.poll_out.ensures.outs c.poll_out.ensures.seat c.poll_out.ensures.link c.poll_out.ensures.settles.settles.out_now c.poll_out.ensures.sound
+pub returns-clause-settles : goal.returns-clause-settles
+returns-clause-settles g c = record {
+  polled = c.post_on-ran.new.recorded;
+  posts = c.post_on-ran.ensures.posts;
+  ran = c.post_on-ran.result;
+  owed = subst (λ job. g.J.Task.Polls job (g.J.Task.made job) c.args.recorded.now.journal.notes c.post_on-ran.new.recorded.journal.notes c.post_on-ran.result.step c.post_on-ran.result.told) (sym c.post_on-ran.ensures.before) c.post_on-ran.ensures.owed;
+  spent = c.spent_between.result;
+  settled = c.settle_on.result;
+  settles = c.settle_on.ensures.settles;
+}
 
 pub returns-clause-stays : goal.returns-clause-stays
 returns-clause-stays g c =
-    polls_stays c.args.name.from c.args.recorded.now c.poll_out.new.recorded c.args.ends.now c.name.inside.0.0.0 _ c.index_mut-end.result.now c.poll_out.new.end (record { number = ap (λ name. name.from) c.name.view_is; seen = c.ends.view_is }) c.requires.beside c.requires.known c.index_mut-end.ensures.value
-    c.poll_out.ensures.beside c.poll_out.ensures.others c.poll_out.ensures.outs c.poll_out.ensures.seat c.poll_out.ensures.link
+    stays_along (record { recorded = c.args.recorded.now; ends = c.args.ends.now }) (record { recorded = c.post_on-ran.new.recorded; ends = c.post_on-ran.new.ends }) (record { recorded = c.settle_on.new.recorded; ends = c.settle_on.new.ends })
+    (record { seat = posts_seat c.args.recorded.now c.post_on-ran.new.recorded c.post_on-ran.ensures.posts; ends = c.post_on-ran.ensures.ends })
+    c.settle_on.ensures.stays

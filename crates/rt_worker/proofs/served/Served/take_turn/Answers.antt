@@ -1,12 +1,12 @@
 use Rattle.std.proofs.Common.{sym, subst}
 use Rattle.rt_worker.specs.Rooms.{IsReady}
-use Rattle.rt_worker.proofs.Spare.{ready_room}
+use Rattle.rt_worker.proofs.Spare.{turn_room}
 use Rattle.rt_worker.proofs.Serving.{turned_served}
 use Rattle.rt_worker.proofs.served.Served.take_turn.Goals as goal
 
 pub turn-requires : goal.turn-requires
 turn-requires g c = record {
-  room = ready_room c.self.inside.linked c.self.invariant.linked c.self.inside.ending (subst (λ view. IsReady view.ending view.linked.recorded) (sym c.self.view_is) c.look.ensures.ready);
+  room = turn_room c.self.inside.linked c.self.invariant.linked c.self.inside.ending (subst (λ view. IsReady view.ending view.linked.recorded) (sym c.self.view_is) c.look.ensures.ready);
 }
 
 pub invariant_of-self : goal.invariant_of-self
