@@ -3,6 +3,7 @@ pub mod Stepping
 pub mod Delivered
 pub mod Polled
 pub mod Posted
+pub mod InPlace
 pub mod Collected
 pub mod Turning
 pub mod Noted

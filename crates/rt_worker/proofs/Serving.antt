@@ -188,34 +188,28 @@ module _ {J T : Type 0} where
 
     module _ (old new : LinkedView J T) (was : IsLinked same made polls fits old) (now : IsLinked same made polls fits new) (seat : IsSameSeat old.recorded new.recorded) where
       -- a poll
-      module _ {answers : J → T → Type 0} (did : PollsOne made polls answers old.recorded new.recorded) where
-        picked_notes : did.out.journal.notes ≡ poll_note did.name did.was_started ∷ writes.Pick did.queue did.picks.runtime ∷ old.recorded.journal.notes
+      module _ {answers : J → T → Type 0} {tells : ℕ → Type 0} (did : PollsOne made polls answers fits tells old new) where
+        picked_notes : did.picked.journal.notes ≡ poll_note did.name did.was_started ∷ writes.Pick did.queue did.picks.runtime ∷ old.recorded.journal.notes
         picked_notes = ap (λ journal. journal.notes) did.picks.journal
 
-        posted_notes : did.settles.polled.journal.notes ≡ did.settles.posts.notes ++ did.out.journal.notes
-        posted_notes = ap (λ view. view.journal.notes) did.settles.posts.rest
+        posted_notes : did.left.journal.notes ≡ did.posted.notes ++ did.picked.journal.notes
+        posted_notes = ap (λ desk. desk.journal.notes) did.posted.desk
 
-        settled_notes : new.recorded.journal.notes ≡ settle_note did.settles.settles.out.name (unwrap_or did.settles.ran.told did.settles.spent) did.settles.ran.step ∷ did.settles.polled.journal.notes
-        settled_notes = ap (λ journal. journal.notes) did.settles.settles.journal
-
-        polled_longer : length new.recorded.journal.notes ≤ length old.recorded.journal.notes + (old.recorded.core.cores * (3 * old.recorded.cap) + 3)
-        polled_longer =
-            let posted : length did.settles.polled.journal.notes ≡ length did.settles.posts.notes + length did.out.journal.notes = ap length posted_notes ∙ length-append did.settles.posts.notes did.out.journal.notes in
-            let places : did.out.core.cores * (3 * did.out.cap) ≡ old.recorded.core.cores * (3 * old.recorded.cap) = ap (λ cores. cores * (3 * did.out.cap)) did.seat.cores ∙ ap (λ cap. old.recorded.core.cores * (3 * cap)) did.seat.cap in
-            omega (arith, did.settles.posts.few, places, posted, ap length settled_notes, ap length picked_notes)
+        settled_notes : new.recorded.journal.notes ≡ settle_note did.settles.out.name (unwrap_or did.ran.told did.spent) did.ran.step ∷ did.left.journal.notes
+        settled_notes = ap (λ journal. journal.notes) did.settles.journal
 
         polled_closes : EachNote (ClosesRightly (least_free old.recorded.core.cores old.recorded.cap) old.recorded.journal.room) old.recorded.journal.notes →
             EachNote (ClosesRightly (least_free old.recorded.core.cores old.recorded.cap) old.recorded.journal.room) new.recorded.journal.notes
         polled_closes closes =
             subst (EachNote (ClosesRightly (least_free old.recorded.core.cores old.recorded.cap) old.recorded.journal.room)) (sym settled_notes)
-            (settles_close _ _ _ _ did.settles.ran.step did.settles.polled.journal.notes
+            (settles_close _ _ _ _ did.ran.step did.left.journal.notes
             (subst (EachNote (ClosesRightly (least_free old.recorded.core.cores old.recorded.cap) old.recorded.journal.room)) (sym posted_notes)
-            (posts_close _ _ did.settles.posts.notes did.out.journal.notes did.settles.posts.are
+            (posts_close _ _ did.posted.notes did.picked.journal.notes did.posted.posts
             (subst (EachNote (ClosesRightly (least_free old.recorded.core.cores old.recorded.cap) old.recorded.journal.room)) (sym picked_notes)
             (picks_close _ _ did.name did.was_started did.queue did.picks.runtime old.recorded.journal.notes closes)))))
 
         polled_provided : (ending : Bool) → IsReady ending old.recorded → IsProvided ending new.recorded
-        polled_provided false ready = spare_after old.recorded new.recorded (old.recorded.core.cores * (3 * old.recorded.cap) + 3) seat ready polled_longer (posts_few old.recorded.core.cores old.recorded.cap)
+        polled_provided false ready = spare_after old.recorded new.recorded (old.recorded.core.cores * (3 * old.recorded.cap) + 3) seat ready (omega (arith, did.few)) (posts_few old.recorded.core.cores old.recorded.cap)
         polled_provided true ready = absurd (has_reason did.queue old.recorded.journal.notes (inr ready.returning) did.picks.kept)
 
         polled_served : (ending : Bool) → IsReady ending old.recorded → ClosesOnlyShort old.recorded.core.cores old.recorded.cap old.recorded.journal → IsServed same made polls fits (record { linked = new; ending = ending })
@@ -257,9 +251,9 @@ module _ {J T : Type 0} where
         }
 
       -- whatever a turn came to
-      pub turned_served : (answers : J → T → Type 0) (came_to : Made) (ending : Bool) → MakesTurn same made polls answers old.recorded came_to new.recorded → IsReady ending old.recorded →
+      pub turned_served : (answers : J → T → Type 0) (tells : ℕ → Type 0) (came_to : Made) (ending : Bool) → MakesTurn same made polls answers fits tells old came_to new → IsReady ending old.recorded →
           ClosesOnlyShort old.recorded.core.cores old.recorded.cap old.recorded.journal → IsServed same made polls fits (record { linked = new; ending = ending })
-      turned_served answers came.Polled ending did ready closes = polled_served did ending ready closes
-      turned_served answers came.Returned ending did ready closes = returned_served did ending ready closes
-      turned_served answers came.Idle ending did ready closes = unmoved ending old new now ready did.1 closes
-      turned_served answers came.Spent ending did ready closes = unmoved ending old new now ready did.2 closes
+      turned_served answers tells came.Polled ending did ready closes = polled_served did ending ready closes
+      turned_served answers tells came.Returned ending did ready closes = returned_served did ending ready closes
+      turned_served answers tells came.Idle ending did ready closes = unmoved ending old new now ready did.1 closes
+      turned_served answers tells came.Spent ending did ready closes = unmoved ending old new now ready did.2 closes

@@ -1,13 +1,12 @@
 -- A step on the end of one sender leaves a core linked as before.
-use Rattle.std.proofs.Common.{◌≡◌, ◌≢◌, ℕ, ◌+◌, ◌<◌, ◌≤◌, Some, get_or, length, set, get_or-set_same, get_or-set_other, length-set, sym, ◌∙◌, ap, subst, arith, ⊎_elim}
-use Rattle.std.specs.Prelude.{slice_get}
+use Rattle.std.proofs.Common.{◌≡◌, ◌≢◌, ℕ, ◌+◌, ◌<◌, ◌≤◌, get_or, length, set, get_or-set_same, get_or-set_other, length-set, sym, ◌∙◌, ap, subst, arith, ⊎_elim}
+use Rattle.std.specs.Prelude.{Option, slice_get}
 use Rattle.std.proofs.lemmas.Bool.{cases_eq}
 use Rattle.std.proofs.lemmas.List.{get_or_default}
 use Rattle.rt_ids.specs.declared.names.JobId.{JobId}
 use Rattle.rt_ids.specs.declared.order.Order.{Order}
 use Rattle.rt_ids.specs.declared.order.Outcome.{Outcome}
-use Rattle.rt_ids.specs.declared.order.Reason.{Reason}
-use Rattle.rt_ids.specs.declared.note.OutcomeNote.TheVariants.{Returned}
+use Rattle.rt_ids.specs.declared.note.OutcomeNote.{OutcomeNote}
 use Rattle.rt_ring.specs.declared.ring_in.Receiving.{Receiving}
 use Rattle.rt_journal.specs.Recorded.{RecordedView, desk_of}
 use Rattle.rt_journal.specs.Ends.{IsInOf, IsInOwing, IsSameSeat, KeepsIn, KeepsOuts}
@@ -115,36 +114,36 @@ module _ {J T : Type 0} {fits : Order J → Outcome J T → Type 0} where
     end_put = subst (λ ends. in_at sender ends ≡ end) (put_seen sender ends at inside end opens) end_now
 
   -- the outcome that was owed is given
-  module _ (name : JobId) (reason : Reason) (recorded : RecordedView J T) (ends : EndsView J T) (at : ℕ) (inside : EndsView J T) (opens : Opens name.from ends at inside) (owing : AreOwing fits name reason recorded ends) (known : name.from ≤ recorded.core.cores) where
-    here_owing : name.from < length ends.ins
+  module _ (from : ℕ) (owed : Option (JobId × OutcomeNote T)) (recorded : RecordedView J T) (ends : EndsView J T) (at : ℕ) (inside : EndsView J T) (opens : Opens from ends at inside) (owing : AreOwing fits from owed recorded ends) (known : from ≤ recorded.core.cores) where
+    here_owing : from < length ends.ins
     here_owing = omega (arith, owing.ins_are, known)
 
-    pub owing_here : (end : Receiving J T) → lent at inside end → end ≡ in_at name.from ends
-    owing_here end is = lent_at name.from ends end here_owing (lent_seen name.from ends at inside end opens is)
+    pub owing_here : (end : Receiving J T) → lent at inside end → end ≡ in_at from ends
+    owing_here end is = lent_at from ends end here_owing (lent_seen from ends at inside end opens is)
 
-    pub owing_end : (end : Receiving J T) → lent at inside end → IsInOwing name.from (Some (name, Returned reason)) recorded end.inward
-    owing_end end is = subst (λ end. IsInOwing name.from (Some (name, Returned reason)) recorded end.inward) (sym (owing_here end is)) owing.owed
+    pub owing_end : (end : Receiving J T) → lent at inside end → IsInOwing from owed recorded end.inward
+    owing_end end is = subst (λ end. IsInOwing from owed recorded end.inward) (sym (owing_here end is)) owing.owed
 
-    module _ (end : Receiving J T) (gave : IsInOf name.from recorded end.inward) (link : end.link ≡ (in_at name.from ends).link) where
-      ins_given : (other : ℕ) → other ≤ recorded.core.cores → IsInOf other recorded (in_at other (put_back name.from ends end)).inward
+    module _ (end : Receiving J T) (gave : IsInOf from recorded end.inward) (link : end.link ≡ (in_at from ends).link) where
+      ins_given : (other : ℕ) → other ≤ recorded.core.cores → IsInOf other recorded (in_at other (put_back from ends end)).inward
       ins_given other there =
           ⊎_elim
-          (λ (is : other ≡ name.from).
-          subst (λ one. IsInOf one recorded (in_at one (put_back name.from ends end)).inward) (sym is)
-          (subst (λ lent. IsInOf name.from recorded lent.inward) (sym (get_or-set_same ends.ins name.from end no_in here_owing)) gave))
-          (λ (away : other ≢ name.from).
-          subst (λ lent. IsInOf other recorded lent.inward) (sym (get_or-set_other ends.ins name.from other end no_in away)) (owing.ins other there away))
-          (cases_eq other name.from)
+          (λ (is : other ≡ from).
+          subst (λ one. IsInOf one recorded (in_at one (put_back from ends end)).inward) (sym is)
+          (subst (λ lent. IsInOf from recorded lent.inward) (sym (get_or-set_same ends.ins from end no_in here_owing)) gave))
+          (λ (away : other ≢ from).
+          subst (λ lent. IsInOf other recorded lent.inward) (sym (get_or-set_other ends.ins from other end no_in away)) (owing.ins other there away))
+          (cases_eq other from)
 
       pub given_beside : AreBeside fits recorded (put_back at inside end)
       given_beside =
-          subst (AreBeside fits recorded) (put_seen name.from ends at inside end opens)
+          subst (AreBeside fits recorded) (put_seen from ends at inside end opens)
           (record {
             number = owing.number;
-            ins_are = length-set ends.ins name.from end ∙ owing.ins_are;
+            ins_are = length-set ends.ins from end ∙ owing.ins_are;
             outs = owing.outs;
             ins = ins_given;
           })
 
       pub given_ends : SameEnds ends (put_back at inside end)
-      given_ends = subst (SameEnds ends) (put_seen name.from ends at inside end opens) (in_used ends name.from end here_owing link)
+      given_ends = subst (SameEnds ends) (put_seen from ends at inside end opens) (in_used ends from end here_owing link)

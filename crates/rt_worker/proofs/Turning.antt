@@ -125,7 +125,7 @@ module _ {J T : Type 0} where
 
   -- the ends beside a core that has just handed a job back
   pub stay_owing : {fits : Order J → Outcome J T → Type 0} (old new : RecordedView J T) (ends : EndsView J T) (picked : Result (Turn J) PickError) (name : JobId) (reason : Reason) (order : Order J) → AreBeside fits old ends → HandsOut picked name reason order →
-      name.from ≤ old.core.cores → IsSameSeat old new → KeepsOuts (desk_of old) (desk_of new) → new.lanes ≡ old.lanes → ((sender : ℕ) → LeavesOwed sender (owed_back picked sender) old new) → AreOwing fits name reason new ends
+      name.from ≤ old.core.cores → IsSameSeat old new → KeepsOuts (desk_of old) (desk_of new) → new.lanes ≡ old.lanes → ((sender : ℕ) → LeavesOwed sender (owed_back picked sender) old new) → AreOwing fits name.from (Some (name, outcomes.Returned reason)) new ends
   stay_owing old new ends picked name reason order beside hands known seat outs lanes ins = record {
     number = beside.number ∙ sym seat.number;
     ins_are = beside.ins_are ∙ ap (λ cores. cores + 1) (sym seat.cores);

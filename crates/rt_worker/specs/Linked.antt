@@ -1,10 +1,9 @@
 -- A core beside its journal, with its actor's ends of the links.
-use Rattle.std.specs.Prelude.{◌≡◌, ◌≢◌, ℕ, ◌+◌, ◌≤◌, Some, None, length}
+use Rattle.std.specs.Prelude.{◌≡◌, ◌≢◌, ℕ, ◌+◌, ◌≤◌, Option, None, length}
 use Rattle.rt_ids.specs.declared.names.JobId.{JobId}
 use Rattle.rt_ids.specs.declared.order.Order.{Order}
 use Rattle.rt_ids.specs.declared.order.Outcome.{Outcome}
-use Rattle.rt_ids.specs.declared.order.Reason.{Reason}
-use Rattle.rt_ids.specs.declared.note.OutcomeNote.TheVariants.{Returned}
+use Rattle.rt_ids.specs.declared.note.OutcomeNote.{OutcomeNote}
 use Rattle.rt_jobs.specs.Steps.{Owed}
 use Rattle.rt_journal.specs.Recorded.{RecordedView, IsRecorded, desk_of}
 use Rattle.rt_journal.specs.Ends.{IsInOf, IsInOwing, IsSameSeat}
@@ -28,13 +27,13 @@ module _ {J T : Type 0} (fits : Order J → Outcome J T → Type 0) where
     pub outs : SendsOn recorded ends
     pub ins : (sender : ℕ) → sender ≤ recorded.core.cores → IsInOf sender recorded (in_at sender ends).inward
 
-  -- the same, but the outcome of a job that was just handed back is owed to its sender
-  pub record AreOwing (name : JobId) (reason : Reason) (recorded : RecordedView J T) (ends : EndsView J T) : Type 0 where
+  -- the same, but this outcome, if there is one, is owed to this sender
+  pub record AreOwing (from : ℕ) (owing : Option (JobId × OutcomeNote T)) (recorded : RecordedView J T) (ends : EndsView J T) : Type 0 where
     pub number : ends.number ≡ recorded.core.core
     pub ins_are : length ends.ins ≡ recorded.core.cores + 1
     pub outs : SendsOn recorded ends
-    pub owed : IsInOwing name.from (Some (name, Returned reason)) recorded (in_at name.from ends).inward
-    pub ins : (sender : ℕ) → sender ≤ recorded.core.cores → sender ≢ name.from → IsInOf sender recorded (in_at sender ends).inward
+    pub owed : IsInOwing from owing recorded (in_at from ends).inward
+    pub ins : (sender : ℕ) → sender ≤ recorded.core.cores → sender ≢ from → IsInOf sender recorded (in_at sender ends).inward
 
 module _ {J T : Type 0} where
   -- what no step changes: whose core it is, and which links its ends are of

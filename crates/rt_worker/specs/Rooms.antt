@@ -36,10 +36,14 @@ module _ {J T : Type 0} where
   abbrev pub HasSpare : RecordedView J T → Type 0
   HasSpare view = length view.journal.notes + 4 * ((view.core.cores + 1) * (view.cap + 1)) ≤ view.journal.room
 
-  -- There is room for a turn. A core that hands back takes two notes. A job that is polled may note three times for each place of each link, between the notes of its pick and of its settling.
+  -- there is room for a poll: three notes for each place of each link, which it may post, and three for its pick and its settling
+  abbrev pub HasPollRoom : RecordedView J T → Type 0
+  HasPollRoom view = length view.journal.notes + view.core.cores * (3 * view.cap) + 3 ≤ view.journal.room
+
+  -- there is room for a turn: a core that hands back takes two notes and polls nothing
   pub record HasTurnRoom (view : RecordedView J T) : Type 0 where
     pub back : length view.journal.notes + 2 ≤ view.journal.room
-    pub poll : core_mode view.journal.notes ≢ Some Return → length view.journal.notes + view.core.cores * (3 * view.cap) + 3 ≤ view.journal.room
+    pub poll : core_mode view.journal.notes ≢ Some Return → HasPollRoom view
 
   -- The core hands back what is inside, and each gate is shut. There is room for three notes, and for two more for each order that has no outcome yet.
   pub record IsEnding (view : RecordedView J T) : Type 0 where

@@ -9,7 +9,10 @@ mod lent;
 pub mod linked;
 mod next;
 mod opening;
+mod polling;
+mod posting;
 pub mod served;
+pub mod stopwatch;
 pub mod turn;
 pub mod worker;
 
@@ -17,5 +20,6 @@ pub use bell::{Bell, ring};
 pub use ended::Ended;
 pub use linked::Linked;
 pub use served::Served;
+pub use stopwatch::Stopwatch;
 pub use turn::Made;
 pub use worker::Worker;

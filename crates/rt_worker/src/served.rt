@@ -13,7 +13,8 @@ use crate::turn::Made;
 use rt_ids::{ActorNo, CoreNo};
 use rt_jobs::{Job, Task};
 use rt_notes::Journal;
-use rt_settings::{Clock, Gate};
+use rt_settings::Gate;
+use rt_taskqueue::Meter;
 use std::alloc::Global;
 use std::marker::Model;
 
@@ -164,16 +165,16 @@ impl<J: Task<Out = u64>> Served<J> {
 
 impl<J: Job + Task<Out = u64>> Served<J> {
     /// Makes one turn. Whether there was work.
-    pub(crate) fn take_turn<C: Clock, G: Gate>(
+    pub(crate) fn take_turn<M: Meter, G: Gate>(
         &mut self,
         alloc: Global,
-        clock: &mut C,
+        meter: &mut M,
         gate: &mut G,
     ) -> bool
         ensures { StaysLinked self.old.linked self.new.linked }
     {
         self.look();
-        match self.linked.turn(alloc, clock, gate) {
+        match self.linked.turn(alloc, meter, gate) {
             Made::Polled | Made::Returned => true,
             Made::Idle | Made::Spent => false,
         }

@@ -1,23 +1,26 @@
-//! One turn of a core: a pick, a poll and its settlement, or a job that is handed back.
+//! One turn of a core: a poll of its next job, or a job that is handed back.
 
-ghost use Rattle.std.specs.Prelude.{◌≡◌, ◌+◌, ◌*◌, ◌<◌, ◌≤◌, false, None, length};
+ghost use Rattle.std.specs.Prelude.{◌≡◌, ◌≤◌, None, Some};
+ghost use Rattle.rt_ids.specs.declared.note.OutcomeNote.TheVariants.{Returned};
 ghost use Rattle.rt_link.specs.Fits.{Fits};
 ghost use Rattle.rt_journal.specs.Recorded.{IsRecorded};
-ghost use Rattle.rt_journal.specs.Turns.{IsOut, IsOutUnder, IsPolled, Settles};
 ghost use Rattle.rt_journal.specs.Owed.{IsSentUnder};
 ghost use Rattle.rt_grid.specs.Ends.{SameEnds};
-ghost use Rattle.rt_worker.specs.Linked.{AreBeside, AreOwing, IsLinked, StaysLinked};
+ghost use Rattle.rt_worker.specs.Linked.{AreOwing, IsLinked, StaysLinked};
 ghost use Rattle.rt_worker.specs.Rooms.{HasTurnRoom};
-ghost use Rattle.rt_worker.specs.Steps.{MakesTurn, Posts, SettlesPoll};
+ghost use Rattle.rt_worker.specs.Steps.{MakesTurn};
 
 use crate::linked::Linked;
 use crate::next::{Next, next_of};
-use rt_core::Settled;
+use crate::polling::poll_on;
+use crate::posting::turn_on;
+use rt_core::Ahead;
 use rt_grid::Ends;
 use rt_ids::{JobId, Order, Reason};
-use rt_jobs::{Job, Ran, Task};
+use rt_jobs::{Job, Task};
 use rt_journal::Recorded;
-use rt_settings::{Clock, Gate, spent_between};
+use rt_settings::Gate;
+use rt_taskqueue::Meter;
 use std::alloc::Global;
 
 /// What a turn came to.
@@ -38,75 +41,6 @@ fn ask<G: Gate>(gate: &mut G, name: &JobId) {
     gate.before_poll(name.to, *name);
 }
 
-// Polls the job that is out. It may submit, redeem and detach on the ends of its core.
-fn post_on<J: Job + Task<Out = u64>>(
-    alloc: Global,
-    recorded: &mut Recorded<J>,
-    ends: &mut Ends<J>,
-    job: J,
-) -> Ran<J>
-    requires beside { AreBeside (Fits J.SameTask J.Answers) recorded.old ends.old }
-    requires open { J.done job ≡ false }
-    requires ready { J.CanPoll job }
-    requires room { length recorded.old.journal.notes + recorded.old.core.cores * (3 * recorded.old.cap) < recorded.old.journal.room }
-    ensures before { result.before ≡ job }
-    ensures owed { J.Polls job (J.made job) recorded.old.journal.notes recorded.new.journal.notes result.step result.told }
-    ensures polled { IsPolled J.SameTask J.made J.Polls J.Answers result }
-    ensures posts { Posts recorded.old recorded.new }
-    ensures beside { AreBeside (Fits J.SameTask J.Answers) recorded.new ends.new }
-    ensures ends { SameEnds ends.old ends.new }
-    ensures sound { IsRecorded J.SameTask J.made J.Polls recorded.new }
-{
-    recorded.poll(alloc, &mut ends.outs, job)
-}
-
-// Settles the poll of the job that was out, on the end of its sender.
-fn settle_on<J: Task<Out = u64>>(
-    recorded: &mut Recorded<J>,
-    ends: &mut Ends<J>,
-    name: JobId,
-    ran: Ran<J>,
-    spent: u64,
-) -> Settled<u64>
-    requires out { IsOut recorded.old.core.out ran.before }
-    requires named { IsOutUnder recorded.old.core.out name }
-    requires known { name.from ≤ recorded.old.core.cores }
-    requires beside { AreBeside (Fits J.SameTask J.Answers) recorded.old ends.old }
-    requires polled { IsPolled J.SameTask J.made J.Polls J.Answers ran }
-    requires room { length recorded.old.journal.notes < recorded.old.journal.room }
-    ensures settles { Settles J.made J.Polls J.Answers recorded.old ran spent result recorded.new }
-    ensures linked { IsLinked J.SameTask J.made J.Polls (Fits J.SameTask J.Answers) (record { recorded = recorded.new; ends = ends.new }) }
-    ensures stays { StaysLinked (record { recorded = recorded.old; ends = ends.old }) (record { recorded = recorded.new; ends = ends.new }) }
-{
-    recorded.settle(&mut ends.ins[name.from.0 as usize], name, ran, spent)
-}
-
-// Polls the job that a pick took out, between two readings of the clock, and settles its poll.
-fn poll_on<J: Job + Task<Out = u64>, C: Clock>(
-    alloc: Global,
-    recorded: &mut Recorded<J>,
-    ends: &mut Ends<J>,
-    name: JobId,
-    job: J,
-    clock: &mut C,
-)
-    requires out { IsOut recorded.old.core.out job }
-    requires named { IsOutUnder recorded.old.core.out name }
-    requires known { name.from ≤ recorded.old.core.cores }
-    requires beside { AreBeside (Fits J.SameTask J.Answers) recorded.old ends.old }
-    requires open { J.done job ≡ false }
-    requires ready { J.CanPoll job }
-    requires room { length recorded.old.journal.notes + recorded.old.core.cores * (3 * recorded.old.cap) < recorded.old.journal.room }
-    ensures settles { SettlesPoll J.made J.Polls J.Answers recorded.old recorded.new }
-    ensures linked { IsLinked J.SameTask J.made J.Polls (Fits J.SameTask J.Answers) (record { recorded = recorded.new; ends = ends.new }) }
-    ensures stays { StaysLinked (record { recorded = recorded.old; ends = ends.old }) (record { recorded = recorded.new; ends = ends.new }) }
-{
-    let before = clock.now();
-    let ran = post_on(alloc, recorded, ends, job);
-    let after = clock.now();
-    drop(settle_on(recorded, ends, name, ran, spent_between(before, after)));
-}
-
 // Gives the outcome of a job that a pick handed back, on the end of its sender.
 fn give_on<J: Task<Out = u64>>(
     recorded: &Recorded<J>,
@@ -119,7 +53,7 @@ fn give_on<J: Task<Out = u64>>(
     requires rest { recorded.now.core.out ≡ None }
     requires sound { IsRecorded J.SameTask J.made J.Polls recorded.now }
     requires sent { IsSentUnder J.SameTask recorded.now.took name order }
-    requires owing { AreOwing (Fits J.SameTask J.Answers) name reason recorded.now ends.old }
+    requires owing { AreOwing (Fits J.SameTask J.Answers) name.from (Some (name, Returned reason)) recorded.now ends.old }
     ensures linked { IsLinked J.SameTask J.made J.Polls (Fits J.SameTask J.Answers) (record { recorded = recorded.now; ends = ends.new }) }
     ensures ends { SameEnds ends.old ends.new }
 {
@@ -129,18 +63,40 @@ fn give_on<J: Task<Out = u64>>(
 impl<J: Job + Task<Out = u64>> Linked<J> {
     /// Makes one turn: the first job of the right pick is polled once, or handed back.
     ///
-    /// A job that is polled may submit, redeem and detach as this core. The gate is asked just before a poll, and the clock is read just
-    /// before it and just after it. `alloc` gives nothing: it stands where the ends stood while they are lent.
-    pub fn turn<C: Clock, G: Gate>(&mut self, alloc: Global, clock: &mut C, gate: &mut G) -> Made
+    /// A job that is polled may submit, redeem and detach as this core. The gate is asked just before the poll, and the meter is told that
+    /// the poll begins, and asked how long it took. `alloc` gives no memory: what is lent leaves an empty list of it behind.
+    pub fn turn<M: Meter, G: Gate>(&mut self, alloc: Global, meter: &mut M, gate: &mut G) -> Made
         requires room { HasTurnRoom self.old.recorded }
-        ensures makes { MakesTurn J.SameTask J.made J.Polls J.Answers self.old.recorded result self.new.recorded }
+        ensures makes { MakesTurn J.SameTask J.made J.Polls J.Answers (Fits J.SameTask J.Answers) (M.Tells meter.old) self.old result self.new }
+        ensures stays { StaysLinked self.old self.new }
+        ensures linked { IsLinked J.SameTask J.made J.Polls (Fits J.SameTask J.Answers) self.new }
+    {
+        match self.recorded.ahead() {
+            Ok(Ahead::Job(next)) => {
+                ask(gate, &next.name);
+                turn_on(alloc, &mut self.recorded, &mut self.ends, &next, meter);
+                Made::Polled
+            }
+            Ok(_) | Err(_) => self.turn_by_pick(alloc, meter, gate),
+        }
+    }
+
+    /// The same by a pick.
+    fn turn_by_pick<M: Meter, G: Gate>(
+        &mut self,
+        alloc: Global,
+        meter: &mut M,
+        gate: &mut G,
+    ) -> Made
+        requires room { HasTurnRoom self.old.recorded }
+        ensures makes { MakesTurn J.SameTask J.made J.Polls J.Answers (Fits J.SameTask J.Answers) (M.Tells meter.old) self.old result self.new }
         ensures stays { StaysLinked self.old self.new }
         ensures linked { IsLinked J.SameTask J.made J.Polls (Fits J.SameTask J.Answers) self.new }
     {
         match next_of(self.recorded.pick()) {
             Next::Poll(name, job) => {
                 ask(gate, &name);
-                poll_on(alloc, &mut self.recorded, &mut self.ends, name, job, clock);
+                poll_on(alloc, &mut self.recorded, &mut self.ends, name, job, meter);
                 Made::Polled
             }
             Next::Give(name, reason, order) => {

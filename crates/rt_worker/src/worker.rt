@@ -6,6 +6,7 @@ ghost use Rattle.rt_worker.specs.Linked.{StaysLinked};
 use crate::bell::{Bell, ring_for, sleep};
 use crate::ended::Ended;
 use crate::served::Served;
+use crate::stopwatch::Stopwatch;
 use rt_jobs::{Job, Task};
 use rt_settings::{Clock, Gate};
 use rt_workers::{Promised, Work};
@@ -22,7 +23,7 @@ const TRIES: u32 = 256;
 pub struct Worker<J: Task<Out = u64>, C: Drop, G: Drop> {
     alloc: Global,
     served: Served<J>,
-    clock: C,
+    watch: Stopwatch<C>,
     gate: G,
     bell: Bell,
     /// The bells of all workers, each at the number of its core. There may be none: then nobody is woken.
@@ -48,7 +49,7 @@ impl<J: Task<Out = u64>, C: Drop, G: Drop> Worker<J, C, G> {
         Worker {
             alloc,
             served,
-            clock,
+            watch: Stopwatch::new(clock),
             gate,
             bell,
             bells: Vec::new(alloc),
@@ -105,7 +106,7 @@ impl<J: Job + Task<Out = u64>, C: Clock + Drop, G: Gate + Drop> Worker<J, C, G> 
         let before = self.served.journal().len();
         let turned = self
             .served
-            .take_turn(self.alloc, &mut self.clock, &mut self.gate);
+            .take_turn(self.alloc, &mut self.watch, &mut self.gate);
         self.ring_since(before);
         turned
     }
