@@ -1,5 +1,5 @@
 -- A turn of the job that was told ahead, with its place and its room.
-use Rattle.std.proofs.Common.{◌≡◌, ◌≢◌, inr, ℕ, ◌+◌, ◌*◌, ◌≤◌, Bool, cond, List, ◌∷◌, length, sym, ◌∙◌, ap, subst, arith}
+use Rattle.std.proofs.Common.{◌≡◌, ◌≢◌, inr, ℕ, ◌+◌, ◌*◌, ◌≤◌, Bool, cond, List, ◌∷◌, length, refl, sym, ◌∙◌, ap, subst, arith}
 use Rattle.std.specs.Prelude.{Option, Some, None, All}
 use Rattle.std.proofs.lemmas.Bool.{ne_eqb}
 use Rattle.std.proofs.lemmas.List.Elements.{All-head}
@@ -51,10 +51,7 @@ module _ {J T : Type 0} {same : J → J → Type 0} {made : J → ℕ} {polls : 
 module _ {J T : Type 0} where
   -- nothing is owed to any other sender
   told_none : (name : JobId) (outcome : Option (OutcomeNote T)) (sender : ℕ) → sender ≢ name.from → told_under name outcome sender ≡ None
-  told_none name None sender away = refl_none
-    where
-      refl_none : told_under {T = T} name None sender ≡ None
-      refl_none = λ i. None
+  told_none name None sender away = refl
   told_none name (Some outcome) sender away = ap (λ test. cond test (Some (name, outcome)) None) (ne_eqb name.from sender (λ one. away (sym one)))
 
   -- what the turn owes to the job's sender, beside the ends
