@@ -62,7 +62,7 @@ module _ {J T : Type 0} where
     orders = λ name order from took. cc;
   }
 
-  module _ {same : J → J → Type 0} {made : J → ℕ} {polls : Owed J T} {fits : Order J → Outcome J T → Type 0} where
+  module _ {same : J → J → Type 0} {made : J → ℕ} {polls : Owed J T} where
     -- one creation
     pub created_one : (weight : ℕ) (old new : RecordedView J T) (queue : ℕ) → IsOpening old.journal.notes → CreatesQueue weight old (Ok queue) new → ((sender : ℕ) → KeepsIn sender old new) →
         KeepsOuts (desk_of old) (desk_of new) → new.lanes ≡ old.lanes → IsSameSeat old new → IsRecorded same made polls new → CreatesSince same made polls 1 old new
@@ -109,8 +109,8 @@ module _ {J T : Type 0} where
           let low = slice_get_within ends.outs to end there in
           (subst (IsFreshOut ends.number to cap) (get_or_from_slice_get ends.outs to end no_out there) (are.fresh.outs to low), omega (arith, low, are.outs))
 
-      opened_lane : (to : ℕ) (end : Sending J T) → slice_get ends.outs to ≡ Some end → HasLane fits to (desk_of recorded) end.out end.credited
-      opened_lane to end there =
+      opened_lane : (fits : Order J → Outcome J T → Type 0) (to : ℕ) (end : Sending J T) → slice_get ends.outs to ≡ Some end → HasLane fits to (desk_of recorded) end.out end.credited
+      opened_lane fits to end there =
           let is = opened_end to end there in
           let unused : IsUnused cap end.out end.credited = IsUnused-fresh (λ (end : Sending J T). end.out) (λ end. end.credited) ends.number to cap 0 end (omega arith) is.0.out is.0.credited in
           let has : HasLane fits to (opened_desk core cores cap room) end.out 0 = fresh_has_lane fits to core cores cap room end.out is.1 (subst (IsUnused cap end.out) is.0.credited unused) in
@@ -130,14 +130,14 @@ module _ {J T : Type 0} where
           (created.ins sender).each _
           (subst (IsInOf sender (opened_beside core cores cap room)) (sym (is.inward ∙ ap (λ number. inward_of (fresh sender number cap 0)) number)) (fresh_in sender core cores cap room there))
 
-      pub opened_linked : IsLinked same made polls fits (record { recorded = recorded; ends = ends })
-      opened_linked = record {
+      pub opened_linked : {fits : Order J → Outcome J T → Type 0} → IsLinked same made polls fits (record { recorded = recorded; ends = ends })
+      opened_linked {fits} = record {
         recorded = created.sound;
         at_rest = created.out;
         beside = record {
           number = number ∙ sym created.seat.number;
           ins_are = are.ins ∙ ap (λ cores. cores + 1) (sym created.seat.cores);
-          outs = record { count = are.outs ∙ sym created.seat.cores; beside = opened_out; lanes = opened_lane };
+          outs = record { count = are.outs ∙ sym created.seat.cores; beside = opened_out; lanes = opened_lane fits };
           ins = opened_in;
         };
       }
