@@ -1,5 +1,0 @@
-//! Tests of one worker over its public calls, on one thread over the ends of rings.
-#![tactic(auto)]
-
-#[cfg(test)]
-mod alone;
