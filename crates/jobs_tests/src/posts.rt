@@ -27,12 +27,6 @@ impl Post<ScriptJob, u64> for Notebook {
 
     ghost Waits = { λ post name. length post.journal.notes < post.journal.room };
 
-    ghost Follows = { λ _ _. Unit {0} };
-
-    ghost follows_itself = { λ _. tt };
-
-    ghost follows_along = { λ _ _ _ _ _. tt };
-
     ghost Does = { λ _ _ _. Unit {0} };
 
     fn submit(

@@ -1,10 +1,12 @@
 -- The calls of a post, each with what it answered.
-use Rattle.std.specs.Prelude.{◌≡◌, ℕ, Result, Ok, Err}
+use Rattle.std.specs.Prelude.{◌≡◌, ℕ, Result, Err, List, [], ◌∷◌}
 use Rattle.rt_ids.specs.declared.names.JobId.{JobId}
 use Rattle.rt_ids.specs.declared.names.TicketError.{TicketError}
+use Rattle.rt_ids.specs.declared.names.TicketError.TheVariants.{Unknown}
 use Rattle.rt_ids.specs.declared.order.Order.{Order}
 use Rattle.rt_ids.specs.declared.order.Outcome.{Outcome}
 use Rattle.rt_ids.specs.declared.order.SendError.{SendError}
+use Rattle.rt_ids.specs.declared.order.SendError.TheVariants.{NoCore}
 
 -- one call: an order was submitted to a core, an outcome was redeemed, or a submission was detached
 pub data Call (J T : Type 0) : Type 0 where
@@ -16,13 +18,13 @@ pub data Call (J T : Type 0) : Type 0 where
 abbrev pub Doing : Type 0 → Type 0 → Type 0 → Type 1
 Doing P J T = P → Call J T → P → Type 0
 
-module _ {P J T : Type 0} (does : Doing P J T) where
-  -- an order that was accepted is detached, and one that was refused is dropped
-  abbrev pub DetachesSent : Result JobId (SendError J) → P → P → Type 0
-  DetachesSent (Ok name) middle new = (detached : Result (Unit {0}) TicketError) × does middle (Detach name detached) new
-  DetachesSent (Err refused) middle new = new ≡ middle
+-- these calls of a post, one after another, and no other
+abbrev pub Makes : {P J T : Type 0} → Doing P J T → List (Call J T) → P → P → Type 0
+Makes does [] old new = new ≡ old
+Makes {P} does (call ∷ calls) old new = (middle : P) × does old call middle × Makes does calls middle new
 
-  -- an order is submitted to a core, whether or not it is accepted, and nobody asks for its outcome
-  abbrev pub Sends : ℕ → Order J → P → P → Type 0
-  Sends to order old new =
-      (answer : Result JobId (SendError J)) × (middle : P) × does old (Submit to order answer) middle × DetachesSent answer middle new
+-- there is no core for it, and nothing is known of its ticket
+abbrev pub IsRefused : {J T : Type 0} → Call J T → Type 0
+IsRefused (Submit to order answer) = answer ≡ Err (NoCore order)
+IsRefused (Redeem name answer) = answer ≡ Err Unknown
+IsRefused (Detach name answer) = answer ≡ Err Unknown
