@@ -49,15 +49,18 @@ few_effects : (effect : Option (Note ℕ)) (notes : List (Note ℕ)) → length 
 few_effects None notes = omega arith
 few_effects (Some note) notes = omega arith
 
-few_answered : (name : JobId) (what : Order Script) (answer : Answer) (notes : List (Note ℕ)) → notes ≡ with_effect (effect_note what answer) (written.Answered name answer ∷ []) → length notes ≤ 3
-few_answered name what answer notes is =
+few_answered : (effect : Option (Note ℕ)) (name : JobId) (answer : Answer) (notes : List (Note ℕ)) → notes ≡ with_effect effect (written.Answered name answer ∷ []) → length notes ≤ 3
+few_answered effect name answer notes is =
     let e = ap length is in
-    let few = few_effects (effect_note what answer) (written.Answered name answer ∷ []) in
+    let few = few_effects effect (written.Answered name answer ∷ []) in
     omega arith
 
 delivery_few : (name : JobId) (what : Order Script) (before : Journal ℕ) (notes : List (Note ℕ)) → IsDelivery name what before notes → length notes ≤ 3
 delivery_few name (order.Job queue job) before notes is = let e : length notes ≡ 1 = ap length is in omega arith
-delivery_few name what before notes is = few_answered name what is.0 notes is.2
+delivery_few name (order.Create weight) before notes is = few_answered (effect_note (order.Create weight) is.0) name is.0 notes is.2
+delivery_few name (order.SetShares queue weight) before notes is = few_answered (effect_note (order.SetShares queue weight) is.0) name is.0 notes is.2
+delivery_few name (order.Close queue mode) before notes is = few_answered (effect_note (order.Close queue mode) is.0) name is.0 notes is.2
+delivery_few name (order.CloseCore mode) before notes is = few_answered (effect_note (order.CloseCore mode) is.0) name is.0 notes is.2
 
 -- orders that were accepted are no part of a journal
 with_orders : (most actor : ℕ) (notes : List (Note ℕ)) (old new : ScriptWorld) (sent : List (List (List (Order Script)))) → AreLight most notes → new ≡ record (noted actor notes old) { sent = sent } → Grows most actor old new
@@ -67,7 +70,7 @@ with_orders most actor notes old new sent light same =
 
 -- a send adds two: its note, and its submission
 pub send_grows : (sender core : ℕ) (what : Order Script) (old new : ScriptWorld) (answer : Reply Script) → Sends sender core what old new answer → Grows 2 sender old new
-send_grows sender core what old new (reply.Sent name) is = with_orders 2 sender (written.Sent name (without_job what) ∷ []) old new (with_sent sender core what old) (light 2 _ (omega arith)) is.2
+send_grows sender core what old new (reply.Sent name) is = with_orders 2 sender (written.Sent name (without_job what) ∷ []) old new (with_sent sender core what old) (light 2 (written.Sent name (without_job what) ∷ []) (omega arith)) is.2
 send_grows sender core what old new (reply.NotSent (refused.Full back)) is = stays 2 sender old new is.2
 send_grows sender core what old new (reply.NotSent (refused.Spent back)) is = stays 2 sender old new is.3
 send_grows sender core what old new (reply.NotSent (refused.Closed back count)) is = stays 2 sender old new is.2
@@ -79,23 +82,27 @@ deliver_grows core sender old new reply.Empty is = stays 6 core old new is.1
 deliver_grows core sender old new other is = absurd is
 
 shut_grows : (core sender : ℕ) (old new : ScriptWorld) (answer : Reply Script) → Shuts core sender old new answer → Grows 6 core old new
-shut_grows core sender old new reply.Noted is = adds_to 6 core _ old new (few_light _ (omega arith)) is.2
+shut_grows core sender old new reply.Noted is =
+    let notes = written.Shut sender (length (accepted_orders core (journal_at sender old))) ∷ [] in
+    adds_to 6 core notes old new (few_light notes (omega arith)) is.2
 shut_grows core sender old new reply.NotClosed is = stays 6 core old new is.1
 shut_grows core sender old new reply.AlreadyShut is = stays 6 core old new is.2
 shut_grows core sender old new other is = absurd is
 
 collect_grows : (sender core : ℕ) (old new : ScriptWorld) (answer : Reply Script) → Collects sender core old new answer → Grows 6 sender old new
-collect_grows sender core old new (reply.Collected count) is = adds_to 6 sender _ old new (collected_light (uncollected sender core old)) is.1
+collect_grows sender core old new (reply.Collected count) is = adds_to 6 sender (collected_notes (uncollected sender core old)) old new (collected_light (uncollected sender core old)) is.1
 collect_grows sender core old new other is = absurd is
 
 redeem_grows : (sender : ℕ) (name : JobId) (old new : ScriptWorld) (answer : Reply Script) → Redeems ScriptSame ScriptAnswers sender name old new answer → Grows 1 sender old new
-redeem_grows sender name old new (reply.Redeemed outcome) is = adds_to 1 sender _ old new (light 1 _ (omega arith)) is.3
+redeem_grows sender name old new (reply.Redeemed outcome) is =
+    let notes = written.Redeemed name (outcome_note outcome) ∷ [] in
+    adds_to 1 sender notes old new (light 1 notes (omega arith)) is.3
 redeem_grows sender name old new (reply.NoTicket error) is = stays 1 sender old new is.1
 redeem_grows sender name old new other is = absurd is
 
 -- a detach adds its note
 pub detach_grows : (sender : ℕ) (name : JobId) (old new : ScriptWorld) (answer : Reply Script) → Detaches sender name old new answer → Grows 1 sender old new
-detach_grows sender name old new reply.Detached is = adds_to 1 sender _ old new (light 1 _ (omega arith)) is.1
+detach_grows sender name old new reply.Detached is = adds_to 1 sender (written.Detached name ∷ []) old new (light 1 (written.Detached name ∷ []) (omega arith)) is.1
 detach_grows sender name old new (reply.NoTicket ticket.Unknown) is = stays 1 sender old new is.1
 detach_grows sender name old new (reply.NoTicket ticket.Gone) is = stays 1 sender old new is.1
 detach_grows sender name old new other is = absurd is
@@ -111,9 +118,9 @@ quiet_grows core [] old new none makes = stays 3 core old new makes
 quiet_grows core (call ∷ calls) old new none makes = cc
 
 small_grows : (core to : ℕ) (what : Order Script) (answer : Result JobId (SendError Script)) (old new : ScriptWorld) → Makes (CallsAt ScriptSame ScriptAnswers core) (Submit to what answer ∷ detach_calls answer) old new → Grows 3 core old new
-small_grows core to what (Ok name) old new (sent, submits, left, detaches, same) =
-    subst (Grows 3 core old) (sym same)
-    (grows_then 2 1 core old sent left (submit_grows core to what (Ok name) old sent submits) (detach_grows core name sent left reply.Detached detaches))
+small_grows core to what (Ok name) old new (sent, submits, later) =
+    subst (Grows 3 core old) (sym later.2)
+    (grows_then 2 1 core old sent later.0 (submit_grows core to what (Ok name) old sent submits) (detach_grows core name sent later.0 reply.Detached later.1))
 small_grows core to what (Err refusal) old new (left, submits, same) =
     subst (Grows 3 core old) (sym same) (grows_within 2 3 core old left (omega arith) (submit_grows core to what (Err refusal) old left submits))
 
@@ -141,14 +148,16 @@ poll_grows core spent old new is =
     grows_then 5 1 core old is.posted new
     (
     grows_then 2 3 core old picked is.posted
-    (adds 2 core _ old (pick_light is.name is.queue is.runtime (is_told name_started is.name (journal_at core old))))
+    (adds 2 core (pick_notes is.name is.queue is.runtime (journal_at core old)) old (pick_light is.name is.queue is.runtime (is_told name_started is.name (journal_at core old))))
     (calls_grow core _ is.calls is.step is.told picked is.posted is.owed is.posts)
     )
-    (adds_to 1 core _ is.posted new (settle_light is.name (unwrap_or is.told spent) is.step) is.notes)
+    (adds_to 1 core (settle_note is.name (unwrap_or is.told spent) is.step ∷ []) is.posted new (settle_light is.name (unwrap_or is.told spent) is.step) is.notes)
 
 turn_grows : (core spent : ℕ) (old new : ScriptWorld) (answer : Reply Script) → Turns ScriptSame script_made ScriptPolls ScriptAnswers core spent old new answer → Grows 6 core old new
 turn_grows core spent old new reply.Noted (inl is) = poll_grows core spent old new is
-turn_grows core spent old new reply.Noted (inr is) = adds_to 6 core _ old new (few_light _ (omega arith)) is.notes
+turn_grows core spent old new reply.Noted (inr is) =
+    let notes = written.Returned is.name is.reason ∷ written.Pick is.queue is.runtime ∷ [] in
+    adds_to 6 core notes old new (few_light notes (omega arith)) is.notes
 turn_grows core spent old new reply.Idle is = stays 6 core old new is.1
 turn_grows core spent old new reply.Spent is = stays 6 core old new is.2
 turn_grows core spent old new other is = absurd is
