@@ -1,10 +1,9 @@
 -- Two outputs of a script are one, unless one of its runs was refused memory.
-use Rattle.std.proofs.Common.{◌≡◌, ℕ, List, [], ◌∷◌, ◌++◌, refl, sym, ◌∙◌, ap, subst, ◌⊎◌, inl, inr, ⊎_elim, Bool, true, false, get_or}
+use Rattle.std.proofs.Common.{◌≡◌, ℕ, List, [], ◌∷◌, ◌++◌, refl, sym, ◌∙◌, ap, subst, ◌⊎◌, inl, inr, ⊎_elim, Bool, true, false}
 use Rattle.std.specs.Prelude.{map, reverse, Some, Result, Ok}
 use Rattle.std.proofs.lemmas.List.{append_cancel_right}
 use Rattle.std.proofs.lemmas.Option.{same_Some}
 use Rattle.rt_ids.specs.Assembly.{Assembly, journal_of}
-use Rattle.rt_ids.specs.Journal.{Journal}
 use Rattle.rt_jobs.specs.Scripts.{Script}
 use Rattle.rt_report.specs.StatTexts.{IsStatsText}
 use Rattle.rt_report.proofs.StatLemmas.{stats_once}
@@ -14,11 +13,11 @@ use Rattle.rt_world.specs.State.{journal_at, assembly_of}
 use Rattle.rt_world.specs.Sends.{actor_of}
 use Rattle.rt_world.specs.Opening.{HasAllLists, IsUnbegun, IsFresh}
 use Rattle.rt_world.specs.Creations.{OrderNoQueues, with_creations}
-use Rattle.rt_world.specs.Determined.{WasRefused, tells_refusal, AreAlike}
+use Rattle.rt_world.specs.Determined.{WasRefused, AreAlike}
 use Rattle.rt_world.specs.ScriptRuns.{ScriptSame, script_made, ScriptPolls, ScriptAnswers, IsScriptRun}
-use Rattle.rt_world.proofs.KeptLists.{Extends, is_later, happens_keep}
+use Rattle.rt_world.proofs.KeptLists.{happens_keep}
 use Rattle.rt_world.proofs.DeterminedOpenings.{fresh_once}
-use Rattle.rt_world.proofs.DeterminedRefusals.{tells-longer, was_refused}
+use Rattle.rt_world.proofs.DeterminedRefusals.{refused-happens, was_refused}
 use Rattle.rt_world.proofs.DeterminedRuns.{happens_once, assembly_once}
 use Rattle.rt_world.proofs.DeterminedScripts.{scripts_owe_one, scripts_order_none}
 use Rattle.rt_world.proofs.NoRefusals.{plain_unbegun, run_plain}
@@ -53,17 +52,11 @@ module _ (event : ScriptEvent) (old new other : ScriptWorld) (text other_text : 
       ⊎_elim (λ same. inl (same.0, same_text same)) (λ refused. inr (⊎_elim (λ told. inl (was_refused told)) (λ told. inr (was_refused told)) refused))
       (happens_once ScriptSame script_made ScriptPolls ScriptAnswers scripts_owe_one (event_of event) old new other first.answer second.answer lists first.occurs second.occurs)
 
--- what was told of a refusal stays told
-refused_kept : {old new : List (Journal ℕ)} → Extends old new → WasRefused old → WasRefused new
-refused_kept {old} longer refused =
-    let later = longer refused.0 in
-    (refused.0, ap tells_refusal later.1 ∙ tells-longer later.0 (get_or old refused.0 []) refused.1)
-
 refused-prints : (events : List ScriptEvent) (old new : ScriptWorld) (text : List ℕ) → PrintsAll events old new text → WasRefused old.journals → WasRefused new.journals
 refused-prints [] old new text all refused = subst (λ world. WasRefused world.journals) (sym all.0) refused
 refused-prints (event ∷ events) old new text all refused =
     refused-prints events all.0 new all.2 all.4
-    (refused_kept (is_later ScriptSame script_made ScriptPolls ScriptAnswers (event_of event) old all.0 all.3.answer all.3.occurs).journals refused)
+    (refused-happens ScriptSame script_made ScriptPolls ScriptAnswers (event_of event) old all.0 all.3.answer all.3.occurs refused)
 
 all_once : (events : List ScriptEvent) (old new other : ScriptWorld) (text other_text : List ℕ) → HasAllLists old → PrintsAll events old new text → PrintsAll events old other other_text →
     ((new ≡ other) × (text ≡ other_text)) ⊎ (WasRefused new.journals ⊎ WasRefused other.journals)
