@@ -1,5 +1,0 @@
-pub mod Parted
-pub mod Finished
-pub mod Started
-pub mod Sent
-pub mod Crosses

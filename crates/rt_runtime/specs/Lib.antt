@@ -1,4 +1,0 @@
-pub mod State
-pub mod Starting
-pub mod Calls
-pub mod Finishing

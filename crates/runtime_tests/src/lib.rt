@@ -1,5 +1,0 @@
-//! Tests of the runtime on threads, over its public calls.
-#![tactic(auto)]
-
-#[cfg(test)]
-mod house;
