@@ -1,8 +1,8 @@
-use Rattle.std.proofs.Common.{◌≡◌, ℕ, ◌<◌, Bool, true, false, List, None, refl, sym, ◌∙◌, ap, subst, arith}
+use Rattle.std.proofs.Common.{◌≡◌, ℕ, ◌<◌, Bool, true, false, None, refl, sym, ◌∙◌, ap, subst, arith}
 use Rattle.std.specs.Prelude.{◌-◌, slice_set, slice_index_or}
 use Rattle.rt_taskqueue.specs.Queues.{queue_count, waiting_of}
 use Rattle.rt_taskqueue.specs.Slips.{queues_alone}
-use Rattle.rt_core.specs.State.{CoreView, JobOut, is_any}
+use Rattle.rt_core.specs.State.{CoreView, is_any}
 use Rattle.rt_core.specs.Inside.{core_view, job_out, runtime_listed, IsCore, FitsTurns}
 use Rattle.rt_core.specs.Relisted.{slips_after, keys_after}
 use Rattle.rt_core.specs.Steps.{IsOutOf}
