@@ -1,7 +1,0 @@
-//! Tests of the audit over its public call: journals in their text, and what it finds in them.
-#![tactic(auto)]
-
-#[cfg(test)]
-mod rows;
-#[cfg(test)]
-mod verdicts;

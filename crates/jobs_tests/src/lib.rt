@@ -1,7 +1,0 @@
-//! Tests of jobs over their public calls.
-#![tactic(auto)]
-
-#[cfg(test)]
-mod jobs;
-#[cfg(test)]
-mod posts;

@@ -1,3 +1,0 @@
-mod Owing
-mod FreshLanes
-mod OneOut

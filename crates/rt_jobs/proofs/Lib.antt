@@ -1,3 +1,0 @@
-pub mod ExampleLemmas
-pub mod ScriptLemmas
-pub mod FillLemmas

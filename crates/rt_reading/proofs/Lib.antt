@@ -1,9 +1,0 @@
-pub mod DraftLemmas
-pub mod TextLemmas
-pub mod ReaderLemmas
-pub mod SoFar
-pub mod ReadTexts
-pub mod OnlyTexts
-pub mod Raising
-pub mod HeadLines
-pub mod ReadBack

@@ -1,7 +1,0 @@
--- Nothing is closed at first.
-use Rattle.std.proofs.Common.{◌≡◌, ℕ, zero, suc, Bool, false, refl, get_or, replicate}
-
-pub none_there : (count place : ℕ) → ◌≡◌ {A = Bool} (get_or (replicate count false) place false) false
-none_there zero place = refl
-none_there (suc count) zero = refl
-none_there (suc count) (suc place) = none_there count place

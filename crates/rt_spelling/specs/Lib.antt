@@ -1,3 +1,0 @@
-pub mod Writers
-pub mod Texts
-pub mod Pages

@@ -1,7 +1,0 @@
-pub mod Tables
-pub mod TallySteps
-pub mod GateSteps
-pub mod HeldSteps
-pub mod Gains
-pub mod SumSteps
-pub mod WaitingLaw

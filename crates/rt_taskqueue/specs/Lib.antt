@@ -1,5 +1,0 @@
-pub mod Queues
-pub mod Slips
-pub mod Linked
-pub mod Entries
-pub mod Fronts

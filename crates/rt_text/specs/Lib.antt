@@ -1,4 +1,0 @@
-pub mod Notes
-pub mod Replies
-pub mod Faults
-pub mod Statuses

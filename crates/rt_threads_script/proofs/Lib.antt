@@ -1,3 +1,0 @@
-pub mod LimitLemmas
-pub mod ReaderLemmas
-pub mod TakingLemmas

@@ -1,5 +1,0 @@
-pub mod Rising
-pub mod Tree
-pub mod Nodes
-pub mod Sides
-pub mod Middle

@@ -1,3 +1,0 @@
-pub mod Works
-pub mod Seats
-pub mod Teams

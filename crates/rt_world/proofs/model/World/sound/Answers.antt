@@ -1,8 +1,0 @@
-use Rattle.std.proofs.Common.{subst}
-use Rattle.rt_ids.specs.Sound.{IsSound}
-use Rattle.rt_world.specs.State.{assembly_of}
-use Rattle.rt_world.proofs.WorldSound.{world_sound}
-use Rattle.rt_world.proofs.model.World.sound.Goals as goal
-
-pub returns : goal.returns
-returns g c = subst (λ world. IsSound (assembly_of world)) c.self.view_is (world_sound _ c.self.invariant.1 c.self.invariant.3)

@@ -1,5 +1,0 @@
-//! Tests of scripts for threads, over the public calls.
-#![tactic(auto)]
-
-#[cfg(test)]
-mod rows;
