@@ -1,5 +1,6 @@
 pub mod Parted
 pub mod Finished
+pub mod Booked
 pub mod Started
 pub mod Sent
 pub mod Crosses

@@ -1,15 +1,22 @@
 -- A runtime after a send to one core.
-use Rattle.std.proofs.Common.{◌≡◌, ◌≢◌, ℕ, add-one, ◌+◌, ◌<◌, List, [], ◌∷◌, ◌++◌, length, map, set, get_or, refl, sym, ◌∙◌, ap, subst, arith, ⊎_elim, length-append, get_or-set_same, get_or-set_other, length-set}
-use Rattle.std.specs.Prelude.{Bool}
+use Rattle.std.proofs.Common.{◌≡◌, ◌≢◌, ℕ, add-one, ◌+◌, ◌<◌, ◌≤◌, List, [], ◌∷◌, ◌++◌, length, map, set, get_or, refl, sym, ◌∙◌, ap, subst, arith, ⊎_elim, ◌-◌, Some, length-append, get_or-set_same, get_or-set_other, length-set}
+use Rattle.std.specs.Prelude.{Bool, IfOk, Result, Ok, Err, slice_get}
 use Rattle.std.proofs.lemmas.Bool.{cases_eq}
-use Rattle.std.proofs.lemmas.List.{get_or_default, length-map}
+use Rattle.std.proofs.lemmas.List.{append-nil, get_or_default, length-map}
+use Rattle.rt_ring.proofs.Windows.{slice_get-last}
 use Rattle.rt_ring.specs.declared.ring_out.Sending.{Sending}
 use Rattle.rt_ids.specs.declared.order.Order.{Order}
 use Rattle.rt_ids.specs.declared.order.Outcome.{Outcome}
 use Rattle.rt_ids.specs.Spelled.{IsWithinLimits}
-use Rattle.rt_journal.specs.Submissions.{DeskView}
+use Rattle.rt_ids.specs.declared.names.JobId.{JobId}
+use Rattle.rt_ids.specs.declared.order.SendError.{SendError}
+use Rattle.rt_ids.specs.declared.order.SendError.TheVariants.{Closed, Full, Spent, NoCore}
+use Rattle.rt_link.specs.declared.ends.Outward.{Outward}
+use Rattle.rt_link.specs.Calls.{Sends}
+use Rattle.rt_journal.specs.Submissions.{DeskView, numbered}
 use Rattle.rt_journal.specs.Ends.{IsOutOf}
-use Rattle.rt_journal.specs.Tickets.{HasLane, StaysBeside}
+use Rattle.rt_journal.specs.Spending.{booked}
+use Rattle.rt_journal.specs.Tickets.{GetsAll, HasLane, StaysBeside}
 use Rattle.rt_grid.specs.Ends.{EndsView, SameEnds, out_at, no_out}
 use Rattle.rt_grid.specs.Grid.{IsGrid, AreSameEnds, no_ends}
 use Rattle.rt_grid.proofs.Using.{out_used, ends_same}
@@ -20,7 +27,7 @@ use Rattle.rt_worker.specs.Together.{no_linked, worker_at}
 use Rattle.rt_worker.proofs.Ending.{before_last, at_last}
 use Rattle.rt_ids.specs.Journal.{Journal}
 use Rattle.rt_ids.specs.Outstanding.{outstanding_count}
-use Rattle.rt_runtime.specs.Calls.{outstanding_upto}
+use Rattle.rt_runtime.specs.Sends.{accepted, outstanding_upto}
 use Rattle.rt_runtime.specs.State.{RuntimeView, IsRuntime}
 
 module _ {J T : Type 0} where
@@ -58,6 +65,10 @@ module _ {J T : Type 0} where
 
     pub put_at : (later : Sending J T) → out_at core (record inside { outs = set inside.outs at later }) ≡ later
     put_at later = ap (out_at core) (put_seen later) ∙ get_or-set_same ends.outs core later no_out low
+
+  -- the same ends get the same
+  pub gets_there : (was from now to : Sending J T) → was ≡ from → now ≡ to → GetsAll was.out now.out → GetsAll from.out to.out
+  gets_there was from now to one two gets = subst (λ from. GetsAll from.out to.out) one (subst (λ (to : Sending J T). GetsAll was.out to.out) two gets)
 
   -- a runtime whose desk made a step on the link to one core
   module _ {fits : Order J → Outcome J T → Type 0} (view : RuntimeView J T) (is : IsRuntime fits view) (core : ℕ) (low : core < view.desk.cores) (desk : DeskView J T) (later : Sending J T)
@@ -102,8 +113,8 @@ module _ {J T : Type 0} where
     same_links : SameEnds view.ends put
     same_links = out_used view.ends core later there link
 
-    pub runtime_put : (closing : List Bool) → length closing ≡ view.desk.cores → IsRuntime fits (record { desk = desk; ends = put; closing = closing; workers = view.workers; room = view.room })
-    runtime_put closing count = record {
+    pub runtime_put : (closing : List Bool) → length closing ≡ view.desk.cores → booked desk ≤ desk.journal.room → IsRuntime fits (record { desk = desk; ends = put; closing = closing; workers = view.workers; room = view.room })
+    runtime_put closing count room = record {
       count = is.count ∙ sym cores;
       each = subst (λ cores. (core : ℕ) → core < cores → IsWorkerOf core cores desk.cap view.room (worker_at core view.workers)) (sym cores)
           (subst (λ cap. (core : ℕ) → core < view.desk.cores → IsWorkerOf core view.desk.cores cap view.room (worker_at core view.workers)) (sym cap) is.each);
@@ -116,8 +127,26 @@ module _ {J T : Type 0} where
       grid = subst (λ cores. IsGrid cores (map (λ worker. worker.ends) view.workers ++ put ∷ [])) (sym cores) (grid_kept view.desk.cores _ _ (same_last view.workers view.ends put same_links) is.grid);
       closings = count ∙ sym cores;
       lanes = lanes_now;
+      lanes_are = stays.known.cores_are;
+      room_is = room;
       limits = subst (λ cores. IsWithinLimits cores desk.cap) (sym cores) (subst (IsWithinLimits view.desk.cores) (sym cap) is.limits);
     }
+
+module _ {J T : Type 0} (out later : Outward J T) (credited : ℕ) (order : Order J) where
+  -- what was sent is longer by the order, if it was accepted
+  pub sent_orders : (answer : Result JobId (SendError J)) → Sends out credited order later (numbered answer) → later.sent ≡ out.sent ++ accepted order answer
+  sent_orders (Ok name) sends = ap (λ end. end.sent) sends.4
+  sent_orders (Err (Closed back final)) sends = ap (λ end. end.sent) sends.2 ∙ sym (append-nil out.sent)
+  sent_orders (Err (Full back)) sends = ap (λ end. end.sent) sends.3 ∙ sym (append-nil out.sent)
+  sent_orders (Err (Spent back)) sends = ap (λ end. end.sent) sends.4 ∙ sym (append-nil out.sent)
+  sent_orders (Err (NoCore back)) sends = absurd sends
+
+  -- it stands under its name
+  pub sent_named : (answer : Result JobId (SendError J)) → Sends out credited order later (numbered answer) → out.base ≡ 0 → IfOk answer (λ name. slice_get later.sent (name.number - 1) ≡ Some order)
+  sent_named (Ok name) sends base =
+      let place : name.number - 1 ≡ length out.sent = omega (arith, sends.2, base) in
+      rw place (rw (ap (λ end. end.sent) sends.4) (slice_get-last out.sent order))
+  sent_named (Err error) sends base = tt
 
 -- one more core counted
 pub one_more_core : {T : Type 0} (notes : Journal T) (core count more : ℕ) → count ≡ outstanding_upto notes core → more ≡ outstanding_count core notes → count + more ≡ outstanding_upto notes (core + 1)

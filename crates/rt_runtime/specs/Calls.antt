@@ -1,73 +1,27 @@
--- What the calls of a runtime do.
-use Rattle.std.specs.Prelude.{◌≡◌, ℕ, zero, suc, ◌+◌, ◌*◌, ◌<◌, ◌≤◌, Bool, true, false, ◌||◌, List, replicate, Result, Ok, Err, slice_set}
-use Rattle.rt_ids.specs.declared.names.JobId.{JobId}
-use Rattle.rt_ids.specs.declared.order.Order.{Order}
-use Rattle.rt_ids.specs.declared.order.Order.TheVariants.{CloseCore}
-use Rattle.rt_ids.specs.declared.order.SendError.{SendError}
-use Rattle.rt_ids.specs.declared.order.SendError.TheVariants.{Closed, NoCore}
+-- How a runtime starts and finishes.
+use Rattle.std.specs.Prelude.{◌≡◌, ℕ, ◌<◌, true, false, List, [], replicate, Result, Ok, Err}
 use Rattle.rt_ids.specs.Assembly.{Assembly, journal_of}
 use Rattle.rt_ids.specs.Closing.{IsDrained}
-use Rattle.rt_ids.specs.Journal.{Journal, EachNote}
+use Rattle.rt_ids.specs.Journal.{EachNote}
 use Rattle.rt_ids.specs.Joining.{AreJoined}
-use Rattle.rt_ids.specs.Outstanding.{outstanding_count}
 use Rattle.rt_ids.specs.Sound.{IsSound}
 use Rattle.rt_ids.specs.Spelled.{IsSpelled}
-use Rattle.rt_notes.specs.Journals.{free_notes}
-use Rattle.rt_journal.specs.Submissions.{Submits, opened_desk}
+use Rattle.rt_journal.specs.Submissions.{opened_desk}
 use Rattle.rt_worker.specs.Rooms.{ClosesRightly, least_free}
-use Rattle.rt_runtime.specs.declared.error.SubmitError.{SubmitError}
-use Rattle.rt_runtime.specs.declared.error.SubmitError.TheVariants.{JournalFull, Send}
 use Rattle.rt_runtime.specs.declared.error.FinishError.{FinishError}
 use Rattle.rt_runtime.specs.declared.error.FinishError.TheVariants.{NotClosed}
 use Rattle.rt_runtime.specs.declared.error.StartError.{StartError}
 use Rattle.rt_runtime.specs.declared.error.StartError.TheVariants.{BadConfig, Memory, Thread}
 use Rattle.rt_settings.specs.Configs.{Entry, IsGood}
-use Rattle.rt_runtime.specs.State.{RuntimeView, closing_at}
-
--- how many submissions are outstanding on the links to the first cores
-abbrev pub outstanding_upto : {T : Type 0} → Journal T → ℕ → ℕ
-outstanding_upto notes zero = 0
-outstanding_upto notes (suc core) = outstanding_upto notes core + outstanding_count core notes
-
-module _ {J : Type 0} where
-  -- whether the order closes the core
-  abbrev pub is_closing : Order J → Bool
-  is_closing (CloseCore mode) = true
-  is_closing _ = false
-
-  -- whether a send with this answer tells that the core is closed, or closes it
-  abbrev pub tells_closing : Bool → Result JobId (SendError J) → Bool
-  tells_closing closing (Ok name) = closing
-  tells_closing closing (Err (Closed back final)) = true
-  tells_closing closing (Err _) = false
+use Rattle.rt_runtime.specs.State.{RuntimeView, closing_at, submitted}
 
 module _ {J T : Type 0} where
-  -- the room that a send leaves: three notes for each submission that is outstanding, this one among them, and so many for each core
-  abbrev pub room_left : ℕ → RuntimeView J T → ℕ
-  room_left each view = 3 * (outstanding_upto view.desk.journal.notes view.desk.cores + 1) + each * view.desk.cores
-
-  -- a send to a core that there is: its link answers, and what the caller knows of its closing goes on
-  pub record SendsTo (core : ℕ) (order : Order J) (old : RuntimeView J T) (answer : Result JobId (SendError J)) (new : RuntimeView J T) : Type 0 where
-    pub submits : Submits core order old.desk answer new.desk
-    pub closing : new.closing ≡ slice_set old.closing core (closing_at core old || tells_closing (is_closing order) answer)
-    pub rest : (new.workers ≡ old.workers) × (new.room ≡ old.room)
-
-  -- a send: the same, or there is no such core
-  pub record Sends (core : ℕ) (order : Order J) (old : RuntimeView J T) (answer : Result JobId (SendError J)) (new : RuntimeView J T) : Type 0 where
-    pub there : core < old.desk.cores → SendsTo core order old answer new
-    pub missing : old.desk.cores ≤ core → (answer ≡ Err (NoCore order)) × (new ≡ old)
-
-  -- a submission: the journal is full, else the send
-  abbrev pub SubmitsTo : ℕ → ℕ → Order J → RuntimeView J T → Result JobId (SubmitError J) → RuntimeView J T → Type 0
-  SubmitsTo each core order old (Err (JournalFull back)) new = (free_notes old.desk.journal < room_left each old) × (back ≡ order) × (new ≡ old)
-  SubmitsTo each core order old (Err (Send error)) new = (room_left each old ≤ free_notes old.desk.journal) × Sends core order old (Err error) new
-  SubmitsTo each core order old (Ok name) new = (room_left each old ≤ free_notes old.desk.journal) × Sends core order old (Ok name) new
-
   -- a runtime that was just started
   pub record IsStarted (cores cap room : ℕ) (view : RuntimeView J T) : Type 0 where
     pub desk : view.desk ≡ opened_desk cores cores cap room
     pub closing : view.closing ≡ replicate cores false
     pub room_is : view.room ≡ room
+    pub none : (core : ℕ) → core < cores → submitted core view ≡ []
 
   -- this is the first core that the caller didn't close
   pub record IsFirstOpen (core : ℕ) (view : RuntimeView J T) : Type 0 where

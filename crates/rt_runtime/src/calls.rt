@@ -1,6 +1,6 @@
 //! The outside actor's calls.
 
-ghost use Rattle.std.specs.Prelude.{◌≡◌, ◌+◌, ◌<◌, ◌≤◌, ◌^◌, ◌↔◌, IsTrue, length, false, slice_index_or, slice_set, ◌||◌};
+ghost use Rattle.std.specs.Prelude.{◌≡◌, ◌+◌, ◌-◌, ◌<◌, ◌≤◌, ◌^◌, ◌↔◌, ◌++◌, IfOk, IsTrue, Some, length, false, slice_get, slice_index_or, slice_set, ◌||◌};
 ghost use Rattle.rt_notes.specs.Journals.{free_notes};
 ghost use Rattle.rt_jobs.specs.Ready.{HasReadyJob};
 ghost use Rattle.rt_ids.specs.declared.order.Order.TheVariants.{CloseCore};
@@ -9,8 +9,9 @@ ghost use Rattle.rt_link.specs.Fits.{Fits};
 ghost use Rattle.rt_journal.specs.Ends.{IsOutOf};
 ghost use Rattle.rt_journal.specs.Submissions.{Submits};
 ghost use Rattle.rt_journal.specs.Tickets.{HasLane, StaysBeside};
+ghost use Rattle.rt_journal.specs.Spending.{Spends, booked};
 ghost use Rattle.rt_grid.specs.Ends.{out_at};
-ghost use Rattle.rt_runtime.specs.Calls.{Sends, SubmitsTo, outstanding_upto, room_left, is_closing, tells_closing};
+ghost use Rattle.rt_runtime.specs.Sends.{Sends, SubmitsTo, accepted, is_closing, outstanding_upto, room_left, tells_closing};
 
 use crate::error::SubmitError;
 use crate::runtime::Runtime;
@@ -71,6 +72,9 @@ fn send_on<J: Task<Out = u64>>(
     requires room { length desk.old.journal.notes < desk.old.journal.room }
     requires ready { HasReadyJob J.done J.CanPoll order }
     ensures submits { Submits to order desk.old result desk.new }
+    ensures orders { (out_at to ends.new).out.sent ≡ (out_at to ends.old).out.sent ++ accepted order result }
+    ensures named { IfOk result (λ name. slice_get (out_at to ends.new).out.sent (name.number - 1) ≡ Some order) }
+    ensures spends { IfOk result (λ _. Spends to 3 desk.old desk.new) }
     ensures stays { StaysBeside (Fits J.SameTask J.Answers) to desk.old desk.new (out_at to ends.new).out (out_at to ends.new).credited }
     ensures ends { ends.new ≡ record ends.old { outs = slice_set ends.old.outs to (out_at to ends.new) } }
     ensures link { (out_at to ends.new).link ≡ (out_at to ends.old).link }
@@ -103,7 +107,8 @@ impl<J: Task<Out = u64>, C: Drop, G: Drop> Runtime<J, C, G> {
     /// Whether the journal has too few notes free for a send: three for each submission that is outstanding, this one among them, and so
     /// many for each core.
     fn is_full(&self, each: u8) -> bool
-        ensures { IsTrue result ↔ (free_notes self.now.desk.journal < room_left each self.now) }
+        ensures full { IsTrue result ↔ (free_notes self.now.desk.journal < room_left each self.now) }
+        ensures room { result ≡ false → booked self.now.desk + 3 ≤ self.now.desk.journal.room }
     {
         let places = 3 * (self.outstanding() + 1) + each as u128 * self.cores as u128;
         (self.desk.journal().free() as u128) < places
@@ -112,7 +117,7 @@ impl<J: Task<Out = u64>, C: Drop, G: Drop> Runtime<J, C, G> {
     /// Sends an order to a core.
     fn send(&mut self, to: CoreNo, order: Order<J>) -> Result<Ticket, SendError<J>>
         requires ready { HasReadyJob J.done J.CanPoll order }
-        requires room { length self.old.desk.journal.notes < self.old.desk.journal.room }
+        requires room { booked self.old.desk + 3 ≤ self.old.desk.journal.room }
         ensures { Sends to order self.old result self.new }
     {
         if to.0 >= self.cores {

@@ -6,6 +6,7 @@ pub mod error;
 mod finishing;
 pub mod runtime;
 mod starting;
+mod tickets;
 
 pub use error::{FinishError, StartError, SubmitError};
 pub use runtime::Runtime;

@@ -1,5 +1,5 @@
 use Rattle.std.proofs.Common.{◌≡◌, ◌*◌, ◌≤◌}
-use Rattle.rt_runtime.specs.Calls.{outstanding_upto}
+use Rattle.rt_runtime.specs.Sends.{outstanding_upto}
 use Rattle.rt_runtime.proofs.runtime.Runtime.outstanding.Given as goal
 
 abbrev pub invariant-loop-core : goal.invariant-loop-core
