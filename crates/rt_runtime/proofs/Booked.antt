@@ -1,5 +1,5 @@
 -- The outside actor's journal has room for each note that is due of its submissions.
-use Rattle.std.proofs.Common.{◌≡◌, ℕ, zero, suc, ◌+◌, ◌*◌, ◌<◌, ◌≤◌, List, [], ◌∷◌, length, Some, refl, sym, ◌∙◌, ap, subst, arith, set, get_or, Unit}
+use Rattle.std.proofs.Common.{◌≡◌, ℕ, zero, suc, ◌+◌, ◌*◌, ◌<◌, ◌≤◌, List, [], ◌∷◌, length, Some, refl, sym, ◌∙◌, ap, subst, arith, set, get_or}
 use Rattle.std.specs.Prelude.{IfOk, IsSome, Result, Ok, Err, slice_get, sum_by}
 use Rattle.std.proofs.lemmas.List.Sums.{get_or-le-sum_by, sum_by-set}
 use Rattle.std.proofs.lemmas.Option.{slice_get_within, get_or_from_slice_get}
@@ -20,12 +20,13 @@ use Rattle.rt_journal.specs.Submissions.{DeskView, Submits}
 use Rattle.rt_journal.specs.Spending.{HoldsSome, Spends, booked, due_of}
 use Rattle.rt_journal.specs.Tickets.{DetachesTicket, HasLane, RedeemsTicket}
 use Rattle.rt_journal.proofs.Spending.{all_three}
+use Rattle.rt_ring.proofs.SeatViews.{true-not_false}
 use Rattle.rt_grid.specs.Ends.{out_at}
 use Rattle.rt_runtime.specs.State.{RuntimeView, IsRuntime}
 use Rattle.rt_runtime.specs.Sends.{outstanding_upto, room_left}
 
 -- the first counts together
-upto : (ℕ → ℕ) → ℕ → ℕ
+abbrev upto : (ℕ → ℕ) → ℕ → ℕ
 upto count zero = 0
 upto count (suc n) = upto count n + count n
 
@@ -44,9 +45,12 @@ sum_within f count (x ∷ xs) each =
     let rest = sum_within f (λ i. count (suc i)) xs (λ i y is. each (suc i) y is) in
     omega (arith, each 0 x refl, rest, upto_front count (length xs))
 
+one_more : {A : Type 0} (longer shorter : List A) (x : A) → longer ≡ x ∷ shorter → length longer ≡ length shorter + 1
+one_more longer shorter x is = omega (arith, ap length is)
+
 module _ {J T : Type 0} where
   holds_one : (entries : List (ℕ × Entry J T)) (number : ℕ) → IsSome (at entries number) → 0 < count_of entries
-  holds_one [] number is = absurd is
+  holds_one [] number is = absurd (true-not_false (sym is))
   holds_one (first ∷ rest) number is = omega arith
 
   -- what is due of a lane is due of all
@@ -92,18 +96,18 @@ module _ {J T : Type 0} where
       omega (arith, noted, spends.due, sum_by-set due_of old.lanes core spends.later spends.lane within, ap due_of its, ap (sum_by due_of) spends.lanes)
 
   pub books_sent : (core : ℕ) (order : Order J) (old new : DeskView J T) (answer : Result JobId (SendError J)) → Submits core order old answer new → IfOk answer (λ name. Spends core 3 old new) → booked new ≤ booked old + 3
-  books_sent core order old new (Ok name) submits spends = omega (arith, books_more core 3 old new spends (ap (λ journal. length journal.notes) submits.2))
+  books_sent core order old new (Ok name) submits spends = omega (arith, books_more core 3 old new spends (one_more new.journal.notes old.journal.notes _ (ap (λ journal. journal.notes) submits.2)))
   books_sent core order old new (Err (Closed back final)) submits spends = omega (arith, ap booked submits.2)
   books_sent core order old new (Err (Full back)) submits spends = omega (arith, ap booked submits.2)
   books_sent core order old new (Err (Spent back)) submits spends = omega (arith, ap booked submits.3)
   books_sent core order old new (Err (NoCore back)) submits spends = absurd submits
 
   pub books_redeemed : (name : JobId) (old new : DeskView J T) (answer : Result (Outcome J T) TicketError) → RedeemsTicket name old answer new → IfOk answer (λ outcome. Spends name.to 0 old new) → booked new ≡ booked old
-  books_redeemed name old new (Ok outcome) redeems spends = omega (arith, books_more name.to 0 old new spends (ap (λ journal. length journal.notes) redeems.2))
+  books_redeemed name old new (Ok outcome) redeems spends = omega (arith, books_more name.to 0 old new spends (one_more new.journal.notes old.journal.notes _ (ap (λ journal. journal.notes) redeems.2)))
   books_redeemed name old new (Err error) redeems spends = ap booked redeems.1
 
   pub books_detached : (name : JobId) (old new : DeskView J T) (answer : Result (Unit {0}) TicketError) → DetachesTicket name old answer new → IfOk answer (λ done. Spends name.to 0 old new) → booked new ≡ booked old
-  books_detached name old new (Ok done) detaches spends = omega (arith, books_more name.to 0 old new spends (ap (λ journal. length journal.notes) detaches.1))
+  books_detached name old new (Ok done) detaches spends = omega (arith, books_more name.to 0 old new spends (one_more new.journal.notes old.journal.notes _ (ap (λ journal. journal.notes) detaches.1)))
   books_detached name old new (Err Unknown) detaches spends = ap booked detaches.1
   books_detached name old new (Err Gone) detaches spends = ap booked detaches.1
   books_detached name old new (Err Pending) detaches spends = absurd detaches

@@ -3,4 +3,5 @@ pub mod Finished
 pub mod Booked
 pub mod Started
 pub mod Sent
+pub mod Redeemed
 pub mod Crosses

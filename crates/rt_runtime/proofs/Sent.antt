@@ -28,7 +28,7 @@ use Rattle.rt_worker.proofs.Ending.{before_last, at_last}
 use Rattle.rt_ids.specs.Journal.{Journal}
 use Rattle.rt_ids.specs.Outstanding.{outstanding_count}
 use Rattle.rt_runtime.specs.Sends.{accepted, outstanding_upto}
-use Rattle.rt_runtime.specs.State.{RuntimeView, IsRuntime}
+use Rattle.rt_runtime.specs.State.{RuntimeView, IsRuntime, IsStored, SubmitsNothing, submitted}
 
 module _ {J T : Type 0} where
   -- the same links, where one actor's ends are of the same links as before
@@ -113,7 +113,7 @@ module _ {J T : Type 0} where
     same_links : SameEnds view.ends put
     same_links = out_used view.ends core later there link
 
-    pub runtime_put : (closing : List Bool) → length closing ≡ view.desk.cores → booked desk ≤ desk.journal.room → IsRuntime fits (record { desk = desk; ends = put; closing = closing; workers = view.workers; room = view.room })
+    runtime_put : (closing : List Bool) → length closing ≡ view.desk.cores → booked desk ≤ desk.journal.room → IsRuntime fits (record { desk = desk; ends = put; closing = closing; workers = view.workers; room = view.room })
     runtime_put closing count room = record {
       count = is.count ∙ sym cores;
       each = subst (λ cores. (core : ℕ) → core < cores → IsWorkerOf core cores desk.cap view.room (worker_at core view.workers)) (sym cores)
@@ -130,6 +130,35 @@ module _ {J T : Type 0} where
       lanes_are = stays.known.cores_are;
       room_is = room;
       limits = subst (λ cores. IsWithinLimits cores desk.cap) (sym cores) (subst (IsWithinLimits view.desk.cores) (sym cap) is.limits);
+    }
+
+    -- the same, over the ends as the code has them
+    pub runtime_on : (ends : EndsView J T) → ends ≡ put → (closing : List Bool) → length closing ≡ view.desk.cores → booked desk ≤ view.desk.journal.room →
+        IsRuntime fits (record { desk = desk; ends = ends; closing = closing; workers = view.workers; room = view.room })
+    runtime_on ends is_put closing count room =
+        subst (λ ends. IsRuntime fits (record { desk = desk; ends = ends; closing = closing; workers = view.workers; room = view.room })) (sym is_put)
+        (runtime_put closing count (omega (arith, room, ap (λ desk. desk.journal.room) stays.rest)))
+
+    pub stored_on : {cores_are cap_is bells room_ends room_journals : ℕ} (ends : EndsView J T) (closing : List Bool) → IsStored view cores_are cap_is bells room_ends room_journals →
+        IsStored (record { desk = desk; ends = ends; closing = closing; workers = view.workers; room = view.room }) cores_are cap_is bells room_ends room_journals
+    stored_on ends closing stored = record {
+      cores_are = stored.cores_are ∙ sym cores;
+      cap_is = stored.cap_is ∙ sym cap;
+      bells_are = stored.bells_are;
+      room_ends = stored.room_ends;
+      room_journals = stored.room_journals;
+    }
+
+    -- nothing was submitted, where this end has sent what it had sent
+    pub nothing_on : (ends : EndsView J T) → ends ≡ put → later.out.sent ≡ submitted core view →
+        SubmitsNothing view (record { desk = desk; ends = ends; closing = view.closing; workers = view.workers; room = view.room })
+    nothing_on ends is_put sent = record {
+      orders = λ to. ⊎_elim
+          (λ (same : to ≡ core). rw same (ap (λ ends. (out_at core ends).out.sent) is_put ∙ (ap (λ (end : Sending J T). end.out.sent) put_is ∙ sent)))
+          (λ (away : to ≢ core). ap (λ ends. (out_at to ends).out.sent) is_put ∙ ap (λ (end : Sending J T). end.out.sent) (put_other to away))
+          (cases_eq to core);
+      closing = refl;
+      stays = record { desk = stays.rest; workers = refl; room = refl };
     }
 
 module _ {J T : Type 0} (out later : Outward J T) (credited : ℕ) (order : Order J) where
