@@ -27,6 +27,8 @@ impl Post<ScriptJob, u64> for Notebook {
 
     ghost Waits = { λ post name. length post.journal.notes < post.journal.room };
 
+    ghost Does = { λ _ _ _. Unit {0} };
+
     fn submit(
         &mut self,
         to: CoreNo,

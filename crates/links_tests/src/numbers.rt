@@ -32,7 +32,7 @@ impl Task for Number {
 
     ghost says = { λ _. None };
 
-    ghost Polls = { λ job made before after step told. told ≡ None };
+    ghost Polls = { λ job made calls step told. told ≡ None };
 
     ghost Answers = { λ job out. out ≡ job.value };
 
@@ -40,7 +40,7 @@ impl Task for Number {
 
     ghost answers_same = { λ a b out same here. here ∙ same };
 
-    ghost polls_same = { λ a b made before after step told same owed. owed };
+    ghost polls_same = { λ a b made calls step told same owed. owed };
 
     ghost can_poll_same = { λ a b same can. can };
 

@@ -8,7 +8,27 @@ use crate::one_core::{FIRST, name};
 use crate::steps::Steps;
 use linked_list_allocator::LocalHeap;
 use rt_jobs::{NoPost, Step, Task};
+use rt_taskqueue::Meter;
 use std::test::Fail;
+
+/// A meter that tells 40 nanoseconds, and keeps whether it was asked once a poll had begun.
+struct Watch {
+    begun: bool,
+    asked: bool,
+}
+
+impl Meter for Watch {
+    ghost Tells = { λ _ _. Unit {0} };
+
+    fn start(&mut self) {
+        self.begun = true;
+    }
+
+    fn spent(&mut self) -> u64 {
+        self.asked = self.begun;
+        40
+    }
+}
 
 /// A job waits in queue 0. It yields so many times.
 fn one_waits(heap: &LocalHeap, left: u8) -> Option<Lines<'_>>
@@ -49,8 +69,13 @@ fn turns(heap: &LocalHeap, yields: u8, answer: Option<u64>, left: Option<bool>) 
     let Some(mut queues) = one_waits(heap, yields) else {
         return false;
     };
-    let (step, told) = queues.turn_front(FIRST, &mut NoPost);
-    answer_of(step) == answer && told == Some(30) && head(&queues) == left
+    let mut watch = Watch {
+        begun: false,
+        asked: false,
+    };
+    let (step, told, spent) = queues.turn_front(FIRST, &mut NoPost, &mut watch);
+    let is_timed = told == Some(30) && spent == 40 && watch.asked;
+    answer_of(step) == answer && is_timed && head(&queues) == left
 }
 
 /// A polled head stays as it is.
@@ -58,8 +83,10 @@ fn stays(heap: &LocalHeap) -> bool {
     let Some(mut queues) = one_waits(heap, 1) else {
         return false;
     };
-    let (step, told) = queues.poll_front(FIRST, &mut NoPost);
-    answer_of(step).is_none() && told == Some(30) && head(&queues) == Some(false)
+    let mut known = 7;
+    let (step, told, spent) = queues.poll_front(FIRST, &mut NoPost, &mut known);
+    let is_timed = told == Some(30) && spent == 7;
+    answer_of(step).is_none() && is_timed && head(&queues) == Some(false)
 }
 
 #[test]

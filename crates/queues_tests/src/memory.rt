@@ -2,7 +2,7 @@
 
 use crate::one_core::{FIRST, OneCore, SECOND, THIRD, answers, creates, picks, shares, takes};
 use linked_list_allocator::LocalHeap;
-use rt_ids::{Answer, CoreNo, Order};
+use rt_ids::{Answer, CoreNo, Order, QueueNo};
 use rt_taskqueue::CreateError;
 use std::test::Fail;
 
@@ -21,13 +21,17 @@ fn each_serves(core: &mut OneCore<'_>) -> bool {
         && picks(core, &[(FIRST, 5), (SECOND, 5), (THIRD, 5)])
 }
 
-/// None if the core and two more queues don't fit in this heap. If they do: whether it serves and needs no more memory.
+/// None if the core and two more queues don't fit in this heap. If they do: whether it serves, needs no more memory, and takes one more
+/// queue once there is memory for it.
 fn serves_in(heap: &LocalHeap) -> Option<bool> {
+    let spare: Vec<u64, &LocalHeap> = Vec::with_capacity(heap, 32).ok()?;
     let mut core = OneCore::open(heap, CoreNo(0), 1, 4).ok()?;
     let made = creates(&mut core, 1000, Ok(SECOND)) && creates(&mut core, 1000, Ok(THIRD));
     let used = heap.used();
     if made {
-        Some(no_queue_fits(&mut core) && each_serves(&mut core) && heap.used() == used)
+        let goes_on = no_queue_fits(&mut core) && each_serves(&mut core) && heap.used() == used;
+        drop(spare);
+        Some(goes_on && creates(&mut core, 1000, Ok(QueueNo(3))))
     } else {
         None
     }

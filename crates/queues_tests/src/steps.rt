@@ -25,7 +25,7 @@ impl Task for Steps {
 
     ghost says = { λ steps. Some steps.time };
 
-    ghost Polls = { λ _ _ _ _ _ _. Unit {0} };
+    ghost Polls = { λ _ _ _ _ _. Unit {0} };
 
     ghost Answers = { λ _ _. Unit {0} };
 
@@ -33,7 +33,7 @@ impl Task for Steps {
 
     ghost answers_same = { λ _ _ _ _ _. tt };
 
-    ghost polls_same = { λ _ _ _ _ _ _ _ _ _. tt };
+    ghost polls_same = { λ _ _ _ _ _ _ _ _. tt };
 
     ghost can_poll_same = { λ _ _ _ can. can };
 

@@ -13,5 +13,6 @@ pub mod Opening
 pub mod Awaited
 pub mod Closings
 pub mod Whole
+pub mod WholeTurn
 pub mod Turned
 pub mod AheadTaken

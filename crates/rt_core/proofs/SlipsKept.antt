@@ -2,7 +2,7 @@
 use Rattle.std.proofs.Common.{◌≡◌, inl, inr, ℕ, zero, suc, ◌+◌, ◌<◌, Bool, true, false, List, [], ◌∷◌, ◌++◌, set, get_or, Option, None, refl, sym, ap, ◌∙◌, subst, arith}
 use Rattle.std.specs.Prelude.{◌⊎◌, not, is_some}
 use Rattle.std.proofs.lemmas.Bool.{cases_eq}
-use Rattle.std.proofs.lemmas.List.{length_push, length-set, get_or_push, get_or_append_left, get_or-set_same, get_or-set_other}
+use Rattle.std.proofs.lemmas.List.{set-set, set-get_or, length_push, length-set, get_or_push, get_or_append_left, get_or-set_same, get_or-set_other}
 use Rattle.rt_ids.specs.declared.names.Key.{Key}
 use Rattle.rt_timeline.specs.Rising.{LacksQueue, inserted}
 use Rattle.rt_core.specs.Inside.{runtime_listed, KeepsSlips}
@@ -73,3 +73,7 @@ slip_there queues slips keys queue exists none kept = kept.at queue exists ∙ a
 
 pub slip_out : (queues : ℕ) (slips : List Bool) (key : Key) (later : List Key) → key.queue < queues → KeepsSlips queues slips (key ∷ later) → get_or slips key.queue false ≡ false
 slip_out queues slips key later exists kept = kept.at key.queue exists ∙ ap (λ (found : Option ℕ). not (is_some found)) (listed-least key later)
+
+-- the slip of a queue that is listed again never comes back to its queue
+pub slip_stays : (slips : List Bool) (queue : ℕ) → get_or slips queue false ≡ false → set (set slips queue true) queue false ≡ slips
+slip_stays slips queue out = set-set slips queue true false ∙ ap (set slips queue) (sym out) ∙ set-get_or slips queue false

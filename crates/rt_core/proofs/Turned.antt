@@ -3,8 +3,8 @@ use Rattle.std.proofs.Common.{◌≡◌, ℕ, Bool, true, false, List, [], ◌�
 use Rattle.rt_ids.specs.declared.names.JobId.{JobId}
 use Rattle.rt_ids.specs.declared.names.Key.{Key}
 use Rattle.rt_ids.specs.declared.note.Note.TheVariants as notes
-use Rattle.rt_ids.specs.Journal.{Journal}
 use Rattle.rt_ids.specs.Keys.{KeyAtMost}
+use Rattle.rt_jobs.specs.Calls.{Call}
 use Rattle.rt_jobs.specs.declared.job.Step.{Step}
 use Rattle.rt_jobs.specs.declared.job.Step.TheVariants as steps
 use Rattle.rt_jobs.specs.Steps.{Owed}
@@ -48,10 +48,10 @@ module _ {J : Type 0} (T : Type 0) where
   picks_ahead old mid queue vr name true job takes kept stands = (takes, kept, ap (λ at. notes.Pick queue at ∷ notes.Resume name ∷ []) stands)
 
 module _ {J T : Type 0} (same : J → J → Type 0) (done : J → Bool) (can_poll : J → Type 0) (made : J → ℕ) (polls : Owed J T) (answers : J → T → Type 0) where
-  pub TurnsWhole-first : (old new : CoreView J) (spent : ℕ) (before after : Journal T) (step : Step T) (time queue vr : ℕ) (name : JobId) (started : Bool) → IsAhead old queue vr name started →
-      TurnsFirst same done can_poll made polls answers old spent before after step time new →
-      TurnsWhole same done can_poll made polls answers old spent before after name queue started (pick_notes queue vr name started) (settled_of step) (settle_notes name time step) new
-  TurnsWhole-first old new spent before after step time queue vr name started is_ahead turns =
+  pub TurnsWhole-first : (old new : CoreView J) (spent : ℕ) (calls : List (Call J T)) (step : Step T) (time queue vr : ℕ) (name : JobId) (started : Bool) → IsAhead old queue vr name started →
+      TurnsFirst same done can_poll made polls answers old spent calls step time new →
+      TurnsWhole same done can_poll made polls answers old spent calls name queue started (pick_notes queue vr name started) (settled_of step) (settle_notes name time step) new
+  TurnsWhole-first old new spent calls step time queue vr name started is_ahead turns =
       let front = is_ahead.front in
       let there = some_front (waiting_of turns.queue old.queues) (turns.name, turns.started, turns.ran.before) turns.takes.others turns.takes.first in
       let here = some_front (waiting_of queue old.queues) (name, started, front.0) front.1 front.2 in

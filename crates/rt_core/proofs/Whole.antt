@@ -17,6 +17,7 @@ use Rattle.rt_taskqueue.specs.Fronts.{IsFrontReady, JoinsAgain}
 use Rattle.rt_core.specs.declared.tally.Tally.{Tally}
 use Rattle.rt_core.specs.State.{CoreView, JobOut, no_tally, tally_of, runtime_of, is_any}
 use Rattle.rt_core.specs.Turns.{TakesOut, settled_view}
+use Rattle.rt_core.specs.Relisted.{keys_after, slips_after}
 use Rattle.rt_core.specs.Whole.{SettlesStep}
 use Rattle.rt_core.specs.Inside.{IsCore, KeepsSlips, unsettled_count, FitsTurns}
 use Rattle.rt_core.proofs.Charging.{after_poll}
@@ -76,20 +77,11 @@ module _ {J : Type 0} (done : J → Bool) (can_poll : J → Type 0) where
         turns = IsWithinTurns-settles mid new out out.queue tally was_out free turns floor tallies fits core.turns;
       }
 
-  -- the slips and the keys after a settled poll: a queue in which a job waits is listed again, by its slip
-  abbrev pub slips_after : Bool → List Bool → ℕ → List Bool
-  slips_after true slips queue = slice_set slips queue false
-  slips_after false slips queue = slips
-
-  abbrev pub keys_after : Bool → Tally → ℕ → List Key → List Key
-  keys_after true tally queue keys = inserted (record { vr = tally.runtime; queue = queue }) keys
-  keys_after false tally queue keys = keys
-
   -- the job that is out is done
   pub IsCore-ended : (mid new : CoreView J) (slips : List Bool) (keys : List Key) (inside room places : ℕ) (out : JobOut J) (tally : Tally) (any : Bool) →
       IsCore done can_poll mid slips keys inside room places → mid.out ≡ Some out → new.out ≡ None → new.queues ≡ mid.queues →
       new.tallies ≡ slice_set mid.tallies out.queue tally → FitsTurns mid.turns 0 tally → new.cores ≡ mid.cores → new.delivered ≡ mid.delivered → new.turns ≡ mid.turns → new.floor ≡ mid.floor →
-      is_any (waiting_of out.queue new.queues) ≡ any → IsCore done can_poll new (slips_after any slips out.queue) (keys_after any tally out.queue keys) (inside - 1) room places
+      is_any (waiting_of out.queue new.queues) ≡ any → IsCore done can_poll new (slips_after any out.queue slips) (keys_after any tally.runtime out.queue keys) (inside - 1) room places
   IsCore-ended mid new slips keys inside room places out tally any core was_out free queues tallies fits cores delivered turns floor some = by_any any some
     where
       lines : (other : ℕ) → waiting_of other new.queues ≡ waiting_of other mid.queues
@@ -98,7 +90,7 @@ module _ {J : Type 0} (done : J → Bool) (can_poll : J → Type 0) where
       kept : KeepsSlips (queue_count new.queues) slips keys
       kept = KeepsSlips-same (queue_count mid.queues) (queue_count new.queues) slips slips keys (ap queue_count queues) refl core.slipped
 
-      by_any : (any : Bool) → is_any (waiting_of out.queue new.queues) ≡ any → IsCore done can_poll new (slips_after any slips out.queue) (keys_after any tally out.queue keys) (inside - 1) room places
+      by_any : (any : Bool) → is_any (waiting_of out.queue new.queues) ≡ any → IsCore done can_poll new (slips_after any out.queue slips) (keys_after any tally.runtime out.queue keys) (inside - 1) room places
       by_any true some =
           let exists = some_inside mid inside room places out was_out core.counted in
           let within : out.queue < length mid.tallies = omega (arith, core.counted.tallies, exists.1) in
@@ -123,7 +115,7 @@ module _ {J : Type 0} (done : J → Bool) (can_poll : J → Type 0) where
       IsCore done can_poll mid slips keys inside room places → mid.out ≡ Some out → new.out ≡ None → JoinsAgain step mid.queues out.queue out.name job new.queues → IsWithinLimits new.queues →
       new.tallies ≡ slice_set mid.tallies out.queue tally → FitsTurns mid.turns 0 tally → new.cores ≡ mid.cores → new.delivered ≡ mid.delivered → new.turns ≡ mid.turns → new.floor ≡ mid.floor →
       done job ≡ is_done_step step → OnYield step (can_poll job) → is_any (waiting_of out.queue new.queues) ≡ any →
-      IsCore done can_poll new (slips_after any slips out.queue) (keys_after any tally out.queue keys) (inside - number_if (is_done_step step)) room places
+      IsCore done can_poll new (slips_after any out.queue slips) (keys_after any tally.runtime out.queue keys) (inside - number_if (is_done_step step)) room places
   IsCore-settled mid new slips keys inside room places out job tally true steps.Yield core was_out free joins limits tallies fits cores delivered turns floor still ready some =
       let all : inside ≡ inside - 0 = omega arith in
       subst (λ count. IsCore done can_poll new (slice_set slips out.queue false) (inserted (record { vr = tally.runtime; queue = out.queue }) keys) count room places) all
@@ -157,16 +149,3 @@ module _ {J T : Type 0} where
 pub one_at_most : (test : Bool) → number_if test ≤ 1
 one_at_most true = omega arith
 one_at_most false = omega arith
-
--- the tally of a turn, written at once, is that of its pick and then of its poll
-pub written_at_once : (tallies : List Tally) (written queue : ℕ) (picked charged : Tally) → written ≡ queue → slice_set tallies written charged ≡ slice_set (slice_set tallies queue picked) queue charged
-written_at_once tallies written queue picked charged same = ap (λ at. slice_set tallies at charged) same ∙ sym (set-set tallies queue picked charged)
-
-pub charged_at_once : (tallies : List Tally) (queue : ℕ) (picked charged : Tally) (time weight done : ℕ) → queue < length tallies → charged ≡ after_poll picked time weight done →
-    charged ≡ after_poll (slice_index_or (slice_set tallies queue picked) queue no_tally) time weight done
-charged_at_once tallies queue picked charged time weight done within value =
-    value ∙ ap (λ (tally : Tally). after_poll tally time weight done) (sym (get_or-set_same tallies queue picked no_tally within))
-
--- the slip of a queue that is listed again never comes back to its queue
-pub slip_stays : (slips : List Bool) (queue : ℕ) → slice_index_or slips queue false ≡ false → slice_set (slice_set slips queue true) queue false ≡ slips
-slip_stays slips queue out = set-set slips queue true false ∙ ap (slice_set slips queue) (sym out) ∙ set-get_or slips queue false

@@ -8,3 +8,4 @@ pub mod Inside
 pub mod Steps
 pub mod Figures
 pub mod Whole
+pub mod Relisted

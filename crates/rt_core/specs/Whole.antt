@@ -3,7 +3,7 @@ use Rattle.std.specs.Prelude.{◌≡◌, ℕ, ◌-◌, ◌^◌, ◌<◌, Bool, t
 use Rattle.rt_ids.specs.declared.names.JobId.{JobId}
 use Rattle.rt_ids.specs.declared.note.Note.{Note}
 use Rattle.rt_ids.specs.declared.note.Note.TheVariants as notes
-use Rattle.rt_ids.specs.Journal.{Journal}
+use Rattle.rt_jobs.specs.Calls.{Call}
 use Rattle.rt_jobs.specs.declared.job.Step.{Step}
 use Rattle.rt_jobs.specs.declared.job.Step.TheVariants as steps
 use Rattle.rt_jobs.specs.Steps.{Owed, AfterPoll}
@@ -66,23 +66,23 @@ module _ {J T : Type 0} where
   SettlesStep (steps.Done out) mid name job time new = FinishesOut mid name time new
 
 module _ {J T : Type 0} (same : J → J → Type 0) (done : J → Bool) (can_poll : J → Type 0) (made : J → ℕ) (polls : Owed J T) (answers : J → T → Type 0) where
-  -- the job is picked, polled once between these notes of its post, and settled; the notes of the pick and of the settling are those of the two calls
-  pub record TurnsWhole (old : CoreView J) (spent : ℕ) (before after : Journal T) (name : JobId) (queue : ℕ) (started : Bool) (picked : List (Note T)) (settled : Settled T) (written : List (Note T)) (new : CoreView J) : Type 0 where
+  -- the job is picked, polled once with these calls of its post, and settled; the notes of the pick and of the settling are those of the two calls
+  pub record TurnsWhole (old : CoreView J) (spent : ℕ) (calls : List (Call J T)) (name : JobId) (queue : ℕ) (started : Bool) (picked : List (Note T)) (settled : Settled T) (written : List (Note T)) (new : CoreView J) : Type 0 where
     pub mid : CoreView J
     pub ran : AfterPoll J T
     pub picks : Picks old (Ok (goes_out name queue started ran.before)) mid picked
-    pub polled : IsPolled same done can_poll made polls answers before after ran
+    pub polled : IsPolled same done can_poll made polls answers calls ran
     pub settles : SettlesOut mid ran spent settled new written
 
   -- the state of such a turn: the next job goes out, and its poll is settled, with the time that counts
-  pub record TurnsFirst (old : CoreView J) (spent : ℕ) (before after : Journal T) (step : Step T) (time : ℕ) (new : CoreView J) : Type 0 where
+  pub record TurnsFirst (old : CoreView J) (spent : ℕ) (calls : List (Call J T)) (step : Step T) (time : ℕ) (new : CoreView J) : Type 0 where
     pub name : JobId
     pub queue : ℕ
     pub started : Bool
     pub mid : CoreView J
     pub ran : AfterPoll J T
     pub takes : TakesOut old name queue started ran.before mid
-    pub polled : IsPolled same done can_poll made polls answers before after ran
+    pub polled : IsPolled same done can_poll made polls answers calls ran
     pub stepped : ran.step ≡ step
     pub counts : time ≡ unwrap_or ran.told spent
     pub settles : SettlesStep step mid name ran.job time new

@@ -1,11 +1,13 @@
 //! How a queue comes among those that may be picked.
-ghost use Rattle.std.specs.Prelude.{◌≡◌, ◌<◌, true};
+ghost use Rattle.std.specs.Prelude.{◌≡◌, ◌<◌, true, false};
 ghost use Rattle.rt_timeline.specs.Rising.{inserted, LacksQueue};
-ghost use Rattle.rt_taskqueue.specs.Slips.{queue_count, has_slip, without_slip};
+ghost use Rattle.rt_taskqueue.specs.Slips.{queue_count, waiting_of, has_slip, without_slip};
+ghost use Rattle.rt_core.specs.State.{is_any};
+ghost use Rattle.rt_core.specs.Relisted.{keys_after, relisted};
 
 use rt_ids::QueueNo;
 use rt_taskqueue::Queues;
-use rt_timeline::Timeline;
+use rt_timeline::{Slip, Timeline};
 use std::alloc::Allocator;
 
 /// Puts a queue into the timeline at this virtual runtime, by its slip. Takes no memory, so it can't fail.
@@ -25,4 +27,25 @@ pub(crate) fn enter<J: Drop, A: Allocator + Clone>(
         unreachable!()
     };
     ready.insert(slip, vr);
+}
+
+/// Where the slip of a queue goes whose head had its turn: into the timeline at this virtual runtime, if a job waits in the queue, else to
+/// the queue. Takes no memory.
+pub(crate) fn relist<J: Drop, A: Allocator + Clone>(
+    queues: &mut Queues<J, A>,
+    ready: &mut Timeline<A>,
+    slip: Slip<A>,
+    vr: u128,
+)
+    requires exists { slip < queue_count queues.old }
+    requires out { has_slip slip queues.old ≡ false }
+    requires absent { LacksQueue slip ready.old.keys }
+    ensures keys { ready.new.keys ≡ keys_after (is_any (waiting_of slip queues.old)) vr slip ready.old.keys }
+    ensures slips { queues.new ≡ relisted (is_any (waiting_of slip queues.old)) slip queues.old }
+{
+    if queues.is_empty(slip.queue()) {
+        queues.put_slip(slip);
+    } else {
+        ready.insert(slip, vr);
+    }
 }

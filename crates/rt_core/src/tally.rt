@@ -1,5 +1,6 @@
 //! What is counted of a queue.
-ghost use Rattle.std.specs.Prelude.{◌≡◌, ◌+◌, ◌^◌, ◌<◌, ◌≤◌};
+ghost use Rattle.std.specs.Prelude.{◌≡◌, ℕ, ◌+◌, ◌-◌, ◌^◌, ◌<◌, ◌≤◌};
+ghost use Rattle.rt_core.specs.Inside.{FitsTurns};
 ghost use Rattle.rt_shares.specs.Charge as spec;
 
 use rt_ids::QueueNo;
@@ -33,16 +34,6 @@ impl Tally {
         returned: 0,
     };
 
-    /// After one more pick.
-    pub(crate) fn picked(self) -> Tally
-        requires { self.selected + 1 < 2 ^ 64 }
-        ensures { result ≡ record self { selected = self.selected + 1 } }
-    {
-        let mut tally = self;
-        tally.selected += 1;
-        tally
-    }
-
     /// After a poll of this time under these shares, with so many more jobs done.
     pub(crate) fn charged(self, time: u64, shares: &Shares, done: u64) -> Tally
         requires runtime { self.runtime + 2 ^ 50 ≤ 2 ^ 128 }
@@ -63,6 +54,23 @@ impl Tally {
             finished: self.finished + done,
             returned: self.returned,
         }
+    }
+
+    /// After one more pick and a poll of this time under these shares, with so many more jobs done.
+    pub(crate) fn turned(self, time: u64, shares: &Shares, done: u64) -> Tally
+        requires fits { (turns : ℕ) × (turns < 2 ^ 64 - 1) × FitsTurns turns 0 self }
+        requires few { done ≤ 1 }
+        ensures value { result ≡ record self {
+          runtime = self.runtime + spec.charge time shares.now;
+          selected = self.selected + 1;
+          time = self.time + spec.clamped time;
+          finished = self.finished + done;
+        } }
+        ensures fits { (turns : ℕ) → FitsTurns turns 0 self → FitsTurns (turns + 1) 0 result }
+    {
+        let mut tally = self.charged(time, shares, done);
+        tally.selected += 1;
+        tally
     }
 }
 

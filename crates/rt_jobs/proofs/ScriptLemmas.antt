@@ -4,10 +4,10 @@ use Rattle.std.specs.Prelude.{Option, None, Some, slice_get, ◌==◌}
 use Rattle.std.proofs.lemmas.Bool.{true≢false}
 use Rattle.rt_jobs.specs.declared.poll.Poll.{Poll}
 use Rattle.rt_jobs.specs.declared.poll.Poll.TheVariants as poll
-use Rattle.rt_ids.specs.Journal.{Journal}
+use Rattle.rt_jobs.specs.Calls.{Call}
 use Rattle.rt_jobs.specs.declared.poll.Yielding.{Yielding}
 use Rattle.rt_jobs.specs.declared.job.Step.TheVariants as steps
-use Rattle.rt_jobs.specs.Scripts.{written, script_polls, yielding_poll, time_of, EndsDone, IsScript, Does, PostsTo, PostsAs, IsAnswer, time_told}
+use Rattle.rt_jobs.specs.Scripts.{Script, written, script_polls, yielding_poll, time_of, EndsDone, IsScript, Does, CallsTo, IsAnswer, time_told}
 
 -- one poll more than those that yield
 pub length-script_polls : (yields : List Yielding) (told value : ℕ) → length (script_polls yields told value) ≡ length yields + 1
@@ -38,25 +38,24 @@ pub IsAnswer-script_polls : (yields : List Yielding) (told value : ℕ) → IsAn
 IsAnswer-script_polls [] told value = refl
 IsAnswer-script_polls (first ∷ rest) told value = IsAnswer-written first.told first.to (script_polls rest told value) value (IsAnswer-script_polls rest told value)
 
--- a poll that yields posts as it says, and tells its time
-Does-written : (time : ℕ) (to : Option (ℕ × ℕ)) (before after : Journal ℕ) → PostsTo to before after →
-    Does (Some (written time to)) before after steps.Yield (Some (time_of (written time to)))
-Does-written time None before after posts = (posts, refl, refl)
-Does-written time (Some (core, queue)) before after posts = (posts, refl, refl)
+-- a poll that yields calls as it says, and tells its time
+Does-written : (time : ℕ) (to : Option (ℕ × ℕ)) (calls : List (Call Script ℕ)) → CallsTo to calls → Does (Some (written time to)) calls steps.Yield (Some (time_of (written time to)))
+Does-written time None calls does = (does, refl, refl)
+Does-written time (Some (core, queue)) calls does = (does, refl, refl)
 
--- a poll that isn't the last yields, and posts as it says
-pub Does-early : (yields : List Yielding) (told value place : ℕ) (blank : Yielding) (before after : Journal ℕ) → place < length yields → PostsAs (get_or yields place blank) before after →
-    Does (slice_get (script_polls yields told value) place) before after steps.Yield (time_told (script_polls yields told value) (suc place))
-Does-early [] told value place blank before after inside posts = absurd (omega arith)
-Does-early (first ∷ rest) told value zero blank before after inside posts = Does-written first.told first.to before after posts
-Does-early (first ∷ rest) told value (suc place) blank before after inside posts = Does-early rest told value place blank before after (omega arith) posts
+-- a poll that isn't the last yields, and calls as it says
+pub Does-early : (yields : List Yielding) (told value place : ℕ) (blank : Yielding) (calls : List (Call Script ℕ)) → place < length yields → CallsTo (get_or yields place blank).to calls →
+    Does (slice_get (script_polls yields told value) place) calls steps.Yield (time_told (script_polls yields told value) (suc place))
+Does-early [] told value place blank calls inside does = absurd (omega arith)
+Does-early (first ∷ rest) told value zero blank calls inside does = Does-written first.told first.to calls does
+Does-early (first ∷ rest) told value (suc place) blank calls inside does = Does-early rest told value place blank calls (omega arith) does
 
--- the last poll is done, and posts nothing
-pub Does-last : (yields : List Yielding) (told value place : ℕ) (before after : Journal ℕ) → place ≡ length yields → after ≡ before →
-    Does (slice_get (script_polls yields told value) place) before after (steps.Done value) (time_told (script_polls yields told value) (suc place))
-Does-last [] told value place before after same quiet = rw same (quiet, refl, refl)
-Does-last (first ∷ rest) told value zero before after same quiet = absurd (omega (arith, same))
-Does-last (first ∷ rest) told value (suc place) before after same quiet = Does-last rest told value place before after (omega (arith, same)) quiet
+-- the last poll is done, and calls nothing
+pub Does-last : (yields : List Yielding) (told value place : ℕ) → place ≡ length yields →
+    Does (slice_get (script_polls yields told value) place) [] (steps.Done value) (time_told (script_polls yields told value) (suc place))
+Does-last [] told value place same = rw same (refl, refl, refl)
+Does-last (first ∷ rest) told value zero same = absurd (omega (arith, same))
+Does-last (first ∷ rest) told value (suc place) same = Does-last rest told value place (omega (arith, same))
 
 -- where the job isn't done and no poll that yields is left, the last one is next
 pub last_is_next : (yields : List Yielding) (told value polled : ℕ) → (polled == length (script_polls yields told value)) ≡ false →

@@ -1,6 +1,7 @@
 pub mod Steps
 pub mod Ready
 pub mod Posts
+pub mod Calls
 pub mod Same
 pub mod Scripts
 pub mod Kept

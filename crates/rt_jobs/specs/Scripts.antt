@@ -1,10 +1,11 @@
 -- What a script job is asked to do, poll by poll.
-use Rattle.std.specs.Prelude.{◌≡◌, ◌⊎◌, ◌≤◌, ℕ, zero, suc, List, [], ◌∷◌, ◌++◌, length, map, Option, Some, None, slice_get}
+use Rattle.std.specs.Prelude.{◌≡◌, ◌≤◌, ℕ, zero, suc, List, [], ◌∷◌, ◌++◌, length, map, Option, Some, None, slice_get, Result, Ok, Err}
 use Rattle.std.specs.Option.{option_map}
 use Rattle.rt_ids.specs.declared.names.JobId.{JobId}
-use Rattle.rt_ids.specs.declared.note.Note.TheVariants.{Sent, Detached}
 use Rattle.rt_ids.specs.declared.order.Order.TheVariants.{Job}
-use Rattle.rt_ids.specs.Journal.{Journal}
+use Rattle.rt_ids.specs.declared.order.SendError.{SendError}
+use Rattle.rt_jobs.specs.Calls.{Call, Doing, Makes}
+use Rattle.rt_jobs.specs.Calls.Call.{Submit, Detach}
 use Rattle.rt_jobs.specs.declared.poll.Poll.{Poll}
 use Rattle.rt_jobs.specs.declared.poll.Poll.TheVariants as poll
 use Rattle.rt_jobs.specs.declared.poll.Yielding.{Yielding}
@@ -41,24 +42,35 @@ pub record IsScript (polls : List Poll) : Type 0 where
   pub ends : EndsDone polls
   pub short : length polls ≤ 64
 
--- a job for this queue of this core is submitted and detached; or it is refused, and nothing is noted
-abbrev pub SubmitsDetached : {T : Type 0} → ℕ → ℕ → Journal T → Journal T → Type 0
-SubmitsDetached core queue before after = ((name : JobId) × (name.to ≡ core) × (after ≡ Detached name ∷ Sent name (Job queue tt) ∷ before)) ⊎ (after ≡ before)
+-- the job that a poll submits: it takes a nanosecond, and is done with zero
+abbrev pub small_job : Script
+small_job = record { polls = poll.Done 1 0 ∷ []; polled = 0 }
 
--- what a poll that yields does at its post
-abbrev pub PostsTo : Option (ℕ × ℕ) → Journal ℕ → Journal ℕ → Type 0
-PostsTo None before after = after ≡ before
-PostsTo (Some (core, queue)) before after = SubmitsDetached core queue before after
+-- what is accepted is detached
+abbrev pub detach_calls : Result JobId (SendError Script) → List (Call Script ℕ)
+detach_calls (Ok name) = Detach name (Ok tt) ∷ []
+detach_calls (Err refused) = []
 
-abbrev pub PostsAs : Yielding → Journal ℕ → Journal ℕ → Type 0
-PostsAs kept before after = PostsTo kept.to before after
+-- the small job is submitted to this queue of this core, and detached if it is accepted
+pub record SendsSmall (core queue : ℕ) (calls : List (Call Script ℕ)) : Type 0 where
+  pub answer : Result JobId (SendError Script)
+  pub are : calls ≡ Submit core (Job queue small_job) answer ∷ detach_calls answer
 
--- what a poll does that is written so: it posts, steps and tells its time as its word says; where no word is left there is no poll
-abbrev pub Does : Option Poll → Journal ℕ → Journal ℕ → Step ℕ → Option ℕ → Type 0
-Does None before after step told = ⊥
-Does (Some (poll.Yield time)) before after step told = (after ≡ before) × (step ≡ steps.Yield) × (told ≡ Some time)
-Does (Some (poll.Submit time core queue)) before after step told = SubmitsDetached core queue before after × (step ≡ steps.Yield) × (told ≡ Some time)
-Does (Some (poll.Done time value)) before after step told = (after ≡ before) × (step ≡ steps.Done value) × (told ≡ Some time)
+-- what a poll that yields calls of its post
+abbrev pub CallsTo : Option (ℕ × ℕ) → List (Call Script ℕ) → Type 0
+CallsTo None calls = calls ≡ []
+CallsTo (Some (core, queue)) calls = SendsSmall core queue calls
+
+-- what a poll does that is written so: it calls its post, steps and tells its time as its word says; where no word is left there is no poll
+abbrev pub Does : Option Poll → List (Call Script ℕ) → Step ℕ → Option ℕ → Type 0
+Does None calls step told = ⊥
+Does (Some (poll.Yield time)) calls step told = (calls ≡ []) × (step ≡ steps.Yield) × (told ≡ Some time)
+Does (Some (poll.Submit time core queue)) calls step told = SendsSmall core queue calls × (step ≡ steps.Yield) × (told ≡ Some time)
+Does (Some (poll.Done time value)) calls step told = (calls ≡ []) × (step ≡ steps.Done value) × (told ≡ Some time)
+
+-- what a poll that yields does with its post
+abbrev pub Posts : {P : Type 0} → Doing P Script ℕ → Option (ℕ × ℕ) → P → P → Type 0
+Posts does to old new = (calls : List (Call Script ℕ)) × CallsTo to calls × Makes does calls old new
 
 -- the time that a poll tells
 abbrev pub time_of : Poll → ℕ

@@ -1,6 +1,6 @@
 -- What a step says.
-use Rattle.std.specs.Prelude.{◌≡◌, ℕ, ◌+◌, Bool, true, false, Option, None}
-use Rattle.rt_ids.specs.Journal.{Journal}
+use Rattle.std.specs.Prelude.{◌≡◌, ℕ, ◌+◌, Bool, true, false, Option, None, List, []}
+use Rattle.rt_jobs.specs.Calls.{Call, Doing, Makes}
 use Rattle.rt_jobs.specs.declared.job.Step.{Step}
 use Rattle.rt_jobs.specs.declared.job.Step.TheVariants.{Done, Yield}
 
@@ -19,27 +19,33 @@ abbrev pub OnYield : {T : Type 0} → Step T → Type 0 → Type 0
 OnYield (Done out) fact = Unit {0}
 OnYield Yield fact = fact
 
--- what a poll owes: of the job before it, the polls made, the notes of its post before and after, the step and the told time
+-- what a poll owes: of the job before it, the polls made, the calls of its post with their answers, the step and the told time
 abbrev pub Owed : Type 0 → Type 0 → Type 1
-Owed J T = J → ℕ → Journal T → Journal T → Step T → Option ℕ → Type 0
+Owed J T = J → ℕ → List (Call J T) → Step T → Option ℕ → Type 0
 
 -- after a poll of the old job, each poll of the new one owes what that poll of the old one owed: both are counted alike
 abbrev pub OwesOn : {J T : Type 0} → (J → ℕ) → Owed J T → J → J → Type 0
 OwesOn {J} {T} made polls old new =
-    (more : ℕ) (before after : Journal T) (step : Step T) (told : Option ℕ)
-    → polls new (made new + more) before after step told → polls old (made old + 1 + more) before after step told
+    (more : ℕ) (calls : List (Call J T)) (step : Step T) (told : Option ℕ)
+    → polls new (made new + more) calls step told → polls old (made old + 1 + more) calls step told
 
 -- a poll that was made with some post owes so
 abbrev pub OwesOnce : {J T : Type 0} → Owed J T → J → ℕ → Step T → Option ℕ → Type 0
-OwesOnce {J} {T} polls job made step told = (before : Journal T) × (after : Journal T) × polls job made before after step told
+OwesOnce {J} {T} polls job made step told = (calls : List (Call J T)) × polls job made calls step told
 
--- the only poll of a job: it answers, states no time of its own, and leaves its post as it was
-abbrev pub AnswersAtOnce : {T : Type 0} → Journal T → Journal T → Step T → Option ℕ → Type 0
-AnswersAtOnce before after step told = (after ≡ before) × (is_done_step step ≡ true) × (told ≡ None)
+-- a poll with this post owes so: it made these calls of the post, and no other
+pub record OwesAt {P J T : Type 0} (polls : Owed J T) (does : Doing P J T) (job : J) (made : ℕ) (old new : P) (step : Step T) (told : Option ℕ) : Type 0 where
+  pub calls : List (Call J T)
+  pub owed : polls job made calls step told
+  pub makes : Makes does calls old new
 
--- a poll that leaves its post as it was and states no time of its own
-abbrev pub PostsNothing : {T : Type 0} → Journal T → Journal T → Option ℕ → Type 0
-PostsNothing before after told = (after ≡ before) × (told ≡ None)
+-- the only poll of a job: it answers, states no time of its own, and calls nothing of its post
+abbrev pub AnswersAtOnce : {J T : Type 0} → List (Call J T) → Step T → Option ℕ → Type 0
+AnswersAtOnce calls step told = (calls ≡ []) × (is_done_step step ≡ true) × (told ≡ None)
+
+-- a poll that calls nothing of its post and states no time of its own
+abbrev pub PostsNothing : {J T : Type 0} → List (Call J T) → Option ℕ → Type 0
+PostsNothing calls told = (calls ≡ []) × (told ≡ None)
 
 -- to have the same task is an equivalence
 pub record IsSameTask {J : Type 0} (same : J → J → Type 0) : Type 0 where

@@ -102,7 +102,7 @@ impl<B: Drop, C: Drop, M: Meaning> Task for BoxedJob<B, C, M> {
 
     ghost says = { λ _. None };
 
-    ghost Polls = { λ job made before after step told. PostsNothing before after told };
+    ghost Polls = { λ job made calls step told. PostsNothing calls told };
 
     ghost Answers = { λ job out. M.answers job.key out };
 
@@ -110,7 +110,7 @@ impl<B: Drop, C: Drop, M: Meaning> Task for BoxedJob<B, C, M> {
 
     ghost answers_same = { λ a b out same here. subst (λ key. M.answers key out) same here };
 
-    ghost polls_same = { λ a b made before after step told same owed. owed };
+    ghost polls_same = { λ a b made calls step told same owed. owed };
 
     ghost can_poll_same = { λ a b same can. can };
 

@@ -51,7 +51,7 @@ impl<C: Called> Task for OnceOf<C> {
 
     ghost says = { λ _. None };
 
-    ghost Polls = { λ job made before after step told. AnswersAtOnce before after step told };
+    ghost Polls = { λ job made calls step told. AnswersAtOnce calls step told };
 
     ghost Answers = { λ job out. IfSome job.call (λ call. C.gives call out) };
 
@@ -59,7 +59,7 @@ impl<C: Called> Task for OnceOf<C> {
 
     ghost answers_same = { λ a b out same here. subst (λ call. IfSome call (λ c. C.gives c out)) same here };
 
-    ghost polls_same = { λ a b made before after step told same owed. owed };
+    ghost polls_same = { λ a b made calls step told same owed. owed };
 
     ghost can_poll_same = { λ a b same can. can };
 

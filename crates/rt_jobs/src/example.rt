@@ -37,7 +37,7 @@ impl Task for Work {
 
     ghost says = { λ _. None };
 
-    ghost Polls = { λ job made before after step told. PostsNothing before after told };
+    ghost Polls = { λ job made calls step told. PostsNothing calls told };
 
     ghost Answers = { MayAnswer };
 
@@ -45,7 +45,7 @@ impl Task for Work {
 
     ghost answers_same = { λ a b out same here. (same out).0 here };
 
-    ghost polls_same = { λ a b made before after step told same owed. owed };
+    ghost polls_same = { λ a b made calls step told same owed. owed };
 
     ghost can_poll_same = { λ a b same can. can };
 

@@ -1,9 +1,9 @@
 //! A job, and a job after one poll.
 
-ghost use Rattle.std.specs.Prelude.{◌≡◌, ℕ, Bool, true, false, Option};
+ghost use Rattle.std.specs.Prelude.{◌≡◌, ℕ, Bool, true, false, List, Option};
 ghost use Rattle.rt_jobs.specs.declared.job.Step.{Step};
-ghost use Rattle.rt_ids.specs.Journal.{Journal};
-ghost use Rattle.rt_jobs.specs.Steps.{IfDone, OnYield, OwesOn, OwesOnce, is_done_step, IsSameTask};
+ghost use Rattle.rt_jobs.specs.Calls.{Call};
+ghost use Rattle.rt_jobs.specs.Steps.{IfDone, OnYield, OwesAt, OwesOn, OwesOnce, is_done_step, IsSameTask};
 
 use crate::post::Post;
 use std::marker::Model;
@@ -38,8 +38,8 @@ pub trait Task: Drop {
     /// The time that its last poll states of itself.
     ghost says: { Self → Option ℕ };
 
-    /// What a poll owes: of the task, the polls made before, the notes of its post before and after, the step and the told time.
-    ghost Polls: { Self → ℕ → Journal Self.Out → Journal Self.Out → Step Self.Out → Option ℕ → Type 0 };
+    /// What a poll owes: of the task, the polls made before, the calls of its post with their answers, the step and the told time.
+    ghost Polls: { Self → ℕ → List (Call Self Self.Out) → Step Self.Out → Option ℕ → Type 0 };
 
     /// Which answers the task may have.
     ghost Answers: { Self → Self.Out → Type 0 };
@@ -58,7 +58,7 @@ pub trait Task: Drop {
 
     ghost answers_same: { (a b : Self) (out : Self.Out) → SameTask a b → Answers a out → Answers b out };
 
-    ghost polls_same: { (a b : Self) (made : ℕ) (before after : Journal Self.Out) (step : Step Self.Out) (told : Option ℕ) → SameTask a b → Polls a made before after step told → Polls b made before after step told };
+    ghost polls_same: { (a b : Self) (made : ℕ) (calls : List (Call Self Self.Out)) (step : Step Self.Out) (told : Option ℕ) → SameTask a b → Polls a made calls step told → Polls b made calls step told };
 
     ghost can_poll_same: { (a b : Self) → SameTask a b → CanPoll a → CanPoll b };
 }
@@ -69,12 +69,11 @@ pub trait Job: Task {
     fn poll<P: Post<Self, Self::Out>>(&mut self, post: &mut P) -> Step<Self::Out>
         requires open { Self.done self.old ≡ false }
         requires ready { Self.CanPoll self.old }
-        ensures owed { Self.Polls self.old (Self.made self.old) (P.notes post.old) (P.notes post.new) result (Self.says self.new) }
+        ensures owed { OwesAt Self.Polls P.Does self.old (Self.made self.old) post.old post.new result (Self.says self.new) }
         ensures answers { IfDone result (Self.Answers self.old) }
         ensures same { OnYield result (Self.SameTask self.old self.new) }
         ensures later { OnYield result (OwesOn Self.made Self.Polls self.old self.new) }
         ensures done { Self.done self.new ≡ is_done_step result }
-        ensures follows { P.Follows post.old post.new }
         ensures ready { OnYield result (Self.CanPoll self.new) };
 }
 
@@ -110,11 +109,10 @@ impl<J: Job> Ran<J> {
         requires open { J.done job ≡ false }
         requires ready { J.CanPoll job }
         ensures before { result.before ≡ job }
-        ensures owed { J.Polls job (J.made job) (P.notes post.old) (P.notes post.new) result.step result.told }
+        ensures owed { OwesAt J.Polls P.Does job (J.made job) post.old post.new result.step result.told }
         ensures answers { IfDone result.step (J.Answers job) }
         ensures same { OnYield result.step (J.SameTask job result.job) }
         ensures later { OnYield result.step (OwesOn J.made J.Polls job result.job) }
-        ensures follows { P.Follows post.old post.new }
     {
         let before = Snapshot::of(&job);
         let mut job = job;

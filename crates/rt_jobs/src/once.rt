@@ -41,7 +41,7 @@ impl<R: Drop, F: FnOnce() -> R + Drop> Task for Once<F> {
 
     ghost says = { λ _. None };
 
-    ghost Polls = { λ job made before after step told. AnswersAtOnce before after step told };
+    ghost Polls = { λ job made calls step told. AnswersAtOnce calls step told };
 
     ghost Answers = { λ job out. IfSome job.call (λ f. F.post f out) };
 
@@ -49,7 +49,7 @@ impl<R: Drop, F: FnOnce() -> R + Drop> Task for Once<F> {
 
     ghost answers_same = { λ a b out same here. subst (λ call. IfSome call (λ f. F.post f out)) same here };
 
-    ghost polls_same = { λ a b made before after step told same owed. owed };
+    ghost polls_same = { λ a b made calls step told same owed. owed };
 
     ghost can_poll_same = { λ a b same can. subst (λ call. ForSome call F.IsAlwaysCallable) same can };
 

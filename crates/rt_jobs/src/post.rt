@@ -5,6 +5,8 @@ ghost use Rattle.rt_ids.specs.declared.names.JobId.{JobId};
 ghost use Rattle.rt_ids.specs.Journal.{Journal};
 ghost use Rattle.rt_ids.specs.declared.order.SendError.TheVariants.{NoCore};
 ghost use Rattle.rt_ids.specs.declared.names.TicketError.TheVariants.{Unknown};
+ghost use Rattle.rt_jobs.specs.Calls.Call.{Submit, Redeem, Detach};
+ghost use Rattle.rt_jobs.specs.Calls.{Call, Doing};
 ghost use Rattle.rt_jobs.specs.Posts.{NotesSubmit, NotesRedeem, NotesDetach};
 ghost use Rattle.rt_jobs.specs.Ready.{HasReadyJob};
 
@@ -21,12 +23,8 @@ pub trait Post<J: Task, T> {
     /// The submission of this name waits for its outcome: it can be detached.
     ghost Waits: { Self → JobId → Type 0 };
 
-    /// The second post is the first, after some calls of it.
-    ghost Follows: { Self → Self → Type 0 };
-
-    ghost follows_itself: { (post : Self) → Follows post post };
-
-    ghost follows_along: { (first middle last : Self) → Follows first middle → Follows middle last → Follows first last };
+    /// What one call does: the post before, the call with what it answered, and the post after.
+    ghost Does: { Doing Self J T };
 
     /// Sends an order to a core, under the next number of that link.
     ///
@@ -37,7 +35,7 @@ pub trait Post<J: Task, T> {
         requires ready { HasReadyJob J.done J.CanPoll order }
         ensures noted { NotesSubmit (notes self.old) to order result (notes self.new) }
         ensures waits { IfOk result (Waits self.new) }
-        ensures follows { Follows self.old self.new };
+        ensures does { Does self.old (Submit to order result) self.new };
 
     /// The outcome of a submission, which is gone from then on.
     ///
@@ -46,7 +44,7 @@ pub trait Post<J: Task, T> {
     /// `Unknown`, `Gone` and `Pending`, as a desk.
     fn redeem(&mut self, ticket: Ticket) -> Result<Outcome<J, T>, TicketError>
         ensures noted { NotesRedeem (notes self.old) ticket result (notes self.new) }
-        ensures follows { Follows self.old self.new };
+        ensures does { Does self.old (Redeem ticket result) self.new };
 
     /// Nobody will ask for the outcome of a submission.
     ///
@@ -56,7 +54,7 @@ pub trait Post<J: Task, T> {
     fn detach(&mut self, ticket: Ticket) -> Result<(), TicketError>
         ensures noted { NotesDetach (notes self.old) ticket result (notes self.new) }
         ensures waits { Waits self.old ticket → IsOk result }
-        ensures follows { Follows self.old self.new };
+        ensures does { Does self.old (Detach ticket result) self.new };
 }
 
 /// A post of an actor that has no links: there is no core for it, and it notes nothing.
@@ -64,17 +62,14 @@ pub trait Post<J: Task, T> {
 pub struct NoPost;
 
 impl<J: Task, T> Post<J, T> for NoPost {
-    ghost use Rattle.std.specs.Prelude.{[]};
+    ghost use Rattle.std.specs.Prelude.{◌≡◌, []};
+    ghost use Rattle.rt_jobs.specs.Calls.{IsRefused};
 
     ghost notes = { λ _. [] };
 
     ghost Waits = { λ _ _. ⊥ };
 
-    ghost Follows = { λ _ _. Unit {0} };
-
-    ghost follows_itself = { λ _. tt };
-
-    ghost follows_along = { λ _ _ _ _ _. tt };
+    ghost Does = { λ old call new. IsRefused call × (new ≡ old) };
 
     fn submit(&mut self, _to: CoreNo, order: Order<J>) -> Result<Ticket, SendError<J>>
         requires { HasReadyJob J.done J.CanPoll order }

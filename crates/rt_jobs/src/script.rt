@@ -1,8 +1,8 @@
 //! A job whose polls are written down.
 
-ghost use Rattle.std.specs.Prelude.{◌≡◌, ◌∷◌, [], ◌↔◌, length, IsSome, IfSome};
+ghost use Rattle.std.specs.Prelude.{◌≡◌, ◌∷◌, [], ◌↔◌, length, Some, IsSome, IfSome};
 ghost use Rattle.rt_jobs.specs.declared.poll.Poll.TheVariants.{Done};
-ghost use Rattle.rt_jobs.specs.Scripts.{IsScript, PostsAs};
+ghost use Rattle.rt_jobs.specs.Scripts.{IsScript, Posts};
 
 use crate::job::{Job, Step, Task};
 use crate::poll::{Poll, Yielding};
@@ -129,7 +129,7 @@ impl Task for ScriptJob {
 
     ghost says = { λ job. time_told job.polls job.polled };
 
-    ghost Polls = { λ job made before after step told. Does (slice_get job.polls made) before after step told };
+    ghost Polls = { λ job made calls step told. Does (slice_get job.polls made) calls step told };
 
     ghost Answers = { λ job out. IsAnswer job.polls out };
 
@@ -137,7 +137,7 @@ impl Task for ScriptJob {
 
     ghost answers_same = { λ a b out same here. subst (λ polls. IsAnswer polls out) same here };
 
-    ghost polls_same = { λ a b made before after step told same owed. subst (λ polls. Does (slice_get polls made) before after step told) same owed };
+    ghost polls_same = { λ a b made calls step told same owed. subst (λ polls. Does (slice_get polls made) calls step told) same owed };
 
     ghost can_poll_same = { λ a b same can. can };
 
@@ -171,15 +171,19 @@ impl Job for ScriptJob {
     }
 }
 
-/// What a poll that yields does at its post: nothing, or it submits the job `d1=0` and detaches it if it is accepted.
+/// What a poll that yields does at its post: nothing, or it sends the small job.
 fn post_as<P: Post<ScriptJob, u64>>(yielding: Yielding, post: &mut P)
-    ensures posts { PostsAs yielding (P.notes post.old) (P.notes post.new) }
-    ensures follows { P.Follows post.old post.new }
+    ensures posts { Posts P.Does yielding.to post.old post.new }
 {
-    let Some(place) = yielding.to else {
-        return;
-    };
-    let (core, queue) = place;
+    if let Some(place) = yielding.to {
+        send_small(place.0, place.1, post);
+    }
+}
+
+/// Submits the job `d1=0` to this queue of this core, and detaches it if it is accepted.
+fn send_small<P: Post<ScriptJob, u64>>(core: CoreNo, queue: QueueNo, post: &mut P)
+    ensures posts { Posts P.Does (Some (core, queue)) post.old post.new }
+{
     let order = Order::Job(queue, ScriptJob::done(1, 0));
     if let Ok(ticket) = post.submit(core, order) {
         let _detached = post.detach(ticket);

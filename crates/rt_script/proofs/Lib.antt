@@ -4,4 +4,5 @@ pub mod PollLemmas
 pub mod ReaderLemmas
 pub mod SubmitLemmas
 pub mod SubmitPolls
+pub mod TakingLemmas
 pub mod TextLemmas

@@ -9,3 +9,4 @@ pub mod Scripts
 pub mod ScriptFaults
 pub mod Whole
 pub mod Telling
+pub mod Taking

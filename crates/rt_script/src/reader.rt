@@ -5,6 +5,7 @@ ghost use Rattle.rt_script.specs.Scripts as spec;
 ghost use Rattle.rt_script.specs.ScriptFaults.{IfFaulty};
 ghost use Rattle.rt_script.specs.Feeds.{HasNoFeed};
 ghost use Rattle.rt_script.specs.Drafts.{judged};
+ghost use Rattle.rt_script.specs.Taking.{TakesByte, TakesAll};
 ghost use Rattle.rt_script.specs.Whole.{drafted};
 
 use crate::draft::Draft;
@@ -63,6 +64,7 @@ impl ScriptReader {
             spec.script_from self.old (bytes.now ++ rest) ≡ spec.script_from self.new rest) }
         ensures faulty { IfErr result (IfFaulty (λ fault. (rest : List ℕ) →
             spec.script_from self.old (bytes.now ++ rest) ≡ Err fault)) }
+        ensures taken { OnOk result (TakesAll bytes.now self.old self.new) }
         ensures room { OnOk result (spec.room_left self.new + length bytes.now ≤ spec.room_left self.old) }
     {
         for byte in bytes {
@@ -122,6 +124,7 @@ impl ScriptReader {
             spec.script_from self.old (byte ∷ rest) ≡ spec.script_from self.new rest) }
         ensures faulty { IfErr result (IfFaulty (λ fault. (rest : List ℕ) →
             spec.script_from self.old (byte ∷ rest) ≡ Err fault)) }
+        ensures taken { OnOk result (TakesByte byte self.old self.new) }
         ensures room { OnOk result (spec.room_left self.new + 1 ≤ spec.room_left self.old) }
     {
         if byte == LINE_FEED {

@@ -4,6 +4,7 @@ ghost use Rattle.std.specs.Prelude.{◌≡◌, ◌≢◌, Ok, Err, IfOk, IfErr, 
 ghost use Rattle.rt_text.specs.declared.fault.EngineFault.TheVariants.{Write};
 ghost use Rattle.rt_script.specs.Scripts.{script_of};
 ghost use Rattle.rt_script.specs.ScriptFaults.{IfText};
+ghost use Rattle.rt_script.specs.Taking.{IsPrompt};
 ghost use Rattle.rt_script.specs.Whole.{drafted};
 
 use crate::reader::ScriptReader;
@@ -16,13 +17,14 @@ use std::io::Read;
 /// The most bytes that are read at once.
 const CHUNK: usize = 8192;
 
-/// The script that the source tells, read and judged to its end.
+/// The script that the source tells, read and judged to its end. Each line is judged before the next read.
 pub fn read_script<R: Read>(alloc: Global, source: &mut R) -> Result<Script, EngineFault>
     ensures ok { IfOk result (λ script.
         IfSome (R.remaining source.old) (λ text. script_of text ≡ Ok (drafted script))) }
     ensures faulty { IfErr result (IfText (λ fault.
         IfSome (R.remaining source.old) (λ text. script_of text ≡ Err fault))) }
     ensures device { IfErr result (λ fault. fault ≢ Write) }
+    ensures prompt { IfErr result (IsPrompt (R.remaining source.old) (R.remaining source.new)) }
 {
     let mut chunk = [0u8; CHUNK];
     let mut reader = ScriptReader::new(alloc);

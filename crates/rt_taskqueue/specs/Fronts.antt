@@ -2,7 +2,7 @@
 use Rattle.std.specs.Prelude.{◌≡◌, ℕ, Bool, true, Option, List, [], ◌∷◌, ◌++◌}
 use Rattle.slab.specs.Slab.{Slab}
 use Rattle.rt_ids.specs.declared.names.JobId.{JobId}
-use Rattle.rt_ids.specs.Journal.{Journal}
+use Rattle.rt_jobs.specs.Calls.{Call, Doing, Makes}
 use Rattle.rt_jobs.specs.declared.job.Step.{Step}
 use Rattle.rt_jobs.specs.declared.job.Step.TheVariants as steps
 use Rattle.rt_jobs.specs.Ready.{IsReady}
@@ -11,9 +11,13 @@ use Rattle.rt_taskqueue.specs.declared.waiting.Waiting.{Waiting}
 use Rattle.rt_taskqueue.specs.Entries.{Renews}
 use Rattle.rt_taskqueue.specs.Queues.{QueuesView, waiting_of, ChangesLine, IsWithinLimits}
 
--- one poll of a job, with the notes of its post before and after it: what it owes, and what the job is from then on
-pub record IsPolled {J T : Type 0} (same : J → J → Type 0) (done : J → Bool) (can_poll : J → Type 0) (made : J → ℕ) (polls : Owed J T) (answers : J → T → Type 0) (before after : Journal T) (ran : AfterPoll J T) : Type 0 where
-  pub owed : polls ran.before (made ran.before) before after ran.step ran.told
+-- a poll made these calls of its post, one after another, and this holds of them
+abbrev pub MakesCalls : {P J T : Type 0} → Doing P J T → P → P → (List (Call J T) → Type 0) → Type 0
+MakesCalls {P} {J} {T} does old new fact = (calls : List (Call J T)) × Makes does calls old new × fact calls
+
+-- one poll of a job, with the calls that it made of its post: what it owes, and what the job is from then on
+pub record IsPolled {J T : Type 0} (same : J → J → Type 0) (done : J → Bool) (can_poll : J → Type 0) (made : J → ℕ) (polls : Owed J T) (answers : J → T → Type 0) (calls : List (Call J T)) (ran : AfterPoll J T) : Type 0 where
+  pub owed : polls ran.before (made ran.before) calls ran.step ran.told
   pub answered : IfDone ran.step (answers ran.before)
   pub task : OnYield ran.step (same ran.before ran.job)
   pub later : OnYield ran.step (OwesOn made polls ran.before ran.job)
@@ -48,14 +52,14 @@ module _ {J : Type 0} where
 
 module _ {J T : Type 0} (same : J → J → Type 0) (done : J → Bool) (can_poll : J → Type 0) (made : J → ℕ) (polls : Owed J T) (answers : J → T → Type 0) where
   -- the job of an entry is polled where it stands
-  pub record PollsAt (old : Slab (Waiting J)) (key : ℕ) (before after : Journal T) (step : Step T) (told : Option ℕ) (new : Slab (Waiting J)) : Type 0 where
+  pub record PollsAt (old : Slab (Waiting J)) (key : ℕ) (calls : List (Call J T)) (step : Step T) (told : Option ℕ) (new : Slab (Waiting J)) : Type 0 where
     pub front : Waiting J
     pub job : J
     pub renews : Renews old key front job new
-    pub polled : IsPolled same done can_poll made polls answers before after (record { job = job; step = step; told = told; before = front.job })
+    pub polled : IsPolled same done can_poll made polls answers calls (record { job = job; step = step; told = told; before = front.job })
 
   -- the job at the head of a line is polled where it stands, and nothing else changes
-  pub record PollsFront (old : QueuesView J) (queue : ℕ) (before after : Journal T) (step : Step T) (told : Option ℕ) (new : QueuesView J) : Type 0 where
+  pub record PollsFront (old : QueuesView J) (queue : ℕ) (calls : List (Call J T)) (step : Step T) (told : Option ℕ) (new : QueuesView J) : Type 0 where
     pub name : JobId
     pub started : Bool
     pub was : J
@@ -63,10 +67,10 @@ module _ {J T : Type 0} (same : J → J → Type 0) (done : J → Bool) (can_pol
     pub others : List (JobId × Bool × J)
     pub first : waiting_of queue old ≡ (name, started, was) ∷ others
     pub line : ChangesLine old new queue ((name, started, job) ∷ others)
-    pub polled : IsPolled same done can_poll made polls answers before after (record { job = job; step = step; told = told; before = was })
+    pub polled : IsPolled same done can_poll made polls answers calls (record { job = job; step = step; told = told; before = was })
 
   -- a whole turn of a line: its head leaves it and is polled once, and joins it again if it wants another poll
-  pub record TurnsFront (old : QueuesView J) (queue : ℕ) (before after : Journal T) (step : Step T) (told : Option ℕ) (new : QueuesView J) : Type 0 where
+  pub record TurnsFront (old : QueuesView J) (queue : ℕ) (calls : List (Call J T)) (step : Step T) (told : Option ℕ) (new : QueuesView J) : Type 0 where
     pub name : JobId
     pub started : Bool
     pub was : J
@@ -75,5 +79,5 @@ module _ {J T : Type 0} (same : J → J → Type 0) (done : J → Bool) (can_pol
     pub first : waiting_of queue old ≡ (name, started, was) ∷ waiting_of queue between
     pub leaves : ChangesLine old between queue (waiting_of queue between)
     pub limits : IsWithinLimits between
-    pub polled : IsPolled same done can_poll made polls answers before after (record { job = job; step = step; told = told; before = was })
+    pub polled : IsPolled same done can_poll made polls answers calls (record { job = job; step = step; told = told; before = was })
     pub joins : JoinsAgain step between queue name job new

@@ -5,9 +5,11 @@ mod closing;
 // A crate can name the queues in a contract only if the types of their fields are exported.
 #[doc(hidden)]
 pub mod line;
+mod meter;
 mod queues;
 #[doc(hidden)]
 pub mod waiting;
 
 pub use closing::closes;
+pub use meter::Meter;
 pub use queues::{CreateError, Queues};

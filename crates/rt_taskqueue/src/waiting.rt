@@ -3,9 +3,10 @@ ghost use Rattle.std.specs.Prelude.{◌≡◌, ◌+◌, ◌<◌, ◌^◌, IfSome
 ghost use Rattle.slab.specs.Slab.{ContainsKey, HasRoomFor, get};
 ghost use Rattle.rt_jobs.specs.Ready.{IsReady};
 ghost use Rattle.rt_taskqueue.specs.Entries.{Relinks, Appends, StartsAt, Requeues};
-ghost use Rattle.rt_taskqueue.specs.Fronts.{PollsAt};
+ghost use Rattle.rt_taskqueue.specs.Fronts.{MakesCalls, PollsAt};
 
 use crate::line::Line;
+use crate::meter::Meter;
 use rt_ids::JobId;
 use rt_jobs::{Job, Post, Step};
 use slab::Slab;
@@ -78,18 +79,23 @@ pub fn requeue<J, A: Allocator>(jobs: &mut Slab<Waiting<J>, A>, line: Line) -> L
     turned
 }
 
-/// Polls the job of an entry where it stands. The answer: what the poll came to, and the time that the job told.
-pub fn poll_at<J: Job, A: Allocator, P: Post<J, J::Out>>(
+/// Polls the job of an entry where it stands. The answer: what the poll came to, the time that the job told, and the time that the
+/// meter told.
+pub fn poll_at<J: Job, A: Allocator, P: Post<J, J::Out>, M: Meter>(
     jobs: &mut Slab<Waiting<J>, A>,
     key: usize,
     post: &mut P,
-) -> (Step<J::Out>, Option<u64>)
+    meter: &mut M,
+) -> (Step<J::Out>, Option<u64>, u64)
     requires there { ContainsKey jobs.old key }
     requires ready { IfSome (get jobs.old key) (λ waiting. IsReady J.done J.CanPoll waiting.job) }
-    ensures { PollsAt J.SameTask J.done J.CanPoll J.made J.Polls J.Answers jobs.old key (P.notes post.old) (P.notes post.new) result.0 result.1 jobs.new }
+    ensures polls { MakesCalls P.Does post.old post.new (λ calls. PollsAt J.SameTask J.done J.CanPoll J.made J.Polls J.Answers jobs.old key calls result.0 result.1 jobs.new) }
+    ensures tells { M.Tells meter.old result.2 }
 {
     let front = &mut jobs[key];
+    meter.start();
     let step = front.job.poll(post);
+    let spent = meter.spent();
     let told = front.job.told();
-    (step, told)
+    (step, told, spent)
 }

@@ -3,13 +3,16 @@ ghost use Rattle.std.specs.Prelude.{◌≡◌, ℕ, ◌-◌, ◌^◌, ◌<◌, [
 ghost use Rattle.rt_ids.specs.Work.{number_if};
 ghost use Rattle.rt_jobs.specs.Steps.{is_done_step};
 ghost use Rattle.rt_taskqueue.specs.Queues.{waiting_of};
+ghost use Rattle.rt_taskqueue.specs.Fronts.{MakesCalls};
 ghost use Rattle.rt_core.specs.State.{IsBounded};
 ghost use Rattle.rt_core.specs.Whole.{IsAhead, TellsAhead, TurnsFirst, TurnsWhole, pick_notes, settled_of, settle_notes};
 
 use super::Core;
+use crate::ready::relist;
 use crate::tally::place;
 use crate::turn::{Ahead, Next, PickError};
 use rt_jobs::{Job, Post, Step, Task};
+use rt_taskqueue::Meter;
 use std::alloc::Allocator;
 
 /// How many more jobs are done after this step.
@@ -91,45 +94,55 @@ impl<J: Job, A: Allocator + Clone> Core<J, A> {
         spent: u64,
     ) -> (Step<J::Out>, u64)
         requires ahead { IsAhead self.old next.now.queue next.now.vr next.now.name next.now.started }
-        ensures whole { TurnsWhole J.SameTask J.done J.CanPoll J.made J.Polls J.Answers self.old spent (P.notes post.old) (P.notes post.new) next.now.name next.now.queue next.now.started (pick_notes next.now.queue next.now.vr next.now.name next.now.started) (settled_of result.0) (settle_notes next.now.name result.1 result.0) self.new }
+        ensures whole { MakesCalls P.Does post.old post.new (λ calls. TurnsWhole J.SameTask J.done J.CanPoll J.made J.Polls J.Answers self.old spent calls next.now.name next.now.queue next.now.started (pick_notes next.now.queue next.now.vr next.now.name next.now.started) (settled_of result.0) (settle_notes next.now.name result.1 result.0) self.new) }
+        ensures bounded { IsBounded self.new }
+    {
+        let mut known = spent;
+        self.turn_metered(next, post, &mut known)
+    }
+
+    /// Makes that turn. If the job told no time of its own, the one that the meter tells counts: it is told that the poll begins right
+    /// before it, and asked right behind it.
+    pub fn turn_metered<P: Post<J, J::Out>, M: Meter>(
+        &mut self,
+        next: &Next,
+        post: &mut P,
+        meter: &mut M,
+    ) -> (Step<J::Out>, u64)
+        requires ahead { IsAhead self.old next.now.queue next.now.vr next.now.name next.now.started }
+        ensures whole { MakesCalls P.Does post.old post.new (λ calls. (spent : ℕ) × M.Tells meter.old spent × TurnsWhole J.SameTask J.done J.CanPoll J.made J.Polls J.Answers self.old spent calls next.now.name next.now.queue next.now.started (pick_notes next.now.queue next.now.vr next.now.name next.now.started) (settled_of result.0) (settle_notes next.now.name result.1 result.0) self.new) }
         ensures bounded { IsBounded self.new }
     {
         let _named = next;
-        self.turn_first(post, spent)
+        self.turn_first(post, meter)
     }
 
     /// Polls the next job where it stands, and settles the poll. The answer: what the poll came to, and the time that counts.
-    pub(super) fn turn_first<P: Post<J, J::Out>>(
+    fn turn_first<P: Post<J, J::Out>, M: Meter>(
         &mut self,
         post: &mut P,
-        spent: u64,
+        meter: &mut M,
     ) -> (Step<J::Out>, u64)
         requires free { self.old.out ≡ None }
         requires turns { self.old.turns < 2 ^ 64 - 1 }
         requires work { (queue : ℕ) × (waiting_of queue self.old.queues ≡ [] → ⊥) }
-        ensures turns { TurnsFirst J.SameTask J.done J.CanPoll J.made J.Polls J.Answers self.old spent (P.notes post.old) (P.notes post.new) result.0 result.1 self.new }
+        ensures turns { MakesCalls P.Does post.old post.new (λ calls. (spent : ℕ) × M.Tells meter.old spent × TurnsFirst J.SameTask J.done J.CanPoll J.made J.Polls J.Answers self.old spent calls result.0 result.1 self.new) }
         ensures bounded { IsBounded self.new }
     {
         let Some((key, slip)) = self.ready.take_least() else {
             unreachable!()
         };
         let queue = key.queue;
-        let (step, told) = self.queues.turn_front(queue, post);
+        let (step, told, spent) = self.queues.turn_front(queue, post, meter);
         let time = told.unwrap_or(spent);
         let shares = self.queues.shares(queue);
         let done = ended(&step);
-        let tally = self.tallies[place(queue)]
-            .picked()
-            .charged(time, &shares, done);
+        let tally = self.tallies[place(queue)].turned(time, &shares, done);
         self.tallies[place(queue)] = tally;
         self.floor = self.floor.max(key.vr);
         self.turns += 1;
         self.inside -= done as usize;
-        if self.queues.is_empty(queue) {
-            self.queues.put_slip(slip);
-        } else {
-            self.ready.insert(slip, tally.runtime);
-        }
+        relist(&mut self.queues, &mut self.ready, slip, tally.runtime);
         (step, time)
     }
 }

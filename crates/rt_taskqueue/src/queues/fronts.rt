@@ -1,9 +1,10 @@
 //! The job at the head of a line: it is polled where it stands, and goes to the tail by links alone.
 ghost use Rattle.std.specs.Prelude.{◌≡◌, ◌<◌, [], IfSome, IfNone};
 ghost use Rattle.rt_taskqueue.specs.Slips.{queue_count, waiting_of, IsWithinLimits, queues_alone};
-ghost use Rattle.rt_taskqueue.specs.Fronts.{HasFront, IsFrontReady, PollsFront, TurnsLine, TurnsFront};
+ghost use Rattle.rt_taskqueue.specs.Fronts.{HasFront, IsFrontReady, MakesCalls, PollsFront, TurnsLine, TurnsFront};
 
 use super::Queues;
+use crate::meter::Meter;
 use crate::waiting::{poll_at, requeue};
 use rt_ids::{JobId, QueueNo};
 use rt_jobs::{Job, Post, Step};
@@ -40,37 +41,43 @@ impl<J: Drop, A: Allocator + Clone> Queues<J, A> {
 }
 
 impl<J: Job, A: Allocator + Clone> Queues<J, A> {
-    /// Polls the job at the head where it stands. The answer: what the poll came to, and the time that the job told.
-    pub fn poll_front<P: Post<J, J::Out>>(
+    /// Polls the job at the head where it stands. The answer: what the poll came to, the time that the job told, and the time that the
+    /// meter told.
+    pub fn poll_front<P: Post<J, J::Out>, M: Meter>(
         &mut self,
         queue: QueueNo,
         post: &mut P,
-    ) -> (Step<J::Out>, Option<u64>)
+        meter: &mut M,
+    ) -> (Step<J::Out>, Option<u64>, u64)
         requires exists { queue < queue_count self.old }
         requires ready { IsFrontReady J.done J.CanPoll (waiting_of queue self.old) }
-        ensures polls { PollsFront J.SameTask J.done J.CanPoll J.made J.Polls J.Answers (queues_alone self.old) queue (P.notes post.old) (P.notes post.new) result.0 result.1 (queues_alone self.new) }
+        ensures polls { MakesCalls P.Does post.old post.new (λ calls. PollsFront J.SameTask J.done J.CanPoll J.made J.Polls J.Answers (queues_alone self.old) queue calls result.0 result.1 (queues_alone self.new)) }
+        ensures tells { M.Tells meter.old result.2 }
         ensures slips { self.new.slips ≡ self.old.slips }
         ensures limits { IsWithinLimits self.new }
     {
         let place = queue.0 as usize;
         let head = self.lines[place].head;
-        poll_at(&mut self.jobs, head, post)
+        poll_at(&mut self.jobs, head, post, meter)
     }
 
     /// A whole turn of the line: its head is polled where it stands. If it wants another poll it goes to the tail by links alone,
-    /// and if it is done it is taken out and dropped. The answer: what the poll came to, and the time that the job told.
-    pub fn turn_front<P: Post<J, J::Out>>(
+    /// and if it is done it is taken out and dropped. The answer: what the poll came to, the time that the job told, and the time that
+    /// the meter told.
+    pub fn turn_front<P: Post<J, J::Out>, M: Meter>(
         &mut self,
         queue: QueueNo,
         post: &mut P,
-    ) -> (Step<J::Out>, Option<u64>)
+        meter: &mut M,
+    ) -> (Step<J::Out>, Option<u64>, u64)
         requires exists { queue < queue_count self.old }
         requires ready { IsFrontReady J.done J.CanPoll (waiting_of queue self.old) }
-        ensures turns { TurnsFront J.SameTask J.done J.CanPoll J.made J.Polls J.Answers (queues_alone self.old) queue (P.notes post.old) (P.notes post.new) result.0 result.1 (queues_alone self.new) }
+        ensures turns { MakesCalls P.Does post.old post.new (λ calls. TurnsFront J.SameTask J.done J.CanPoll J.made J.Polls J.Answers (queues_alone self.old) queue calls result.0 result.1 (queues_alone self.new)) }
+        ensures tells { M.Tells meter.old result.2 }
         ensures slips { self.new.slips ≡ self.old.slips }
         ensures limits { IsWithinLimits self.new }
     {
-        let (step, told) = self.poll_front(queue, post);
+        let (step, told, spent) = self.poll_front(queue, post, meter);
         match &step {
             Step::Yield => self.requeue(queue),
             Step::Done(_) => {
@@ -79,6 +86,6 @@ impl<J: Job, A: Allocator + Clone> Queues<J, A> {
                 };
             }
         }
-        (step, told)
+        (step, told, spent)
     }
 }

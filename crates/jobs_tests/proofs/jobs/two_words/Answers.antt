@@ -1,6 +1,6 @@
-use Rattle.std.proofs.Common.{◌≡◌, ℕ, ◌+◌, add-zero, [], ◌∷◌}
+use Rattle.std.proofs.Common.{◌≡◌, ℕ, ◌+◌, add-zero, List, [], ◌∷◌}
 use Rattle.std.specs.Prelude.{Option, Some, slice_get}
-use Rattle.rt_ids.specs.Journal.{Journal}
+use Rattle.rt_jobs.specs.Calls.{Call}
 use Rattle.rt_jobs.specs.declared.poll.Poll.TheVariants as poll
 use Rattle.rt_jobs.specs.declared.job.Step.{Step}
 use Rattle.rt_jobs.specs.declared.job.Step.TheVariants.{Yield, Done}
@@ -10,12 +10,12 @@ use Rattle.jobs_tests.proofs.jobs.two_words.Goals as goal
 -- the second of two words doesn't yield
 second_ends : (job later : Script) (first second value : ℕ) (told : Option ℕ) → job.polls ≡ poll.Yield first ∷ poll.Done second value ∷ [] →
     job.polled ≡ 0 →
-    ((more : ℕ) (before after : Journal ℕ) (step : Step ℕ) (t : Option ℕ) → Does (slice_get later.polls (later.polled + more)) before after step t
-    → Does (slice_get job.polls (job.polled + 1 + more)) before after step t) →
-    (before : Journal ℕ) (after : Journal ℕ) → Does (slice_get later.polls later.polled) before after Yield told → ⊥
-second_ends job later first second value told words fresh owes before after owed =
-    let here : Does (slice_get job.polls (job.polled + 1 + 0)) before after Yield told = owes 0 before after Yield told (rw add-zero owed) in
-    let word : Does (Some (poll.Done second value)) before after Yield told = rw (words, fresh) at here in
+    ((more : ℕ) (calls : List (Call Script ℕ)) (step : Step ℕ) (t : Option ℕ) → Does (slice_get later.polls (later.polled + more)) calls step t
+    → Does (slice_get job.polls (job.polled + 1 + more)) calls step t) →
+    (calls : List (Call Script ℕ)) → Does (slice_get later.polls later.polled) calls Yield told → ⊥
+second_ends job later first second value told words fresh owes calls owed =
+    let here : Does (slice_get job.polls (job.polled + 1 + 0)) calls Yield told = owes 0 calls Yield told (rw add-zero owed) in
+    let word : Does (Some (poll.Done second value)) calls Yield told = rw (words, fresh) at here in
     cc word.1
 
 not_yield : goal.In-Yield → ⊥
@@ -24,7 +24,7 @@ not_yield c =
     c.in-Some.ensures.polls
     c.in-Some.ensures.fresh
     (rw (c.in_default-step.is, c.poll.ensures.before) at c.into_parts-job.ensures.later)
-    _ _ (rw (c.in-Yield.is, c.poll-2.ensures.before) at c.into_parts-job-2.ensures.owed.2)
+    _ (rw (c.in-Yield.is, c.poll-2.ensures.before) at c.into_parts-job-2.ensures.owed.1)
 
 pub returns-in-Yield-clause-first : goal.returns-in-Yield-clause-first
 returns-in-Yield-clause-first c = absurd (not_yield c)

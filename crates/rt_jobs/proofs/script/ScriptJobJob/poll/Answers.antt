@@ -1,14 +1,16 @@
-use Rattle.std.proofs.Common.{get_or, refl, ap, subst, ◌∙◌, add-one, arith}
-use Rattle.rt_jobs.specs.Scripts.{PostsAs}
+use Rattle.std.proofs.Common.{[], get_or, refl, ap, subst, ◌∙◌, add-one, arith}
+use Rattle.rt_jobs.specs.Scripts.{CallsTo}
 use Rattle.rt_jobs.proofs.ScriptLemmas.{Does-early, Does-last, IsAnswer-script_polls, last_is_next}
 use Rattle.rt_jobs.proofs.script.ScriptJobJob.poll.Goals as goal
 
 pub returns-then-place-yields-clause-owed : goal.returns-then-place-yields-clause-owed
 returns-then-place-yields-clause-owed g c =
     let job = c.self.inside in
-    rw (← c.self.view_is, add-one)
-    (Does-last job.yields.items job.last_told job.answer job.polled (g.P.Post.notes c.args.post.now) (g.P.Post.notes c.args.post.now)
-    (last_is_next job.yields.items job.last_told job.answer job.polled (rw (← c.self.view_is) at c.requires.open) c.self.invariant (omega arith)) refl)
+    rw (← c.self.view_is, add-one) (record {
+      calls = [];
+      owed = Does-last job.yields.items job.last_told job.answer job.polled (last_is_next job.yields.items job.last_told job.answer job.polled (rw (← c.self.view_is) at c.requires.open) c.self.invariant (omega arith));
+      makes = refl;
+    })
 
 pub returns-then-place-yields-clause-answers : goal.returns-then-place-yields-clause-answers
 returns-then-place-yields-clause-answers g c =
@@ -17,7 +19,10 @@ returns-then-place-yields-clause-answers g c =
 pub returns-clause-owed : goal.returns-clause-owed
 returns-clause-owed g c =
     let job = c.self.inside in
-    rw (← c.self.view_is, add-one)
-    (Does-early job.yields.items job.last_told job.answer job.polled c.index-deref-place.result (g.P.Post.notes c.args.post.now) (g.P.Post.notes c.post_as.new.post) (omega arith)
-    (subst (λ yielding. PostsAs yielding (g.P.Post.notes c.args.post.now) (g.P.Post.notes c.post_as.new.post))
-    (c.index-deref-place.is ∙ ap (λ yields. get_or yields job.polled c.index-deref-place.result) c.deref.ensures.0) c.post_as.ensures.posts))
+    let posts = c.post_as.ensures.posts in
+    rw (← c.self.view_is, add-one) (record {
+      calls = posts.0;
+      owed = Does-early job.yields.items job.last_told job.answer job.polled c.index-deref-place.result posts.0 (omega arith)
+          (subst (λ yielding. CallsTo yielding.to posts.0) (c.index-deref-place.is ∙ ap (λ yields. get_or yields job.polled c.index-deref-place.result) c.deref.ensures.0) posts.1);
+      makes = posts.2;
+    })

@@ -40,7 +40,7 @@ poll_at-requires-clause-ready g c =
 
 pub invariant_of-self : goal.invariant_of-self
 invariant_of-self g c =
-    let polls = c.poll_at.ensures in
+    let polls = c.poll_at.ensures.polls.2 in
     (IsKept-renewed c.index.result.now.head polls.front polls.job c.self.invariant.0 polls.renews, c.self.invariant.1)
 
 pub returns-clause-polls : goal.returns-clause-polls
@@ -48,28 +48,32 @@ returns-clause-polls g c =
     let inside = c.self.inside in
     let lines = inside.lines.items in
     let line = c.index.result.now in
-    let polls = c.poll_at.ensures in
+    let polls = c.poll_at.ensures.polls.2 in
     let exists = exists-view inside.room inside.jobs lines (ap queues_alone c.self.view_is) c.requires.exists in
     let here = line_read lines c.queue.inside.0 c.args.queue line (omega (arith, exists, c.queue.view_is)) c.index.ensures c.queue.view_is in
     let ready = subst (λ (view : QueuesView g.row.J.Denot). IsFrontReady g.J.Task.done g.J.Task.CanPoll (waiting_of c.args.queue view)) (sym (ap queues_alone c.self.view_is)) c.requires.ready in
     let some = some_waiting c.self.invariant.0 c.args.queue (some_ready g.J.Task.done g.J.Task.CanPoll (waiting_of c.args.queue (alone inside.room inside.jobs lines)) ready) in
     let renews = subst (λ (l : Line). Renews inside.jobs l.head polls.front polls.job c.poll_at.new.jobs) (sym here) polls.renews in
     let renewed = front_renewed c.args.queue polls.front polls.job c.self.invariant.0 renews exists some in
-    rw (← c.self.view_is) (record {
-      name = polls.front.name;
-      started = polls.front.started;
-      was = polls.front.job;
-      job = polls.job;
-      others = renewed.0;
-      first = renewed.1;
-      line = renewed.2;
-      polled = polls.polled;
-    })
+    rw (← c.self.view_is) (
+      c.poll_at.ensures.polls.0,
+      c.poll_at.ensures.polls.1,
+      record {
+        name = polls.front.name;
+        started = polls.front.started;
+        was = polls.front.job;
+        job = polls.job;
+        others = renewed.0;
+        first = renewed.1;
+        line = renewed.2;
+        polled = polls.polled;
+      },
+    )
 
 pub returns-clause-slips : goal.returns-clause-slips
 returns-clause-slips g c = rw (← c.self.view_is) refl
 
 pub returns-clause-limits : goal.returns-clause-limits
 returns-clause-limits g c =
-    let polls = c.poll_at.ensures in
+    let polls = c.poll_at.ensures.polls.2 in
     IsWithinLimits-view (IsKept-renewed c.index.result.now.head polls.front polls.job c.self.invariant.0 polls.renews)

@@ -1,0 +1,29 @@
+use Rattle.rt_taskqueue.specs.Queues.{waiting_of}
+use Rattle.rt_core.proofs.Turned.{TurnsWhole-first, some_front}
+use Rattle.rt_core.proofs.one_core.Core.turn_metered.Goals as goal
+
+pub turn_first-requires : goal.turn_first-requires
+turn_first-requires g c =
+    let is_ahead = c.requires.ahead in
+    let front = is_ahead.front in
+    let next = c.args.next.now in
+    record {
+      free = is_ahead.next.free;
+      turns = is_ahead.left;
+      work = (next.queue, some_front (waiting_of next.queue c.args.self.now.queues) (next.name, next.started, front.0) front.1 front.2);
+    }
+
+pub returns-clause-whole : goal.returns-clause-whole
+returns-clause-whole g c =
+    let next = c.args.next.now in
+    let turned = c.turn_first in
+    let turns = turned.ensures.turns in (
+      turns.0,
+      turns.1,
+      (
+        turns.2.0,
+        turns.2.1,
+        TurnsWhole-first g.J.Task.SameTask g.J.Task.done g.J.Task.CanPoll g.J.Task.made g.J.Task.Polls g.J.Task.Answers c.args.self.now turned.new.self turns.2.0
+            turns.0 turned.result.0 turned.result.1 next.queue next.vr next.name next.started c.requires.ahead turns.2.2,
+      ),
+    )

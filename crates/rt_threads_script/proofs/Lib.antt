@@ -1,0 +1,3 @@
+pub mod LimitLemmas
+pub mod ReaderLemmas
+pub mod TakingLemmas

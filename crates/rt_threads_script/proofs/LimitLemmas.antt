@@ -1,0 +1,77 @@
+-- What the lines of a script for threads say keeps within the limits.
+use Rattle.std.proofs.Common.{IfOk, ◌∙◌, ◌≡◌, ℕ, ◌+◌, ◌≤◌, ◌<◌, ◌++◌, Bool, true, false, cond, List, [], ◌∷◌, Option, Some, None, Result, Ok, Err, refl, ap, zero-add, arith}
+use Rattle.std.proofs.lemmas.List.Elements.{All-push}
+use Rattle.std.proofs.lemmas.List.Sums.{sum_by-append}
+use Rattle.rt_ids.specs.declared.order.Order.{Order}
+use Rattle.rt_ids.specs.declared.order.Order.TheVariants as order
+use Rattle.rt_jobs.specs.Scripts.{Script}
+use Rattle.rt_script.specs.declared.event.ScriptEvent.TheVariants.{Send}
+use Rattle.rt_script.specs.declared.line.Line.{Line}
+use Rattle.rt_script.specs.Drafts.{queue_lines}
+use Rattle.rt_script.specs.Limits as script
+use Rattle.rt_script.proofs.LimitLemmas.{first_line_ok, later_line_ok, limits_more}
+use Rattle.rt_text.specs.declared.fault.Cause.{Cause}
+use Rattle.rt_words.specs.Words.{first, others}
+use Rattle.rt_script.specs.Keywords.{keyword_of}
+use Rattle.rt_script.specs.Lines.{first_line, later_line}
+use Rattle.rt_threads_script.specs.declared.fault.ThreadsCause.{ThreadsCause}
+use Rattle.rt_threads_script.specs.Lines.{of_script, is_barred, size_told, line_told}
+use Rattle.rt_threads_script.specs.Drafts.{Told, Drafted, polls_of, polls_in}
+use Rattle.rt_threads_script.specs.Limits.{IsToldOf, IsToldFor, AreTold, IsWithinLimits}
+
+of_script_ok : (r : Result Line Cause) (line : Line) → of_script r ≡ Ok line → r ≡ Ok line
+of_script_ok (Ok read) line e = cc
+of_script_ok (Err cause) line e = cc
+
+pub size_told_ok : (ws : List (List ℕ)) (line : Line) → size_told ws ≡ Ok line → script.MayFollow None line
+size_told_ok ws line e = first_line_ok ws line (of_script_ok (first_line ws) line e)
+
+not_barred_ok : (barred : Bool) (r : Result Line ThreadsCause) (cause : ThreadsCause) (line : Line) → cond barred (Err cause) r ≡ Ok line → r ≡ Ok line
+not_barred_ok true r cause line e = cc
+not_barred_ok false r cause line e = e
+
+pub line_told_ok : (size : ℕ × ℕ) (late : Bool) (ws : List (List ℕ)) (line : Line) → 1 ≤ size.0 → line_told size.0 late ws ≡ Ok line → script.MayFollow (Some size) line
+line_told_ok size late ws line some e =
+    later_line_ok size late ws line some (of_script_ok (later_line size.0 late ws) line (not_barred_ok (is_barred (keyword_of (first ws)) size.0 (others ws)) _ _ line e))
+
+-- an order that is sent is told
+sent_of : (cores sender core : ℕ) (one : Order Script) → script.IsEventOf cores (Send sender core one) → IsToldOf cores (core, one)
+sent_of cores sender core (order.Job queue job) h = record { core = h.core; some_polls = h.some_polls; none_made = h.none_made }
+sent_of cores sender core (order.Create weight) h = record { core = h.core; some_polls = h.some_polls; none_made = h.none_made }
+sent_of cores sender core (order.SetShares queue weight) h = record { core = h.core; some_polls = h.some_polls; none_made = h.none_made }
+sent_of cores sender core (order.Close queue mode) h = record { core = h.core; some_polls = h.some_polls; none_made = h.none_made }
+sent_of cores sender core (order.CloseCore mode) h = record { core = h.core; some_polls = h.some_polls; none_made = h.none_made }
+
+pub sent_told : (size : Option (ℕ × ℕ)) (sender core : ℕ) (one : Order Script) → script.IsEventFor size (Send sender core one) → IsToldFor size (core, one)
+sent_told None sender core one h = h
+sent_told (Some size) sender core one h = sent_of size.0 sender core one h
+
+-- one queue more
+no_events : (size : Option (ℕ × ℕ)) → script.AreEventsOf size []
+no_events None = refl
+no_events (Some size) = λ i x h. absurd (omega arith)
+
+pub queue_more : (draft : Drafted) (queue : ℕ × ℕ) → IsWithinLimits draft → script.IsCoreOf draft.size queue.0 → queue_lines queue.0 draft.queues < 255 → IsWithinLimits (record { size = draft.size; queues = draft.queues ++ queue ∷ []; orders = draft.orders })
+queue_more draft queue limits core room =
+    let more = limits_more (record { size = draft.size; queues = draft.queues; events = [] }) queue (record { sized = limits.sized; placed = limits.placed; few = limits.few; happen = no_events draft.size }) core room in
+    record { sized = more.sized; placed = more.placed; few = more.few; told = limits.told }
+
+-- one order more
+told_more : (size : Option (ℕ × ℕ)) (orders : List Told) (told : Told) → AreTold size orders → IsToldFor size told → AreTold size (orders ++ told ∷ [])
+told_more None orders told all one = absurd one
+told_more (Some size) orders told all one = All-push (IsToldOf size.0) orders told all one
+
+pub order_more : (draft : Drafted) (told : Told) → IsWithinLimits draft → IsToldFor draft.size told → IsWithinLimits (record { size = draft.size; queues = draft.queues; orders = draft.orders ++ told ∷ [] })
+order_more draft told limits one = record {
+  sized = limits.sized;
+  placed = limits.placed;
+  few = limits.few;
+  told = told_more draft.size draft.orders told limits.told one;
+}
+
+pub polls_more : (orders : List Told) (told : Told) → polls_in (orders ++ told ∷ []) ≡ polls_in orders + polls_of told.1
+polls_more orders told = sum_by-append (λ t. polls_of t.1) orders (told ∷ []) ∙ ap (λ n. polls_in orders + n) (zero-add (polls_of told.1))
+
+pub IfOk-from_each : {A : Type 0} (r : Result A ThreadsCause) (P : A → Type 0) → ((a : A) → r ≡ Ok a → P a) → IfOk r P
+IfOk-from_each (Ok a) P each = each a refl
+IfOk-from_each (Err cause) P each = tt

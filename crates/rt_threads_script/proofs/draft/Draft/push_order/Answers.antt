@@ -1,0 +1,13 @@
+use Rattle.std.proofs.Common.{◌+◌, ap, sym, ◌∙◌}
+use Rattle.rt_threads_script.specs.Drafts.{polls_in}
+use Rattle.rt_threads_script.proofs.LimitLemmas.{order_more, polls_more}
+use Rattle.rt_threads_script.proofs.draft.Draft.push_order.Goals as goal
+
+pub invariant_of-self-2 : goal.invariant_of-self-2
+invariant_of-self-2 c =
+    let more = polls_more c.self.inside.orders.items (c.args.core, c.args.order) in
+    rw c.in_ok-push.ensures.items (
+      order_more (record { size = c.self.inside.size; queues = c.self.inside.queues.items; orders = c.self.inside.orders.items }) (c.args.core, c.args.order) c.self.invariant.0 (rw (← c.self.view_is) at c.requires.told),
+      ap (λ n. n + c.args.polls) c.self.invariant.1 ∙ ap (λ n. polls_in c.self.inside.orders.items + n) c.requires.polls ∙ sym more,
+      rw c.self.invariant.1 (rw (← c.self.view_is) at c.requires.few),
+    )

@@ -1,0 +1,9 @@
+pub mod Faults
+pub mod Lines
+pub mod Drafts
+pub mod Limits
+pub mod Scripts
+pub mod ScriptFaults
+pub mod Telling
+pub mod Whole
+pub mod Taking
