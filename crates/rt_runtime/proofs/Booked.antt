@@ -1,7 +1,7 @@
 -- The outside actor's journal has room for each note that is due of its submissions.
 use Rattle.std.proofs.Common.{◌≡◌, ℕ, zero, suc, ◌+◌, ◌*◌, ◌<◌, ◌≤◌, List, [], ◌∷◌, length, Some, refl, sym, ◌∙◌, ap, subst, arith, set, get_or}
 use Rattle.std.specs.Prelude.{IfOk, IsSome, Result, Ok, Err, slice_get, sum_by}
-use Rattle.std.proofs.lemmas.List.Sums.{get_or-le-sum_by, sum_by-set}
+use Rattle.std.proofs.lemmas.List.Sums.{get_or-le-sum_by, sum_by-cons, sum_by-set}
 use Rattle.std.proofs.lemmas.Option.{slice_get_within, get_or_from_slice_get}
 use Rattle.rt_ids.specs.declared.names.JobId.{JobId}
 use Rattle.rt_ids.specs.declared.names.TicketError.{TicketError}
@@ -43,7 +43,7 @@ sum_within : {X : Type 0} (f : X → ℕ) (count : ℕ → ℕ) (xs : List X) �
 sum_within f count [] each = omega arith
 sum_within f count (x ∷ xs) each =
     let rest = sum_within f (λ i. count (suc i)) xs (λ i y is. each (suc i) y is) in
-    omega (arith, each 0 x refl, rest, upto_front count (length xs))
+    omega (arith, sum_by-cons f x xs, each 0 x refl, rest, upto_front count (length xs))
 
 one_more : {A : Type 0} (longer shorter : List A) (x : A) → longer ≡ x ∷ shorter → length longer ≡ length shorter + 1
 one_more longer shorter x is = omega (arith, ap length is)

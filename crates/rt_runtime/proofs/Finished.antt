@@ -113,7 +113,7 @@ module _ {J : Type 0} {fits : Order J → Outcome J ℕ → Type 0} (view : Runt
   pub finished_grid : GridIsKept J ℕ → IsGrid view.desk.cores (all_ends ended (outside_of view))
   finished_grid law = law view.desk.cores (all_ends view.workers (outside_of view)) (all_ends ended (outside_of view)) same_ends is.grid
 
-  module _ {same : J → J → Type 0} {made : J → ℕ} {polls : Owed J ℕ} (each : All (HasEnded same made polls) ended) where
+  module _ {same : J → J → Type 0} {made : J → ℕ} {polls : Owed J ℕ} (each : All (HasEnded same made polls fits) ended) where
     closes_here : (core : ℕ) → core < view.desk.cores → EachNote (ClosesRightly (least_free view.desk.cores view.desk.cap) view.room) (journal_of core assembly)
     closes_here core low =
         let end = each core no_linked (omega (arith, low, count)) in
@@ -162,8 +162,8 @@ module _ {J : Type 0} {fits : Order J → Outcome J ℕ → Type 0} (view : Runt
         (finished (subst (λ cores. AreReunited fits cores (all_ends ended (outside_of view))) same_cores (subst (AreReunited fits cores) ends_are reunited)) joined_law sound_law spelled_law closed)))
 
 -- how many ends and journals there are
-pub part_counts : {J T : Type 0} {same : J → J → Type 0} {made : J → ℕ} {polls : Owed J T} (all : List (LinkedView J T)) (ends : List (EndsView J T)) (journals : List (JournalView T)) →
-    Parts same made polls all ends journals → (length ends ≡ length all) × (length journals ≡ length all)
+pub part_counts : {J T : Type 0} {same : J → J → Type 0} {made : J → ℕ} {polls : Owed J T} {fits : Order J → Outcome J T → Type 0} (all : List (LinkedView J T)) (ends : List (EndsView J T)) (journals : List (JournalView T)) →
+    Parts same made polls fits all ends journals → (length ends ≡ length all) × (length journals ≡ length all)
 part_counts {J} {T} all ends journals parts = (
   ap length parts.ends_are ∙ length-map all (λ (worker : LinkedView J T). worker.ends),
   ap length parts.journals_are ∙ length-map all (λ (worker : LinkedView J T). worker.recorded.journal),

@@ -1,6 +1,7 @@
 -- A house that was just opened, and a runtime over it.
-use Rattle.std.proofs.Common.{◌≡◌, ℕ, ◌+◌, ◌<◌, List, [], ◌∷◌, ◌++◌, length, map, replicate, get_or, refl, sym, ◌∙◌, ap, subst, arith, length-append}
-use Rattle.std.specs.Prelude.{All, Bool, false}
+use Rattle.std.proofs.Common.{◌≡◌, ℕ, ◌+◌, ◌<◌, ◌≤◌, List, [], ◌∷◌, ◌++◌, length, map, replicate, get_or, refl, sym, ◌∙◌, ap, subst, arith, length-append}
+use Rattle.std.specs.Prelude.{All, Bool, false, sum_by}
+use Rattle.std.proofs.lemmas.List.Folds.{sum_by-replicate}
 use Rattle.std.proofs.lemmas.List.{get_or_append_left, get_or_default, length-replicate}
 use Rattle.std.proofs.Math.Seq.{get_or-append_seam}
 use Rattle.rt_ids.specs.Spelled.{IsWithinLimits}
@@ -13,7 +14,8 @@ use Rattle.rt_journal.specs.Ends.{IsOutOf}
 use Rattle.rt_ids.specs.declared.order.Order.{Order}
 use Rattle.rt_ids.specs.declared.order.Outcome.{Outcome}
 use Rattle.rt_ring.specs.declared.ring_out.Sending.{Sending}
-use Rattle.rt_desk.specs.Lanes.{IsUnused}
+use Rattle.rt_desk.specs.Lanes.{IsUnused, fresh_lane}
+use Rattle.rt_journal.specs.Spending.{booked, due_of}
 use Rattle.rt_desk.proofs.Cores.{IsUnused-fresh}
 use Rattle.rt_journal.specs.Tickets.{HasLane}
 use Rattle.rt_journal.proofs.LaneEnds.{fresh_has_lane}
@@ -103,6 +105,13 @@ module _ {J T : Type 0} (cores cap room : ℕ) where
         (subst (λ credited. IsUnused cap (out_at core ends).out credited) is.credited
         (IsUnused-fresh (λ (end : Sending J T). end.out) (λ (end : Sending J T). end.credited) cores core cap 0 (out_at core ends) (omega arith) is.out is.credited)))
 
+    none_due : sum_by due_of (replicate cores (fresh_lane {J = J} {T = T} cap)) ≡ 0
+    none_due = sum_by-replicate due_of cores (fresh_lane cap) ∙ omega arith
+
+    -- no order was submitted
+    pub none_submitted : (core : ℕ) → core < cores → (out_at core ends).out.sent ≡ []
+    none_submitted core low = ap (λ out. out.sent) (house.fresh.outs core (omega (arith, low, house.outs))).out
+
     pub started : (fits : Order J → Outcome J T → Type 0) → IsRuntime fits (record { desk = desk; ends = ends; closing = closing; workers = workers; room = room })
     started fits = record {
       lanes = subst (λ (desk : DeskView J T). (core : ℕ) → core < desk.cores → HasLane fits core desk (out_at core ends).out (out_at core ends).credited) (sym opened) (lanes_opened fits);
@@ -112,6 +121,8 @@ module _ {J T : Type 0} (cores cap room : ℕ) where
       outside = outside_opened;
       grid = subst (λ (desk : DeskView J T). IsGrid desk.cores (map (λ worker. worker.ends) workers ++ ends ∷ [])) (sym opened) house.grid;
       closings = ap length none ∙ (length-replicate cores false ∙ ap (λ desk. desk.cores) (sym opened));
+      lanes_are = ap (λ desk. length desk.lanes) opened ∙ (length-replicate cores (fresh_lane cap) ∙ ap (λ desk. desk.cores) (sym opened));
+      room_is = subst (λ (desk : DeskView J T). booked desk ≤ desk.journal.room) (sym opened) (omega (arith, none_due));
       limits = subst (λ (desk : DeskView J T). IsWithinLimits desk.cores desk.cap) (sym opened) limits;
     }
 

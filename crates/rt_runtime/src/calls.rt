@@ -20,14 +20,7 @@ use rt_ids::{CoreNo, Mode, Order, SendError, Ticket};
 use rt_jobs::Task;
 use rt_journal::RecordedDesk;
 use rt_link::OutEnd;
-use rt_worker::Bell;
-use std::sync::atomic::Ordering;
-
-/// Tells a worker that there is something for it.
-fn ring(bell: &Bell) {
-    bell.fetch_add(1, Ordering::SeqCst);
-    bell.wake_one();
-}
+use rt_worker::ring;
 
 /// Whether the order closes the core.
 fn closes<J>(order: &Order<J>) -> bool

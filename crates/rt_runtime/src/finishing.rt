@@ -26,7 +26,7 @@ use std::thread::Threads;
 fn part<J: Task<Out = u64>>(ended: Ended<J>) -> (Ends<J>, Journal<u64>)
     ensures ends { result.0 ≡ ended.ends }
     ensures journal { result.1 ≡ ended.recorded.journal }
-    ensures ended { HasEnded J.SameTask J.made J.Polls ended }
+    ensures ended { HasEnded J.SameTask J.made J.Polls (Fits J.SameTask J.Answers) ended }
 {
     let (recorded, ends) = ended.into_linked().into_parts();
     (ends, recorded.into_journal())
@@ -42,7 +42,7 @@ fn part_all<J: Task<Out = u64>>(
     requires no_journals { journals.items ≡ [] }
     requires room_ends { length all.items ≤ vec_capacity ends }
     requires room_journals { length all.items ≤ vec_capacity journals }
-    ensures parts { Parts J.SameTask J.made J.Polls all.items result.0.items result.1.items }
+    ensures parts { Parts J.SameTask J.made J.Polls (Fits J.SameTask J.Answers) all.items result.0.items result.1.items }
     ensures room_ends { vec_capacity result.0 ≡ vec_capacity ends }
     ensures room_journals { vec_capacity result.1 ≡ vec_capacity journals }
 {

@@ -1,6 +1,6 @@
 //! How a runtime is started.
 
-ghost use Rattle.std.specs.Prelude.{◌≡◌, ◌+◌, ◌≤◌, All, false, IfOk, OnOk, length, replicate};
+ghost use Rattle.std.specs.Prelude.{◌≡◌, ◌+◌, ◌≤◌, All, false, IfOk, length, replicate};
 ghost use Rattle.rt_settings.specs.Configs.{IsGood};
 ghost use Rattle.rt_workers.specs.Works.{Together};
 ghost use Rattle.rt_worker.specs.Opening.{AreEndsOf, IsOpenedOver};
@@ -22,24 +22,45 @@ use std::sync::atomic::AtomicU64;
 use std::sync::{Arc, Wait};
 use std::thread::Threads;
 
-/// Opens one worker with a bell of its own, which is put behind the others.
+/// Opens a bell for each worker.
+fn open_bells(alloc: Global, cores: u8) -> Result<Vec<Bell>, AllocError>
+    ensures { IfOk result (λ bells. length bells.items ≡ cores) }
+{
+    let mut bells = Vec::with_capacity(alloc, cores as usize)?;
+    for _ in 0..cores {
+        bells.push_reserved(Arc::new(alloc, AtomicU64::new(0))?);
+    }
+    Ok(bells)
+}
+
+/// The same bells, for one more who rings them.
+fn share_bells(alloc: Global, bells: &[Bell]) -> Result<Vec<Bell>, AllocError> {
+    let mut shared = Vec::with_capacity(alloc, bells.len())?;
+    for bell in bells.iter() {
+        shared.push(Arc::try_clone(bell)?)?;
+    }
+    Ok(shared)
+}
+
+/// Opens one worker, which parks on its own bell and rings those of the others.
 fn open_worker<J: Task<Out = u64>, C: Drop, G: Drop>(
     alloc: Global,
     config: &Config,
     ends: Ends<J>,
+    bells: &[Bell],
     clock: C,
     gate: G,
-    bells: &mut Vec<Bell>,
 ) -> Result<Worker<J, C, G>, AllocError>
     requires ends { AreEndsOf config.now.cores config.now.cap ends }
     requires room { IsRoomFor config.now.cores config.now.cap config.now.room config.now.queues.items ends.number }
-    ensures opened { IfOk result (λ worker. IsOpenedOver config.now.cores config.now.cap config.now.room ends worker) }
-    ensures bells { OnOk result (length bells.new.items ≡ length bells.old.items + 1) }
+    requires bells { length bells.now ≡ config.now.cores }
+    ensures { IfOk result (λ worker. IsOpenedOver config.now.cores config.now.cap config.now.room ends worker) }
 {
-    let bell = Arc::new(alloc, AtomicU64::new(0))?;
-    let its_own = Arc::try_clone(&bell)?;
-    bells.push(bell)?;
-    Worker::open(alloc, config, ends, clock, gate, its_own)
+    let number = ends.number;
+    let its_own = Arc::try_clone(&bells[number.0 as usize])?;
+    let shared = share_bells(alloc, bells)?;
+    let worker = Worker::open(alloc, config, ends, clock, gate, its_own)?;
+    Ok(worker.with_bells(shared))
 }
 
 /// Opens the workers of a house.
@@ -47,23 +68,23 @@ fn open_workers<J: Task<Out = u64>, C: Drop, G: Drop>(
     alloc: Global,
     config: &Config,
     all: Vec<Ends<J>>,
+    bells: &[Bell],
     clocks: Vec<C>,
     gates: Vec<G>,
-) -> Result<(Vec<Worker<J, C, G>>, Vec<Bell>), AllocError>
+) -> Result<Vec<Worker<J, C, G>>, AllocError>
     requires each { All (AreOpening config.now.cores config.now.cap config.now.room config.now.queues.items) all.items }
+    requires bells { length bells.now ≡ config.now.cores }
     requires clocks { length clocks.items ≡ length all.items }
     requires gates { length gates.items ≡ length all.items }
-    ensures workers { IfOk result (λ opened. Together (IsOpenedOver config.now.cores config.now.cap config.now.room) all.items opened.0.items) }
-    ensures bells { IfOk result (λ opened. length opened.1.items ≡ length all.items) }
+    ensures { IfOk result (λ opened. Together (IsOpenedOver config.now.cores config.now.cap config.now.room) all.items opened.items) }
 {
     let mut workers = Vec::with_capacity(alloc, all.len())?;
-    let mut bells = Vec::with_capacity(alloc, all.len())?;
     let (mut clocks, mut gates) = (clocks, gates);
     for ends in all {
         let (clock, gate) = (clocks.remove(0), gates.remove(0));
-        workers.push_reserved(open_worker(alloc, config, ends, clock, gate, &mut bells)?);
+        workers.push_reserved(open_worker(alloc, config, ends, bells, clock, gate)?);
     }
-    Ok((workers, bells))
+    Ok(workers)
 }
 
 /// What a house has before its threads are there: its workers, their bells, and the outside actor's ends.
@@ -77,13 +98,14 @@ fn open_house<J: Task<Out = u64>, C: Drop, G: Drop>(
     ensures house { IfOk result (λ house. IsHouse config.now.cores config.now.cap config.now.room house.0.items house.2) }
     ensures bells { IfOk result (λ house. length house.1.items ≡ config.now.cores) }
 {
+    let bells = open_bells(alloc, config.cores)?;
     let Ok(mut all) = open_all::<J>(alloc, config.cores, config.cap) else {
         return Err(AllocError);
     };
     let Some(outside) = all.pop() else {
         unreachable!()
     };
-    let (workers, bells) = open_workers(alloc, config, all, clocks, gates)?;
+    let workers = open_workers(alloc, config, all, &bells, clocks, gates)?;
     Ok((workers, bells, outside))
 }
 

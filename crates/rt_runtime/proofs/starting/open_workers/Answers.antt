@@ -14,7 +14,6 @@ loop-ends-init g c =
       reserved = omega (arith, c.in_ok-workers.ensures.capacity, c.len.ensures, c.args.all.ok.0);
       made = made_first (IsOpenedOver c.args.config.now.cores c.args.config.now.cap c.args.config.now.room) c.args.all.items (into_iter_items c.into_iter-ends-iterator.result)
           (into_iter_len c.into_iter-ends-iterator.result) c.in_ok-workers.workers.items gives.0 left c.in_ok-workers.ensures.items;
-      bells = omega (arith, ap length c.in_ok-bells.ensures.items, left);
       clocks = c.requires.clocks ∙ sym left;
       gates = c.requires.gates ∙ sym left;
     }
@@ -37,8 +36,7 @@ loop-ends-preserved g c =
       made = subst (λ made. IsMade (IsOpenedOver c.args.config.now.cores c.args.config.now.cap c.args.config.now.room) c.args.all.items (into_iter_items c.next.new.self) (into_iter_len c.next.new.self) made)
           (sym c.push_reserved.ensures.items)
           (made_more (IsOpenedOver c.args.config.now.cores c.args.config.now.cap c.args.config.now.room) c.args.all.items (into_iter_items loop.ends-iterator) (into_iter_items c.next.new.self)
-          (into_iter_len loop.ends-iterator) (into_iter_len c.next.new.self) loop.workers.items c.in-Some.ends c.in_ok-open_worker.field-0 loop.invariant.made steps.0 steps.1 c.in_ok-open_worker.ensures.opened);
-      bells = omega (arith, loop.invariant.bells, c.in_ok-open_worker.ensures.bells, steps.1);
+          (into_iter_len loop.ends-iterator) (into_iter_len c.next.new.self) loop.workers.items c.in-Some.ends c.in_ok-open_worker.field-0 loop.invariant.made steps.0 steps.1 c.in_ok-open_worker.ensures);
       clocks = omega (arith, loop.invariant.clocks, c.remove-clock.ensures.len, steps.1, loop.clocks.ok.0, c.remove-clock.new.self.ok.0);
       gates = omega (arith, loop.invariant.gates, c.remove-gate.ensures.len, steps.1, loop.gates.ok.0, c.remove-gate.new.self.ok.0);
     }
