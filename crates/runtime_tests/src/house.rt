@@ -1,9 +1,11 @@
 //! A house of cores on threads: what its caller submits, and what its journals say at the end.
 
-use rt_ids::{ActorNo, CoreNo, JobId, Mode, Note, Order, QueueNo, Reason};
+use rt_ids::{
+    ActorNo, Answer, CoreNo, JobId, Mode, Note, Order, Outcome, QueueNo, Reason, Ticket, TicketError,
+};
 use rt_jobs::example::Work;
 use rt_journal::{Assembly, Journal};
-use rt_runtime::{FinishError, Runtime, StartError};
+use rt_runtime::{FinishError, Runtime, StartError, SubmitError};
 use rt_settings::{Clock, Config, Gate};
 use rt_shares::Shares;
 use std::alloc::{AllocError, Global};
@@ -229,6 +231,60 @@ fn a_core_that_is_open_is_told(rt: HostRuntime) -> Result<(), Fail> {
     };
     let mut house = back;
     assert!(rt; core == CoreNo(0) && house.close_core(core, Mode::Return).is_ok());
+    assert!(rt; house.finish(&rt).is_ok());
+    Ok(())
+}
+
+/// Collects from a core until there is an outcome, with at most so many tries. Whether there was one.
+fn collects(house: &mut House, core: CoreNo) -> bool {
+    for _ in 0..1 << 30 {
+        if house.collect(core) > 0 {
+            return true;
+        }
+    }
+    false
+}
+
+/// Changes the shares of a queue that there isn't, and redeems the answer. Its ticket.
+fn change_shares(house: &mut House, shares: Shares) -> Option<Ticket> {
+    let Ok(ticket) = house.submit(CoreNo(0), Order::SetShares(QueueNo(9), shares)) else {
+        return None;
+    };
+    if !collects(house, CoreNo(0)) {
+        return None;
+    }
+    match house.redeem(ticket) {
+        Ok(Outcome::Answered(Answer::NoQueue)) => Some(ticket),
+        _ => None,
+    }
+}
+
+/// Fills a journal with 31 orders that are redeemed. Whether the last ticket is gone then, and the next order finds no room.
+fn fill(house: &mut House, shares: Shares) -> bool {
+    let mut gone = 0;
+    for _ in 0..31 {
+        if let Some(ticket) = change_shares(house, shares) {
+            if matches!(house.redeem(ticket), Err(TicketError::Gone)) {
+                gone += 1;
+            }
+        }
+    }
+    let next = house.submit(CoreNo(0), Order::SetShares(QueueNo(9), shares));
+    gone == 31 && matches!(next, Err(SubmitError::JournalFull(_)))
+}
+
+#[test]
+fn outcomes_come_back_until_the_journal_is_full(rt: HostRuntime) -> Result<(), Fail> {
+    let asked = Arc::new(rt.alloc(), AtomicU64::new(0))?;
+    let Ok(mut house) = begin(rt, rt.alloc(), (1, 2, 97), &asked)? else {
+        assert!(rt; false, "no house");
+        return Ok(());
+    };
+    let Ok(shares) = Shares::try_new(5) else {
+        return Ok(());
+    };
+    assert!(rt; fill(&mut house, shares));
+    assert!(rt; house.close_core(CoreNo(0), Mode::Finish).is_ok());
     assert!(rt; house.finish(&rt).is_ok());
     Ok(())
 }
