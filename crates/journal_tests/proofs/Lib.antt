@@ -1,2 +1,3 @@
 mod Owing
 mod FreshLanes
+mod OneOut

@@ -4,4 +4,8 @@
 #[cfg(test)]
 mod actors;
 #[cfg(test)]
+mod poster;
+#[cfg(test)]
+mod posts;
+#[cfg(test)]
 mod steps;

@@ -12,6 +12,7 @@ use rt_taskqueue::Meter;
 use std::test::Fail;
 
 /// A meter that tells 40 nanoseconds, and keeps whether it was asked once a poll had begun.
+#[derive(Drop)]
 struct Watch {
     begun: bool,
     asked: bool,

@@ -16,7 +16,10 @@ use Rattle.rt_jobs.specs.Steps.{Owed}
 use Rattle.rt_link.specs.declared.ends.Inward.{Inward}
 use Rattle.rt_link.specs.Calls.{MayGive}
 use Rattle.rt_link.specs.Fits.{Fits}
-use Rattle.rt_journal.specs.Owed.{IsSentUnder}
+use Rattle.rt_core.specs.declared.turn.Settled.{Settled}
+use Rattle.rt_core.specs.declared.turn.Settled.TheVariants.{Yielded, Finished}
+use Rattle.rt_journal.specs.Owed.{IsSentUnder, outcome_settled}
+use Rattle.rt_journal.specs.Whole.{MayAnswer}
 use Rattle.rt_journal.specs.Recorded.{RecordedView, IsRecorded, IsTaken, order_taken}
 use Rattle.rt_journal.specs.Ends.{IsInOf, IsInOwing, Gives, told_under, name_of, named_outcomes}
 
@@ -89,3 +92,16 @@ module _ {J T : Type 0} {same : J → J → Type 0} (view : RecordedView J T) (n
 
   pub gave_back : (after : Inward J T) → after ≡ record inward { given = inward.given ++ (name.number, outcome.Returned reason order) ∷ [] } → IsInOf name.from view after
   gave_back after gives = subst (IsInOf name.from view) (sym gives) (gave_one view name (Job under.queue under.sent) under.task inward (outcome.Returned reason order) owing_back)
+
+-- the outcome of a turn may be given, if the job is done
+module _ {J T : Type 0} {same : J → J → Type 0} {made : J → ℕ} {polls : Owed J T} (answers : J → T → Type 0) (view : RecordedView J T) (recorded : IsRecorded same made polls view) (name : JobId) (inward : Inward J T) where
+  pub may_give_done : (settled : Settled T) → MayAnswer answers view.took name settled → IsInOwing name.from (told_under name (option_map outcome_note (outcome_settled {J = J} settled)) name.from) view inward →
+      IfSome (outcome_settled settled) (λ outcome. MayGive (Fits same answers) inward name.number outcome)
+  may_give_done Yielded may is = tt
+  may_give_done (Finished answer) may is =
+      may_give_one view name (Job may.0 may.1) may.2 inward (outcome.Finished answer) is (recorded.taken name _ may.2) (Fits same answers) may.3
+
+  pub gave_done : (settled : Settled T) → MayAnswer answers view.took name settled → IsInOwing name.from (told_under name (option_map outcome_note (outcome_settled {J = J} settled)) name.from) view inward →
+      (after : Inward J T) → Gives inward name.number (outcome_settled settled) after → IsInOf name.from view after
+  gave_done Yielded may is after gives = subst (IsInOf name.from view) (sym gives) is
+  gave_done (Finished answer) may is after gives = subst (IsInOf name.from view) (sym gives) (gave_one view name (Job may.0 may.1) may.2 inward (outcome.Finished answer) is)

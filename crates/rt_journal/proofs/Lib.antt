@@ -49,5 +49,5 @@ pub mod Submitted
 pub mod SentNotes
 pub mod DeliveredNames
 pub mod Together
-pub mod WholeTurn
-pub mod WholeEnds
+pub mod PostingTurn
+pub mod PostedTurn

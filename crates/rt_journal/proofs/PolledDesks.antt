@@ -1,17 +1,16 @@
 -- A core beside its journal, after a poll that had its desk and its ends.
 use Rattle.std.proofs.Common.{◌≡◌, ℕ, List, ◌++◌, sym, ◌∙◌, ap, subst}
+use Rattle.rt_jobs.specs.Calls.{Call, Doing, Makes}
 use Rattle.rt_link.specs.declared.ends.Outward.{Outward}
 use Rattle.rt_journal.specs.Submissions.{DeskView}
-use Rattle.rt_journal.specs.Posts.{PostView, HasPosted, GoesOn}
-use Rattle.rt_journal.proofs.Posting.{posted_nothing}
+use Rattle.rt_journal.specs.Posts.{PostView, HasPosted}
 use Rattle.rt_journal.proofs.SentNotes.{SaysNoMore, all_posted}
 
-module _ {J T E : Type 0} {out : E → Outward J T} {untouched : E → List ℕ} where
-  -- what was posted, as the parts tell it
-  pub posted_parts : (old lent post new : PostView J T E) → lent ≡ old → GoesOn out untouched lent post → post ≡ new → HasPosted out untouched old new
-  posted_parts old lent post new lent_is goes new_is =
-      subst (HasPosted out untouched old) new_is (subst (λ old. HasPosted out untouched old post) lent_is (goes lent (posted_nothing lent)))
+-- what was called, as the parts tell it
+pub made_parts : {J T E : Type 0} (does : Doing (PostView J T E) J T) (calls : List (Call J T)) (old lent post new : PostView J T E) → lent ≡ old → Makes does calls lent post → post ≡ new → Makes does calls old new
+made_parts does calls old lent post new lent_is makes new_is = subst (Makes does calls old) new_is (subst (λ old. Makes does calls old post) lent_is makes)
 
+module _ {J T E : Type 0} {out : E → Outward J T} {untouched : E → List ℕ} where
   module _ (said now : DeskView J T) (ends later : List E) (posted : HasPosted out untouched (record { desk = said; ends = ends }) (record { desk = now; ends = later })) where
     pub posted_rest : now ≡ record said { journal = record said.journal { notes = now.journal.notes }; lanes = now.lanes }
     posted_rest =

@@ -1,7 +1,7 @@
--- What each call of a post leaves of the desk and the ends that were lent.
+-- What the calls of a post leave of the desk and the ends that were lent.
 use Rattle.std.proofs.Common.{◌≡◌, inl, inr, ℕ, ◌+◌, ◌<◌, ◌≤◌, Bool, true, false, List, [], ◌∷◌, ◌++◌, length, Some, None, refl, sym, ◌∙◌, ap, subst, arith, cond, set}
 use Rattle.std.specs.Prelude.{◌==◌, Result, Ok, Err, IfOk, slice_get}
-use Rattle.std.proofs.lemmas.Bool.{eq-eqb}
+use Rattle.std.proofs.lemmas.Bool.{eq-eqb, true≢false}
 use Rattle.rt_ids.specs.declared.names.JobId.{JobId}
 use Rattle.rt_ids.specs.declared.names.TicketError.{TicketError}
 use Rattle.rt_ids.specs.declared.names.TicketError.TheVariants.{Unknown, Gone, Pending}
@@ -19,29 +19,27 @@ use Rattle.rt_ids.specs.Outcomes.{outcome_note}
 use Rattle.rt_ids.specs.Outstanding.{is_gone}
 use Rattle.rt_ids.proofs.NameLemmas.{same_as_itself}
 use Rattle.rt_ids.proofs.Under.{first_under-last}
+use Rattle.rt_jobs.specs.Calls.{Call, Makes}
+use Rattle.rt_jobs.specs.Calls.Call.{Submit, Redeem, Detach}
 use Rattle.rt_link.specs.declared.ends.Outward.{Outward}
 use Rattle.rt_link.specs.Calls.{Sends}
-use Rattle.rt_link.specs.Ends.{StartsWith}
 use Rattle.rt_link.proofs.Lists.{StartsWith-self}
+use Rattle.rt_desk.specs.Lanes.{IsGot, FitsSent}
 use Rattle.rt_journal.specs.Submissions.{DeskView, Submits, numbered}
 use Rattle.rt_journal.specs.Ends.{IsOutOf, name_of}
 use Rattle.rt_journal.specs.Tickets.{KnowsLanes, HasLane, StaysBeside, RedeemsTicket, DetachesTicket}
 use Rattle.rt_journal.specs.Spending.{Spends}
 use Rattle.rt_journal.specs.Posts.{PostView, SendsMore, IsLent, HasPosted}
+use Rattle.rt_journal.specs.Calls.{Knows, LendsEnd, SubmitsOn, RedeemsOn, DetachesOn, Does}
 use Rattle.rt_journal.proofs.Named.{numbered-missing}
 use Rattle.rt_journal.proofs.NumberedOrders.{length-numbered}
-use Rattle.rt_journal.proofs.Posting.{lent_same, lent_more}
+use Rattle.rt_journal.proofs.Posting.{NotesOne, sends_nothing, lent_noted, posted_noted, posted_nothing, posted_then}
 
-sends_some : {J T : Type 0} (old new : Outward J T) (sent : List (Order J)) (closed : Bool) → new ≡ record old { sent = sent; closed = closed } → StartsWith sent old.sent → SendsMore old new
-sends_some old new sent closed is starts = subst (SendsMore old) (sym is) (refl, starts)
-
--- an end that was not used
-pub sends_nothing : {J T : Type 0} (old new : Outward J T) → new ≡ old → SendsMore old new
-sends_nothing old new same = sends_some old new old.sent old.closed same (StartsWith-self old.sent)
-
-pub sends_order : {J T : Type 0} (old new : Outward J T) (credited : ℕ) (order : Order J) (answer : Result ℕ (SendError J)) → Sends old credited order new answer → SendsMore old new
-sends_order old new credited order (Ok number) sends = sends_some old new (old.sent ++ order ∷ []) old.closed sends.4 (order ∷ [], refl)
-sends_order old new credited order (Err (Closed back final)) sends = sends_some old new old.sent true sends.2 (StartsWith-self old.sent)
+sends_order : {J T : Type 0} (old new : Outward J T) (credited : ℕ) (order : Order J) (answer : Result ℕ (SendError J)) → Sends old credited order new answer → SendsMore old new
+sends_order old new credited order (Ok number) sends =
+    subst (SendsMore old) (sym sends.4) (refl, (order ∷ [], refl), λ shut. absurd (true≢false (sym shut ∙ sends.0)))
+sends_order old new credited order (Err (Closed back final)) sends =
+    subst (SendsMore old) (sym sends.2) (refl, StartsWith-self old.sent, λ shut. ap (λ closed. record old { closed = closed }) (sym shut))
 sends_order old new credited order (Err (Full back)) sends = sends_nothing old new sends.3
 sends_order old new credited order (Err (Spent back)) sends = sends_nothing old new sends.4
 sends_order old new credited order (Err (NoCore back)) sends = absurd sends
@@ -56,41 +54,79 @@ module _ {J T E : Type 0} {fits : Order J → Outcome J T → Type 0} {out : E �
   pub end_lane : HasLane fits to desk (out end) (credited end)
   end_lane = subst (λ core. HasLane fits core desk (out end) (credited end)) core_is (is.outs.lanes core end there)
 
-module _ {J T E : Type 0} {fits : Order J → Outcome J T → Type 0} {out : E → Outward J T} {credited : E → ℕ} (untouched : E → List ℕ)
-    (desk : DeskView J T) (ends : List E) (is : IsLent fits out credited (record { desk = desk; ends = ends }))
-    (core to : ℕ) (core_is : core ≡ to) (end now : E) (there : slice_get ends core ≡ Some end) where
-  module _ (later : DeskView J T) (stays : StaysBeside fits to desk later (out now) (credited now)) (same : untouched now ≡ untouched end) where
-    stays_here : StaysBeside fits core desk later (out now) (credited now)
-    stays_here = subst (λ core. StaysBeside fits core desk later (out now) (credited now)) (sym core_is) stays
+module _ {J T : Type 0} (to : ℕ) (desk later : DeskView J T) where
+  submit_notes : (order : Order J) (answer : Result JobId (SendError J)) → Submits to order desk answer later → IfOk answer (λ _. Spends to 3 desk later) → NotesOne to desk later
+  submit_notes order (Ok name) submits spends = inr (writes.Sent name (without_job order), tt, submits.2, 3, spends)
+  submit_notes order (Err (Closed back final)) submits spends = inl submits.2
+  submit_notes order (Err (Full back)) submits spends = inl submits.2
+  submit_notes order (Err (Spent back)) submits spends = inl submits.3
+  submit_notes order (Err (NoCore back)) submits spends = absurd submits
 
-    spends_here : Spends to desk later → Spends core desk later
-    spends_here = subst (λ core. Spends core desk later) (sym core_is)
+  redeem_notes : (name : JobId) (answer : Result (Outcome J T) TicketError) → RedeemsTicket name desk answer later → IfOk answer (λ _. Spends to 0 desk later) → NotesOne to desk later
+  redeem_notes name (Ok outcome) redeems spends = inr (writes.Redeemed name (outcome_note outcome), tt, redeems.2, 0, spends)
+  redeem_notes name (Err error) redeems spends = inl redeems.1
 
-    pub submitted_lent : (order : Order J) (answer : Result JobId (SendError J)) → Submits to order desk answer later → Sends (out end) (credited end) order (out now) (numbered answer) → IfOk answer (λ _. Spends to desk later) →
-        IsLent fits out credited (record { desk = later; ends = set ends core now }) × HasPosted out untouched (record { desk = desk; ends = ends }) (record { desk = later; ends = set ends core now })
-    submitted_lent order (Ok name) submits sends spends =
-        lent_more untouched desk ends is core end now there later stays_here same (sends_order (out end) (out now) (credited end) order (Ok name.number) sends) (writes.Sent name (without_job order)) tt submits.2 (spends_here spends)
-    submitted_lent order (Err (Closed back final)) submits sends spends =
-        lent_same untouched desk ends is core end now there later stays_here same (sends_order (out end) (out now) (credited end) order (Err (Closed back final)) sends) submits.2
-    submitted_lent order (Err (Full back)) submits sends spends =
-        lent_same untouched desk ends is core end now there later stays_here same (sends_order (out end) (out now) (credited end) order (Err (Full back)) sends) submits.2
-    submitted_lent order (Err (Spent back)) submits sends spends =
-        lent_same untouched desk ends is core end now there later stays_here same (sends_order (out end) (out now) (credited end) order (Err (Spent back)) sends) submits.3
-    submitted_lent order (Err (NoCore back)) submits sends spends = absurd submits
+  detach_notes : (name : JobId) (answer : Result (Unit {0}) TicketError) → DetachesTicket name desk answer later → IfOk answer (λ _. Spends to 0 desk later) → NotesOne to desk later
+  detach_notes name (Ok done) detaches spends = inr (writes.Detached name, tt, detaches.1, 0, spends)
+  detach_notes name (Err Pending) detaches spends = absurd detaches
+  detach_notes name (Err Unknown) detaches spends = inl detaches.1
+  detach_notes name (Err Gone) detaches spends = inl detaches.1
 
-    pub redeemed_lent : (name : JobId) (answer : Result (Outcome J T) TicketError) → RedeemsTicket name desk answer later → out now ≡ out end → IfOk answer (λ _. Spends to desk later) →
-        IsLent fits out credited (record { desk = later; ends = set ends core now }) × HasPosted out untouched (record { desk = desk; ends = ends }) (record { desk = later; ends = set ends core now })
-    redeemed_lent name (Ok outcome) redeems out_is spends =
-        lent_more untouched desk ends is core end now there later stays_here same (sends_nothing (out end) (out now) out_is) (writes.Redeemed name (outcome_note outcome)) tt redeems.2 (spends_here spends)
-    redeemed_lent name (Err error) redeems out_is spends = lent_same untouched desk ends is core end now there later stays_here same (sends_nothing (out end) (out now) out_is) redeems.1
+module _ {J T E : Type 0} (fits : Order J → Outcome J T → Type 0) (out : E → Outward J T) (credited : E → ℕ) (untouched : E → List ℕ) where
+  -- a lent desk stays beside its ends
+  pub lent_did : (old new : PostView J T E) (call : Call J T) → Does fits out credited untouched old call new → IsLent fits out credited old → IsLent fits out credited new
+  lent_did old new (Submit to order answer) (inl refused) is = subst (IsLent fits out credited) (sym refused.2) is
+  lent_did old new (Submit to order answer) (inr did) is = lent_noted old new to did.lent (submit_notes to old.desk new.desk order answer did.submits did.spends) is
+  lent_did old new (Redeem name answer) (inl refused) is = subst (IsLent fits out credited) (sym refused.3) is
+  lent_did old new (Redeem name answer) (inr did) is = lent_noted old new name.to did.lent (redeem_notes name.to old.desk new.desk name answer did.redeems did.spends) is
+  lent_did old new (Detach name answer) (inl refused) is = subst (IsLent fits out credited) (sym refused.3) is
+  lent_did old new (Detach name answer) (inr did) is = lent_noted old new name.to did.lent (detach_notes name.to old.desk new.desk name answer did.detaches did.spends) is
 
-    pub detached_lent : (name : JobId) (answer : Result (Unit {0}) TicketError) → DetachesTicket name desk answer later → out now ≡ out end → IfOk answer (λ _. Spends to desk later) →
-        IsLent fits out credited (record { desk = later; ends = set ends core now }) × HasPosted out untouched (record { desk = desk; ends = ends }) (record { desk = later; ends = set ends core now })
-    detached_lent name (Ok done) detaches out_is spends =
-        lent_more untouched desk ends is core end now there later stays_here same (sends_nothing (out end) (out now) out_is) (writes.Detached name) tt detaches.1 (spends_here spends)
-    detached_lent name (Err Pending) detaches out_is spends = absurd detaches
-    detached_lent name (Err Unknown) detaches out_is spends = lent_same untouched desk ends is core end now there later stays_here same (sends_nothing (out end) (out now) out_is) detaches.1
-    detached_lent name (Err Gone) detaches out_is spends = lent_same untouched desk ends is core end now there later stays_here same (sends_nothing (out end) (out now) out_is) detaches.1
+  -- and has noted what it posted
+  pub posted_did : (old new : PostView J T E) (call : Call J T) → Does fits out credited untouched old call new → HasPosted out untouched old new
+  posted_did old new (Submit to order answer) (inl refused) = subst (HasPosted out untouched old) (sym refused.2) (posted_nothing old)
+  posted_did old new (Submit to order answer) (inr did) =
+      posted_noted old new to did.lent (submit_notes to old.desk new.desk order answer did.submits did.spends) (sends_order (out did.lent.end) (out did.lent.later) (credited did.lent.end) order (numbered answer) did.sends)
+  posted_did old new (Redeem name answer) (inl refused) = subst (HasPosted out untouched old) (sym refused.3) (posted_nothing old)
+  posted_did old new (Redeem name answer) (inr did) =
+      posted_noted old new name.to did.lent (redeem_notes name.to old.desk new.desk name answer did.redeems did.spends) (sends_nothing (out did.lent.end) (out did.lent.later) did.out)
+  posted_did old new (Detach name answer) (inl refused) = subst (HasPosted out untouched old) (sym refused.3) (posted_nothing old)
+  posted_did old new (Detach name answer) (inr did) =
+      posted_noted old new name.to did.lent (detach_notes name.to old.desk new.desk name answer did.detaches did.spends) (sends_nothing (out did.lent.end) (out did.lent.later) did.out)
+
+  -- whatever was called
+  pub posted_made : (calls : List (Call J T)) (old new : PostView J T E) → Makes (Does fits out credited untouched) calls old new → HasPosted out untouched old new
+  posted_made [] old new made = subst (HasPosted out untouched old) (sym made) (posted_nothing old)
+  posted_made (call ∷ calls) old new made = posted_then old made.0 new (posted_did old made.0 call made.1) (posted_made calls made.0 new made.2)
+
+  -- a call on the end that stands at its core's place
+  module _ (desk later : DeskView J T) (ends : List E) (core to : ℕ) (core_is : core ≡ to) (end now : E) (there : slice_get ends core ≡ Some end)
+      (stays : StaysBeside fits to desk later (out now) (credited now)) (same : untouched now ≡ untouched end) where
+    abbrev lends_end : LendsEnd fits out credited untouched to (record { desk = desk; ends = ends }) (record { desk = later; ends = set ends core now })
+    lends_end = record {
+      end = end;
+      later = now;
+      is = subst (λ core. slice_get ends core ≡ Some end) core_is there;
+      ends = ap (λ core. set ends core now) core_is;
+      stays = stays;
+      untouched = same;
+    }
+
+    pub submitted_on : (order : Order J) (answer : Result JobId (SendError J)) → Submits to order desk answer later → Sends (out end) (credited end) order (out now) (numbered answer) → credited now ≡ credited end → IfOk answer (λ _. Spends to 3 desk later) →
+        SubmitsOn fits out credited untouched to order answer (record { desk = desk; ends = ends }) (record { desk = later; ends = set ends core now })
+    submitted_on order answer submits sends credit spends = record { lent = lends_end; submits = submits; sends = sends; credited = credit; spends = spends }
+
+  module _ (desk later : DeskView J T) (ends : List E) (core : ℕ) (name : JobId) (core_is : core ≡ name.to) (end now : E) (there : slice_get ends core ≡ Some end)
+      (stays : StaysBeside fits name.to desk later (out now) (credited now)) (same : untouched now ≡ untouched end) (out_is : out now ≡ out end) (knows : Knows desk name) where
+    pub redeemed_on : (answer : Result (Outcome J T) TicketError) → RedeemsTicket name desk answer later → IfOk answer (IsGot (out end) name.number) → IfOk answer (FitsSent fits (out end) name.number) → IfOk answer (λ _. Spends name.to 0 desk later) →
+        RedeemsOn fits out credited untouched name answer (record { desk = desk; ends = ends }) (record { desk = later; ends = set ends core now })
+    redeemed_on answer redeems given fit spends =
+        record { knows = knows; lent = lends_end desk later ends core name.to core_is end now there stays same; redeems = redeems; given = given; fits = fit; out = out_is; spends = spends }
+
+    pub detached_on : (answer : Result (Unit {0}) TicketError) → DetachesTicket name desk answer later → IfOk answer (λ _. Spends name.to 0 desk later) →
+        DetachesOn fits out credited untouched name answer (record { desk = desk; ends = ends }) (record { desk = later; ends = set ends core now })
+    detached_on answer detaches spends =
+        record { knows = knows; lent = lends_end desk later ends core name.to core_is end now there stays same; detaches = detaches; out = out_is; spends = spends }
 
 -- a submission that was accepted waits for its outcome
 pub waits_sent : {J T : Type 0} (desk later : DeskView J T) (known : KnowsLanes desk) (to : ℕ) {fits : Order J → Outcome J T → Type 0} (out : Outward J T) (credited : ℕ) → IsOutOf to desk out credited → HasLane fits to desk out credited →

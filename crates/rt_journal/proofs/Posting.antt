@@ -1,8 +1,8 @@
 -- What a desk that is lent with its ends does for a job, and that there is room for it.
-use Rattle.std.proofs.Common.{◌≡◌, ◌≢◌, inl, inr, ℕ, ◌+◌, ◌*◌, ◌<◌, ◌≤◌, List, [], ◌∷◌, ◌++◌, length, append_assoc, Some, refl, sym, ◌∙◌, ap, subst, arith, set, get_or}
+use Rattle.std.proofs.Common.{◌≡◌, ◌≢◌, ◌⊎◌, inl, inr, ℕ, ◌+◌, ◌*◌, ◌<◌, ◌≤◌, true, List, [], ◌∷◌, ◌++◌, length, append_assoc, Some, refl, sym, ◌∙◌, ap, subst, arith, set, get_or}
 use Rattle.std.specs.Prelude.{All, sum_by, slice_get}
 use Rattle.std.proofs.lemmas.Bool.Decides.{eqb_tells}
-use Rattle.std.proofs.lemmas.List.{length-set}
+use Rattle.std.proofs.lemmas.List.{length-append, length-set}
 use Rattle.std.proofs.lemmas.List.Sums.{sum_by-le, sum_by-set}
 use Rattle.std.proofs.lemmas.Option.{slice_get-get_or, slice_get_within, get_or_from_slice_get}
 use Rattle.rt_ids.specs.declared.note.Note.{Note}
@@ -16,9 +16,10 @@ use Rattle.rt_desk.proofs.Cores.{changed, unchanged}
 use Rattle.rt_desk.proofs.Lanes.{option_cases}
 use Rattle.rt_journal.specs.Submissions.{DeskView}
 use Rattle.rt_journal.specs.Ends.{IsOutOf}
-use Rattle.rt_journal.specs.Tickets.{KnowsLanes, HasLane, StaysBeside}
+use Rattle.rt_journal.specs.Tickets.{KnowsLanes, HasLane}
 use Rattle.rt_journal.specs.Spending.{left_of, Spends}
 use Rattle.rt_journal.specs.Posts.{PostView, ArePosts, SendsMore, AreOutsOf, IsLent, HasPosted}
+use Rattle.rt_journal.specs.Calls.{LendsEnd}
 use Rattle.rt_journal.proofs.CollectedAll.{starts_then}
 use Rattle.rt_journal.proofs.Spending.{left_within}
 
@@ -27,7 +28,12 @@ sends_then : {J T : Type 0} (first middle last : Outward J T) → SendsMore firs
 sends_then first middle last one two = (
   two.0 ∙ ap (λ (end : Outward _ _). record end { sent = last.sent; closed = last.closed }) one.0,
   starts_then last.sent middle.sent first.sent two.1 one.1,
+  λ shut. let same = one.2 shut in two.2 (ap (λ (end : Outward _ _). end.closed) same ∙ shut) ∙ same,
 )
+
+-- an end that was not used
+pub sends_nothing : {J T : Type 0} (old new : Outward J T) → new ≡ old → SendsMore old new
+sends_nothing old new same = subst (SendsMore old) (sym same) (refl, StartsWith-self old.sent, λ shut. refl)
 
 -- there is an item at each place
 item_at : {A : Type 0} (items : List A) (place : ℕ) → place < length items → (item : A) × (slice_get items place ≡ Some item)
@@ -38,7 +44,7 @@ item_at items place within = elim (option_cases (slice_get items place)) [
 
 module _ {J T E : Type 0} {fits : Order J → Outcome J T → Type 0} {out : E → Outward J T} {credited : E → ℕ} where
   -- the room that is asked for is enough for all that can be noted
-  room_for : (desk : DeskView J T) (ends : List E) → AreOutsOf fits out credited desk ends → KnowsLanes desk → sum_by left_of desk.lanes ≤ desk.cores * (3 * desk.cap)
+  pub room_for : (desk : DeskView J T) (ends : List E) → AreOutsOf fits out credited desk ends → KnowsLanes desk → sum_by left_of desk.lanes ≤ desk.cores * (3 * desk.cap)
   room_for desk ends outs known =
       subst (λ count. sum_by left_of desk.lanes ≤ count * (3 * desk.cap)) known.cores_are
       (sum_by-le left_of (3 * desk.cap) desk.lanes (λ place default within. low place default within (end_at place within)))
@@ -74,10 +80,11 @@ module _ {J T E : Type 0} {out : E → Outward J T} {untouched : E → List ℕ}
     notes = [];
     posts = tt;
     desk = refl;
+    few = omega arith;
     count = refl;
     ends = λ core was end was_there there.
         let same : was ≡ end = cc in
-        (ap untouched (sym same), subst (λ end. SendsMore (out was) (out end)) same (refl, StartsWith-self (out was).sent));
+        (ap untouched (sym same), subst (λ end. SendsMore (out was) (out end)) same (sends_nothing (out was) (out was) refl));
   }
 
   -- and what posted twice
@@ -89,6 +96,7 @@ module _ {J T E : Type 0} {out : E → Outward J T} {untouched : E → List ℕ}
         two.desk
         ∙ (ap (λ (desk : DeskView J T). record desk { journal = record desk.journal { notes = two.notes ++ desk.journal.notes }; lanes = last.desk.lanes }) one.desk
         ∙ ap (λ notes. record first.desk { journal = record first.desk.journal { notes = notes }; lanes = last.desk.lanes }) (sym (append_assoc two.notes one.notes first.desk.journal.notes)));
+    few = omega (arith, one.few, two.few, length-append two.notes one.notes);
     count = two.count ∙ one.count;
     ends = λ core was end was_there there.
         let between = item_at middle.ends core (omega (arith, slice_get_within first.ends core was was_there, one.count)) in
@@ -97,74 +105,78 @@ module _ {J T E : Type 0} {out : E → Outward J T} {untouched : E → List ℕ}
         (after.0 ∙ before.0, sends_then (out was) (out between.0) (out end) before.1 after.1);
   }
 
-module _ {J T E : Type 0} {fits : Order J → Outcome J T → Type 0} {out : E → Outward J T} {credited : E → ℕ} (untouched : E → List ℕ) where
+-- each note leaves fewer that can be made
+fewer_left : {J T : Type 0} (core more : ℕ) (old new : DeskView J T) → Spends core more old new → sum_by left_of new.lanes < sum_by left_of old.lanes
+fewer_left core more old new spends =
+    let within : core < length old.lanes = slice_get_within old.lanes core spends.lane spends.was in
+    let its : get_or old.lanes core spends.lane ≡ spends.lane = get_or_from_slice_get old.lanes core spends.lane spends.lane spends.was in
+    let swapped : sum_by left_of (set old.lanes core spends.later) + left_of (get_or old.lanes core spends.lane) ≡ sum_by left_of old.lanes + left_of spends.later = sum_by-set left_of old.lanes core spends.later spends.lane within in
+    omega (arith, swapped, ap left_of its, ap (sum_by left_of) spends.lanes, spends.fewer)
+
+-- what a call notes: nothing, or one thing, which is a post
+abbrev pub NotesOne : {J T : Type 0} → ℕ → DeskView J T → DeskView J T → Type 0
+NotesOne {T} core old new =
+    (new ≡ old) ⊎ ((note : Note T) × ArePosts (note ∷ []) × (new.journal ≡ record old.journal { notes = note ∷ old.journal.notes }) × (more : ℕ) × Spends core more old new)
+
+module _ {J T E : Type 0} {fits : Order J → Outcome J T → Type 0} {out : E → Outward J T} {credited : E → ℕ} {untouched : E → List ℕ} where
   -- a call on the end of one core
-  module _ (desk : DeskView J T) (ends : List E) (is : IsLent fits out credited (record { desk = desk; ends = ends }))
-      (core : ℕ) (end now : E) (there : slice_get ends core ≡ Some end) (later : DeskView J T) (stays : StaysBeside fits core desk later (out now) (credited now))
-      (same : untouched now ≡ untouched end) (sends : SendsMore (out end) (out now)) where
-    outs_now : AreOutsOf fits out credited later (set ends core now)
-    outs_now = record {
-      count = length-set ends core now ∙ (is.outs.count ∙ ap (λ desk. desk.cores) (sym stays.rest));
+  module _ (old new : PostView J T E) (core : ℕ) (lent : LendsEnd fits out credited untouched core old new) (notes : NotesOne core old.desk new.desk) where
+    set_at : (other : ℕ) (its : E) → slice_get new.ends other ≡ Some its → slice_get (set old.ends core lent.later) other ≡ Some its
+    set_at other its at = ap (λ ends. slice_get ends other) (sym lent.ends) ∙ at
+
+    outs_now : AreOutsOf fits out credited old.desk old.ends → AreOutsOf fits out credited new.desk new.ends
+    outs_now outs = record {
+      count = ap length lent.ends ∙ (length-set old.ends core lent.later ∙ (outs.count ∙ ap (λ desk. desk.cores) (sym lent.stays.rest)));
       beside = λ other its at. elim (eqb_tells other core) [
-        | inl one ↦ subst (λ end. IsOutOf other later (out end) (credited end)) (sym (changed ends core other now its at one.1)) (subst (λ core. IsOutOf core later (out now) (credited now)) (sym one.1) stays.beside)
-        | inr away ↦ (stays.others other away.1).each (out its) (credited its) (is.outs.beside other its (unchanged ends core other now its at away.1))
+        | inl one ↦ subst (λ end. IsOutOf other new.desk (out end) (credited end)) (sym (changed old.ends core other lent.later its (set_at other its at) one.1)) (subst (λ core. IsOutOf core new.desk (out lent.later) (credited lent.later)) (sym one.1) lent.stays.beside)
+        | inr away ↦ (lent.stays.others other away.1).each (out its) (credited its) (outs.beside other its (unchanged old.ends core other lent.later its (set_at other its at) away.1))
       ];
       lanes = λ other its at. elim (eqb_tells other core) [
-        | inl one ↦ subst (λ end. HasLane fits other later (out end) (credited end)) (sym (changed ends core other now its at one.1)) (subst (λ core. HasLane fits core later (out now) (credited now)) (sym one.1) stays.lane)
+        | inl one ↦ subst (λ end. HasLane fits other new.desk (out end) (credited end)) (sym (changed old.ends core other lent.later its (set_at other its at) one.1)) (subst (λ core. HasLane fits core new.desk (out lent.later) (credited lent.later)) (sym one.1) lent.stays.lane)
         | inr away ↦
-            let had = is.outs.lanes other its (unchanged ends core other now its at away.1) in
-            record { lane = had.lane; is = stays.lanes other away.1 ∙ had.is; lane_of = had.lane_of }
+            let had = outs.lanes other its (unchanged old.ends core other lent.later its (set_at other its at) away.1) in
+            record { lane = had.lane; is = lent.stays.lanes other away.1 ∙ had.is; lane_of = had.lane_of }
       ];
     }
 
-    ends_now : (other : ℕ) (was its : E) → slice_get ends other ≡ Some was → slice_get (set ends core now) other ≡ Some its → (untouched its ≡ untouched was) × SendsMore (out was) (out its)
-    ends_now other was its was_there at = elim (eqb_tells other core) [
+    pub lent_noted : IsLent fits out credited old → IsLent fits out credited new
+    lent_noted is = record {
+      outs = outs_now is.outs;
+      spare = elim notes [
+        | inl same ↦ subst (λ desk. length desk.journal.notes + sum_by left_of desk.lanes < desk.journal.room) (sym same) is.spare
+        | inr one ↦ omega (arith, is.spare, fewer_left core one.3 old.desk new.desk one.4, ap (λ journal. length journal.notes) one.2, ap (λ journal. journal.room) one.2)
+      ];
+    }
+
+    ends_now : SendsMore (out lent.end) (out lent.later) →
+        (other : ℕ) (was its : E) → slice_get old.ends other ≡ Some was → slice_get new.ends other ≡ Some its → (untouched its ≡ untouched was) × SendsMore (out was) (out its)
+    ends_now sends other was its was_there at = elim (eqb_tells other core) [
       | inl one ↦
-          let its_is : its ≡ now = changed ends core other now its at one.1 in
-          let was_is : was ≡ end = let e : slice_get ends other ≡ Some end = ap (slice_get ends) one.1 ∙ there in cc in
+          let its_is : its ≡ lent.later = changed old.ends core other lent.later its (set_at other its at) one.1 in
+          let was_is : was ≡ lent.end = let e : slice_get old.ends other ≡ Some lent.end = ap (slice_get old.ends) one.1 ∙ lent.is in cc in
           subst (λ was. (untouched its ≡ untouched was) × SendsMore (out was) (out its)) (sym was_is)
-          (subst (λ its. (untouched its ≡ untouched end) × SendsMore (out end) (out its)) (sym its_is) (same, sends))
+          (subst (λ its. (untouched its ≡ untouched lent.end) × SendsMore (out lent.end) (out its)) (sym its_is) (lent.untouched, sends))
       | inr away ↦
-          let one : was ≡ its = let e : slice_get ends other ≡ Some its = unchanged ends core other now its at away.1 in cc in
-          (ap untouched (sym one), subst (λ its. SendsMore (out was) (out its)) one (refl, StartsWith-self (out was).sent))
+          let one : was ≡ its = let e : slice_get old.ends other ≡ Some its = unchanged old.ends core other lent.later its (set_at other its at) away.1 in cc in
+          (ap untouched (sym one), subst (λ its. SendsMore (out was) (out its)) one (sends_nothing (out was) (out was) refl))
     ]
 
-    abbrev post : PostView J T E
-    post = record { desk = desk; ends = ends }
-
-    abbrev post_now : PostView J T E
-    post_now = record { desk = later; ends = set ends core now }
-
-    -- it noted nothing
-    pub lent_same : later ≡ desk → IsLent fits out credited post_now × HasPosted out untouched post post_now
-    lent_same unchanged = (
-      record { outs = outs_now; spare = subst (λ desk. length desk.journal.notes + sum_by left_of desk.lanes < desk.journal.room) (sym unchanged) is.spare },
-      record {
+    pub posted_noted : SendsMore (out lent.end) (out lent.later) → HasPosted out untouched old new
+    posted_noted sends = elim notes [
+      | inl same ↦ record {
         notes = [];
         posts = tt;
-        desk = subst (λ later. later ≡ record desk { journal = record desk.journal { notes = desk.journal.notes }; lanes = later.lanes }) (sym unchanged) refl;
-        count = length-set ends core now;
-        ends = ends_now;
-      },
-    )
-
-    -- it noted one thing
-    pub lent_more : (note : Note T) → ArePosts (note ∷ []) → later.journal ≡ record desk.journal { notes = note ∷ desk.journal.notes } → Spends core desk later →
-        IsLent fits out credited post_now × HasPosted out untouched post post_now
-    lent_more note posts noted spends = (
-      record {
-        outs = outs_now;
-        spare =
-            let within : core < length desk.lanes = slice_get_within desk.lanes core spends.lane spends.was in
-            let its : get_or desk.lanes core spends.lane ≡ spends.lane = get_or_from_slice_get desk.lanes core spends.lane spends.lane spends.was in
-            let swapped : sum_by left_of (set desk.lanes core spends.later) + left_of (get_or desk.lanes core spends.lane) ≡ sum_by left_of desk.lanes + left_of spends.later = sum_by-set left_of desk.lanes core spends.later spends.lane within in
-            omega (arith, is.spare, swapped, ap left_of its, ap (sum_by left_of) spends.lanes, spends.fewer, ap (λ journal. length journal.notes) noted, ap (λ journal. journal.room) noted);
-      },
-      record {
-        notes = note ∷ [];
-        posts = posts;
-        desk = stays.rest ∙ ap (λ notes. record desk { journal = record desk.journal { notes = notes }; lanes = later.lanes }) (ap (λ journal. journal.notes) noted);
-        count = length-set ends core now;
-        ends = ends_now;
-      },
-    )
+        desk = subst (λ later. later ≡ record old.desk { journal = record old.desk.journal { notes = old.desk.journal.notes }; lanes = later.lanes }) (sym same) refl;
+        few = omega (arith, ap (λ (desk : DeskView J T). sum_by left_of desk.lanes) same);
+        count = ap length lent.ends ∙ length-set old.ends core lent.later;
+        ends = ends_now sends;
+      }
+      | inr one ↦ record {
+        notes = one.0 ∷ [];
+        posts = one.1;
+        desk = lent.stays.rest ∙ ap (λ notes. record old.desk { journal = record old.desk.journal { notes = notes }; lanes = new.desk.lanes }) (ap (λ journal. journal.notes) one.2);
+        few = omega (arith, fewer_left core one.3 old.desk new.desk one.4);
+        count = ap length lent.ends ∙ length-set old.ends core lent.later;
+        ends = ends_now sends;
+      }
+    ]

@@ -125,7 +125,7 @@ module _ {J T : Type 0} {same : J → J → Type 0} {made : J → ℕ} {polls : 
         task = ap (order_taken received.took) is.0 ∙ (here ∙ ap Some is.1);
         same_task = is_same.itself entry.2;
         owes = subst (λ count. OwesAfter same made polls entry.2 count entry.2) (sym (ap (λ which. polls_made which longer) is.0 ∙ never))
-            (λ more before after step told owed. subst (λ place. polls entry.2 (made entry.2 + place) before after step told) (sym (zero-add more)) owed);
+            (λ more calls step told owed. subst (λ place. polls entry.2 (made entry.2 + place) calls step told) (sym (zero-add more)) owed);
       }
 
   waiting_now : (queue : ℕ) → All (Task queue) (waiting_of queue core.queues)

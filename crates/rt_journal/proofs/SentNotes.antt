@@ -122,7 +122,7 @@ module _ {J T : Type 0} (old : RecordedView J T) (longer : Journal T) (lanes : L
   new = record old { journal = record old.journal { notes = longer }; lanes = lanes }
 
   module _ (silent : SaysNoMore old.journal.notes longer) where
-    recorded_silent : {same : J → J → Type 0} {made : J → ℕ} {polls : Owed J T} → IsRecorded same made polls old → IsWritten (terms_at old) longer → IsRecorded same made polls new
+    pub recorded_silent : {same : J → J → Type 0} {made : J → ℕ} {polls : Owed J T} → IsRecorded same made polls old → IsWritten (terms_at old) longer → IsRecorded same made polls new
     recorded_silent recorded written = record {
       kept = record { is_core = recorded.kept.is_core; agrees = silent.agrees old.core recorded.kept.agrees; notes = written.notes; no_pick = written.no_pick; no_answer = written.no_answer };
       room = recorded.room;
@@ -142,7 +142,7 @@ module _ {J T : Type 0} (old : RecordedView J T) (longer : Journal T) (lanes : L
       out = λ job at. task_stays (λ order at. at) (silent.polls job.name) (recorded.out job at);
     }
 
-    ins_silent : (sender : ℕ) → KeepsIn sender old new
+    pub ins_silent : (sender : ℕ) → KeepsIn sender old new
     ins_silent sender =
         keeps_in old new (record { number = refl; cores = refl; cap = refl; room = refl }) sender None (silent.given sender) (silent.gates sender) (λ inward is. tt) (ap length (silent.delivered sender)) (λ which order from at. at)
 

@@ -1,9 +1,10 @@
 -- The end of the sender of a job, as a poll of the job is settled.
-use Rattle.std.proofs.Common.{◌≡◌, ℕ, sym, ◌∙◌, subst}
+use Rattle.std.proofs.Common.{◌≡◌, ℕ, List, sym, ◌∙◌, subst}
 use Rattle.std.specs.Prelude.{Option, Some, IfSome}
 use Rattle.std.specs.Option.{option_map}
 use Rattle.std.proofs.lemmas.Option.{same_Some}
 use Rattle.rt_ids.specs.declared.names.JobId.{JobId}
+use Rattle.rt_ids.specs.declared.order.Envelope.{Envelope}
 use Rattle.rt_ids.specs.declared.order.Order.TheVariants.{Job}
 use Rattle.rt_ids.specs.declared.order.Outcome.{Outcome}
 use Rattle.rt_ids.specs.Outcomes.{outcome_note}
@@ -19,6 +20,7 @@ use Rattle.rt_journal.specs.Recorded.{RecordedView, IsRecorded, order_taken}
 use Rattle.rt_journal.specs.Ends.{IsInOf, IsInOwing, KeepsIn, LeavesOwed, Gives, told_under}
 use Rattle.rt_journal.specs.Turns.{IsOutUnder, TellsStep, Settles}
 use Rattle.rt_journal.specs.Owed.{OwesSettled, outcome_settled}
+use Rattle.rt_journal.specs.Whole.{MayAnswer}
 use Rattle.rt_journal.proofs.Quiet.{given_settled}
 use Rattle.rt_journal.proofs.SettledPolls.{given_told}
 use Rattle.rt_journal.proofs.DeliveredEnds.{told_elsewhere}
@@ -41,6 +43,12 @@ fits_settled {J} same answers queue sent steps.Yield settled tells right =
     subst (λ settled. IfSome (outcome_settled {J = J} settled) (Fits same answers (Job queue sent))) (sym tells) tt
 fits_settled {J} same answers queue sent (steps.Done value) settled tells right =
     subst (λ settled. IfSome (outcome_settled {J = J} settled) (Fits same answers (Job queue sent))) (sym tells) right
+
+-- what the caller is told may be answered by the job that was sent
+pub its_answer : {J T : Type 0} (answers : J → T → Type 0) (took : List (Envelope J)) (name : JobId) (queue : ℕ) (sent : J) → order_taken took name ≡ Some (Job queue sent) →
+    (step : Step T) (settled : Settled T) → TellsStep step settled → IfDone step (answers sent) → MayAnswer answers took name settled
+its_answer answers took name queue sent task steps.Yield settled tells right = subst (MayAnswer answers took name) (sym tells) tt
+its_answer answers took name queue sent task (steps.Done value) settled tells right = subst (MayAnswer answers took name) (sym tells) (queue, sent, task, right)
 
 module _ {J T : Type 0} {same : J → J → Type 0} {made : J → ℕ} {polls : Owed J T} {answers : J → T → Type 0} (old new : RecordedView J T) (ran : AfterPoll J T) (spent : ℕ) (settled : Settled T)
     (settles : Settles made polls answers old ran spent settled new) (owes : OwesSettled old settled new) (recorded : IsRecorded same made polls new) (name : JobId) (named : IsOutUnder old.core.out name) where

@@ -15,6 +15,7 @@ use Rattle.rt_ids.proofs.JobsOut.{alone_out}
 use Rattle.rt_ids.proofs.LineDistinct.{apart_of}
 use Rattle.rt_ids.proofs.NameLemmas.{among, same_as_itself}
 use Rattle.rt_jobs.specs.declared.job.Step.{Step}
+use Rattle.rt_jobs.specs.Calls.{Call}
 use Rattle.rt_jobs.specs.declared.job.Step.TheVariants as steps
 use Rattle.rt_jobs.specs.Steps.{Owed, AfterPoll, IsSameTask, IfDone, OnYield, OwesOn}
 use Rattle.rt_taskqueue.specs.Queues.{waiting_of, held_count, ChangesLine}
@@ -130,9 +131,9 @@ module _ {J T : Type 0} {same : J → J → Type 0} {made : J → ℕ} {polls : 
       on = subst (λ job. OwesOn made polls job ran.job) (sym its_job) (subst (λ step. OnYield step (OwesOn made polls ran.before ran.job)) yields polled.later)
 
       owes_on : OwesAfter same made polls its_task.sent (polls_made out.name old.journal.notes + 1) ran.job
-      owes_on more before after step told owed_now =
-          let first : polls out.job (made out.job + (1 + more)) before after step told = subst (λ place. polls out.job place before after step told) (assoc (made out.job) more) (on more before after step told owed_now) in
-          subst (λ place. polls its_task.sent (made its_task.sent + place) before after step told) (sym (assoc (polls_made out.name old.journal.notes) more)) (its_task.owes (1 + more) before after step told first)
+      owes_on more calls step told owed_now =
+          let first : polls out.job (made out.job + (1 + more)) calls step told = subst (λ place. polls out.job place calls step told) (assoc (made out.job) more) (on more calls step told owed_now) in
+          subst (λ place. polls its_task.sent (made its_task.sent + place) calls step told) (sym (assoc (polls_made out.name old.journal.notes) more)) (its_task.owes (1 + more) calls step told first)
 
   -- the job that is out was given nothing yet
   ungiven_settled : (sender : ℕ) (inward : Inward J T) → IsInOf sender old inward → (step : Step T) → IsUngiven (given_settled out.name step sender) inward.given
@@ -264,11 +265,11 @@ module _ {J T : Type 0} {same : J → J → Type 0} {made : J → ℕ} {polls : 
             answers_same out.job its_task.sent value (is_same.back its_task.sent out.job its_task.same_task) (subst (λ job. answers job value) (sym its_job) right)
         by_step steps.Yield right = tt
 
-    owed : (before after : Journal T) → polls ran.before (made ran.before) before after ran.step ran.told →
-        polls its_task.sent (made its_task.sent + polls_made out.name old.journal.notes) before after ran.step ran.told
-    owed before after owes = subst (λ place. polls its_task.sent place before after ran.step ran.told) (ap (λ count. made its_task.sent + count) (add-zero (polls_made out.name old.journal.notes)))
-        (its_task.owes 0 before after ran.step ran.told (subst (λ place. polls out.job place before after ran.step ran.told) (sym (add-zero (made out.job)))
-        (subst (λ job. polls job (made job) before after ran.step ran.told) (sym its_job) owes)))
+    owed : (calls : List (Call J T)) → polls ran.before (made ran.before) calls ran.step ran.told →
+        polls its_task.sent (made its_task.sent + polls_made out.name old.journal.notes) calls ran.step ran.told
+    owed calls owes = subst (λ place. polls its_task.sent place calls ran.step ran.told) (ap (λ count. made its_task.sent + count) (add-zero (polls_made out.name old.journal.notes)))
+        (its_task.owes 0 calls ran.step ran.told (subst (λ place. polls out.job place calls ran.step ran.told) (sym (add-zero (made out.job)))
+        (subst (λ job. polls job (made job) calls ran.step ran.told) (sym its_job) owes)))
 
     pub settles-now : Settles made polls answers old ran spent settled (stepped old core (reverse notes))
     settles-now = record {

@@ -1,20 +1,27 @@
 -- Each note on a submission leaves fewer that can be made before the next outcome is collected.
-use Rattle.std.proofs.Common.{◌≡◌, ◌⊎◌, inl, inr, ℕ, ◌+◌, ◌*◌, ◌<◌, ◌≤◌, true, List, [], ◌∷◌, Some, refl, sym, ap, subst, arith, set}
-use Rattle.std.specs.Prelude.{slice_get, Ok}
+use Rattle.std.proofs.Common.{◌≡◌, ◌⊎◌, inl, inr, ℕ, ◌+◌, ◌*◌, ◌<◌, ◌≤◌, true, List, [], ◌∷◌, length, Some, refl, sym, ap, subst, arith, set, get_or}
+use Rattle.std.specs.Prelude.{slice_get, Ok, None, Option, IsSome, sum_by}
+use Rattle.std.proofs.lemmas.List.Sums.{sum_by-set}
+use Rattle.std.proofs.lemmas.Option.{slice_get_within, get_or_from_slice_get}
+use Rattle.rt_ids.specs.declared.names.JobId.{JobId}
+use Rattle.rt_ids.specs.declared.note.Note.TheVariants as writes
+use Rattle.rt_ids.specs.declared.note.OutcomeNote.{OutcomeNote}
 use Rattle.rt_ids.specs.declared.order.Order.{Order}
 use Rattle.rt_ids.specs.declared.order.Outcome.{Outcome}
 use Rattle.rt_link.specs.declared.ends.Outward.{Outward}
-use Rattle.rt_desk.specs.Held.{tally, count_of, one, Adds, Removes}
+use Rattle.rt_notes.specs.Journals.{JournalView}
+use Rattle.rt_desk.specs.Held.{at, tally, count_of, one, Adds, Removes}
 use Rattle.rt_desk.specs.Lanes.{Lane, IsLaneOf, is_collected, is_detached}
-use Rattle.rt_desk.specs.Steps.{Detaches}
+use Rattle.rt_desk.specs.Steps.{CollectsNext, Detaches, Keeps}
+use Rattle.rt_desk.specs.Told.{told_of}
 use Rattle.rt_desk.specs.declared.entry.Entry.{Entry}
 use Rattle.rt_desk.specs.declared.entry.Entry.TheVariants.{Pending, Detached, Collected}
 use Rattle.rt_journal.specs.Submissions.{DeskView}
-use Rattle.rt_journal.specs.Spending.{is_waiting, left_of, Spends}
+use Rattle.rt_journal.specs.Spending.{is_waiting, left_of, due_of, booked, Spends, HoldsSome}
 
 module _ {J T : Type 0} where
   -- each entry waits, is detached or was collected
-  all_three : (entries : List (ℕ × Entry J T)) → count_of entries ≡ tally entries is_waiting + tally entries is_detached + tally entries is_collected
+  pub all_three : (entries : List (ℕ × Entry J T)) → count_of entries ≡ tally entries is_waiting + tally entries is_detached + tally entries is_collected
   all_three [] = refl
   all_three (first ∷ rest) = let each : 1 ≡ one (is_waiting first.1) + one (is_detached first.1) + one (is_collected first.1) = by_entry first.1 in omega (arith, each, all_three rest)
     where
@@ -29,32 +36,93 @@ module _ {J T : Type 0} where
   pub left_within : {fits : Order J → Outcome J T → Type 0} (lane : Lane J T) (cap : ℕ) (out : Outward J T) (credited : ℕ) → IsLaneOf fits lane out credited → out.capacity ≡ cap → left_of lane ≤ 3 * cap
   left_within lane cap out credited is capacity = omega (arith, within_room lane out credited is, all_three lane.entries, is.room, capacity)
 
-  module _ (lane later : Lane J T) (number : ℕ) (room : later.room ≡ lane.room) where
-    pub spent_sent : Adds lane.entries later.entries number Pending → count_of lane.entries < lane.room → left_of later < left_of lane
-    spent_sent adds free = omega (arith, free, room, all_three lane.entries, adds.tallies is_waiting, adds.tallies is_detached, adds.tallies is_collected)
+  module _ (lane later : Lane J T) (number : ℕ) where
+    pub spent_sent : later.room ≡ lane.room → Adds lane.entries later.entries number Pending → count_of lane.entries < lane.room → left_of later < left_of lane
+    spent_sent room adds free = omega (arith, free, room, all_three lane.entries, adds.tallies is_waiting, adds.tallies is_detached, adds.tallies is_collected)
 
-    pub spent_gone : (outcome : Outcome J T) → Removes lane.entries later.entries number (Collected outcome) → count_of lane.entries ≤ lane.room → left_of later < left_of lane
-    spent_gone outcome removes free = omega (arith, free, room, all_three lane.entries, removes.tallies is_waiting, removes.tallies is_detached, removes.tallies is_collected)
+    pub due_sent : Adds lane.entries later.entries number Pending → due_of later + 1 ≡ due_of lane + 3
+    due_sent adds = omega (arith, adds.tallies is_waiting, adds.tallies is_detached, adds.tallies is_collected)
 
-  pub spent_detached : (lane later : Lane J T) (number credited after : ℕ) (done : Unit {0}) → Detaches lane later number credited after (Ok done) → count_of lane.entries ≤ lane.room → left_of later < left_of lane
-  spent_detached lane later number credited after done detaches free = elim detaches.1 [
-    | inl waited ↦
-        omega (
-          arith,
-          free,
-          ap (λ lane. lane.room) detaches.0,
-          all_three lane.entries,
-          waited.0.removes.tallies is_waiting,
-          waited.0.removes.tallies is_detached,
-          waited.0.removes.tallies is_collected,
-          waited.0.adds.tallies is_waiting,
-          waited.0.adds.tallies is_detached,
-          waited.0.adds.tallies is_collected,
-        )
-    | inr had ↦ spent_gone lane later number (ap (λ lane. lane.room) detaches.0) had.0 had.1 free
-  ]
+    pub spent_gone : later.room ≡ lane.room → (outcome : Outcome J T) → Removes lane.entries later.entries number (Collected outcome) → count_of lane.entries ≤ lane.room → left_of later < left_of lane
+    spent_gone room outcome removes free = omega (arith, free, room, all_three lane.entries, removes.tallies is_waiting, removes.tallies is_detached, removes.tallies is_collected)
+
+    pub due_gone : (outcome : Outcome J T) → Removes lane.entries later.entries number (Collected outcome) → due_of later + 1 ≡ due_of lane + 0
+    due_gone outcome removes = omega (arith, removes.tallies is_waiting, removes.tallies is_detached, removes.tallies is_collected)
+
+    module _ (middle : List (ℕ × Entry J T)) (entry : Entry J T) (removes : Removes lane.entries middle number Pending) (adds : Adds middle later.entries number entry) where
+      due_kept : (0 ≡ one (is_waiting entry)) → (1 ≡ one (is_detached entry) + one (is_collected entry)) → due_of later + 1 ≡ due_of lane
+      due_kept waits other =
+          omega (arith, waits, other, removes.tallies is_waiting, removes.tallies is_detached, removes.tallies is_collected, adds.tallies is_waiting, adds.tallies is_detached, adds.tallies is_collected)
+
+    -- an outcome is collected: it is kept, or dropped where the submission is detached
+    pub due_collected : (outcome : Outcome J T) (credited after : ℕ) → Keeps lane.entries later.entries number outcome credited after → due_of later + 1 ≡ due_of lane
+    due_collected outcome credited after keeps = elim keeps [
+      | inl kept ↦ due_kept kept.0.between (Collected outcome) kept.0.removes kept.0.adds refl refl
+      | inr dropped ↦ omega (arith, dropped.0.tallies is_waiting, dropped.0.tallies is_detached, dropped.0.tallies is_collected)
+    ]
+
+    -- it was outstanding
+    pub held_gone : (outcome : Outcome J T) → Removes lane.entries later.entries number (Collected outcome) → IsSome (at lane.entries number)
+    held_gone outcome removes = subst IsSome (sym removes.was) refl
+
+  module _ (lane later : Lane J T) (number credited after : ℕ) (done : Unit {0}) (detaches : Detaches lane later number credited after (Ok done)) where
+    pub spent_detached : count_of lane.entries ≤ lane.room → left_of later < left_of lane
+    spent_detached free = elim detaches.1 [
+      | inl waited ↦
+          omega (
+            arith,
+            free,
+            ap (λ lane. lane.room) detaches.0,
+            all_three lane.entries,
+            waited.0.removes.tallies is_waiting,
+            waited.0.removes.tallies is_detached,
+            waited.0.removes.tallies is_collected,
+            waited.0.adds.tallies is_waiting,
+            waited.0.adds.tallies is_detached,
+            waited.0.adds.tallies is_collected,
+          )
+      | inr had ↦ spent_gone lane later number (ap (λ lane. lane.room) detaches.0) had.0 had.1 free
+    ]
+
+    pub due_detached : due_of later + 1 ≡ due_of lane + 0
+    due_detached = elim detaches.1 [
+      | inl waited ↦ let kept : due_of later + 1 ≡ due_of lane = due_kept lane later number waited.0.between Detached waited.0.removes waited.0.adds refl refl in omega (arith, kept)
+      | inr had ↦ due_gone lane later number had.0 had.1
+    ]
+
+    -- it was outstanding
+    pub held_detached : IsSome (at lane.entries number)
+    held_detached = elim detaches.1 [
+      | inl waited ↦ subst IsSome (sym waited.0.removes.was) refl
+      | inr had ↦ subst IsSome (sym had.1.was) refl
+    ]
+
+  -- there is room to note what becomes of a submission that is outstanding
+  pub may_note : (desk now : DeskView J T) → desk ≡ now → (name : JobId) → (HoldsSome name now → length now.journal.notes < now.journal.room) → (core number : ℕ) → core ≡ name.to → number ≡ name.number →
+      (lane : Lane J T) → slice_get desk.lanes core ≡ Some lane → IsSome (at lane.entries number) → length desk.journal.notes < desk.journal.room
+  may_note desk now desk_is name room core number core_is number_is lane there held =
+      subst (λ desk. HoldsSome name desk → length desk.journal.notes < desk.journal.room) (sym desk_is) room
+      (lane, subst (λ core. slice_get desk.lanes core ≡ Some lane) core_is there, subst (λ number. IsSome (at lane.entries number)) number_is held)
+
+  -- what was noted of a submission that is outstanding was due
+  pub booked_noted : (desk : DeskView J T) (core : ℕ) (lane later : Lane J T) → slice_get desk.lanes core ≡ Some lane → due_of later + 1 ≡ due_of lane →
+      (now : DeskView J T) → length now.journal.notes ≡ length desk.journal.notes + 1 → now.lanes ≡ set desk.lanes core later → booked now ≡ booked desk
+  booked_noted desk core lane later was due now noted lanes =
+      let within : core < length desk.lanes = slice_get_within desk.lanes core lane was in
+      let its : get_or desk.lanes core lane ≡ lane = get_or_from_slice_get desk.lanes core lane lane was in
+      let swapped : sum_by due_of (set desk.lanes core later) + due_of (get_or desk.lanes core lane) ≡ sum_by due_of desk.lanes + due_of later = sum_by-set due_of desk.lanes core later lane within in
+      omega (arith, noted, due, swapped, ap due_of its, ap (sum_by due_of) lanes)
+
+  -- the next outcome is collected and noted
+  pub booked_some : (desk : DeskView J T) (core : ℕ) (lane later : Lane J T) → slice_get desk.lanes core ≡ Some lane → (out now : Outward J T) (credited after : ℕ) (found : Option (ℕ × Outcome J T)) → CollectsNext lane later out now credited after found →
+      (name : JobId) (told : OutcomeNote T) → Some (name, told) ≡ told_of desk.actor core found → (page : JournalView T) → page ≡ record desk.journal { notes = writes.Collected name told ∷ desk.journal.notes } →
+      booked (record desk { journal = page; lanes = set desk.lanes core later }) ≡ booked desk
+  booked_some desk core lane later was out now credited after None next name told is page page_is = absurd cc
+  booked_some desk core lane later was out now credited after (Some found) next name told is page page_is =
+      booked_noted desk core lane later was (due_collected lane later found.0 found.1 credited after next.2) (record desk { journal = page; lanes = set desk.lanes core later }) (omega (arith, ap (λ (journal : JournalView T). length journal.notes) page_is)) refl
 
   -- what a call knows of its own names, it ensures of its caller's
-  pub carried_spends : (desk now new : DeskView J T) → desk ≡ now → (core to : ℕ) → core ≡ to → (lane later : Lane J T) → slice_get desk.lanes core ≡ Some lane → new.lanes ≡ set desk.lanes core later → left_of later < left_of lane → Spends to now new
-  carried_spends desk now new desk_is core to core_is lane later was lanes fewer =
-      subst (λ now. Spends to now new) desk_is (subst (λ core. Spends core desk new) core_is (record { lane = lane; later = later; was = was; lanes = lanes; fewer = fewer }))
+  pub carried_spends : (desk now new : DeskView J T) → desk ≡ now → (core to : ℕ) → core ≡ to → (lane later : Lane J T) → slice_get desk.lanes core ≡ Some lane → new.lanes ≡ set desk.lanes core later → left_of later < left_of lane →
+      (more : ℕ) → due_of later + 1 ≡ due_of lane + more → Spends to more now new
+  carried_spends desk now new desk_is core to core_is lane later was lanes fewer more due =
+      subst (λ now. Spends to more now new) desk_is (subst (λ core. Spends core more desk new) core_is (record { lane = lane; later = later; was = was; lanes = lanes; fewer = fewer; due = due }))

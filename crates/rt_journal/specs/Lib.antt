@@ -9,8 +9,9 @@ pub mod Ends
 pub mod Steps
 pub mod Turns
 pub mod Owed
-pub mod Whole
 pub mod Tickets
 pub mod Spending
 pub mod Posts
+pub mod Calls
+pub mod Whole
 pub mod Together

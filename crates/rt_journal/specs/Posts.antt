@@ -1,5 +1,5 @@
--- A desk and its ends, lent to a job for one poll.
-use Rattle.std.specs.Prelude.{◌≡◌, ℕ, ◌+◌, ◌<◌, List, [], ◌∷◌, ◌++◌, length, sum_by, Some, slice_get}
+-- A desk and its ends, lent to a job for one poll, and what was posted there.
+use Rattle.std.specs.Prelude.{◌≡◌, ℕ, ◌+◌, ◌<◌, ◌≤◌, true, List, [], ◌∷◌, ◌++◌, length, sum_by, Some, slice_get}
 use Rattle.rt_ids.specs.declared.note.Note.{Note}
 use Rattle.rt_ids.specs.declared.note.Note.TheVariants.{Sent, Redeemed, Detached}
 use Rattle.rt_ids.specs.declared.order.Order.{Order}
@@ -24,9 +24,9 @@ ArePosts (Redeemed name outcome ∷ notes) = ArePosts notes
 ArePosts (Detached name ∷ notes) = ArePosts notes
 ArePosts (_ ∷ notes) = ⊥
 
--- an end has sent more, or has seen its gate shut; it has got nothing
+-- an end has sent more, or has seen its gate shut, and has got nothing; where it saw the gate shut before, it sent nothing
 abbrev pub SendsMore : {J T : Type 0} → Outward J T → Outward J T → Type 0
-SendsMore old new = (new ≡ record old { sent = new.sent; closed = new.closed }) × StartsWith new.sent old.sent
+SendsMore old new = (new ≡ record old { sent = new.sent; closed = new.closed }) × StartsWith new.sent old.sent × (old.closed ≡ true → new ≡ old)
 
 module _ {J T E : Type 0} (fits : Order J → Outcome J T → Type 0) (out : E → Outward J T) (credited : E → ℕ) where
   -- there is an end for each core, beside the desk and its lane
@@ -41,14 +41,11 @@ module _ {J T E : Type 0} (fits : Order J → Outcome J T → Type 0) (out : E �
     pub spare : length post.desk.journal.notes + sum_by left_of post.desk.lanes < post.desk.journal.room
 
 module _ {J T E : Type 0} (out : E → Outward J T) (untouched : E → List ℕ) where
-  -- the desk has noted what it submitted, redeemed and detached, and the ends have sent more
+  -- the desk has noted what it submitted, redeemed and detached, and for each note one less is left; the ends have sent more
   pub record HasPosted (old new : PostView J T E) : Type 0 where
     pub notes : List (Note T)
     pub posts : ArePosts notes
     pub desk : new.desk ≡ record old.desk { journal = record old.desk.journal { notes = notes ++ old.desk.journal.notes }; lanes = new.desk.lanes }
+    pub few : length notes + sum_by left_of new.desk.lanes ≤ sum_by left_of old.desk.lanes
     pub count : length new.ends ≡ length old.ends
     pub ends : (core : ℕ) (was end : E) → slice_get old.ends core ≡ Some was → slice_get new.ends core ≡ Some end → (untouched end ≡ untouched was) × SendsMore (out was) (out end)
-
-  -- whatever a post follows, the later one follows
-  abbrev pub GoesOn : PostView J T E → PostView J T E → Type 0
-  GoesOn old new = (first : PostView J T E) → HasPosted first old → HasPosted first new

@@ -5,13 +5,14 @@ use Rattle.rt_ids.specs.declared.note.Note.TheVariants as writes
 use Rattle.rt_ids.specs.declared.order.Order.{Order}
 use Rattle.rt_ids.specs.declared.order.Order.TheVariants.{Job}
 use Rattle.rt_ids.specs.declared.order.Reason.{Reason}
-use Rattle.rt_ids.specs.Journal.{Journal, is_told}
+use Rattle.rt_ids.specs.Journal.{is_told}
 use Rattle.rt_ids.specs.Filters.{name_started}
 use Rattle.rt_ids.specs.Work.{has_work}
 use Rattle.rt_ids.specs.Lines.{line}
 use Rattle.rt_ids.specs.Picks.{IsRightPick, turns}
 use Rattle.rt_ids.specs.Commands.{return_reason}
 use Rattle.rt_jobs.specs.declared.job.Step.{Step}
+use Rattle.rt_jobs.specs.Calls.{Call}
 use Rattle.rt_jobs.specs.declared.job.Step.TheVariants as step
 use Rattle.rt_jobs.specs.Steps.{AfterPoll, Owed, IfDone, OnYield, OwesOn}
 use Rattle.rt_core.specs.State.{JobOut}
@@ -91,13 +92,13 @@ module _ {J T : Type 0} where
     Picks old (Err Spent) new = (turns old.journal.notes ≡ 2 ^ 64 - 1) × ((queue : ℕ) × (has_work queue old.journal.notes ≡ true)) × (new ≡ old)
 
   module _ (made : J → ℕ) (polls : Owed J T) (answers : J → T → Type 0) where
-    -- the poll of the job that was out is settled: what it owed with the notes of its post before and after, the job that was sent owes, counted from its own polls
+    -- the poll of the job that was out is settled: what it owed with the calls of its post, the job that was sent owes, counted from its own polls
     pub record Settles (old : RecordedView J T) (ran : AfterPoll J T) (spent : ℕ) (settled : Settled T) (new : RecordedView J T) : Type 0 where
       pub out : JobOut J
       pub was_out : old.core.out ≡ Some out
       pub sent : J
       pub task : order_taken old.took out.name ≡ Some (Job out.queue sent)
-      pub owed : (before after : Journal T) → polls ran.before (made ran.before) before after ran.step ran.told → polls sent (made sent + polls_made out.name old.journal.notes) before after ran.step ran.told
+      pub owed : (calls : List (Call J T)) → polls ran.before (made ran.before) calls ran.step ran.told → polls sent (made sent + polls_made out.name old.journal.notes) calls ran.step ran.told
       pub answered : IfDone ran.step (answers sent)
       pub tells : TellsStep ran.step settled
       pub journal : new.journal ≡ with_notes (settle_note out.name (unwrap_or ran.told spent) ran.step ∷ []) old.journal

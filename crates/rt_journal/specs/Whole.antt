@@ -1,21 +1,43 @@
--- What a whole turn in place does: the pick of the job that was told ahead, one poll of it, and the settling of that poll.
-use Rattle.std.specs.Prelude.{ℕ, Bool}
+-- What a whole turn in place does, with a post of this actor: the pick of the job that was told ahead, one poll of it, and the settling of that poll.
+use Rattle.std.specs.Prelude.{◌≡◌, ℕ, Bool, List, Some}
 use Rattle.rt_ids.specs.declared.names.JobId.{JobId}
-use Rattle.rt_ids.specs.Journal.{Journal}
-use Rattle.rt_jobs.specs.Steps.{AfterPoll, Owed}
+use Rattle.rt_ids.specs.declared.order.Order.TheVariants.{Job}
+use Rattle.rt_jobs.specs.Calls.{Doing}
+use Rattle.rt_jobs.specs.Steps.{AfterPoll, Owed, OwesAt}
 use Rattle.rt_core.specs.declared.turn.Settled.{Settled}
-use Rattle.rt_journal.specs.Recorded.{RecordedView}
+use Rattle.rt_core.specs.declared.turn.Settled.TheVariants.{Yielded, Finished}
+use Rattle.rt_link.specs.declared.ends.Outward.{Outward}
+use Rattle.rt_ids.specs.declared.order.Envelope.{Envelope}
+use Rattle.rt_journal.specs.Recorded.{RecordedView, desk_of, order_taken}
 use Rattle.rt_journal.specs.Ends.{KeepsIn}
 use Rattle.rt_journal.specs.Owed.{OwesSettled}
+use Rattle.rt_journal.specs.Posts.{PostView, HasPosted}
 use Rattle.rt_journal.specs.Turns.{IsPick, IsPolled, Settles}
 
--- the job is picked, polled once between these notes of its post, and settled; no value is ever what stands between
-pub record IsTurn {J T : Type 0} (same : J → J → Type 0) (made : J → ℕ) (polls : Owed J T) (answers : J → T → Type 0) (old : RecordedView J T) (name : JobId) (queue : ℕ) (started : Bool) (before after : Journal T) (spent : ℕ) (settled : Settled T) (new : RecordedView J T) : Type 0 where
-  pub between : RecordedView J T
-  pub ran : AfterPoll J T
-  pub picks : IsPick old name queue started ran.before between
-  pub keeps : (sender : ℕ) → KeepsIn sender old between
-  pub owed : polls ran.before (made ran.before) before after ran.step ran.told
-  pub polled : IsPolled same made polls answers ran
-  pub settles : Settles made polls answers between ran spent settled new
-  pub owes : OwesSettled between settled new
+-- the desk of a core, and its ends
+abbrev pub post_of : {J T E : Type 0} → RecordedView J T → List E → PostView J T E
+post_of view ends = record { desk = desk_of view; ends = ends }
+
+module _ {J T E : Type 0} (same : J → J → Type 0) (made : J → ℕ) (polls : Owed J T) (answers : J → T → Type 0) (does : Doing (PostView J T E) J T) (out : E → Outward J T) (untouched : E → List ℕ) (tells : ℕ → Type 0) where
+  -- the job is picked, polled once while the desk and its ends are its post, and settled, with a time that the meter may tell; no value is ever what stands between
+  pub record IsPostingTurn (old : RecordedView J T) (ends : List E) (name : JobId) (queue : ℕ) (started : Bool) (settled : Settled T) (new : RecordedView J T) (later : List E) : Type 0 where
+    pub picked : RecordedView J T
+    pub left : RecordedView J T
+    pub ran : AfterPoll J T
+    pub spent : ℕ
+    pub told : tells spent
+    pub picks : IsPick old name queue started ran.before picked
+    pub keeps : (sender : ℕ) → KeepsIn sender old picked
+    pub owed : OwesAt polls does ran.before (made ran.before) (post_of picked ends) (post_of left later) ran.step ran.told
+    pub posted : HasPosted out untouched (post_of picked ends) (post_of left later)
+    pub rest : left ≡ record picked { journal = left.journal; lanes = left.lanes }
+    pub silent : (sender : ℕ) → KeepsIn sender picked left
+    pub polled : IsPolled same made polls answers ran
+    pub settles : Settles made polls answers left ran spent settled new
+    pub owes : OwesSettled left settled new
+
+module _ {J T : Type 0} (answers : J → T → Type 0) where
+  -- the answer of a job that is done is one that the job sent under its name may have
+  abbrev pub MayAnswer : List (Envelope J) → JobId → Settled T → Type 0
+  MayAnswer took name Yielded = Unit {0}
+  MayAnswer took name (Finished answer) = (queue : ℕ) × (sent : J) × (order_taken took name ≡ Some (Job queue sent)) × answers sent answer

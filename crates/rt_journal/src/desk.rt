@@ -10,7 +10,7 @@ ghost use Rattle.rt_desk.specs.Lanes.{fresh_lane, IsGot, FitsSent};
 ghost use Rattle.rt_journal.specs.Submissions.{opened_desk, terms_of_desk, desk_with, IsWritten, Submits, numbered};
 ghost use Rattle.rt_journal.specs.Ends.{IsOutOf, KeepsOut, KeepsSent};
 ghost use Rattle.rt_journal.specs.Tickets.{HasLane, KnowsLanes, StaysBeside, RefusesTicket, RedeemsTicket, DetachesTicket, CollectsFrom, GetsAll, GetsNext};
-ghost use Rattle.rt_journal.specs.Spending.{Spends};
+ghost use Rattle.rt_journal.specs.Spending.{Spends, HoldsSome, booked};
 
 use rt_desk::lane::Lane;
 use rt_ids::{ActorNo, CoreNo, JobId, Note, Order, Outcome, SendError, Ticket, TicketError};
@@ -122,7 +122,7 @@ impl<J: Task<Out = u64>> RecordedDesk<J> {
         ensures sends { Sends (O.out end.old) (O.credited end.old) order (O.out end.new) (numbered result) }
         ensures credited { O.credited end.new ≡ O.credited end.old }
         ensures stays { StaysBeside (Fits J.SameTask J.Answers) to self.old self.new (O.out end.new) (O.credited end.new) }
-        ensures spends { IfOk result (λ _. Spends to self.old self.new) }
+        ensures spends { IfOk result (λ _. Spends to 3 self.old self.new) }
         ensures untouched { O.untouched end.new ≡ O.untouched end.old }
     {
         let what = order.without_job();
@@ -142,8 +142,10 @@ impl<J: Task<Out = u64>> RecordedDesk<J> {
     pub fn collect_from<O: OutEnd<J>>(&mut self, end: &mut O, core: CoreNo) -> usize
         requires beside { IsOutOf core self.old (O.out end.old) (O.credited end.old) }
         requires lane { HasLane (Fits J.SameTask J.Answers) core self.old (O.out end.old) (O.credited end.old) }
-        requires room { length self.old.journal.notes + self.old.cap ≤ self.old.journal.room }
+        requires room { length self.old.journal.notes + length (O.out end.old).sent ≤ self.old.journal.room + (O.out end.old).got }
         ensures collects { CollectsFrom core self.old result self.new }
+        ensures books { booked self.new ≡ booked self.old }
+        ensures few { length self.new.journal.notes ≤ length self.old.journal.notes + self.old.cap }
         ensures end { GetsAll (O.out end.old) (O.out end.new) }
         ensures stays { StaysBeside (Fits J.SameTask J.Answers) core self.old self.new (O.out end.new) (O.credited end.new) }
         ensures untouched { O.untouched end.new ≡ O.untouched end.old }
@@ -162,6 +164,7 @@ impl<J: Task<Out = u64>> RecordedDesk<J> {
         requires lane { HasLane (Fits J.SameTask J.Answers) core self.old (O.out end.old) (O.credited end.old) }
         requires room { length self.old.journal.notes + length (O.out end.old).sent ≤ self.old.journal.room + (O.out end.old).got }
         ensures gets { GetsNext core self.old self.new (O.out end.old) (O.out end.new) result }
+        ensures books { booked self.new ≡ booked self.old }
         ensures stays { StaysBeside (Fits J.SameTask J.Answers) core self.old self.new (O.out end.new) (O.credited end.new) }
         ensures untouched { O.untouched end.new ≡ O.untouched end.old }
     {
@@ -198,13 +201,13 @@ impl<J: Task<Out = u64>> RecordedDesk<J> {
     ) -> Result<Outcome<J, u64>, TicketError>
         requires beside { IsOutOf ticket.to self.old (O.out end.old) (O.credited end.old) }
         requires lane { HasLane (Fits J.SameTask J.Answers) ticket.to self.old (O.out end.old) (O.credited end.old) }
-        requires room { length self.old.journal.notes < self.old.journal.room }
+        requires room { HoldsSome ticket self.old → length self.old.journal.notes < self.old.journal.room }
         ensures redeems { RedeemsTicket ticket self.old result self.new }
         ensures given { IfOk result (IsGot (O.out end.old) ticket.number) }
         ensures fits { IfOk result (FitsSent (Fits J.SameTask J.Answers) (O.out end.old) ticket.number) }
         ensures out { O.out end.new ≡ O.out end.old }
         ensures stays { StaysBeside (Fits J.SameTask J.Answers) ticket.to self.old self.new (O.out end.new) (O.credited end.new) }
-        ensures spends { IfOk result (λ _. Spends ticket.to self.old self.new) }
+        ensures spends { IfOk result (λ _. Spends ticket.to 0 self.old self.new) }
         ensures untouched { O.untouched end.new ≡ O.untouched end.old }
     {
         let name = ticket.name();
@@ -229,11 +232,11 @@ impl<J: Task<Out = u64>> RecordedDesk<J> {
     pub fn detach<O: OutEnd<J>>(&mut self, end: &mut O, ticket: Ticket) -> Result<(), TicketError>
         requires beside { IsOutOf ticket.to self.old (O.out end.old) (O.credited end.old) }
         requires lane { HasLane (Fits J.SameTask J.Answers) ticket.to self.old (O.out end.old) (O.credited end.old) }
-        requires room { length self.old.journal.notes < self.old.journal.room }
+        requires room { HoldsSome ticket self.old → length self.old.journal.notes < self.old.journal.room }
         ensures detaches { DetachesTicket ticket self.old result self.new }
         ensures out { O.out end.new ≡ O.out end.old }
         ensures stays { StaysBeside (Fits J.SameTask J.Answers) ticket.to self.old self.new (O.out end.new) (O.credited end.new) }
-        ensures spends { IfOk result (λ _. Spends ticket.to self.old self.new) }
+        ensures spends { IfOk result (λ _. Spends ticket.to 0 self.old self.new) }
         ensures untouched { O.untouched end.new ≡ O.untouched end.old }
     {
         let name = ticket.name();

@@ -1,11 +1,14 @@
 //! A desk and its ends, lent to a job for one poll.
 
-ghost use Rattle.std.specs.Prelude.{◌≡◌, ℕ, ◌+◌, ◌*◌, ◌<◌, length, IfOk, IsOk};
+ghost use Rattle.std.specs.Prelude.{◌≡◌, ℕ, ◌+◌, ◌*◌, ◌<◌, ◌≤◌, length, sum_by, IfOk, IsOk};
 ghost use Rattle.rt_ids.specs.Collecting.{IsDetachable};
 ghost use Rattle.rt_jobs.specs.Ready.{HasReadyJob};
 ghost use Rattle.rt_jobs.specs.Posts.{NotesSubmit, NotesRedeem, NotesDetach};
 ghost use Rattle.rt_link.specs.Fits.{Fits};
-ghost use Rattle.rt_journal.specs.Posts.{AreOutsOf, IsLent, GoesOn};
+ghost use Rattle.rt_jobs.specs.Calls.Call.{Submit, Redeem, Detach};
+ghost use Rattle.rt_journal.specs.Posts.{AreOutsOf, IsLent};
+ghost use Rattle.rt_journal.specs.Calls.{Does};
+ghost use Rattle.rt_journal.specs.Spending.{left_of};
 
 use crate::desk::RecordedDesk;
 use rt_ids::{CoreNo, Order, Outcome, SendError, Ticket, TicketError};
@@ -16,7 +19,7 @@ use std::marker::Model;
 
 /// A desk and its ends, one for each core, lent to a job for one poll.
 ///
-/// A contract sees both as they are. A post that follows another has noted what it submitted, redeemed and detached since, and nothing else (`HasPosted`, `GoesOn`).
+/// A contract sees both as they are. What each call does says `Does`.
 pub struct RecordedPost<J: Task<Out = u64>, O: OutEnd<J>> {
     said: RecordedDesk<J>,
     ends: Vec<O, Global>,
@@ -39,7 +42,8 @@ impl<J: Task<Out = u64>, O: OutEnd<J>> RecordedPost<J, O> {
     pub fn lend(said: RecordedDesk<J>, ends: Vec<O, Global>) -> Self
         requires outs { AreOutsOf (Fits J.SameTask J.Answers) O.out O.credited said ends.items }
         requires room { length said.journal.notes + said.cores * (3 * said.cap) < said.journal.room }
-        ensures { result ≡ record { desk = said; ends = ends.items } }
+        ensures lent { result ≡ record { desk = said; ends = ends.items } }
+        ensures few { sum_by left_of said.lanes ≤ said.cores * (3 * said.cap) }
     {
         said.see_lanes();
         RecordedPost { said, ends }
@@ -58,24 +62,20 @@ impl<J: Task<Out = u64>, O: OutEnd<J>> RecordedPost<J, O> {
 
 impl<J: Task<Out = u64>, O: OutEnd<J>> Post<J, u64> for RecordedPost<J, O> {
     ghost use Rattle.rt_ids.specs.Collecting.{IsDetachable};
+    ghost use Rattle.rt_link.specs.Fits.{Fits};
+    ghost use Rattle.rt_journal.specs.Calls.{Does};
 
     ghost notes = { λ post. post.desk.journal.notes };
 
     ghost Waits = { λ post name. IsDetachable name post.desk.journal.notes };
 
-    ghost use Rattle.rt_journal.specs.Posts.{GoesOn};
-
-    ghost Follows = { GoesOn O.out O.untouched };
-
-    ghost follows_itself = { λ post first posted. posted };
-
-    ghost follows_along = { λ a b c one two first posted. two first (one first posted) };
+    ghost Does = { Does (Fits J.SameTask J.Answers) O.out O.credited O.untouched };
 
     fn submit(&mut self, to: CoreNo, order: Order<J>) -> Result<Ticket, SendError<J>>
         requires ready { HasReadyJob J.done J.CanPoll order }
         ensures noted { NotesSubmit self.old.desk.journal.notes to order result self.new.desk.journal.notes }
         ensures waits { IfOk result (λ name. IsDetachable name self.new.desk.journal.notes) }
-        ensures follows { GoesOn O.out O.untouched self.old self.new }
+        ensures does { Does (Fits J.SameTask J.Answers) O.out O.credited O.untouched self.old (Submit to order result) self.new }
     {
         if to.0 as usize >= self.ends.len() {
             return Err(SendError::NoCore(order));
@@ -87,7 +87,7 @@ impl<J: Task<Out = u64>, O: OutEnd<J>> Post<J, u64> for RecordedPost<J, O> {
 
     fn redeem(&mut self, ticket: Ticket) -> Result<Outcome<J, u64>, TicketError>
         ensures noted { NotesRedeem self.old.desk.journal.notes ticket result self.new.desk.journal.notes }
-        ensures follows { GoesOn O.out O.untouched self.old self.new }
+        ensures does { Does (Fits J.SameTask J.Answers) O.out O.credited O.untouched self.old (Redeem ticket result) self.new }
     {
         if !self.said.knows(ticket) {
             return Err(TicketError::Unknown);
@@ -99,7 +99,7 @@ impl<J: Task<Out = u64>, O: OutEnd<J>> Post<J, u64> for RecordedPost<J, O> {
     fn detach(&mut self, ticket: Ticket) -> Result<(), TicketError>
         ensures noted { NotesDetach self.old.desk.journal.notes ticket result self.new.desk.journal.notes }
         ensures waits { IsDetachable ticket self.old.desk.journal.notes → IsOk result }
-        ensures follows { GoesOn O.out O.untouched self.old self.new }
+        ensures does { Does (Fits J.SameTask J.Answers) O.out O.credited O.untouched self.old (Detach ticket result) self.new }
     {
         if !self.said.knows(ticket) {
             return Err(TicketError::Unknown);

@@ -19,7 +19,8 @@ ghost use Rattle.rt_journal.specs.Turns.{Picks, IsOut, IsOutUnder, IsPolled, Set
 ghost use Rattle.rt_desk.specs.Lanes.{IsGot, FitsSent};
 ghost use Rattle.rt_ids.specs.Outstanding.{outstanding_count};
 ghost use Rattle.rt_ids.specs.declared.names.TicketError.TheVariants.{Unknown};
-ghost use Rattle.rt_journal.specs.Tickets.{HasLane, StaysBeside, RefusesTicket, RedeemsTicket, DetachesTicket, CollectsFrom, GetsAll};
+ghost use Rattle.rt_journal.specs.Tickets.{HasLane, KnowsLanes, StaysBeside, RefusesTicket, RedeemsTicket, DetachesTicket, CollectsFrom, GetsAll};
+ghost use Rattle.rt_journal.specs.Spending.{HoldsSome, booked};
 ghost use Rattle.rt_journal.specs.Owed.{IsSentUnder, OwesSettled, outcome_settled, owed_back};
 
 use crate::desk::RecordedDesk;
@@ -221,8 +222,10 @@ impl<J: Task<Out = u64>, A: Allocator + Clone> Recorded<J, A> {
     /// How many orders of one sender may be without an outcome.
     pub fn cap(&self) -> u16
         ensures cap { result ≡ self.now.cap }
+        ensures known { KnowsLanes (desk_of self.now) }
         ensures sound { IsRecorded J.SameTask J.made J.Polls self.now }
     {
+        self.said.see_lanes();
         self.said.cap()
     }
 
@@ -361,8 +364,10 @@ impl<J: Task<Out = u64>, A: Allocator + Clone> Recorded<J, A> {
     pub fn collect_from<O: OutEnd<J>>(&mut self, end: &mut O, core: CoreNo) -> usize
         requires beside { IsOutOf core (desk_of self.old) (O.out end.old) (O.credited end.old) }
         requires lane { HasLane (Fits J.SameTask J.Answers) core (desk_of self.old) (O.out end.old) (O.credited end.old) }
-        requires room { length self.old.journal.notes + self.old.cap ≤ self.old.journal.room }
+        requires room { length self.old.journal.notes + length (O.out end.old).sent ≤ self.old.journal.room + (O.out end.old).got }
         ensures collects { CollectsFrom core (desk_of self.old) result (desk_of self.new) }
+        ensures books { booked (desk_of self.new) ≡ booked (desk_of self.old) }
+        ensures few { length self.new.journal.notes ≤ length self.old.journal.notes + self.old.cap }
         ensures end { GetsAll (O.out end.old) (O.out end.new) }
         ensures stays { StaysBeside (Fits J.SameTask J.Answers) core (desk_of self.old) (desk_of self.new) (O.out end.new) (O.credited end.new) }
         ensures rest { self.new ≡ record self.old { journal = self.new.journal; lanes = self.new.lanes } }
@@ -395,7 +400,7 @@ impl<J: Task<Out = u64>, A: Allocator + Clone> Recorded<J, A> {
     ) -> Result<Outcome<J, u64>, TicketError>
         requires beside { IsOutOf ticket.to (desk_of self.old) (O.out end.old) (O.credited end.old) }
         requires lane { HasLane (Fits J.SameTask J.Answers) ticket.to (desk_of self.old) (O.out end.old) (O.credited end.old) }
-        requires room { length self.old.journal.notes < self.old.journal.room }
+        requires room { HoldsSome ticket (desk_of self.old) → length self.old.journal.notes < self.old.journal.room }
         ensures redeems { RedeemsTicket ticket (desk_of self.old) result (desk_of self.new) }
         ensures given { IfOk result (IsGot (O.out end.old) ticket.number) }
         ensures fits { IfOk result (FitsSent (Fits J.SameTask J.Answers) (O.out end.old) ticket.number) }
@@ -418,7 +423,7 @@ impl<J: Task<Out = u64>, A: Allocator + Clone> Recorded<J, A> {
     pub fn detach<O: OutEnd<J>>(&mut self, end: &mut O, ticket: Ticket) -> Result<(), TicketError>
         requires beside { IsOutOf ticket.to (desk_of self.old) (O.out end.old) (O.credited end.old) }
         requires lane { HasLane (Fits J.SameTask J.Answers) ticket.to (desk_of self.old) (O.out end.old) (O.credited end.old) }
-        requires room { length self.old.journal.notes < self.old.journal.room }
+        requires room { HoldsSome ticket (desk_of self.old) → length self.old.journal.notes < self.old.journal.room }
         ensures detaches { DetachesTicket ticket (desk_of self.old) result (desk_of self.new) }
         ensures out { O.out end.new ≡ O.out end.old }
         ensures stays { StaysBeside (Fits J.SameTask J.Answers) ticket.to (desk_of self.old) (desk_of self.new) (O.out end.new) (O.credited end.new) }

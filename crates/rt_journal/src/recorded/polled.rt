@@ -1,10 +1,12 @@
 //! A poll with a post: the job may submit, redeem and detach.
-ghost use Rattle.std.specs.Prelude.{◌≡◌, ℕ, ◌+◌, ◌*◌, ◌<◌, false, length};
-ghost use Rattle.rt_jobs.specs.Steps.{IfDone, OnYield, OwesOn};
+ghost use Rattle.std.specs.Prelude.{◌≡◌, ℕ, ◌+◌, ◌*◌, ◌<◌, ◌≤◌, false, length};
+ghost use Rattle.rt_jobs.specs.Steps.{IfDone, OnYield, OwesOn, OwesAt};
 ghost use Rattle.rt_link.specs.Fits.{Fits};
 ghost use Rattle.rt_journal.specs.Recorded.{IsRecorded, desk_of};
 ghost use Rattle.rt_journal.specs.Ends.{KeepsIn, IsSameSeat};
 ghost use Rattle.rt_journal.specs.Posts.{AreOutsOf, IsLent, HasPosted};
+ghost use Rattle.rt_journal.specs.Calls.{Does};
+ghost use Rattle.rt_journal.specs.Whole.{post_of};
 
 use super::Recorded;
 use crate::desk::RecordedDesk;
@@ -27,12 +29,13 @@ impl<J: Job<Out = u64>, A: Allocator + Clone> Recorded<J, A> {
         requires open { J.done job ≡ false }
         requires ready { J.CanPoll job }
         ensures before { result.before ≡ job }
-        ensures owed { J.Polls job (J.made job) self.old.journal.notes self.new.journal.notes result.step result.told }
+        ensures owed { OwesAt J.Polls (Does (Fits J.SameTask J.Answers) O.out O.credited O.untouched) job (J.made job) (post_of self.old ends.old.items) (post_of self.new ends.new.items) result.step result.told }
         ensures answers { IfDone result.step (J.Answers job) }
         ensures same { OnYield result.step (J.SameTask job result.job) }
         ensures later { OnYield result.step (OwesOn J.made J.Polls job result.job) }
-        ensures posted { HasPosted O.out O.untouched (record { desk = desk_of self.old; ends = ends.old.items }) (record { desk = desk_of self.new; ends = ends.new.items }) }
-        ensures lent { IsLent (Fits J.SameTask J.Answers) O.out O.credited (record { desk = desk_of self.new; ends = ends.new.items }) }
+        ensures posted { HasPosted O.out O.untouched (post_of self.old ends.old.items) (post_of self.new ends.new.items) }
+        ensures lent { IsLent (Fits J.SameTask J.Answers) O.out O.credited (post_of self.new ends.new.items) }
+        ensures few { length self.new.journal.notes ≤ length self.old.journal.notes + self.old.core.cores * (3 * self.old.cap) }
         ensures rest { self.new ≡ record self.old { journal = self.new.journal; lanes = self.new.lanes } }
         ensures ins { (sender : ℕ) → KeepsIn sender self.old self.new }
         ensures seat { IsSameSeat self.old self.new }

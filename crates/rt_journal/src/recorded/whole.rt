@@ -1,18 +1,27 @@
-//! A whole turn with the job in its place, beside its journal.
-ghost use Rattle.std.specs.Prelude.{◌≡◌, ◌≢◌, ℕ, ◌+◌, ◌≤◌, length};
+//! A whole turn with the job in its place, beside its journal. The job may submit, redeem and detach.
+ghost use Rattle.std.specs.Prelude.{◌≡◌, ℕ, ◌+◌, ◌*◌, ◌≤◌, None, length};
+ghost use Rattle.std.specs.Option.{option_map};
 ghost use Rattle.rt_core.specs.Whole.{IsAhead, TellsAhead, pick_notes, settled_of, settle_notes};
+ghost use Rattle.rt_ids.specs.Outcomes.{outcome_note};
+ghost use Rattle.rt_link.specs.Fits.{Fits};
 ghost use Rattle.rt_journal.specs.Recorded.{IsRecorded, desk_of};
-ghost use Rattle.rt_journal.specs.Ends.{IsInOf, Gives, KeepsIn, KeepsOuts, IsSameSeat};
+ghost use Rattle.rt_journal.specs.Ends.{IsInOf, IsInOwing, Gives, LeavesOwed, told_under, IsSameSeat};
 ghost use Rattle.rt_journal.specs.Owed.{outcome_settled};
-ghost use Rattle.rt_journal.specs.Whole.{IsTurn};
+ghost use Rattle.rt_journal.specs.Posts.{AreOutsOf};
+ghost use Rattle.rt_journal.specs.Calls.{Does};
+ghost use Rattle.rt_journal.specs.Whole.{IsPostingTurn, MayAnswer};
 
 use super::Recorded;
+use crate::desk::RecordedDesk;
 use crate::given::{give_if, outcome_done};
+use crate::post::RecordedPost;
 use rt_core::{Ahead, Next, PickError, Settled};
 use rt_ids::{JobId, Note};
-use rt_jobs::{Job, Post, Step, Task};
-use rt_link::InEnd;
-use std::alloc::Allocator;
+use rt_jobs::{Job, Step, Task};
+use rt_link::{InEnd, OutEnd};
+use rt_taskqueue::Meter;
+use std::alloc::{Allocator, Global};
+use std::mem;
 
 /// The notes of the pick of this job.
 fn picked_notes(next: &Next) -> [Note<u64>; 2]
@@ -59,51 +68,56 @@ impl<J: Task<Out = u64>, A: Allocator + Clone> Recorded<J, A> {
 }
 
 impl<J: Job<Out = u64>, A: Allocator + Clone> Recorded<J, A> {
-    /// Makes the turn of the job that `ahead` told, with the job in its place. Its pick is noted, it is polled once with this post, its
-    /// settling is noted, and its outcome is given on the end of its sender, if it is done. If the job told no time of its own, `spent`
-    /// nanoseconds count. What the post notes, it notes elsewhere.
-    pub fn turn<I: InEnd<J>, P: Post<J, u64>>(
+    /// Makes the turn of the job that `ahead` told, with the job in its place. Its pick is noted, it is polled once and lent the desk and
+    /// its ends for that long, what it posts is noted, and its settling. If the job told no time of its own, that of the meter counts,
+    /// which is started right before the poll and asked right after it. The outcome of a job that is done is owed: `give_done` gives it.
+    pub fn turn_posting<O: OutEnd<J> + Drop, M: Meter>(
         &mut self,
-        end: &mut I,
+        alloc: Global,
+        ends: &mut Vec<O, Global>,
         next: &Next,
-        post: &mut P,
-        spent: u64,
+        meter: &mut M,
     ) -> Settled<u64>
         requires ahead { IsAhead self.old.core next.now.queue next.now.vr next.now.name next.now.started }
-        requires beside { IsInOf next.now.name.from self.old (I.inward end.old) }
-        requires room { length self.old.journal.notes + 3 ≤ self.old.journal.room }
-        ensures turns { IsTurn J.SameTask J.made J.Polls J.Answers self.old next.now.name next.now.queue next.now.started (P.notes post.old) (P.notes post.new) spent result self.new }
-        ensures gives { Gives (I.inward end.old) next.now.name.number (outcome_settled result) (I.inward end.new) }
-        ensures beside { IsInOf next.now.name.from self.new (I.inward end.new) }
-        ensures others { (sender : ℕ) → sender ≢ next.now.name.from → KeepsIn sender self.old self.new }
-        ensures outs { KeepsOuts (desk_of self.old) (desk_of self.new) }
-        ensures lanes { self.new.lanes ≡ self.old.lanes }
-        ensures seat { IsSameSeat self.old self.new }
-        ensures sound { IsRecorded J.SameTask J.made J.Polls self.new }
-        ensures untouched { I.untouched end.new ≡ I.untouched end.old }
-    {
-        let settled = self.turn_out(next, post, spent);
-        give_if(end, next.name.number, outcome_done(&settled));
-        settled
-    }
-
-    /// Makes that turn. Its outcome is owed from then on, if it is done.
-    fn turn_out<P: Post<J, u64>>(&mut self, next: &Next, post: &mut P, spent: u64) -> Settled<u64>
-        requires ahead { IsAhead self.old.core next.now.queue next.now.vr next.now.name next.now.started }
-        requires room { length self.old.journal.notes + 3 ≤ self.old.journal.room }
-        ensures turns { IsTurn J.SameTask J.made J.Polls J.Answers self.old next.now.name next.now.queue next.now.started (P.notes post.old) (P.notes post.new) spent result self.new }
-        ensures outs { KeepsOuts (desk_of self.old) (desk_of self.new) }
-        ensures lanes { self.new.lanes ≡ self.old.lanes }
+        requires outs { AreOutsOf (Fits J.SameTask J.Answers) O.out O.credited (desk_of self.old) ends.old.items }
+        requires room { length self.old.journal.notes + self.old.core.cores * (3 * self.old.cap) + 3 ≤ self.old.journal.room }
+        ensures turns { IsPostingTurn J.SameTask J.made J.Polls J.Answers (Does (Fits J.SameTask J.Answers) O.out O.credited O.untouched) O.out O.untouched (M.Tells meter.old)
+            self.old ends.old.items next.now.name next.now.queue next.now.started result self.new ends.new.items }
+        ensures owes { (sender : ℕ) → LeavesOwed sender (told_under next.now.name (option_map outcome_note (outcome_settled {J = J} result)) sender) self.old self.new }
+        ensures may_answer { MayAnswer J.Answers self.new.took next.now.name result }
+        ensures outs { AreOutsOf (Fits J.SameTask J.Answers) O.out O.credited (desk_of self.new) ends.new.items }
+        ensures few { length self.new.journal.notes ≤ length self.old.journal.notes + self.old.core.cores * (3 * self.old.cap) + 3 }
+        ensures at_rest { self.new.core.out ≡ None }
+        ensures took { self.new.took ≡ self.old.took }
         ensures seat { IsSameSeat self.old self.new }
         ensures sound { IsRecorded J.SameTask J.made J.Polls self.new }
     {
         // There are fewer notes than turns that a core can make.
         let _room = self.said.journal().room();
-        let (step, time) = self.core.turn(next, post, spent);
         let picked = picked_notes(next);
         self.said.write(&picked);
+        let desk = mem::replace(&mut self.said, RecordedDesk::nothing(alloc));
+        let lent = mem::replace(ends, Vec::new(alloc));
+        let mut post = RecordedPost::lend(desk, lent);
+        let (step, time) = self.core.turn_metered(next, &mut post, meter);
+        let (desk, lent) = post.into_parts();
+        desk.see_lanes();
+        self.said = desk;
+        *ends = lent;
         let told = settled_notes(&next.name, time, &step);
         self.said.write(&told);
         settled(&step)
+    }
+
+    /// Gives the outcome of a turn on the end of the job's sender, if the job is done.
+    pub fn give_done<I: InEnd<J>>(&self, end: &mut I, name: JobId, settled: &Settled<u64>)
+        requires owed { IsInOwing name.from (told_under name (option_map outcome_note (outcome_settled {J = J} settled.now)) name.from) self.now (I.inward end.old) }
+        requires may_answer { MayAnswer J.Answers self.now.took name settled.now }
+        ensures gives { Gives (I.inward end.old) name.number (outcome_settled settled.now) (I.inward end.new) }
+        ensures beside { IsInOf name.from self.now (I.inward end.new) }
+        ensures untouched { I.untouched end.new ≡ I.untouched end.old }
+    {
+        let _said = &self.said;
+        give_if(end, name.number, outcome_done(settled));
     }
 }

@@ -1,6 +1,7 @@
 use Rattle.std.proofs.Common.{[], length, refl, ◌∙◌, ap, subst, arith}
+use Rattle.std.proofs.lemmas.List.{length-append}
 use Rattle.rt_link.proofs.Lists.{StartsWith-self}
-use Rattle.rt_journal.specs.Submissions.{IsWritten, terms_of_desk}
+use Rattle.rt_journal.specs.Submissions.{DeskView, IsWritten, terms_of_desk}
 use Rattle.rt_journal.specs.Tickets.{KnowsLanes}
 use Rattle.rt_journal.proofs.Desked.{stays_nothing}
 use Rattle.rt_journal.proofs.CollectedAll.{stays_then, gathers_more, end_more, gathers_no_more, gets_all}
@@ -9,14 +10,14 @@ use Rattle.rt_journal.proofs.desk.RecordedDesk.collect_from.Goals as goal
 pub loop-core-init : goal.loop-core-init
 loop-core-init g c =
     let invariant = subst (λ desk. IsWritten (terms_of_desk desk) desk.journal.notes × KnowsLanes desk) c.self.view_is c.self.invariant in
-    let sound = c.requires.lane.lane_of.sound in
     record {
       stays = stays_nothing c.args.self.now invariant.1 c.args.core (g.O.OutEnd.out c.args.end.now) (g.O.OutEnd.credited c.args.end.now) invariant.0 c.requires.beside c.requires.lane;
       gathered = ([], tt, refl, refl);
       end = refl;
       longer = StartsWith-self (g.O.OutEnd.out c.args.end.now).seen;
-      room = omega (arith, c.requires.room, sound.room, sound.credits, c.requires.beside.capacity);
-      low = omega arith;
+      room = c.requires.room;
+      counted = omega arith;
+      books = refl;
       untouched = refl;
     }
 
@@ -32,7 +33,7 @@ collect_one-requires-clause-room g c = c.loop-core.invariant.room
 pub overflow_add-count : goal.overflow_add-count
 overflow_add-count g c =
     let sound = c.loop-core.invariant.stays.lane.lane_of.sound in
-    omega (arith, c.loop-core.invariant.low, sound.within, sound.numbered)
+    omega (arith, c.loop-core.invariant.counted, sound.within, sound.numbered)
 
 pub loop-core-smaller : goal.loop-core-smaller
 loop-core-smaller g c =
@@ -49,7 +50,8 @@ loop-core-preserved g c =
       end = end.0;
       longer = end.1;
       room = omega (arith, c.loop-core.invariant.room, ap (λ journal. length journal.notes) gets.0.3, ap (λ journal. journal.room) gets.0.3, ap (λ end. end.got) gets.1, ap (λ end. length end.sent) gets.1);
-      low = omega (arith, c.loop-core.invariant.low, ap (λ end. end.got) gets.1);
+      counted = omega (arith, c.loop-core.invariant.counted, ap (λ end. end.got) gets.1);
+      books = c.collect_one.ensures.books ∙ c.loop-core.invariant.books;
       untouched = c.collect_one.ensures.untouched ∙ c.loop-core.invariant.untouched;
     }
 
@@ -64,3 +66,25 @@ returns-clause-stays g c = stays_then c.args.core c.args.self.now c.loop-core.se
 
 pub returns-clause-untouched : goal.returns-clause-untouched
 returns-clause-untouched g c = c.collect_one.ensures.untouched ∙ c.loop-core.invariant.untouched
+
+pub returns-clause-books : goal.returns-clause-books
+returns-clause-books g c = c.collect_one.ensures.books ∙ c.loop-core.invariant.books
+
+pub returns-clause-few : goal.returns-clause-few
+returns-clause-few g c =
+    let gathered = c.loop-core.invariant.gathered in
+    let sound = c.requires.lane.lane_of.sound in
+    let gets = c.loop-core-test.ensures.gets in
+    omega (
+      arith,
+      gathered.2,
+      ap (λ journal. length journal.notes) gathered.3,
+      length-append gathered.0 c.args.self.now.journal.notes,
+      ap (λ (desk : DeskView _ _). length desk.journal.notes) gets.0,
+      c.loop-core.invariant.counted,
+      c.loop-core.invariant.stays.lane.lane_of.sound.within,
+      ap (λ end. length end.sent) c.loop-core.invariant.end,
+      sound.room,
+      sound.credits,
+      c.requires.beside.capacity,
+    )

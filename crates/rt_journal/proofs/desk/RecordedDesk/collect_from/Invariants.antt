@@ -1,6 +1,7 @@
 use Rattle.std.proofs.Common.{◌≡◌, ◌+◌, ◌-◌, ◌≤◌, length}
 use Rattle.rt_link.specs.Ends.{StartsWith}
 use Rattle.rt_link.specs.Fits.{Fits}
+use Rattle.rt_journal.specs.Spending.{booked}
 use Rattle.rt_journal.specs.Tickets.{StaysBeside, CollectsFrom}
 use Rattle.rt_journal.proofs.desk.RecordedDesk.collect_from.Given as goal
 
@@ -12,7 +13,8 @@ invariant-loop-core g l = record {
   end : g.O.OutEnd.out l.end ≡ record (g.O.OutEnd.out l.initial.end) { seen = (g.O.OutEnd.out l.end).seen; got = (g.O.OutEnd.out l.end).got };
   longer : StartsWith (g.O.OutEnd.out l.end).seen (g.O.OutEnd.out l.initial.end).seen;
   room : length l.self.journal.notes + length (g.O.OutEnd.out l.end).sent ≤ l.self.journal.room + (g.O.OutEnd.out l.end).got;
-  low : l.count ≤ (g.O.OutEnd.out l.end).got;
+  counted : l.count + (g.O.OutEnd.out l.initial.end).got ≡ (g.O.OutEnd.out l.end).got;
+  books : booked l.self ≡ booked l.initial.self;
   untouched : g.O.OutEnd.untouched l.end ≡ g.O.OutEnd.untouched l.initial.end;
 }
 

@@ -8,7 +8,7 @@ use Rattle.rt_journal.specs.Tickets.{HasLane, RedeemsTicket, RefusesTicket}
 use Rattle.rt_journal.proofs.Desked.{lane_there, lane_beside, desk_same, stays_refused, names_are, are_same, are_apart, carried, carried_same}
 use Rattle.rt_journal.proofs.Refused.{refuses}
 use Rattle.rt_journal.proofs.Redeemed.{foreign, redeems_ticket, redeemed_stays}
-use Rattle.rt_journal.proofs.Spending.{within_room, spent_gone, carried_spends}
+use Rattle.rt_journal.proofs.Spending.{within_room, spent_gone, due_gone, held_gone, may_note, carried_spends}
 use Rattle.rt_journal.proofs.desk.RecordedDesk.redeem.Goals as goal
 
 pub returns-then-ne-clause-redeems : goal.returns-then-ne-clause-redeems
@@ -85,4 +85,10 @@ returns-in-Ok-clause-spends g c =
     let beside = (subst (λ core. IsOutOf core (record { actor = c.self.inside.actor; cores = c.self.inside.cores; cap = c.self.inside.cap; journal = c.self.inside.journal; lanes = c.self.inside.lanes.items }) (g.O.OutEnd.out c.args.end.now) (g.O.OutEnd.credited c.args.end.now)) (sym (ap (λ id. id.to) (c.name.view_is ∙ c.name-name.ensures))) (subst (λ desk. IsOutOf c.args.ticket.to desk (g.O.OutEnd.out c.args.end.now) (g.O.OutEnd.credited c.args.end.now)) (sym c.self.view_is) c.requires.beside)) in
     let there = (lane_there (record { actor = c.self.inside.actor; cores = c.self.inside.cores; cap = c.self.inside.cap; journal = c.self.inside.journal; lanes = c.self.inside.lanes.items }) c.self.invariant.1 c.name.inside.0.1.0.0 beside _ c.index_mut-lane.ensures.value) in
     let lane_of = lane_beside {fits = (Fits g.J.Task.SameTask g.J.Task.Answers)} (record { actor = c.self.inside.actor; cores = c.self.inside.cores; cap = c.self.inside.cap; journal = c.self.inside.journal; lanes = c.self.inside.lanes.items }) c.self.invariant.1 c.name.inside.0.1.0.0 (subst (λ core. HasLane (Fits g.J.Task.SameTask g.J.Task.Answers) core (record { actor = c.self.inside.actor; cores = c.self.inside.cores; cap = c.self.inside.cap; journal = c.self.inside.journal; lanes = c.self.inside.lanes.items }) (g.O.OutEnd.out c.args.end.now) (g.O.OutEnd.credited c.args.end.now)) (sym (ap (λ id. id.to) (c.name.view_is ∙ c.name-name.ensures))) (subst (λ desk. HasLane (Fits g.J.Task.SameTask g.J.Task.Answers) c.args.ticket.to desk (g.O.OutEnd.out c.args.end.now) (g.O.OutEnd.credited c.args.end.now)) (sym c.self.view_is) c.requires.lane)) _ there in
-    carried_spends (record { actor = c.self.inside.actor; cores = c.self.inside.cores; cap = c.self.inside.cap; journal = c.self.inside.journal; lanes = c.self.inside.lanes.items }) c.args.self.now (record { actor = c.self.inside.actor; cores = c.self.inside.cores; cap = c.self.inside.cap; journal = c.push.new.self; lanes = set c.self.inside.lanes.items c.name.inside.0.1.0.0 c.redeem.new.self }) c.self.view_is c.name.inside.0.1.0.0 c.args.ticket.to (ap (λ id. id.to) (c.name.view_is ∙ c.name-name.ensures)) c.index_mut-lane.result.now c.redeem.new.self there refl (spent_gone c.index_mut-lane.result.now c.redeem.new.self _ (ap (λ lane. lane.room) c.in-Ok.ensures.redeems.1) c.in-Ok.outcome c.in-Ok.ensures.redeems.0 (within_room c.index_mut-lane.result.now (g.O.OutEnd.out c.args.end.now) (g.O.OutEnd.credited c.args.end.now) lane_of))
+    carried_spends (record { actor = c.self.inside.actor; cores = c.self.inside.cores; cap = c.self.inside.cap; journal = c.self.inside.journal; lanes = c.self.inside.lanes.items }) c.args.self.now (record { actor = c.self.inside.actor; cores = c.self.inside.cores; cap = c.self.inside.cap; journal = c.push.new.self; lanes = set c.self.inside.lanes.items c.name.inside.0.1.0.0 c.redeem.new.self }) c.self.view_is c.name.inside.0.1.0.0 c.args.ticket.to (ap (λ id. id.to) (c.name.view_is ∙ c.name-name.ensures)) c.index_mut-lane.result.now c.redeem.new.self there refl (spent_gone c.index_mut-lane.result.now c.redeem.new.self _ (ap (λ lane. lane.room) c.in-Ok.ensures.redeems.1) c.in-Ok.outcome c.in-Ok.ensures.redeems.0 (within_room c.index_mut-lane.result.now (g.O.OutEnd.out c.args.end.now) (g.O.OutEnd.credited c.args.end.now) lane_of)) 0 (due_gone c.index_mut-lane.result.now c.redeem.new.self _ c.in-Ok.outcome c.in-Ok.ensures.redeems.0)
+
+pub push-requires : goal.push-requires
+push-requires g c =
+    let beside = (subst (λ core. IsOutOf core (record { actor = c.self.inside.actor; cores = c.self.inside.cores; cap = c.self.inside.cap; journal = c.self.inside.journal; lanes = c.self.inside.lanes.items }) (g.O.OutEnd.out c.args.end.now) (g.O.OutEnd.credited c.args.end.now)) (sym (ap (λ id. id.to) (c.name.view_is ∙ c.name-name.ensures))) (subst (λ desk. IsOutOf c.args.ticket.to desk (g.O.OutEnd.out c.args.end.now) (g.O.OutEnd.credited c.args.end.now)) (sym c.self.view_is) c.requires.beside)) in
+    let there = (lane_there (record { actor = c.self.inside.actor; cores = c.self.inside.cores; cap = c.self.inside.cap; journal = c.self.inside.journal; lanes = c.self.inside.lanes.items }) c.self.invariant.1 c.name.inside.0.1.0.0 beside _ c.index_mut-lane.ensures.value) in
+    record { free = may_note (record { actor = c.self.inside.actor; cores = c.self.inside.cores; cap = c.self.inside.cap; journal = c.self.inside.journal; lanes = c.self.inside.lanes.items }) c.args.self.now c.self.view_is c.args.ticket c.requires.room c.name.inside.0.1.0.0 _ (ap (λ id. id.to) (c.name.view_is ∙ c.name-name.ensures)) (ap (λ id. id.number) (c.name.view_is ∙ c.name-name.ensures)) c.index_mut-lane.result.now there (held_gone c.index_mut-lane.result.now c.redeem.new.self _ c.in-Ok.outcome c.in-Ok.ensures.redeems.0) }

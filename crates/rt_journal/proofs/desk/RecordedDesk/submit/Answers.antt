@@ -7,7 +7,7 @@ use Rattle.rt_journal.specs.Submissions.{Submits}
 use Rattle.rt_journal.specs.Tickets.{HasLane, StaysBeside}
 use Rattle.rt_journal.proofs.Desked.{name_at, lane_there, lane_beside, desk_same, stays_refused}
 use Rattle.rt_journal.proofs.Submitted.{stays-now, submits-now, beside-refused, submits-refused}
-use Rattle.rt_journal.proofs.Spending.{spent_sent, carried_spends}
+use Rattle.rt_journal.proofs.Spending.{spent_sent, due_sent, carried_spends}
 use Rattle.rt_journal.proofs.desk.RecordedDesk.submit.Goals as goal
 
 pub submit-requires-clause-lane : goal.submit-requires-clause-lane
@@ -72,4 +72,4 @@ returns-in-Ok-clause-spends g c =
     let beside = (subst (λ core. IsOutOf core (record { actor = c.self.inside.actor; cores = c.self.inside.cores; cap = c.self.inside.cap; journal = c.self.inside.journal; lanes = c.self.inside.lanes.items }) (g.O.OutEnd.out c.args.end.now) (g.O.OutEnd.credited c.args.end.now)) (sym c.to.view_is) (subst (λ desk. IsOutOf c.args.to desk (g.O.OutEnd.out c.args.end.now) (g.O.OutEnd.credited c.args.end.now)) (sym c.self.view_is) c.requires.beside)) in
     let there = (lane_there (record { actor = c.self.inside.actor; cores = c.self.inside.cores; cap = c.self.inside.cap; journal = c.self.inside.journal; lanes = c.self.inside.lanes.items }) c.self.invariant.1 c.to.inside.0 beside _ c.index_mut-lane.ensures.value) in
     let lane_of = lane_beside {fits = (Fits g.J.Task.SameTask g.J.Task.Answers)} (record { actor = c.self.inside.actor; cores = c.self.inside.cores; cap = c.self.inside.cap; journal = c.self.inside.journal; lanes = c.self.inside.lanes.items }) c.self.invariant.1 c.to.inside.0 (subst (λ core. HasLane (Fits g.J.Task.SameTask g.J.Task.Answers) core (record { actor = c.self.inside.actor; cores = c.self.inside.cores; cap = c.self.inside.cap; journal = c.self.inside.journal; lanes = c.self.inside.lanes.items }) (g.O.OutEnd.out c.args.end.now) (g.O.OutEnd.credited c.args.end.now)) (sym c.to.view_is) (subst (λ desk. HasLane (Fits g.J.Task.SameTask g.J.Task.Answers) c.args.to desk (g.O.OutEnd.out c.args.end.now) (g.O.OutEnd.credited c.args.end.now)) (sym c.self.view_is) c.requires.lane)) _ there in
-    carried_spends (record { actor = c.self.inside.actor; cores = c.self.inside.cores; cap = c.self.inside.cap; journal = c.self.inside.journal; lanes = c.self.inside.lanes.items }) c.args.self.now (record { actor = c.self.inside.actor; cores = c.self.inside.cores; cap = c.self.inside.cap; journal = c.push.new.self; lanes = set c.self.inside.lanes.items c.to.inside.0 c.submit.new.self }) c.self.view_is c.to.inside.0 c.args.to c.to.view_is c.index_mut-lane.result.now c.submit.new.self there refl (spent_sent c.index_mut-lane.result.now c.submit.new.self c.in-Ok.number (c.in-Ok.ensures.lane.room ∙ (ap (λ end. end.capacity) c.in-Ok.ensures.sends.4 ∙ sym lane_of.room)) c.in-Ok.ensures.accepted (omega (arith, lane_of.outstanding, lane_of.room, c.in-Ok.ensures.sends.1)))
+    carried_spends (record { actor = c.self.inside.actor; cores = c.self.inside.cores; cap = c.self.inside.cap; journal = c.self.inside.journal; lanes = c.self.inside.lanes.items }) c.args.self.now (record { actor = c.self.inside.actor; cores = c.self.inside.cores; cap = c.self.inside.cap; journal = c.push.new.self; lanes = set c.self.inside.lanes.items c.to.inside.0 c.submit.new.self }) c.self.view_is c.to.inside.0 c.args.to c.to.view_is c.index_mut-lane.result.now c.submit.new.self there refl (spent_sent c.index_mut-lane.result.now c.submit.new.self c.in-Ok.number (c.in-Ok.ensures.lane.room ∙ (ap (λ end. end.capacity) c.in-Ok.ensures.sends.4 ∙ sym lane_of.room)) c.in-Ok.ensures.accepted (omega (arith, lane_of.outstanding, lane_of.room, c.in-Ok.ensures.sends.1))) 3 (due_sent c.index_mut-lane.result.now c.submit.new.self c.in-Ok.number c.in-Ok.ensures.accepted)

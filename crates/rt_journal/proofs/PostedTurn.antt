@@ -1,0 +1,167 @@
+-- A whole turn with posts, from the desk that noted the pick, by the desk that came back from the job, to the desk that noted the settling.
+use Rattle.std.specs.Prelude.{Some, None, Ok, IfSome, Option}
+use Rattle.std.specs.Option.{option_map}
+use Rattle.std.proofs.Common.{◌≡◌, ℕ, ◌+◌, ◌*◌, ◌<◌, ◌≤◌, Bool, List, ◌++◌, length, reverse, sym, ◌∙◌, ap, subst, arith}
+use Rattle.std.proofs.lemmas.Option.{same_Some}
+use Rattle.rt_ids.specs.Limits.{most_turns}
+use Rattle.rt_ids.specs.declared.names.JobId.{JobId}
+use Rattle.rt_ids.specs.declared.note.Note.{Note}
+use Rattle.rt_ids.specs.declared.order.Envelope.{Envelope}
+use Rattle.rt_ids.specs.declared.order.Order.{Order}
+use Rattle.rt_ids.specs.declared.order.Outcome.{Outcome}
+use Rattle.rt_ids.specs.Outcomes.{outcome_note}
+use Rattle.rt_ids.specs.Picks.{turns}
+use Rattle.rt_jobs.specs.Calls.{Call, Doing, Makes}
+use Rattle.rt_jobs.specs.declared.job.Step.{Step}
+use Rattle.rt_jobs.specs.Steps.{Owed, OwesAt, IsSameTask}
+use Rattle.rt_core.specs.State.{CoreView, JobOut}
+use Rattle.rt_core.specs.Whole.{TurnsWhole, pick_notes, settled_of, settle_notes}
+use Rattle.rt_link.specs.declared.ends.Outward.{Outward}
+use Rattle.rt_journal.specs.Submissions.{DeskView, IsWritten, terms_of_desk, desk_with}
+use Rattle.rt_journal.specs.Recorded.{RecordedView, IsRecorded, desk_of}
+use Rattle.rt_journal.specs.Ends.{KeepsSent, KeepsIn, LeavesOwed, IsSameSeat, told_under}
+use Rattle.rt_journal.specs.Owed.{OwesSettled, outcome_settled}
+use Rattle.rt_journal.specs.Posts.{PostView, AreOutsOf, HasPosted}
+use Rattle.rt_journal.specs.Turns.{IsPick, IsPolled, Settles}
+use Rattle.rt_journal.specs.Whole.{post_of, IsPostingTurn, MayAnswer}
+use Rattle.rt_journal.proofs.PolledDesks.{posted_rest, posted_silent}
+use Rattle.rt_journal.proofs.PostingTurn.{went_out, is_picked, picks_it, keeps_in, seat_picked, outs_kept, owes_then}
+use Rattle.rt_journal.proofs.Quiet.{given_settled}
+use Rattle.rt_journal.proofs.QuietSteps.{IsQuietStep, everyone}
+use Rattle.rt_journal.proofs.SentNotes.{desk_sound, desk_is_its, desk_ins}
+use Rattle.rt_journal.proofs.SettledEnds.{owes_settled, its_answer}
+use Rattle.rt_journal.proofs.SettledPolls.{step-settled, settles-now}
+use Rattle.rt_journal.proofs.Wrote.{view_of, quiet_written, quiet_sent, now_is, quiet_invariant, quiet_seat, quiet_ins, quiet_outs}
+
+module _ {J T E : Type 0} {same : J → J → Type 0} {done : J → Bool} {can_poll : J → Type 0} {made : J → ℕ} {polls : Owed J T} {answers : J → T → Type 0} (is_same : IsSameTask same)
+    (answers_same : (a b : J) (out : T) → same a b → answers a out → answers b out) {out : E → Outward J T} {untouched : E → List ℕ}
+    (core : CoreView J) (took : List (Envelope J)) (said : DeskView J T)
+    (invariant : IsRecorded same made polls (view_of core took said) × (said ≡ desk_of (view_of core took said))) (few_turns : turns said.journal.notes < most_turns)
+    (queue vr : ℕ) (name : JobId) (started : Bool) (spent : ℕ) (calls : List (Call J T)) (step : Step T) (time : ℕ) (core_now : CoreView J)
+    (whole : TurnsWhole same done can_poll made polls answers core spent calls name queue started (pick_notes queue vr name started) (settled_of step) (settle_notes name time step) core_now)
+    (slice : List (Note T)) (slice_is : slice ≡ pick_notes queue vr name started) (noted : DeskView J T) (wrote : noted ≡ desk_with (reverse slice) said)
+    (left : DeskView J T) (ends later : List E)
+    (posted : HasPosted out untouched (record { desk = noted; ends = ends }) (record { desk = left; ends = later })) (written : IsWritten (terms_of_desk left) left.journal.notes) where
+  abbrev old : RecordedView J T
+  old = view_of core took said
+
+  abbrev picked : RecordedView J T
+  picked = view_of whole.mid took noted
+
+  abbrev polled_view : RecordedView J T
+  polled_view = view_of whole.mid took left
+
+  abbrev told : List (Note T)
+  told = settle_notes name time step
+
+  at_pick : IsRecorded same made polls picked × (noted ≡ desk_of picked)
+  at_pick = is_picked core took said invariant few_turns queue vr name started whole.ran.before whole.mid whole.picks slice slice_is noted wrote
+
+  rest : left ≡ record noted { journal = record noted.journal { notes = left.journal.notes }; lanes = left.lanes }
+  rest = posted_rest noted left ends later posted
+
+  at_poll : IsRecorded same made polls polled_view × (left ≡ desk_of polled_view)
+  at_poll = (
+    desk_sound whole.mid took noted left at_pick rest written (posted_silent noted left ends later posted),
+    desk_is_its {same = same} {made = made} {polls = polls} whole.mid took noted left at_pick rest written (posted_silent noted left ends later posted),
+  )
+
+  silent : (sender : ℕ) → KeepsIn sender picked polled_view
+  silent = desk_ins {same = same} {made = made} {polls = polls} whole.mid took noted left at_pick rest written (posted_silent noted left ends later posted)
+
+  polled : IsPolled same made polls answers whole.ran
+  polled = record { answered = whole.polled.answered; same_task = whole.polled.task; later = whole.polled.later }
+
+  its_job : whole.settles.0.job ≡ whole.ran.before
+  its_job =
+      ap (λ (job : JobOut J). job.job)
+      (same_Some _ _ (sym whole.settles.1 ∙ went_out core took said invariant few_turns queue vr name started whole.ran.before whole.mid started (pick_notes queue vr name started) whole.picks))
+
+  its_name : whole.settles.0.name ≡ name
+  its_name =
+      ap (λ (job : JobOut J). job.name)
+      (same_Some _ _ (sym whole.settles.1 ∙ went_out core took said invariant few_turns queue vr name started whole.ran.before whole.mid started (pick_notes queue vr name started) whole.picks))
+
+  last_step : IsQuietStep polled_view core_now (reverse told) same made polls everyone (given_settled whole.settles.0.name whole.ran.step)
+  last_step = step-settled is_same answers_same polled_view at_poll.0 whole.settles.0 whole.settles.1 core_now whole.ran its_job polled spent (settled_of step) told whole.settles.2
+
+  -- the desk and its ends are those of the core between pick and settling
+  posts_of : (P : PostView J T E → PostView J T E → Type 0) → P (record { desk = noted; ends = ends }) (record { desk = left; ends = later }) → P (post_of picked ends) (post_of polled_view later)
+  posts_of P holds =
+      subst (λ desk. P (record { desk = desk; ends = ends }) (post_of polled_view later)) at_pick.1
+      (subst (λ desk. P (record { desk = noted; ends = ends }) (record { desk = desk; ends = later })) at_poll.1 holds)
+
+  module _ (last : List (Note T)) (last_is : last ≡ told) where
+    pub may_settle : IsWritten (terms_of_desk left) (reverse last ++ left.journal.notes)
+    may_settle = quiet_written whole.mid took left at_poll core_now told last last_is last_step
+
+    pub sent_settled : KeepsSent left.journal.notes (reverse last ++ left.journal.notes)
+    sent_settled = quiet_sent whole.mid took left at_poll core_now told last last_is last_step
+
+    module _ (said_now : DeskView J T) (wrote_it : said_now ≡ desk_with (reverse last) left) where
+      abbrev new : RecordedView J T
+      new = view_of core_now took said_now
+
+      pub turned_invariant : IsRecorded same made polls new × (said_now ≡ desk_of new)
+      turned_invariant = quiet_invariant whole.mid took left at_poll core_now told last last_is last_step said_now wrote_it
+
+      settles_it : Settles made polls answers polled_view whole.ran spent (settled_of step) new
+      settles_it = subst (Settles made polls answers polled_view whole.ran spent (settled_of step)) (sym (now_is whole.mid took left at_poll core_now told last last_is last_step said_now wrote_it))
+          (settles-now is_same answers_same polled_view at_poll.0 whole.settles.0 whole.settles.1 core_now whole.ran its_job polled spent (settled_of step) told whole.settles.2)
+
+      owes_it : OwesSettled polled_view (settled_of step) new
+      owes_it = owes_settled polled_view _ whole.settles.0 whole.settles.1 whole.ran.step (settled_of step) settles_it.tells
+          (λ sender. quiet_ins whole.mid took left at_poll core_now told last last_is last_step said_now wrote_it sender tt)
+
+      keeps_picked : (sender : ℕ) → KeepsIn sender old picked
+      keeps_picked = keeps_in core took said invariant few_turns queue vr name started whole.ran.before whole.mid whole.picks slice slice_is noted wrote
+
+      pub turned : {does : Doing (PostView J T E) J T} {tells : ℕ → Type 0} → tells spent → Makes does calls (record { desk = noted; ends = ends }) (record { desk = left; ends = later }) →
+          IsPostingTurn same made polls answers does out untouched tells old ends name queue started (settled_of step) new later
+      turned {does} told_it makes = record {
+        picked = picked;
+        left = polled_view;
+        ran = whole.ran;
+        spent = spent;
+        told = told_it;
+        picks = picks_it core took said invariant few_turns queue vr name started whole.ran.before whole.mid whole.picks slice slice_is noted wrote;
+        keeps = keeps_picked;
+        owed = record { calls = calls; owed = whole.polled.owed; makes = posts_of (Makes does calls) makes };
+        posted = posts_of (HasPosted out untouched) posted;
+        rest = λ i. record { cap = ap (λ desk. desk.cap) rest i; core = whole.mid; journal = left.journal; took = took; lanes = left.lanes };
+        silent = silent;
+        polled = polled;
+        settles = settles_it;
+        owes = owes_it;
+      }
+
+      pub turned_owes : (sender : ℕ) → LeavesOwed sender (told_under name (option_map outcome_note (outcome_settled {J = J} (settled_of step))) sender) old new
+      turned_owes sender =
+          subst (λ name. LeavesOwed sender (told_under name (option_map outcome_note (outcome_settled {J = J} (settled_of step))) sender) old new) its_name
+          (owes_then old picked polled_view new sender (keeps_picked sender) (silent sender) (owes_it whole.settles.0 whole.settles.1 sender))
+
+      pub turned_answer : MayAnswer answers took name (settled_of step)
+      turned_answer =
+          let job_is = same_Some _ _ (sym settles_it.was_out ∙ went_out core took said invariant few_turns queue vr name started whole.ran.before whole.mid started (pick_notes queue vr name started) whole.picks) in
+          subst (λ name. MayAnswer answers took name (settled_of step)) (ap (λ (job : JobOut J). job.name) job_is)
+          (its_answer answers took settles_it.out.name settles_it.out.queue settles_it.sent settles_it.task whole.ran.step (settled_of step) settles_it.tells settles_it.answered)
+
+      pub turned_outs : {fits : Order J → Outcome J T → Type 0} {credited : E → ℕ} → AreOutsOf fits out credited left later → AreOutsOf fits out credited (desk_of new) later
+      turned_outs {fits} {credited} outs =
+          outs_kept (desk_of polled_view) (desk_of new) later (quiet_outs whole.mid took left at_poll core_now told last last_is last_step said_now wrote_it) (ap (λ desk. desk.lanes) wrote_it)
+          (quiet_seat whole.mid took left at_poll core_now told last last_is last_step said_now wrote_it).cores
+          (subst (λ desk. AreOutsOf fits out credited desk later) at_poll.1 outs)
+
+      pub turned_rest : core_now.out ≡ None
+      turned_rest = settles_it.out_now
+
+      pub turned_seat : IsSameSeat old new
+      turned_seat =
+          let one = seat_picked core took said invariant few_turns queue vr name started whole.ran.before whole.mid whole.picks slice slice_is noted wrote in
+          let other = quiet_seat whole.mid took left at_poll core_now told last last_is last_step said_now wrote_it in
+          record {
+            number = other.number ∙ one.number;
+            cores = other.cores ∙ one.cores;
+            cap = other.cap ∙ (ap (λ desk. desk.cap) rest ∙ one.cap);
+            room = other.room ∙ (ap (λ desk. desk.journal.room) rest ∙ one.room);
+          }

@@ -1,0 +1,124 @@
+-- A whole turn with posts, beside its journal: the notes of the pick are written behind the old ones, then what is posted, then the note of the settling.
+use Rattle.std.specs.Prelude.{Some, Ok, Option, slice_get}
+use Rattle.std.proofs.Common.{◌≡◌, ℕ, ◌+◌, ◌*◌, ◌<◌, ◌≤◌, Bool, true, false, List, ◌++◌, length, reverse, sym, ◌∙◌, ap, subst, arith}
+use Rattle.rt_ids.specs.Limits.{most_turns}
+use Rattle.rt_ids.specs.declared.names.JobId.{JobId}
+use Rattle.rt_ids.specs.declared.note.Note.{Note}
+use Rattle.rt_ids.specs.declared.order.Envelope.{Envelope}
+use Rattle.rt_ids.specs.declared.order.Order.{Order}
+use Rattle.rt_ids.specs.declared.order.Outcome.{Outcome}
+use Rattle.rt_ids.specs.Picks.{turns}
+use Rattle.rt_jobs.specs.declared.job.Step.{Step}
+use Rattle.rt_jobs.specs.declared.job.Step.TheVariants as steps
+use Rattle.rt_jobs.specs.Steps.{Owed}
+use Rattle.rt_core.specs.declared.turn.Turn.TheVariants.{Start, Resume}
+use Rattle.rt_core.specs.State.{CoreView}
+use Rattle.rt_core.specs.Turns.{Picks as CorePicks}
+use Rattle.rt_core.specs.Whole.{IsAhead, goes_out, pick_notes, settle_notes}
+use Rattle.rt_core.proofs.AheadTaken.{ahead_picks}
+use Rattle.rt_link.specs.declared.ends.Outward.{Outward}
+use Rattle.rt_journal.specs.Submissions.{DeskView, IsWritten, terms_of_desk, desk_with}
+use Rattle.rt_journal.specs.Recorded.{RecordedView, IsRecorded, desk_of}
+use Rattle.rt_journal.specs.Ends.{KeepsSent, KeepsOuts, KeepsIn, LeavesOwed, IsSameSeat}
+use Rattle.rt_journal.specs.Posts.{AreOutsOf}
+use Rattle.rt_journal.specs.Turns.{IsPick}
+use Rattle.rt_journal.proofs.Picked.{step-picked, picks-now}
+use Rattle.rt_journal.proofs.Quiet.{nobody}
+use Rattle.rt_journal.proofs.QuietSteps.{stepped, IsQuietStep, everyone}
+use Rattle.rt_journal.proofs.Wrote.{view_of, quiet_written, quiet_sent, now_is, quiet_invariant, quiet_seat, quiet_ins, quiet_outs}
+
+-- ends that stay beside a desk whose lanes stay
+pub outs_kept : {J T E : Type 0} {fits : Order J → Outcome J T → Type 0} {out : E → Outward J T} {credited : E → ℕ} (old new : DeskView J T) (ends : List E) → KeepsOuts old new → new.lanes ≡ old.lanes → new.cores ≡ old.cores →
+    AreOutsOf fits out credited old ends → AreOutsOf fits out credited new ends
+outs_kept old new ends keeps lanes cores outs = record {
+  count = outs.count ∙ sym cores;
+  beside = λ core end there. (keeps core).each _ _ (outs.beside core end there);
+  lanes = λ core end there. let had = outs.lanes core end there in record { lane = had.lane; is = ap (λ lanes. slice_get lanes core) lanes ∙ had.is; lane_of = had.lane_of };
+}
+
+-- one step after another leaves owed what the last one leaves
+pub owes_then : {J T : Type 0} (old picked left new : RecordedView J T) (sender : ℕ) {owed : Option (JobId × _)} → KeepsIn sender old picked → KeepsIn sender picked left → LeavesOwed sender owed left new → LeavesOwed sender owed old new
+owes_then old picked left new sender one two three = record { each = λ inward is. three.each inward (two.each inward (one.each inward is)) }
+
+-- the notes of the pick of the job that is told ahead, whatever core the pick comes to
+module _ {J T : Type 0} {same : J → J → Type 0} {made : J → ℕ} {polls : Owed J T}
+    (core : CoreView J) (took : List (Envelope J)) (said : DeskView J T)
+    (invariant : IsRecorded same made polls (view_of core took said) × (said ≡ desk_of (view_of core took said))) (left : turns said.journal.notes < most_turns)
+    (queue vr : ℕ) (name : JobId) (started : Bool) (job : J) (mid : CoreView J) where
+  abbrev picked : List (Note T)
+  picked = pick_notes queue vr name started
+
+  quiet : (marked : Bool) (notes : List (Note T)) → CorePicks core (Ok (goes_out name queue marked job)) mid notes → IsQuietStep (view_of core took said) mid (reverse notes) same made polls everyone nobody
+  quiet false notes picks = step-picked (view_of core took said) invariant.0 left mid (Ok (Start name queue job)) notes picks
+  quiet true notes picks = step-picked (view_of core took said) invariant.0 left mid (Ok (Resume name queue job)) notes picks
+
+  right : (marked : Bool) (notes : List (Note T)) → CorePicks core (Ok (goes_out name queue marked job)) mid notes →
+      IsPick (view_of core took said) name queue marked job (stepped (view_of core took said) mid (reverse notes))
+  right false notes picks = picks-now (view_of core took said) invariant.0 left mid (Ok (Start name queue job)) notes picks
+  right true notes picks = picks-now (view_of core took said) invariant.0 left mid (Ok (Resume name queue job)) notes picks
+
+  pub went_out : (marked : Bool) (notes : List (Note T)) → CorePicks core (Ok (goes_out name queue marked job)) mid notes → mid.out ≡ Some (record { name = name; queue = queue; job = job })
+  went_out false notes picks = ap (λ (view : CoreView J). view.out) picks.0.rest
+  went_out true notes picks = ap (λ (view : CoreView J). view.out) picks.0.rest
+
+  module _ (picks : CorePicks core (Ok (goes_out name queue started job)) mid picked) (slice : List (Note T)) (slice_is : slice ≡ picked) where
+    may_pick : IsWritten (terms_of_desk said) (reverse slice ++ said.journal.notes)
+    may_pick = quiet_written core took said invariant mid picked slice slice_is (quiet started picked picks)
+
+    sent_pick : KeepsSent said.journal.notes (reverse slice ++ said.journal.notes)
+    sent_pick = quiet_sent core took said invariant mid picked slice slice_is (quiet started picked picks)
+
+    module _ (noted : DeskView J T) (wrote : noted ≡ desk_with (reverse slice) said) where
+      pub is_picked : IsRecorded same made polls (view_of mid took noted) × (noted ≡ desk_of (view_of mid took noted))
+      is_picked = quiet_invariant core took said invariant mid picked slice slice_is (quiet started picked picks) noted wrote
+
+      pub picks_it : IsPick (view_of core took said) name queue started job (view_of mid took noted)
+      picks_it = subst (IsPick (view_of core took said) name queue started job) (sym (now_is core took said invariant mid picked slice slice_is (quiet started picked picks) noted wrote)) (right started picked picks)
+
+      pub keeps_in : (sender : ℕ) → KeepsIn sender (view_of core took said) (view_of mid took noted)
+      keeps_in sender = quiet_ins core took said invariant mid picked slice slice_is (quiet started picked picks) noted wrote sender tt
+
+      pub seat_picked : IsSameSeat (view_of core took said) (view_of mid took noted)
+      seat_picked = quiet_seat core took said invariant mid picked slice slice_is (quiet started picked picks) noted wrote
+
+      outs_picked : {E : Type 0} {fits : Order J → Outcome J T → Type 0} {out : E → Outward J T} {credited : E → ℕ} (ends : List E) → AreOutsOf fits out credited (desk_of (view_of core took said)) ends → AreOutsOf fits out credited noted ends
+      outs_picked {E} {fits} {out} {credited} ends outs =
+          subst (λ desk. AreOutsOf fits out credited desk ends) (sym is_picked.1)
+          (outs_kept (desk_of (view_of core took said)) (desk_of (view_of mid took noted)) ends (quiet_outs core took said invariant mid picked slice slice_is (quiet started picked picks) noted wrote)
+          (ap (λ desk. desk.lanes) wrote) seat_picked.cores outs)
+
+-- the same, told before the pick
+module _ {J T : Type 0} {same : J → J → Type 0} {made : J → ℕ} {polls : Owed J T}
+    (core : CoreView J) (took : List (Envelope J)) (said : DeskView J T)
+    (invariant : IsRecorded same made polls (view_of core took said) × (said ≡ desk_of (view_of core took said))) (left : turns said.journal.notes < most_turns)
+    (queue vr : ℕ) (name : JobId) (started : Bool) (ahead : IsAhead core queue vr name started) (slice : List (Note T)) (slice_is : slice ≡ pick_notes queue vr name started) where
+  pub may_note_pick : IsWritten (terms_of_desk said) (reverse slice ++ said.journal.notes)
+  may_note_pick = let picks = ahead_picks T core queue vr name started ahead in may_pick core took said invariant left queue vr name started picks.0 picks.1 picks.2 slice slice_is
+
+  pub sent_note_pick : KeepsSent said.journal.notes (reverse slice ++ said.journal.notes)
+  sent_note_pick = let picks = ahead_picks T core queue vr name started ahead in sent_pick core took said invariant left queue vr name started picks.0 picks.1 picks.2 slice slice_is
+
+  pub outs_note_pick : {E : Type 0} {fits : Order J → Outcome J T → Type 0} {out : E → Outward J T} {credited : E → ℕ} (ends : List E) → AreOutsOf fits out credited (desk_of (view_of core took said)) ends →
+      (noted : DeskView J T) → noted ≡ desk_with (reverse slice) said → AreOutsOf fits out credited noted ends
+  outs_note_pick ends outs noted wrote =
+      let picks = ahead_picks T core queue vr name started ahead in
+      outs_picked core took said invariant left queue vr name started picks.0 picks.1 picks.2 slice slice_is noted wrote ends outs
+
+-- the notes of a pick are two, and that of a settling is one
+module _ {J T : Type 0} (said noted : DeskView J T) (slice : List (Note T)) (wrote : noted ≡ desk_with (reverse slice) said) where
+  written_length : length noted.journal.notes ≡ length (reverse slice ++ said.journal.notes)
+  written_length = ap (λ (desk : DeskView J T). length desk.journal.notes) wrote
+
+  pub noted_pick : (queue vr : ℕ) (name : JobId) (started : Bool) → slice ≡ pick_notes queue vr name started → length noted.journal.notes ≡ length said.journal.notes + 2
+  noted_pick queue vr name started slice_is = written_length ∙ (ap (λ slice. length (reverse slice ++ said.journal.notes)) slice_is ∙ by_started started)
+    where
+      by_started : (started : Bool) → length (reverse (pick_notes {T = T} queue vr name started) ++ said.journal.notes) ≡ length said.journal.notes + 2
+      by_started false = omega arith
+      by_started true = omega arith
+
+  pub noted_settled : (name : JobId) (time : ℕ) (step : Step T) → slice ≡ settle_notes name time step → length noted.journal.notes ≡ length said.journal.notes + 1
+  noted_settled name time step slice_is = written_length ∙ (ap (λ slice. length (reverse slice ++ said.journal.notes)) slice_is ∙ by_step step)
+    where
+      by_step : (step : Step T) → length (reverse (settle_notes name time step) ++ said.journal.notes) ≡ length said.journal.notes + 1
+      by_step (steps.Done out) = omega arith
+      by_step steps.Yield = omega arith
