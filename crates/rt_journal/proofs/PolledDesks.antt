@@ -1,5 +1,5 @@
 -- A core beside its journal, after a poll that had its desk and its ends.
-use Rattle.std.proofs.Common.{◌≡◌, ℕ, List, ◌++◌, sym, ◌∙◌, ap, subst}
+use Rattle.std.proofs.Common.{◌≡◌, ℕ, List, sym, ◌∙◌, ap, subst}
 use Rattle.rt_jobs.specs.Calls.{Call, Doing, Makes}
 use Rattle.rt_link.specs.declared.ends.Outward.{Outward}
 use Rattle.rt_journal.specs.Submissions.{DeskView}

@@ -1,7 +1,7 @@
 -- A whole turn with posts, from the desk that noted the pick, by the desk that came back from the job, to the desk that noted the settling.
-use Rattle.std.specs.Prelude.{Some, None, Ok, IfSome, Option}
+use Rattle.std.specs.Prelude.{None}
 use Rattle.std.specs.Option.{option_map}
-use Rattle.std.proofs.Common.{◌≡◌, ℕ, ◌+◌, ◌*◌, ◌<◌, ◌≤◌, Bool, List, ◌++◌, length, reverse, sym, ◌∙◌, ap, subst, arith}
+use Rattle.std.proofs.Common.{◌≡◌, ℕ, ◌<◌, Bool, List, ◌++◌, reverse, sym, ◌∙◌, ap, subst}
 use Rattle.std.proofs.lemmas.Option.{same_Some}
 use Rattle.rt_ids.specs.Limits.{most_turns}
 use Rattle.rt_ids.specs.declared.names.JobId.{JobId}
@@ -13,7 +13,7 @@ use Rattle.rt_ids.specs.Outcomes.{outcome_note}
 use Rattle.rt_ids.specs.Picks.{turns}
 use Rattle.rt_jobs.specs.Calls.{Call, Doing, Makes}
 use Rattle.rt_jobs.specs.declared.job.Step.{Step}
-use Rattle.rt_jobs.specs.Steps.{Owed, OwesAt, IsSameTask}
+use Rattle.rt_jobs.specs.Steps.{Owed, IsSameTask}
 use Rattle.rt_core.specs.State.{CoreView, JobOut}
 use Rattle.rt_core.specs.Whole.{TurnsWhole, pick_notes, settled_of, settle_notes}
 use Rattle.rt_link.specs.declared.ends.Outward.{Outward}
@@ -22,7 +22,7 @@ use Rattle.rt_journal.specs.Recorded.{RecordedView, IsRecorded, desk_of}
 use Rattle.rt_journal.specs.Ends.{KeepsSent, KeepsIn, LeavesOwed, IsSameSeat, told_under}
 use Rattle.rt_journal.specs.Owed.{OwesSettled, outcome_settled}
 use Rattle.rt_journal.specs.Posts.{PostView, AreOutsOf, HasPosted}
-use Rattle.rt_journal.specs.Turns.{IsPick, IsPolled, Settles}
+use Rattle.rt_journal.specs.Turns.{IsPolled, Settles}
 use Rattle.rt_journal.specs.Whole.{post_of, IsPostingTurn, MayAnswer}
 use Rattle.rt_journal.proofs.PolledDesks.{posted_rest, posted_silent}
 use Rattle.rt_journal.proofs.PostingTurn.{went_out, is_picked, picks_it, keeps_in, seat_picked, outs_kept, owes_then}

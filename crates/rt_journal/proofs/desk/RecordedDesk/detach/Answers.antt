@@ -1,4 +1,4 @@
-use Rattle.std.proofs.Common.{Err, Ok, ap, arith, refl, set, subst, sym, ◌∙◌, ◌∷◌}
+use Rattle.std.proofs.Common.{Err, Ok, ap, refl, set, subst, sym, ◌∙◌, ◌∷◌}
 use Rattle.rt_ids.specs.declared.note.Note.TheVariants as writes
 use Rattle.rt_ids.specs.declared.names.TicketError.TheVariants.{Unknown}
 use Rattle.rt_link.specs.Fits.{Fits}

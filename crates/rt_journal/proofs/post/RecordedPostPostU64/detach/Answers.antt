@@ -1,4 +1,4 @@
-use Rattle.std.proofs.Common.{inr, ◌<◌, ◌≤◌, length, refl, ap, subst, set, ◌∙◌, arith}
+use Rattle.std.proofs.Common.{inr, refl, ap, subst, set, ◌∙◌, arith}
 use Rattle.rt_jobs.specs.Calls.Call.{Detach}
 use Rattle.rt_desk.proofs.Cores.{found}
 use Rattle.rt_link.specs.Fits.{Fits}
