@@ -81,6 +81,10 @@ module _ {J T : Type 0} (cores cap room : ℕ) where
       fresh = subst (AreFresh cap cores) at_outside (are_fresh cores (omega arith));
     }
 
+  -- no order was submitted
+  pub none_submitted : (workers : List (LinkedView J T)) (ends : EndsView J T) → IsHouse cores cap room workers ends → (core : ℕ) → core < cores → (out_at core ends).out.sent ≡ []
+  none_submitted workers ends house core low = ap (λ out. out.sent) (house.fresh.outs core (omega (arith, low, house.outs))).out
+
   -- a runtime in which nothing has happened
   module _ (workers : List (LinkedView J T)) (ends : EndsView J T) (desk : DeskView J T) (closing : List Bool) (house : IsHouse cores cap room workers ends) (opened : desk ≡ opened_desk cores cores cap room)
       (written : IsWritten (terms_of_desk desk) desk.journal.notes) (none : closing ≡ replicate cores false) (limits : IsWithinLimits cores cap) where
@@ -107,10 +111,6 @@ module _ {J T : Type 0} (cores cap room : ℕ) where
 
     none_due : sum_by due_of (replicate cores (fresh_lane {J = J} {T = T} cap)) ≡ 0
     none_due = sum_by-replicate due_of cores (fresh_lane cap) ∙ omega arith
-
-    -- no order was submitted
-    pub none_submitted : (core : ℕ) → core < cores → (out_at core ends).out.sent ≡ []
-    none_submitted core low = ap (λ out. out.sent) (house.fresh.outs core (omega (arith, low, house.outs))).out
 
     pub started : (fits : Order J → Outcome J T → Type 0) → IsRuntime fits (record { desk = desk; ends = ends; closing = closing; workers = workers; room = room })
     started fits = record {

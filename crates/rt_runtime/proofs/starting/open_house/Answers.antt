@@ -9,4 +9,4 @@ open_workers-requires-clause-each g c =
 pub returns-clause-house : goal.returns-clause-house
 returns-clause-house g c =
     opened_house c.args.config.now.cores c.args.config.now.cap c.args.config.now.room c.in-Ok.all.items c.pop.new.self.items c.in-Some.outside c.in-Some.ensures.items c.in-Ok.ensures.grid c.in-Ok.ensures.fresh
-    c.in_ok-workers.workers.items c.in_ok-workers.ensures.workers
+    c.in_ok-workers.workers.items c.in_ok-workers.ensures

@@ -1,11 +1,11 @@
-use Rattle.std.proofs.Common.{rules, ap, sym, subst, arith}
+use Rattle.std.proofs.Common.{rules, refl, ap, sym, subst, arith}
 use denote.Param.{param}
 use denote.Param.Send.{IsSend, arg_send, param_send}
 use denote.Exit.{no}
 use Rattle.rt_runtime.proofs.Crosses.{worker_send, ended_send}
 use Rattle.rt_link.specs.Fits.{Fits}
 use Rattle.rt_runtime.specs.Starting.{IsHouse}
-use Rattle.rt_runtime.proofs.Started.{started}
+use Rattle.rt_runtime.proofs.Started.{none_submitted, started}
 use Rattle.rt_runtime.proofs.runtime.Runtime.begin.Goals as goal
 
 pub start-requires-send-W : goal.start-requires-send-W
@@ -44,3 +44,11 @@ invariant_of-result g c =
       c.in-Ok-with_capacity.ensures.items,
       c.in-Ok-with_capacity-2.ensures.items,
     )
+
+pub returns-in-Ok-start : goal.returns-in-Ok-start
+returns-in-Ok-start g c = record {
+  desk = c.in-Ok-open_outside.ensures.desk;
+  closing = c.in-Ok-open_outside.ensures.closing;
+  room_is = refl;
+  none = none_submitted c.args.config.now.cores c.args.config.now.cap c.args.config.now.room c.in-Ok.workers.items c.in-Ok.ends c.in-Ok.ensures.house;
+}
