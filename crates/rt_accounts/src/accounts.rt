@@ -6,11 +6,11 @@ ghost use Rattle.rt_ids.specs.Runtimes.{runtime_picked};
 ghost use Rattle.rt_accounts.specs.Accounts as spec;
 ghost use Rattle.rt_accounts.specs.Accounts.{fresh_account, has_jobs, entering, charged, leaving, account_after, greatest_count};
 ghost use Rattle.rt_accounts.specs.AllAccounts.{KnowsAccounts};
-ghost use Rattle.rt_tables.specs.Jobs.{KnowsJobs};
+ghost use Rattle.rt_tables.specs.Histories.{FitsPlace};
 
 use rt_ids::{Note, QueueNo};
 use rt_shares::Shares;
-use rt_tables::Jobs;
+use rt_tables::Fact;
 
 /// Of the notes that were read: the shares and the virtual runtime of one queue, and how many jobs entered it and left it.
 #[derive(Clone, Copy)]
@@ -86,17 +86,17 @@ impl Account {
     }
 }
 
-/// The queue whose account a note changes.
-pub fn queue_touched(note: &Note<u64>, jobs: &Jobs) -> Option<QueueNo>
-    ensures { (before : Journal ℕ) → KnowsJobs jobs.now before → result ≡ spec.queue_touched note.now before }
+/// The queue whose account a note changes, by what the notes before it told.
+pub fn queue_touched(note: &Note<u64>, fact: &Fact) -> Option<QueueNo>
+    ensures { (before : Journal ℕ) → FitsPlace fact.now note.now before → result ≡ spec.queue_touched note.now before }
 {
     match *note {
         Note::Took(_, queue) => Some(queue),
         Note::Created(queue, _) => Some(queue),
         Note::SharesSet(queue, _) => Some(queue),
-        Note::Yield(name, _) => jobs.queue_of(&name),
-        Note::Done(name, _, _) => jobs.queue_of(&name),
-        Note::Returned(name, _) => jobs.queue_of(&name),
+        Note::Yield(_, _) => fact.queue,
+        Note::Done(_, _, _) => fact.queue,
+        Note::Returned(_, _) => fact.queue,
         _ => None,
     }
 }

@@ -1,7 +1,7 @@
 -- Which rules are kept before the one that is named.
-use Rattle.std.proofs.Common.{◌≡◌, ℕ, Bool, true, false, refl, arith}
+use Rattle.std.proofs.Common.{◌≡◌, ℕ, arith}
 use Rattle.rt_ids.specs.Assembly.{Assembly}
-use Rattle.rt_ids.specs.Sound.{StartsAreSound, OrderIsSound, ClosesAreSound, OutcomesAreSound, PicksAreSound}
+use Rattle.rt_ids.specs.Sound.{IsSound, StartsAreSound, OrderIsSound, ClosesAreSound, OutcomesAreSound}
 use Rattle.rt_audit.specs.Verdicts.{KeepsRulesBefore}
 
 module _ (assembly : Assembly ℕ) (rule : ℕ) where
@@ -52,14 +52,12 @@ module _ (assembly : Assembly ℕ) (rule : ℕ) where
     picks = λ more. absurd (omega (arith, is, more));
   }
 
-  -- where the last rule is tried too
-  pub with_picks : (broken : Bool) → StartsAreSound assembly → OrderIsSound assembly → ClosesAreSound assembly → OutcomesAreSound assembly →
-      (broken ≡ true → rule ≡ 5) → (broken ≡ false → PicksAreSound assembly) → KeepsRulesBefore assembly rule
-  with_picks true starts order closes outcomes named kept = four_before (named refl) starts order closes outcomes
-  with_picks false starts order closes outcomes named kept = record {
-    starts = λ more. starts;
-    order = λ more. order;
-    closes = λ more. closes;
-    outcomes = λ more. outcomes;
-    picks = λ more. kept refl;
-  }
+-- if all rules are kept, so are those before any rule
+pub all_before : (assembly : Assembly ℕ) (rule : ℕ) → IsSound assembly → KeepsRulesBefore assembly rule
+all_before assembly rule sound = record {
+  starts = λ more. sound.starts;
+  order = λ more. sound.order;
+  closes = λ more. sound.closes;
+  outcomes = λ more. sound.outcomes;
+  picks = λ more. sound.picks;
+}

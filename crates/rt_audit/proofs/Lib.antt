@@ -1,5 +1,11 @@
 pub mod AllEnded
 pub mod BrokenRules
 pub mod FirstRules
+pub mod HistoryTables
 pub mod KeptRules
+pub mod LeastLines
+pub mod LinksOff
 pub mod NoFaults
+pub mod OneLine
+pub mod OneVerdict
+pub mod VerdictLaws

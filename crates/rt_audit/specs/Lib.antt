@@ -1,3 +1,6 @@
-pub mod Held
+pub mod Ends
 pub mod Places
+pub mod OrderFaults
+pub mod Faults
+pub mod Histories
 pub mod Verdicts

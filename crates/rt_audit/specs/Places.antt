@@ -1,11 +1,15 @@
 -- What each rule asks of one actor.
-use Rattle.std.specs.Prelude.{ℕ, ◌<◌, ◌≤◌}
+use Rattle.std.specs.Prelude.{◌≡◌, ℕ, ◌<◌, ◌≤◌, None}
 use Rattle.rt_ids.specs.Assembly.{Assembly, journal_of, IsPrefix, names_of}
-use Rattle.rt_ids.specs.Clauses.{StandsInOrder, OutcomesRight}
+use Rattle.rt_ids.specs.Clauses.{StartsRight, StandsInOrder, RespectsCloses, OutcomesRight, PicksRight, queue_just_picked}
 use Rattle.rt_ids.specs.Closing.{IsDrained}
 use Rattle.rt_ids.specs.Filters.{accepted_orders, delivered_names, given_outcomes, collected_outcomes}
 use Rattle.rt_ids.specs.Journal.{EachNote}
 use Rattle.rt_ids.specs.Sound.{AllEnded}
+
+-- the first rule, of one actor
+abbrev pub StartsOf : Assembly ℕ → ℕ → Type 0
+StartsOf assembly actor = EachNote (StartsRight assembly) (journal_of actor assembly)
 
 -- what a core was delivered of each actor is a prefix of what that actor sent to it
 abbrev pub DeliveriesOf : Assembly ℕ → ℕ → Type 0
@@ -25,7 +29,20 @@ pub record IsInOrder (assembly : Assembly ℕ) (actor : ℕ) : Type 0 where
   pub deliveries : actor < assembly.cores → DeliveriesOf assembly actor
   pub collections : CollectionsOf assembly actor
 
+-- the third rule, of one core
+abbrev pub ClosesOf : Assembly ℕ → ℕ → Type 0
+ClosesOf assembly core = EachNote (RespectsCloses assembly core) (journal_of core assembly)
+
+-- an actor that is a drained core has lost nothing
+abbrev pub LosesNothing : Assembly ℕ → ℕ → Type 0
+LosesNothing assembly actor = actor < assembly.cores → IsDrained assembly.cores (journal_of actor assembly) → AllEnded assembly actor
+
 -- the fourth rule, of one actor
 pub record OutcomesOf (assembly : Assembly ℕ) (actor : ℕ) : Type 0 where
   pub notes : EachNote (OutcomesRight assembly) (journal_of actor assembly)
-  pub all_ended : actor < assembly.cores → IsDrained assembly.cores (journal_of actor assembly) → AllEnded assembly actor
+  pub all_ended : LosesNothing assembly actor
+
+-- the fifth rule, of one core
+pub record PicksOf (assembly : Assembly ℕ) (core : ℕ) : Type 0 where
+  pub notes : EachNote PicksRight (journal_of core assembly)
+  pub last_followed : queue_just_picked (journal_of core assembly) ≡ None

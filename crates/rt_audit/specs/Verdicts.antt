@@ -1,9 +1,10 @@
 -- What a verdict says of the rules.
 use Rattle.std.specs.Prelude.{◌≡◌, ℕ, ◌<◌, ◌≤◌}
 use Rattle.rt_ids.specs.Assembly.{Assembly}
-use Rattle.rt_ids.specs.Sound.{StartsAreSound, OrderIsSound, ClosesAreSound, OutcomesAreSound, PicksAreSound}
+use Rattle.rt_ids.specs.Sound.{IsSound, StartsAreSound, OrderIsSound, ClosesAreSound, OutcomesAreSound, PicksAreSound}
 use Rattle.rt_audit.specs.declared.judge.Verdict.{Verdict}
 use Rattle.rt_audit.specs.declared.judge.Verdict.TheVariants.{Sound, Fault}
+use Rattle.rt_audit.specs.Faults.{IsPlaceOf}
 
 -- the rule that is broken, or the number behind the last rule if none is
 abbrev pub rule_named : Verdict → ℕ
@@ -36,3 +37,19 @@ pub record IsFirstBroken (assembly : Assembly ℕ) (rule : ℕ) : Type 0 where
 -- no two rules are the first that is broken
 abbrev pub OneRuleIsFirst : Type 0
 OneRuleIsFirst = (assembly : Assembly ℕ) (one other : ℕ) → IsFirstBroken assembly one → IsFirstBroken assembly other → one ≡ other
+
+-- the first fault: of the least rule, and of that at its first place
+pub record IsFault (assembly : Assembly ℕ) (actor line rule : ℕ) : Type 0 where
+  pub some : 1 ≤ rule
+  pub few : rule ≤ 5
+  pub before : KeepsRulesBefore assembly rule
+  pub place : IsPlaceOf assembly rule actor line
+
+-- what a verdict says of journals that are spelled
+abbrev pub IsVerdict : Assembly ℕ → Verdict → Type 0
+IsVerdict assembly Sound = IsSound assembly
+IsVerdict assembly (Fault actor line rule) = IsFault assembly actor line rule
+
+-- the journals determine the verdict, if they are spelled
+abbrev pub OneVerdictHolds : Type 0
+OneVerdictHolds = (assembly : Assembly ℕ) (one other : Verdict) → IsVerdict assembly one → IsVerdict assembly other → one ≡ other

@@ -1,19 +1,21 @@
 //! The audit of the journals of all actors.
 
-ghost use Rattle.std.specs.Prelude.{◌≡◌, ◌≤◌, IfOk, Ok, None, is_some, true, false};
+ghost use Rattle.std.specs.Prelude.{◌≡◌, ◌+◌, ◌≤◌, IfOk, Ok};
 ghost use Rattle.rt_ids.specs.Limits.{most_cores};
-ghost use Rattle.rt_ids.specs.Sound.{IsSound, OutcomesAreSound};
+ghost use Rattle.rt_ids.specs.Sound.{IsSound, StartsAreSound, OrderIsSound, ClosesAreSound, OutcomesAreSound};
 ghost use Rattle.rt_ids.specs.Spelled.{IsSpelled};
 ghost use Rattle.rt_audit.specs.declared.judge.Verdict.TheVariants.{Sound, Fault};
-ghost use Rattle.rt_audit.specs.Verdicts.{KeepsRulesBefore, BreaksRule, IsFirstBroken, rule_named};
-ghost use Rattle.rt_rules.specs.Links.{KnowsOrders};
+ghost use Rattle.rt_audit.specs.Histories.{AreHistories};
+ghost use Rattle.rt_audit.specs.Verdicts.{KeepsRulesBefore, IsFirstBroken, IsVerdict, rule_named};
+ghost use Rattle.rt_rules.specs.Links.{KnowsOrders, KnowsOutcomes};
 
+use crate::histories::histories_of;
 use crate::places::{Place, closes_place, order_place, outcomes_place, picks_place, starts_place};
-use rt_ids::{ActorNo, Order};
+use rt_ids::{ActorNo, Order, OutcomeNote};
 use rt_notes::Assembly;
 use rt_rules::links::{orders_sent, outcomes_given};
 use rt_spelling::is_spelled;
-use rt_tables::NameTable;
+use rt_tables::{History, NameTable};
 use std::alloc::{AllocError, Global};
 
 /// What an audit finds.
@@ -41,10 +43,15 @@ pub enum AuditError {
 /// Whether the journals are spelled and sound, and if not, their first fault: of the least rule, then of the least actor, then of the least line.
 ///
 /// Journals that aren't spelled are a fault of rule 1 at line 0 of actor 0.
+///
+/// # Errors
+///
+/// `Memory` if there isn't enough. All memory is asked for before the first rule is tried.
 pub fn audit(alloc: Global, assembly: &Assembly) -> Result<Verdict, AuditError>
     ensures sound { IfOk result (λ verdict. verdict ≡ Sound → IsSpelled assembly.now × IsSound assembly.now) }
     ensures first { IfOk result (λ verdict. KeepsRulesBefore assembly.now (rule_named verdict)) }
     ensures rule { IfOk result (λ verdict. IsSpelled assembly.now → IsFirstBroken assembly.now (rule_named verdict)) }
+    ensures place { IfOk result (λ verdict. IsSpelled assembly.now → IsVerdict assembly.now verdict) }
     ensures only { IfOk result (λ verdict. IsSpelled assembly.now → IsSound assembly.now → verdict ≡ Sound) }
     ensures unspelled { (IsSpelled assembly.now → ⊥) → result ≡ Ok (Fault 0 0 1) }
 {
@@ -61,72 +68,133 @@ pub fn audit(alloc: Global, assembly: &Assembly) -> Result<Verdict, AuditError>
     }
 }
 
-/// The fault of this rule at this place, if there is one.
-fn told(place: Option<Place>, rule: u8) -> Verdict
-    ensures sound { result ≡ Sound → place ≡ None }
-    ensures fault { is_some place ≡ true → rule_named result ≡ rule }
-    ensures none { is_some place ≡ false → rule_named result ≡ 6 }
-    ensures only { place ≡ None → result ≡ Sound }
-    ensures number { 1 ≤ rule → rule ≤ 6 → (1 ≤ rule_named result) × (rule_named result ≤ 6) }
-{
-    match place {
-        Some(place) => Verdict::Fault {
-            actor: place.actor,
-            line: place.line,
-            rule,
-        },
-        None => Verdict::Sound,
-    }
-}
-
-/// Whether the journals are sound, and if not, their first fault.
+/// The verdict on journals that are spelled. Here all memory is asked for.
 fn verdict_of(alloc: Global, assembly: &Assembly) -> Result<Verdict, AllocError>
-    requires { assembly.now.cores ≤ most_cores }
-    ensures sound { IfOk result (λ verdict. verdict ≡ Sound → IsSound assembly.now) }
-    ensures first { IfOk result (λ verdict. KeepsRulesBefore assembly.now (rule_named verdict)) }
-    ensures broken { IfOk result (λ verdict. IsSpelled assembly.now → BreaksRule assembly.now (rule_named verdict)) }
-    ensures only { IfOk result (λ verdict. IsSpelled assembly.now → IsSound assembly.now → verdict ≡ Sound) }
-    ensures number { IfOk result (λ verdict. (1 ≤ rule_named verdict) × (rule_named verdict ≤ 6)) }
+    requires few { assembly.now.cores ≤ most_cores }
+    requires spelled { IsSpelled assembly.now }
+    ensures { IfOk result (IsVerdict assembly.now) }
 {
     let orders = orders_sent(alloc, assembly)?;
-    let sent = orders.as_slice();
-    let starts = starts_place(alloc, sent, assembly)?;
-    if starts.is_some() {
-        let first = told(starts, 1);
-        return Ok(first);
-    }
-    let order = order_place(alloc, sent, assembly)?;
-    if order.is_some() {
-        let second = told(order, 2);
-        return Ok(second);
-    }
-    let closes = closes_place(assembly);
-    if closes.is_some() {
-        let third = told(closes, 3);
-        return Ok(third);
-    }
-    let outcomes = ends_place(alloc, sent, assembly)?;
-    if outcomes.is_some() {
-        let fourth = told(outcomes, 4);
-        return Ok(fourth);
-    }
-    let picks = picks_place(alloc, assembly)?;
-    let fifth = told(picks, 5);
-    Ok(fifth)
+    let outcomes = outcomes_given(alloc, assembly)?;
+    let histories = histories_of(alloc, assembly)?;
+    let verdict = verdict_by(
+        orders.as_slice(),
+        outcomes.as_slice(),
+        histories.as_slice(),
+        assembly,
+    );
+    Ok(verdict)
 }
 
-/// The first place at which the fourth rule is broken.
-fn ends_place(
-    alloc: Global,
-    sent: &[NameTable<Order<()>>],
-    assembly: &Assembly,
-) -> Result<Option<Place>, AllocError>
-    requires { assembly.now.cores ≤ most_cores }
-    ensures kept { IfOk result (λ place. place ≡ None → KnowsOrders sent.now assembly.now → OutcomesAreSound assembly.now) }
-    ensures only { IfOk result (λ place. KnowsOrders sent.now assembly.now → OutcomesAreSound assembly.now → place ≡ None) }
+/// The fault of this rule at this place.
+fn fault(place: &Place, rule: u8) -> Verdict
+    ensures { result ≡ Fault place.now.actor place.now.line rule }
 {
-    let outcomes = outcomes_given(alloc, assembly)?;
-    let given = outcomes.as_slice();
-    let place = outcomes_place(alloc, sent, given, assembly)?;
-    Ok(place)
+    Verdict::Fault {
+        actor: place.actor,
+        line: place.line,
+        rule,
+    }
+}
+
+/// The verdict on journals that are spelled, by what was sent and given in all, and what each note's name was told before.
+fn verdict_by(
+    orders: &[NameTable<Order<()>>],
+    outcomes: &[NameTable<OutcomeNote<u64>>],
+    histories: &[History],
+    assembly: &Assembly,
+) -> Verdict
+    requires few { assembly.now.cores ≤ most_cores }
+    requires spelled { IsSpelled assembly.now }
+    requires orders { KnowsOrders orders.now assembly.now }
+    requires outcomes { KnowsOutcomes outcomes.now assembly.now }
+    requires histories { AreHistories histories.now assembly.now (assembly.now.cores + 1) }
+    ensures { IsVerdict assembly.now result }
+{
+    match starts_place(orders, histories, assembly) {
+        Some(place) => fault(&place, 1),
+        None => from_order(orders, outcomes, histories, assembly),
+    }
+}
+
+/// The verdict if the first rule is kept.
+fn from_order(
+    orders: &[NameTable<Order<()>>],
+    outcomes: &[NameTable<OutcomeNote<u64>>],
+    histories: &[History],
+    assembly: &Assembly,
+) -> Verdict
+    requires few { assembly.now.cores ≤ most_cores }
+    requires spelled { IsSpelled assembly.now }
+    requires orders { KnowsOrders orders.now assembly.now }
+    requires outcomes { KnowsOutcomes outcomes.now assembly.now }
+    requires histories { AreHistories histories.now assembly.now (assembly.now.cores + 1) }
+    requires starts { StartsAreSound assembly.now }
+    ensures { IsVerdict assembly.now result }
+{
+    match order_place(orders, assembly) {
+        Some(place) => fault(&place, 2),
+        None => from_closes(orders, outcomes, histories, assembly),
+    }
+}
+
+/// The verdict if the first two rules are kept.
+fn from_closes(
+    orders: &[NameTable<Order<()>>],
+    outcomes: &[NameTable<OutcomeNote<u64>>],
+    histories: &[History],
+    assembly: &Assembly,
+) -> Verdict
+    requires few { assembly.now.cores ≤ most_cores }
+    requires spelled { IsSpelled assembly.now }
+    requires orders { KnowsOrders orders.now assembly.now }
+    requires outcomes { KnowsOutcomes outcomes.now assembly.now }
+    requires histories { AreHistories histories.now assembly.now (assembly.now.cores + 1) }
+    requires starts { StartsAreSound assembly.now }
+    requires order { OrderIsSound assembly.now }
+    ensures { IsVerdict assembly.now result }
+{
+    match closes_place(assembly) {
+        Some(place) => fault(&place, 3),
+        None => from_outcomes(orders, outcomes, histories, assembly),
+    }
+}
+
+/// The verdict if the first three rules are kept.
+fn from_outcomes(
+    orders: &[NameTable<Order<()>>],
+    outcomes: &[NameTable<OutcomeNote<u64>>],
+    histories: &[History],
+    assembly: &Assembly,
+) -> Verdict
+    requires few { assembly.now.cores ≤ most_cores }
+    requires spelled { IsSpelled assembly.now }
+    requires orders { KnowsOrders orders.now assembly.now }
+    requires outcomes { KnowsOutcomes outcomes.now assembly.now }
+    requires histories { AreHistories histories.now assembly.now (assembly.now.cores + 1) }
+    requires starts { StartsAreSound assembly.now }
+    requires order { OrderIsSound assembly.now }
+    requires closes { ClosesAreSound assembly.now }
+    ensures { IsVerdict assembly.now result }
+{
+    match outcomes_place(orders, outcomes, histories, assembly) {
+        Some(place) => fault(&place, 4),
+        None => from_picks(histories, assembly),
+    }
+}
+
+/// The verdict if the first four rules are kept.
+fn from_picks(histories: &[History], assembly: &Assembly) -> Verdict
+    requires spelled { IsSpelled assembly.now }
+    requires histories { AreHistories histories.now assembly.now (assembly.now.cores + 1) }
+    requires starts { StartsAreSound assembly.now }
+    requires order { OrderIsSound assembly.now }
+    requires closes { ClosesAreSound assembly.now }
+    requires outcomes { OutcomesAreSound assembly.now }
+    ensures { IsVerdict assembly.now result }
+{
+    match picks_place(histories, assembly) {
+        Some(place) => fault(&place, 5),
+        None => Verdict::Sound,
+    }
 }

@@ -1,72 +1,45 @@
 //! Rule 4, of a drained core: all that was accepted for it has ended.
 
-ghost use Rattle.std.specs.Prelude.{◌≡◌, ◌↔◌, ◌∷◌, ◌+◌, ◌<◌, ◌≤◌, ℕ, IfOk, OnOk, IsTrue, None, Some, [], false, length, get_or};
+ghost use Rattle.std.specs.Prelude.{◌≡◌, ◌↔◌, ◌∷◌, ◌+◌, ◌<◌, ◌≤◌, ℕ, IsTrue, Some, false, length, get_or};
 ghost use Rattle.rt_ids.specs.Assembly.{Assembly as AllJournals, journal_of, order_of};
 ghost use Rattle.rt_ids.specs.Closing.{IsDrained, final_count};
 ghost use Rattle.rt_ids.specs.Filters.{delivered_names};
 ghost use Rattle.rt_ids.specs.Journal.{Journal as Notes, EachNote};
+ghost use Rattle.rt_ids.specs.Limits.{most_cores};
 ghost use Rattle.rt_ids.specs.Sound.{AllEnded};
 ghost use Rattle.rt_ids.specs.Work.{number_if, has_work};
-ghost use Rattle.rt_accounts.specs.Accounts.{has_jobs, fresh_account, greatest_count};
+ghost use Rattle.rt_accounts.specs.Accounts.{has_jobs, fresh_account};
+ghost use Rattle.rt_accounts.specs.AllAccounts.{KnowsAccounts};
 ghost use Rattle.rt_ids.specs.declared.note.Note.{Note};
 ghost use Rattle.rt_rules.specs.Links.{KnowsOrders};
-ghost use Rattle.rt_audit.specs.Held.{KnowsHeld, HasEnded, EndedUnder, EndedIfSent};
+ghost use Rattle.rt_tables.specs.Histories.{IsHistory};
+ghost use Rattle.rt_audit.specs.Ends.{ended_by, EndedUnder, EndedIfSent};
 
 use rt_accounts::{Account, Accounts, queue_touched};
 use rt_ids::{ActorNo, CoreNo, JobId, Note, Order};
 use rt_notes::{Assembly, Journal};
 use rt_rules::links::order_under;
-use rt_tables::told::name_answered;
-use rt_tables::{Jobs, NameSet, NameTable, note_at};
-use std::alloc::{AllocError, Global};
+use rt_tables::{History, NameTable, note_at};
 
-/// Which jobs ended, which commands were answered, and which queues have work.
-#[derive(Drop)]
-pub(crate) struct Held {
-    jobs: Jobs,
-    answered: NameSet,
-    accounts: Accounts,
+/// Whether the job has ended, or the command was answered.
+fn has_ended(history: &History, name: &JobId, order: &Order<()>) -> bool
+    ensures { (journal : Notes ℕ) → IsHistory history.now journal → result ≡ ended_by journal name.now order.now }
+{
+    match *order {
+        Order::Job(_, _) => history.has_ended(name),
+        Order::Create(_) => history.is_answered(name),
+        Order::SetShares(_, _) => history.is_answered(name),
+        Order::Close(_, _) => history.is_answered(name),
+        Order::CloseCore(_) => history.is_answered(name),
+    }
 }
 
-impl Held {
-    fn new(alloc: Global) -> Self
-        ensures { KnowsHeld result [] }
-    {
-        Held {
-            jobs: Jobs::new(alloc),
-            answered: NameSet::new(alloc),
-            accounts: Accounts::new(),
-        }
-    }
-
-    /// Reads the next note.
-    fn add(&mut self, note: &Note<u64>) -> Result<(), AllocError>
-        ensures { OnOk result ((before : Notes ℕ) → length before < greatest_count → KnowsHeld self.old before → KnowsHeld self.new (note.now ∷ before)) }
-    {
-        let queue = queue_touched(note, &self.jobs);
-        self.accounts.add(note, queue);
-        self.jobs.add(note)?;
-        self.answered.add(name_answered(note))?;
-        Ok(())
-    }
-
-    /// Whether the job has ended, or the command was answered.
-    fn has_ended(&self, name: &JobId, order: &Order<()>) -> bool
-        ensures { IsTrue result ↔ HasEnded self.now name.now order.now }
-    {
-        match *order {
-            Order::Job(_, _) => self.jobs.has_ended(name),
-            _ => self.answered.has(name),
-        }
-    }
-
-    /// Whether no queue has work.
-    fn is_idle(&self) -> bool
-        ensures right { (before : Notes ℕ) → KnowsHeld self.now before → IsTrue result → (queue : ℕ) → IsTrue (has_work queue before) → ⊥ }
-        ensures only { (before : Notes ℕ) → KnowsHeld self.now before → ((queue : ℕ) → IsTrue (has_work queue before) → ⊥) → IsTrue result }
-    {
-        are_idle(&self.accounts.queues)
-    }
+/// Whether no queue has work.
+fn is_idle(accounts: &Accounts) -> bool
+    ensures right { (before : Notes ℕ) → KnowsAccounts accounts.now before → IsTrue result → (queue : ℕ) → IsTrue (has_work queue before) → ⊥ }
+    ensures only { (before : Notes ℕ) → KnowsAccounts accounts.now before → ((queue : ℕ) → IsTrue (has_work queue before) → ⊥) → IsTrue result }
+{
+    are_idle(&accounts.queues)
 }
 
 /// Whether none of the queues has work.
@@ -83,16 +56,18 @@ fn are_idle(accounts: &[Account]) -> bool
     true
 }
 
-/// What is known at the end of a journal.
-fn held_after(alloc: Global, journal: &Journal<u64>) -> Result<Held, AllocError>
-    ensures { IfOk result (λ held. KnowsHeld held journal.now.notes) }
+/// The accounts of a core's queues at the end of its journal.
+fn accounts_after(history: &History, journal: &Journal<u64>) -> Accounts
+    requires { IsHistory history.now journal.now.notes }
+    ensures { KnowsAccounts result journal.now.notes }
 {
-    let mut held = Held::new(alloc);
+    let mut accounts = Accounts::new();
     for place in 0..journal.len() {
         let note = note_at(journal, place);
-        held.add(&note)?;
+        let fact = history.fact(place);
+        accounts.add(&note, queue_touched(&note, &fact));
     }
-    Ok(held)
+    accounts
 }
 
 /// Whether a note delivers what this actor sent.
@@ -169,43 +144,43 @@ fn are_emptied(cores: u8, journal: &Journal<u64>) -> bool
 }
 
 /// Whether what was accepted under this name has ended, if anything was.
-fn has_ended_under(held: &Held, orders: &[NameTable<Order<()>>], name: &JobId) -> bool
-    ensures { (assembly : AllJournals ℕ) → KnowsOrders orders.now assembly → (IsTrue result ↔ EndedUnder held.now name.now (order_of name.now assembly)) }
+fn has_ended_under(history: &History, orders: &[NameTable<Order<()>>], name: &JobId) -> bool
+    ensures { (assembly : AllJournals ℕ) (journal : Notes ℕ) → KnowsOrders orders.now assembly → IsHistory history.now journal → (IsTrue result ↔ EndedUnder journal name.now (order_of name.now assembly)) }
 {
     match order_under(orders, name) {
-        Some(order) => held.has_ended(name, &order),
+        Some(order) => has_ended(history, name, &order),
         None => true,
     }
 }
 
 /// Whether what was accepted under the name that a note sends to this core has ended.
 fn ended_if_sent(
-    held: &Held,
+    history: &History,
     orders: &[NameTable<Order<()>>],
     core: CoreNo,
     note: &Note<u64>,
 ) -> bool
-    ensures { (assembly : AllJournals ℕ) (before : Notes ℕ) → KnowsOrders orders.now assembly → (IsTrue result ↔ EndedIfSent held.now assembly core note.now before) }
+    ensures { (assembly : AllJournals ℕ) (journal before : Notes ℕ) → KnowsOrders orders.now assembly → IsHistory history.now journal → (IsTrue result ↔ EndedIfSent journal assembly core note.now before) }
 {
     match *note {
-        Note::Sent(name, _) => name.to.0 != core.0 || has_ended_under(held, orders, &name),
+        Note::Sent(name, _) => name.to.0 != core.0 || has_ended_under(history, orders, &name),
         _ => true,
     }
 }
 
 /// Whether all that was sent to this core has ended.
 fn all_ended(
-    held: &Held,
+    history: &History,
     orders: &[NameTable<Order<()>>],
     core: CoreNo,
-    journal: &Journal<u64>,
+    sent: &Journal<u64>,
 ) -> bool
-    ensures right { (assembly : AllJournals ℕ) → KnowsOrders orders.now assembly → IsTrue result → EachNote (EndedIfSent held.now assembly core) journal.now.notes }
-    ensures only { (assembly : AllJournals ℕ) → KnowsOrders orders.now assembly → ((note : Note ℕ) (before : Notes ℕ) → EndedIfSent held.now assembly core note before) → IsTrue result }
+    ensures right { (assembly : AllJournals ℕ) (journal : Notes ℕ) → KnowsOrders orders.now assembly → IsHistory history.now journal → IsTrue result → EachNote (EndedIfSent journal assembly core) sent.now.notes }
+    ensures only { (assembly : AllJournals ℕ) (journal : Notes ℕ) → KnowsOrders orders.now assembly → IsHistory history.now journal → ((note : Note ℕ) (before : Notes ℕ) → EndedIfSent journal assembly core note before) → IsTrue result }
 {
-    for place in 0..journal.len() {
-        let note = note_at(journal, place);
-        if !ended_if_sent(held, orders, core, &note) {
+    for place in 0..sent.len() {
+        let note = note_at(sent, place);
+        if !ended_if_sent(history, orders, core, &note) {
             return false;
         }
     }
@@ -214,42 +189,47 @@ fn all_ended(
 
 /// Whether all that any actor sent to this core has ended.
 fn ended_of_all(
-    held: &Held,
+    history: &History,
     orders: &[NameTable<Order<()>>],
     core: CoreNo,
     assembly: &Assembly,
 ) -> bool
-    ensures right { KnowsOrders orders.now assembly.now → IsTrue result → (sender : ℕ) → sender ≤ assembly.now.cores → EachNote (EndedIfSent held.now assembly.now core) (journal_of sender assembly.now) }
-    ensures only { KnowsOrders orders.now assembly.now → ((note : Note ℕ) (before : Notes ℕ) → EndedIfSent held.now assembly.now core note before) → IsTrue result }
+    requires few { assembly.now.cores ≤ most_cores }
+    requires orders { KnowsOrders orders.now assembly.now }
+    requires history { IsHistory history.now (journal_of core assembly.now) }
+    ensures right { IsTrue result → (sender : ℕ) → sender ≤ assembly.now.cores → EachNote (EndedIfSent (journal_of core assembly.now) assembly.now core) (journal_of sender assembly.now) }
+    ensures only { ((note : Note ℕ) (before : Notes ℕ) → EndedIfSent (journal_of core assembly.now) assembly.now core note before) → IsTrue result }
 {
-    let outside = assembly.cores();
-    for sender in 0..outside {
-        if !all_ended(held, orders, core, assembly.journal(ActorNo(sender))) {
+    for sender in 0..assembly.cores() + 1 {
+        if !all_ended(history, orders, core, assembly.journal(ActorNo(sender))) {
             return false;
         }
     }
-    all_ended(held, orders, core, assembly.journal(ActorNo(outside)))
+    true
 }
 
 /// Whether the core is drained and has lost something that was accepted for it.
 pub(crate) fn has_lost(
-    alloc: Global,
+    history: &History,
     orders: &[NameTable<Order<()>>],
     assembly: &Assembly,
     core: CoreNo,
-) -> Result<bool, AllocError>
-    requires { core < assembly.now.cores }
-    ensures kept { IfOk result (λ lost. lost ≡ false → KnowsOrders orders.now assembly.now → IsDrained assembly.now.cores (journal_of core assembly.now) → AllEnded assembly.now core) }
-    ensures only { IfOk result (λ lost. KnowsOrders orders.now assembly.now → (IsDrained assembly.now.cores (journal_of core assembly.now) → AllEnded assembly.now core) → lost ≡ false) }
+) -> bool
+    requires few { assembly.now.cores ≤ most_cores }
+    requires here { core < assembly.now.cores }
+    requires orders { KnowsOrders orders.now assembly.now }
+    requires history { IsHistory history.now (journal_of core assembly.now) }
+    ensures kept { result ≡ false → IsDrained assembly.now.cores (journal_of core assembly.now) → AllEnded assembly.now core }
+    ensures only { (IsDrained assembly.now.cores (journal_of core assembly.now) → AllEnded assembly.now core) → result ≡ false }
 {
     let journal = assembly.journal(ActorNo(core.0));
     let count = assembly.cores();
     if !are_emptied(count, journal) {
-        return Ok(false);
+        return false;
     }
-    let held = held_after(alloc, journal)?;
-    if !held.is_idle() {
-        return Ok(false);
+    let accounts = accounts_after(history, journal);
+    if !is_idle(&accounts) {
+        return false;
     }
-    Ok(!ended_of_all(&held, orders, core, assembly))
+    !ended_of_all(history, orders, core, assembly)
 }

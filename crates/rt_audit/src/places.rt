@@ -1,14 +1,18 @@
 //! The first place at which a rule is broken: the least actor, and of that the least line.
 
-ghost use Rattle.std.specs.Prelude.{◌≡◌, ◌<◌, ◌≤◌, IfOk, None, false};
+ghost use Rattle.std.specs.Prelude.{◌≡◌, ◌+◌, ◌<◌, ◌≤◌, IfSome, None, false};
 ghost use Rattle.rt_ids.specs.Assembly.{journal_of};
-ghost use Rattle.rt_ids.specs.Closing.{IsDrained};
 ghost use Rattle.rt_ids.specs.Limits.{most_cores};
-ghost use Rattle.rt_ids.specs.Sound.{AllEnded, StartsAreSound, OrderIsSound, ClosesAreSound, OutcomesAreSound, PicksAreSound};
+ghost use Rattle.rt_ids.specs.Sound.{StartsAreSound, OrderIsSound, ClosesAreSound, OutcomesAreSound, PicksAreSound};
 ghost use Rattle.rt_ids.specs.Spelled.{IsSpelled};
-ghost use Rattle.rt_audit.specs.Places.{DeliveriesOf, CollectionsOf, IsInOrder, OutcomesOf};
+ghost use Rattle.rt_tables.specs.Histories.{IsHistory};
+ghost use Rattle.rt_audit.specs.Faults.{IsFirstPlace, StartsFault, OrderFault, ClosesFault, OutcomesFault, PicksFault};
+ghost use Rattle.rt_audit.specs.Histories.{AreHistories};
+ghost use Rattle.rt_audit.specs.OrderFaults.{IsLeast, DeliveriesOff, CollectionsOff, LinksOff, lesser};
+ghost use Rattle.rt_audit.specs.Places.{StartsOf, DeliveriesOf, CollectionsOf, IsInOrder, ClosesOf, LosesNothing, OutcomesOf, PicksOf};
 ghost use Rattle.rt_rules.specs.Links.{KnowsOrders, KnowsOutcomes};
 
+use crate::histories::history_of;
 use crate::lost::has_lost;
 use rt_ids::{ActorNo, CoreNo, Order, OutcomeNote};
 use rt_notes::Assembly;
@@ -17,9 +21,8 @@ use rt_rules::closes::closes_fault;
 use rt_rules::order::order_fault;
 use rt_rules::outcomes::outcomes_fault;
 use rt_rules::starts::starts_fault;
-use rt_tables::NameTable;
+use rt_tables::{History, NameTable};
 use rt_turns::picks_fault;
-use std::alloc::{AllocError, Global};
 
 /// A line of an actor's journal, from 1, or 0 if no single note is at fault.
 #[derive(Clone, Copy)]
@@ -28,23 +31,11 @@ pub(crate) struct Place {
     pub line: usize,
 }
 
-/// The first place of this actor, if there is a line.
-fn place_at(actor: u8, line: Option<usize>) -> Option<Place>
-    ensures { result ≡ None → line ≡ None }
-{
-    match line {
-        Some(line) => Some(Place {
-            actor: ActorNo(actor),
-            line,
-        }),
-        None => None,
-    }
-}
-
 /// The lesser of two lines.
 fn first_line(one: Option<usize>, other: Option<usize>) -> Option<usize>
     ensures kept { result ≡ None → (one ≡ None) × (other ≡ None) }
     ensures only { one ≡ None → other ≡ None → result ≡ None }
+    ensures value { result ≡ lesser one other }
 {
     let Some(line) = one else {
         return other;
@@ -57,21 +48,27 @@ fn first_line(one: Option<usize>, other: Option<usize>) -> Option<usize>
 
 /// The first place at which the first rule is broken.
 pub(crate) fn starts_place(
-    alloc: Global,
     orders: &[NameTable<Order<()>>],
+    histories: &[History],
     assembly: &Assembly,
-) -> Result<Option<Place>, AllocError>
-    requires { assembly.now.cores ≤ most_cores }
-    ensures kept { IfOk result (λ place. place ≡ None → KnowsOrders orders.now assembly.now → StartsAreSound assembly.now) }
-    ensures only { IfOk result (λ place. KnowsOrders orders.now assembly.now → StartsAreSound assembly.now → place ≡ None) }
+) -> Option<Place>
+    requires few { assembly.now.cores ≤ most_cores }
+    requires orders { KnowsOrders orders.now assembly.now }
+    requires histories { AreHistories histories.now assembly.now (assembly.now.cores + 1) }
+    ensures kept { result ≡ None → StartsAreSound assembly.now }
+    ensures named { IfSome result (λ place. IsFirstPlace (assembly.now.cores + 1) (StartsOf assembly.now) (StartsFault assembly.now) place.actor place.line) }
 {
     for actor in 0..assembly.cores() + 1 {
-        let line = starts_fault(alloc, orders, assembly.journal(ActorNo(actor)))?;
-        if line.is_some() {
-            return Ok(place_at(actor, line));
+        let journal = assembly.journal(ActorNo(actor));
+        let history = history_of(histories, actor);
+        if let Some(line) = starts_fault(orders, history, journal) {
+            return Some(Place {
+                actor: ActorNo(actor),
+                line,
+            });
         }
     }
-    Ok(None)
+    None
 }
 
 /// The line of the first note of a core that delivers what no sender's next submission is.
@@ -80,6 +77,7 @@ fn deliveries_line(assembly: &Assembly, core: CoreNo) -> Option<usize>
     requires here { core < assembly.now.cores }
     ensures kept { result ≡ None → DeliveriesOf assembly.now core }
     ensures only { DeliveriesOf assembly.now core → result ≡ None }
+    ensures least { IsLeast (DeliveriesOff assembly.now core (assembly.now.cores + 1)) result }
 {
     let mut line = None;
     let delivered = assembly.journal(ActorNo(core.0));
@@ -96,6 +94,7 @@ fn collections_line(assembly: &Assembly, sender: ActorNo) -> Option<usize>
     requires { sender ≤ assembly.now.cores }
     ensures kept { result ≡ None → CollectionsOf assembly.now sender }
     ensures only { CollectionsOf assembly.now sender → result ≡ None }
+    ensures least { IsLeast (CollectionsOff assembly.now sender assembly.now.cores) result }
 {
     let mut line = None;
     let collected = assembly.journal(sender);
@@ -113,6 +112,7 @@ fn links_line(assembly: &Assembly, actor: u8) -> Option<usize>
     requires here { actor ≤ assembly.now.cores }
     ensures kept { result ≡ None → (actor < assembly.now.cores → DeliveriesOf assembly.now actor) × CollectionsOf assembly.now actor }
     ensures only { (actor < assembly.now.cores → DeliveriesOf assembly.now actor) → CollectionsOf assembly.now actor → result ≡ None }
+    ensures least { IsLeast (LinksOff assembly.now actor) result }
 {
     let collections = collections_line(assembly, ActorNo(actor));
     if actor < assembly.cores() {
@@ -123,50 +123,51 @@ fn links_line(assembly: &Assembly, actor: u8) -> Option<usize>
 }
 
 /// The line of the first note of an actor that breaks the second rule.
-fn order_line(
-    alloc: Global,
-    orders: &[NameTable<Order<()>>],
-    assembly: &Assembly,
-    actor: u8,
-) -> Result<Option<usize>, AllocError>
+fn order_line(orders: &[NameTable<Order<()>>], assembly: &Assembly, actor: u8) -> Option<usize>
     requires few { assembly.now.cores ≤ most_cores }
     requires here { actor ≤ assembly.now.cores }
-    ensures kept { IfOk result (λ line. line ≡ None → KnowsOrders orders.now assembly.now → StartsAreSound assembly.now → IsInOrder assembly.now actor) }
-    ensures only { IfOk result (λ line. KnowsOrders orders.now assembly.now → IsSpelled assembly.now → StartsAreSound assembly.now → IsInOrder assembly.now actor → line ≡ None) }
+    requires orders { KnowsOrders orders.now assembly.now }
+    requires spelled { IsSpelled assembly.now }
+    requires starts { StartsAreSound assembly.now }
+    ensures kept { result ≡ None → IsInOrder assembly.now actor }
+    ensures named { IfSome result (OrderFault assembly.now actor) }
 {
     let journal = assembly.journal(ActorNo(actor));
-    let notes = order_fault(alloc, assembly.cores(), orders, journal)?;
-    Ok(first_line(notes, links_line(assembly, actor)))
+    let notes = order_fault(orders, journal);
+    first_line(notes, links_line(assembly, actor))
 }
 
 /// The first place at which the second rule is broken.
-pub(crate) fn order_place(
-    alloc: Global,
-    orders: &[NameTable<Order<()>>],
-    assembly: &Assembly,
-) -> Result<Option<Place>, AllocError>
-    requires { assembly.now.cores ≤ most_cores }
-    ensures kept { IfOk result (λ place. place ≡ None → KnowsOrders orders.now assembly.now → StartsAreSound assembly.now → OrderIsSound assembly.now) }
-    ensures only { IfOk result (λ place. KnowsOrders orders.now assembly.now → IsSpelled assembly.now → StartsAreSound assembly.now → OrderIsSound assembly.now → place ≡ None) }
+pub(crate) fn order_place(orders: &[NameTable<Order<()>>], assembly: &Assembly) -> Option<Place>
+    requires few { assembly.now.cores ≤ most_cores }
+    requires orders { KnowsOrders orders.now assembly.now }
+    requires spelled { IsSpelled assembly.now }
+    requires starts { StartsAreSound assembly.now }
+    ensures kept { result ≡ None → OrderIsSound assembly.now }
+    ensures named { IfSome result (λ place. IsFirstPlace (assembly.now.cores + 1) (IsInOrder assembly.now) (OrderFault assembly.now) place.actor place.line) }
 {
     for actor in 0..assembly.cores() + 1 {
-        let line = order_line(alloc, orders, assembly, actor)?;
-        if line.is_some() {
-            return Ok(place_at(actor, line));
+        if let Some(line) = order_line(orders, assembly, actor) {
+            return Some(Place {
+                actor: ActorNo(actor),
+                line,
+            });
         }
     }
-    Ok(None)
+    None
 }
 
 /// The first place at which the third rule is broken.
 pub(crate) fn closes_place(assembly: &Assembly) -> Option<Place>
     ensures kept { result ≡ None → ClosesAreSound assembly.now }
-    ensures only { ClosesAreSound assembly.now → result ≡ None }
+    ensures named { IfSome result (λ place. IsFirstPlace assembly.now.cores (ClosesOf assembly.now) (ClosesFault assembly.now) place.actor place.line) }
 {
     for core in 0..assembly.cores() {
-        let line = closes_fault(assembly, CoreNo(core));
-        if line.is_some() {
-            return place_at(core, line);
+        if let Some(line) = closes_fault(assembly, CoreNo(core)) {
+            return Some(Place {
+                actor: ActorNo(core),
+                line,
+            });
         }
     }
     None
@@ -174,71 +175,85 @@ pub(crate) fn closes_place(assembly: &Assembly) -> Option<Place>
 
 /// Whether the actor is a drained core that has lost something.
 fn is_lost(
-    alloc: Global,
+    history: &History,
     orders: &[NameTable<Order<()>>],
     assembly: &Assembly,
     actor: u8,
-) -> Result<bool, AllocError>
-    ensures kept { IfOk result (λ lost. lost ≡ false → KnowsOrders orders.now assembly.now → actor < assembly.now.cores → IsDrained assembly.now.cores (journal_of actor assembly.now) → AllEnded assembly.now actor) }
-    ensures only { IfOk result (λ lost. KnowsOrders orders.now assembly.now → (actor < assembly.now.cores → IsDrained assembly.now.cores (journal_of actor assembly.now) → AllEnded assembly.now actor) → lost ≡ false) }
+) -> bool
+    requires few { assembly.now.cores ≤ most_cores }
+    requires orders { KnowsOrders orders.now assembly.now }
+    requires history { IsHistory history.now (journal_of actor assembly.now) }
+    ensures kept { result ≡ false → LosesNothing assembly.now actor }
+    ensures only { LosesNothing assembly.now actor → result ≡ false }
 {
-    if actor < assembly.cores() {
-        let lost = has_lost(alloc, orders, assembly, CoreNo(actor))?;
-        return Ok(lost);
-    }
-    Ok(false)
+    actor < assembly.cores() && has_lost(history, orders, assembly, CoreNo(actor))
 }
 
 /// The line of an actor's first fault of the fourth rule: 0 if it is a drained core that has lost something.
 fn outcomes_line(
-    alloc: Global,
     orders: &[NameTable<Order<()>>],
     outcomes: &[NameTable<OutcomeNote<u64>>],
+    history: &History,
     assembly: &Assembly,
     actor: u8,
-) -> Result<Option<usize>, AllocError>
-    requires { actor ≤ assembly.now.cores }
-    ensures kept { IfOk result (λ line. line ≡ None → KnowsOrders orders.now assembly.now → KnowsOutcomes outcomes.now assembly.now → OutcomesOf assembly.now actor) }
-    ensures only { IfOk result (λ line. KnowsOrders orders.now assembly.now → KnowsOutcomes outcomes.now assembly.now → OutcomesOf assembly.now actor → line ≡ None) }
+) -> Option<usize>
+    requires few { assembly.now.cores ≤ most_cores }
+    requires here { actor ≤ assembly.now.cores }
+    requires orders { KnowsOrders orders.now assembly.now }
+    requires outcomes { KnowsOutcomes outcomes.now assembly.now }
+    requires history { IsHistory history.now (journal_of actor assembly.now) }
+    ensures kept { result ≡ None → OutcomesOf assembly.now actor }
+    ensures named { IfSome result (OutcomesFault assembly.now actor) }
 {
-    if is_lost(alloc, orders, assembly, actor)? {
-        return Ok(Some(0));
+    if is_lost(history, orders, assembly, actor) {
+        return Some(0);
     }
     let journal = assembly.journal(ActorNo(actor));
-    let line = outcomes_fault(alloc, orders, outcomes, journal)?;
-    Ok(line)
+    outcomes_fault(orders, outcomes, history, journal)
 }
 
 /// The first place at which the fourth rule is broken.
 pub(crate) fn outcomes_place(
-    alloc: Global,
     orders: &[NameTable<Order<()>>],
     outcomes: &[NameTable<OutcomeNote<u64>>],
+    histories: &[History],
     assembly: &Assembly,
-) -> Result<Option<Place>, AllocError>
-    requires { assembly.now.cores ≤ most_cores }
-    ensures kept { IfOk result (λ place. place ≡ None → KnowsOrders orders.now assembly.now → KnowsOutcomes outcomes.now assembly.now → OutcomesAreSound assembly.now) }
-    ensures only { IfOk result (λ place. KnowsOrders orders.now assembly.now → KnowsOutcomes outcomes.now assembly.now → OutcomesAreSound assembly.now → place ≡ None) }
+) -> Option<Place>
+    requires few { assembly.now.cores ≤ most_cores }
+    requires orders { KnowsOrders orders.now assembly.now }
+    requires outcomes { KnowsOutcomes outcomes.now assembly.now }
+    requires histories { AreHistories histories.now assembly.now (assembly.now.cores + 1) }
+    ensures kept { result ≡ None → OutcomesAreSound assembly.now }
+    ensures named { IfSome result (λ place. IsFirstPlace (assembly.now.cores + 1) (OutcomesOf assembly.now) (OutcomesFault assembly.now) place.actor place.line) }
 {
     for actor in 0..assembly.cores() + 1 {
-        let line = outcomes_line(alloc, orders, outcomes, assembly, actor)?;
-        if line.is_some() {
-            return Ok(place_at(actor, line));
+        let history = history_of(histories, actor);
+        if let Some(line) = outcomes_line(orders, outcomes, history, assembly, actor) {
+            return Some(Place {
+                actor: ActorNo(actor),
+                line,
+            });
         }
     }
-    Ok(None)
+    None
 }
 
 /// The first place at which the fifth rule is broken.
-pub(crate) fn picks_place(alloc: Global, assembly: &Assembly) -> Result<Option<Place>, AllocError>
-    ensures kept { IfOk result (λ place. place ≡ None → PicksAreSound assembly.now) }
-    ensures only { IfOk result (λ place. IsSpelled assembly.now → PicksAreSound assembly.now → place ≡ None) }
+pub(crate) fn picks_place(histories: &[History], assembly: &Assembly) -> Option<Place>
+    requires spelled { IsSpelled assembly.now }
+    requires histories { AreHistories histories.now assembly.now (assembly.now.cores + 1) }
+    ensures kept { result ≡ None → PicksAreSound assembly.now }
+    ensures named { IfSome result (λ place. IsFirstPlace assembly.now.cores (PicksOf assembly.now) (PicksFault assembly.now) place.actor place.line) }
 {
     for core in 0..assembly.cores() {
-        let line = picks_fault(alloc, assembly.journal(ActorNo(core)))?;
-        if line.is_some() {
-            return Ok(place_at(core, line));
+        let journal = assembly.journal(ActorNo(core));
+        let history = history_of(histories, core);
+        if let Some(line) = picks_fault(history, journal) {
+            return Some(Place {
+                actor: ActorNo(core),
+                line,
+            });
         }
     }
-    Ok(None)
+    None
 }

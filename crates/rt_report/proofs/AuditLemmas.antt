@@ -7,7 +7,7 @@ use Rattle.rt_ids.specs.Sound.{IsSound}
 use Rattle.rt_ids.specs.Spelled.{IsSpelled}
 use Rattle.rt_audit.specs.declared.judge.Verdict.{Verdict}
 use Rattle.rt_audit.specs.declared.judge.Verdict.TheVariants.{Sound, Fault}
-use Rattle.rt_audit.specs.Verdicts.{IsFirstBroken, rule_named}
+use Rattle.rt_audit.specs.Verdicts.{IsFirstBroken, IsVerdict, rule_named}
 use Rattle.rt_reading.specs.declared.fault.JournalCause.{JournalCause}
 use Rattle.rt_reading.specs.declared.fault.ReadError.{ReadError}
 use Rattle.rt_reading.specs.declared.fault.ReadError.TheVariants as read
@@ -40,12 +40,13 @@ sound_only (Fault actor line rule) is = cc
 
 module _ (source : Option (List ℕ)) (assembly : Assembly ℕ) (verdict : Verdict) (told : IfSome source (λ text. IsSpelled assembly × (text ≡ journal_text assembly))) (sound : verdict ≡ Sound → IsSpelled assembly × IsSound assembly) where
   -- the verdict is one of the journals that the source tells
-  pub judged : (IsSpelled assembly → IsFirstBroken assembly (rule_named verdict)) → (IsSpelled assembly → IsSound assembly → verdict ≡ Sound) → IfSome source (JudgesText verdict)
-  judged rule only = from source told
+  pub judged : (IsSpelled assembly → IsFirstBroken assembly (rule_named verdict)) → (IsSpelled assembly → IsVerdict assembly verdict) →
+      (IsSpelled assembly → IsSound assembly → verdict ≡ Sound) → IfSome source (JudgesText verdict)
+  judged rule place only = from source told
     where
       from : (all : Option (List ℕ)) → IfSome all (λ text. IsSpelled assembly × (text ≡ journal_text assembly)) → IfSome all (JudgesText verdict)
       from None is = tt
-      from (Some text) (spelled, same) = (assembly, same, record { spelled = spelled; sound = (λ found. (sound found).1, only spelled); rule = rule spelled })
+      from (Some text) (spelled, same) = (assembly, same, record { spelled = spelled; sound = (λ found. (sound found).1, only spelled); rule = rule spelled; place = place spelled })
 
   -- and they are sound if it says so
   pub tells_sound : is_sound verdict ≡ true → TellsSound source

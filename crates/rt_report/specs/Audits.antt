@@ -7,16 +7,17 @@ use Rattle.rt_ids.specs.Sound.{IsSound}
 use Rattle.rt_ids.specs.Spelled.{IsSpelled}
 use Rattle.rt_audit.specs.declared.judge.Verdict.{Verdict}
 use Rattle.rt_audit.specs.declared.judge.Verdict.TheVariants.{Sound}
-use Rattle.rt_audit.specs.Verdicts.{IsFirstBroken, rule_named}
+use Rattle.rt_audit.specs.Verdicts.{IsFirstBroken, IsVerdict, rule_named}
 use Rattle.rt_spelling.specs.Texts.{journal_text}
 use Rattle.rt_spelling.specs.Pages.{AppendsFront}
 use Rattle.rt_report.specs.VerdictTexts.{is_sound, verdict_text}
 
--- a verdict of these journals: `Sound` exactly of sound ones; else it names the first rule that is broken
+-- a verdict of these journals: `Sound` exactly of sound ones; else it names the first rule that is broken, at its first place
 pub record IsJudged (assembly : Assembly ℕ) (verdict : Verdict) : Type 0 where
   pub spelled : IsSpelled assembly
   pub sound : verdict ≡ Sound ↔ IsSound assembly
   pub rule : IsFirstBroken assembly (rule_named verdict)
+  pub place : IsVerdict assembly verdict
 
 -- the text is that of some journals, and this is a verdict of them
 abbrev pub JudgesText : Verdict → List ℕ → Type 0

@@ -1,5 +1,4 @@
 pub mod CloseSteps
-pub mod FirstUnder
 pub mod LinkTables
 pub mod NumberSteps
 pub mod Reached

@@ -48,7 +48,7 @@ module _ (assembly : Assembly ℕ) where
 
   -- after a start its number is reached
   pub next_reached : (old new : Numbers) (before : Journal ℕ) (name : JobId) (queue : ℕ) → AreReached assembly old before →
-      Raises old new name.from queue name.number → length new.started.items ≡ length old.started.items → queue_asked (order_of name assembly) ≡ Some queue →
+      Raises old new name.from queue name.number → length new.started ≡ length old.started → queue_asked (order_of name assembly) ≡ Some queue →
       AreReached assembly new (Start name ∷ before)
   next_reached old new before name queue reached raises rows asked sender other small more within = by_change (raises sender other small)
     where
@@ -103,7 +103,7 @@ module _ (assembly : Assembly ℕ) where
           last_started numbers name.from queue < name.number
       by_order (inl above) = above
       by_order (inr below) =
-          let within : name.from * 256 + queue < length numbers.started.items = omega (arith, knows.rows, sender, small) in
+          let within : name.from * 256 + queue < length numbers.started = omega (arith, knows.rows, sender, small) in
           let was = knows.reached name.from queue small (omega (arith, below, positive)) within in
           let mine = its_queue before name queue knows.entered inside.has_entered asked in
           let its = its_queue before was.name queue knows.entered (started_entered before was.name knows.starts was.started) was.asked in

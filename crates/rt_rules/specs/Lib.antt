@@ -1,5 +1,3 @@
 pub mod Links
-pub mod Starts
 pub mod Numbers
 pub mod Closes
-pub mod Outcomes

@@ -19,13 +19,17 @@ queue_asked _ = None
 abbrev pub slot : ℕ → ℕ → ℕ
 slot sender queue = sender * 256 + queue
 
+-- how many numbers are kept: 256 for each of 17 senders
+abbrev pub all_rows : ℕ
+all_rows = 4352
+
 -- the greatest number that a word holds
 abbrev pub greatest_word : ℕ
 greatest_word = 2 ^ 64 - 1
 
 -- the greatest number that started of a sender in a queue
 abbrev pub last_started : Numbers → ℕ → ℕ → ℕ
-last_started numbers sender queue = get_or numbers.started.items (slot sender queue) greatest_word
+last_started numbers sender queue = get_or numbers.started (slot sender queue) greatest_word
 
 -- this is a job, and its number is above all that started of its sender in its queue
 pub record IsAbove (numbers : Numbers) (order : Option (Order (Unit {0}))) (name : JobId) : Type 0 where
@@ -50,7 +54,7 @@ pub record HasReached (assembly : Assembly ℕ) (sender queue number : ℕ) (bef
 -- each number that is kept, if it isn't 0, is that of a job that started
 abbrev pub AreReached : Assembly ℕ → Numbers → Journal ℕ → Type 0
 AreReached assembly numbers before =
-    (sender queue : ℕ) → queue < 256 → 0 < last_started numbers sender queue → slot sender queue < length numbers.started.items →
+    (sender queue : ℕ) → queue < 256 → 0 < last_started numbers sender queue → slot sender queue < length numbers.started →
     HasReached assembly sender queue (last_started numbers sender queue) before
 
 -- the numbers are kept as they were, or this one is kept for this sender and this queue
@@ -70,7 +74,7 @@ pub record OrderSoFar (assembly : Assembly ℕ) (numbers : Numbers) (before : Jo
 
 -- all that tells whether a note stands in order: each sender has its numbers, each number is that of a start, and the starts are right
 pub record KnowsOrder (assembly : Assembly ℕ) (numbers : Numbers) (before : Journal ℕ) : Type 0 where
-  pub rows : length numbers.started.items ≡ (assembly.cores + 1) * 256
+  pub rows : (assembly.cores + 1) * 256 ≤ length numbers.started
   pub known : KnowsNumbers assembly numbers before
   pub reached : AreReached assembly numbers before
   pub entered : EnteredAsSent assembly before

@@ -1,27 +1,27 @@
 //! Rule 2, note by note: one sender's jobs in one queue start by rising number, links are numbered 1, 2, 3, .., and a job enters the queue that it was sent to.
 
-ghost use Rattle.std.specs.Prelude.{◌≡◌, ◌∷◌, ◌+◌, ◌*◌, ◌<◌, ◌≤◌, ℕ, IfOk, IfSome, IsTrue, None, Some, [], length, get_or};
+ghost use Rattle.std.specs.Prelude.{◌≡◌, ◌∷◌, ◌+◌, ◌<◌, ◌≤◌, ℕ, IfSome, IsTrue, None, Some, [], length, get_or};
 ghost use Rattle.rt_ids.specs.Assembly.{Assembly};
 ghost use Rattle.rt_ids.specs.Clauses.{StandsInOrder, StartsRight};
 ghost use Rattle.rt_ids.specs.Journal.{Journal as Notes, EachNote};
+ghost use Rattle.rt_ids.specs.Limits.{most_cores};
 ghost use Rattle.rt_ids.specs.Spelled.{IsSpelledNote, AreSpelledNotes};
 ghost use Rattle.rt_ids.specs.Terms.{Terms};
 ghost use Rattle.rt_rules.specs.Links.{KnowsOrders, under};
 ghost use Rattle.rt_rules.specs.Numbers as spec;
-ghost use Rattle.rt_rules.specs.Numbers.{KnowsNumbers, KnowsOrder, AreReached, Raises, IsAbove, EnteredAsSent, last_started, queue_asked};
+ghost use Rattle.rt_rules.specs.Numbers.{KnowsNumbers, KnowsOrder, AreReached, Raises, IsAbove, EnteredAsSent, all_rows, last_started, queue_asked};
 ghost use Rattle.rt_tables.specs.Faults.{IsFirstFault};
 
 use crate::links::order_under;
 use rt_ids::{ActorNo, JobId, Note, Order, QueueNo};
 use rt_notes::Journal;
 use rt_tables::{NameTable, note_at};
-use std::alloc::{AllocError, Global};
 
 /// The greatest number that started of each sender in each queue, and how many orders were sent to each core.
 #[derive(Drop)]
 pub(crate) struct Numbers {
-    // 256 queues of each sender, sender after sender.
-    started: Vec<u64>,
+    // 256 queues of each of 17 senders, sender after sender.
+    started: [u64; 4352],
     sent: [u64; 256],
 }
 
@@ -32,16 +32,15 @@ fn slot(sender: ActorNo, queue: QueueNo) -> usize
 }
 
 impl Numbers {
-    fn new(alloc: Global, cores: u8) -> Result<Self, AllocError>
-        ensures known { IfOk result (λ numbers. (assembly : Assembly ℕ) → KnowsNumbers assembly numbers []) }
-        ensures reached { IfOk result (λ numbers. (assembly : Assembly ℕ) → AreReached assembly numbers []) }
-        ensures rows { IfOk result (λ numbers. length numbers.started.items ≡ (cores + 1) * 256) }
+    fn new() -> Self
+        ensures known { (assembly : Assembly ℕ) → KnowsNumbers assembly result [] }
+        ensures reached { (assembly : Assembly ℕ) → AreReached assembly result [] }
+        ensures rows { length result.started ≡ all_rows }
     {
-        let started = vec![in alloc; 0; (cores as usize + 1) * 256]?;
-        Ok(Numbers {
-            started,
+        Numbers {
+            started: [0; 4352],
             sent: [0; 256],
-        })
+        }
     }
 
     /// The greatest number that started. A sender that there can't be has started all.
@@ -60,11 +59,13 @@ impl Numbers {
         ensures others { (sender other : ℕ) → last_started self.old sender other ≤ last_started self.new sender other }
         ensures this { name.now.number ≤ last_started self.new name.now.from queue }
         ensures raises { Raises self.old self.new name.now.from queue name.now.number }
-        ensures rows { length self.new.started.items ≡ length self.old.started.items }
+        ensures rows { length self.new.started ≡ length self.old.started }
     {
         let next = name.number;
-        if let Some(number) = self.started.get_mut(slot(name.from, queue)) {
-            *number = next.max(*number);
+        let at = slot(name.from, queue);
+        if at < self.started.len() {
+            let number = self.started[at];
+            self.started[at] = next.max(number);
         }
     }
 
@@ -72,7 +73,7 @@ impl Numbers {
     fn add(&mut self, orders: &[NameTable<Order<()>>], note: &Note<u64>)
         ensures known { (assembly : Assembly ℕ) (before : Notes ℕ) → KnowsOrders orders.now assembly → StandsInOrder assembly note.now before → KnowsNumbers assembly self.old before → KnowsNumbers assembly self.new (note.now ∷ before) }
         ensures reached { (assembly : Assembly ℕ) (before : Notes ℕ) → KnowsOrders orders.now assembly → AreReached assembly self.old before → AreReached assembly self.new (note.now ∷ before) }
-        ensures rows { length self.new.started.items ≡ length self.old.started.items }
+        ensures rows { length self.new.started ≡ length self.old.started }
     {
         match *note {
             Note::Start(name) => {
@@ -150,22 +151,17 @@ fn stands_in_order(orders: &[NameTable<Order<()>>], numbers: &Numbers, note: &No
 }
 
 /// The line of the first note that doesn't stand in order, in a journal whose starts are right.
-pub fn order_fault(
-    alloc: Global,
-    cores: u8,
-    orders: &[NameTable<Order<()>>],
-    journal: &Journal<u64>,
-) -> Result<Option<usize>, AllocError>
-    ensures kept { IfOk result (λ line. line ≡ None → (assembly : Assembly ℕ) → KnowsOrders orders.now assembly → EachNote (StartsRight assembly) journal.now.notes → EachNote (StandsInOrder assembly) journal.now.notes) }
-    ensures named { IfOk result (λ line. IfSome line (λ at. (assembly : Assembly ℕ) (terms : Terms) → assembly.cores ≡ cores → terms.cores ≡ cores → KnowsOrders orders.now assembly → AreSpelledNotes terms journal.now.notes → EachNote (StartsRight assembly) journal.now.notes → IsFirstFault (StandsInOrder assembly) journal.now.notes at)) }
+pub fn order_fault(orders: &[NameTable<Order<()>>], journal: &Journal<u64>) -> Option<usize>
+    ensures kept { result ≡ None → (assembly : Assembly ℕ) → KnowsOrders orders.now assembly → EachNote (StartsRight assembly) journal.now.notes → EachNote (StandsInOrder assembly) journal.now.notes }
+    ensures named { IfSome result (λ at. (assembly : Assembly ℕ) (terms : Terms) → assembly.cores ≤ most_cores → terms.cores ≡ assembly.cores → KnowsOrders orders.now assembly → AreSpelledNotes terms journal.now.notes → EachNote (StartsRight assembly) journal.now.notes → IsFirstFault (StandsInOrder assembly) journal.now.notes at) }
 {
-    let mut numbers = Numbers::new(alloc, cores)?;
+    let mut numbers = Numbers::new();
     for place in 0..journal.len() {
         let note = note_at(journal, place);
         if !stands_in_order(orders, &numbers, &note) {
-            return Ok(Some(place + 1));
+            return Some(place + 1);
         }
         numbers.add(orders, &note);
     }
-    Ok(None)
+    None
 }

@@ -1,6 +1,7 @@
 -- What the lines of a script for threads say keeps within the limits.
-use Rattle.std.proofs.Common.{IfOk, ◌∙◌, ◌≡◌, ℕ, ◌+◌, ◌≤◌, ◌<◌, ◌++◌, Bool, true, false, cond, List, [], ◌∷◌, Option, Some, None, Result, Ok, Err, refl, ap, zero-add, arith}
-use Rattle.std.proofs.lemmas.List.Elements.{All-push}
+use Rattle.std.proofs.Common.{IfOk, eqb, ◌∙◌, ◌≡◌, ℕ, ◌+◌, ◌≤◌, ◌<◌, ◌==◌, ◌++◌, Bool, true, false, cond, List, [], ◌∷◌, Option, Some, None, Result, Ok, Err, refl, ap, zero-add, arith}
+use Rattle.std.proofs.lemmas.Bool.Decides.{nat_tests}
+use Rattle.std.proofs.lemmas.List.Elements.{All-nil, All-push}
 use Rattle.std.proofs.lemmas.List.Sums.{sum_by-append}
 use Rattle.rt_ids.specs.declared.order.Order.{Order}
 use Rattle.rt_ids.specs.declared.order.Order.TheVariants as order
@@ -16,8 +17,8 @@ use Rattle.rt_script.specs.Keywords.{keyword_of}
 use Rattle.rt_script.specs.Lines.{first_line, later_line}
 use Rattle.rt_threads_script.specs.declared.fault.ThreadsCause.{ThreadsCause}
 use Rattle.rt_threads_script.specs.Lines.{of_script, is_barred, size_told, line_told}
-use Rattle.rt_threads_script.specs.Drafts.{Told, Drafted, polls_of, polls_in}
-use Rattle.rt_threads_script.specs.Limits.{IsToldOf, IsToldFor, AreTold, IsWithinLimits}
+use Rattle.rt_threads_script.specs.Drafts.{Told, Drafted, orders_to, cap_of, polls_of, polls_in}
+use Rattle.rt_threads_script.specs.Limits.{IsToldOf, IsToldFor, AreTold, HasSpare, IsWithinLimits}
 
 of_script_ok : (r : Result Line Cause) (line : Line) → of_script r ≡ Ok line → r ≡ Ok line
 of_script_ok (Ok read) line e = cc
@@ -46,6 +47,17 @@ pub sent_told : (size : Option (ℕ × ℕ)) (sender core : ℕ) (one : Order Sc
 sent_told None sender core one h = h
 sent_told (Some size) sender core one h = sent_of size.0 sender core one h
 
+-- the first line
+no_orders : (size : ℕ × ℕ) (orders : List Told) → script.IsSize size.0 size.1 → orders ≡ [] → AreTold (Some size) orders × HasSpare (Some size) orders
+no_orders size orders limits none = rw none (All-nil (IsToldOf size.0), λ core. limits.some_cap)
+
+pub size_known : (draft : Drafted) (size : ℕ × ℕ) → IsWithinLimits draft → draft.size ≡ None → script.IsSize size.0 size.1 → IsWithinLimits (record { size = Some size; queues = draft.queues; orders = draft.orders })
+size_known draft size limits first is =
+    let none : draft.orders ≡ [] = rw first at limits.told in
+    let no_queues : draft.queues ≡ [] = rw first at limits.placed in
+    let orders = no_orders size draft.orders is none in
+    record { sized = is; placed = rw no_queues (All-nil (λ queue. queue.0 < size.0)); few = limits.few; told = orders.0; spare = orders.1 }
+
 -- one queue more
 no_events : (size : Option (ℕ × ℕ)) → script.AreEventsOf size []
 no_events None = refl
@@ -54,19 +66,35 @@ no_events (Some size) = λ i x h. absurd (omega arith)
 pub queue_more : (draft : Drafted) (queue : ℕ × ℕ) → IsWithinLimits draft → script.IsCoreOf draft.size queue.0 → queue_lines queue.0 draft.queues < 255 → IsWithinLimits (record { size = draft.size; queues = draft.queues ++ queue ∷ []; orders = draft.orders })
 queue_more draft queue limits core room =
     let more = limits_more (record { size = draft.size; queues = draft.queues; events = [] }) queue (record { sized = limits.sized; placed = limits.placed; few = limits.few; happen = no_events draft.size }) core room in
-    record { sized = more.sized; placed = more.placed; few = more.few; told = limits.told }
+    record { sized = more.sized; placed = more.placed; few = more.few; told = limits.told; spare = limits.spare }
 
 -- one order more
 told_more : (size : Option (ℕ × ℕ)) (orders : List Told) (told : Told) → AreTold size orders → IsToldFor size told → AreTold size (orders ++ told ∷ [])
 told_more None orders told all one = absurd one
 told_more (Some size) orders told all one = All-push (IsToldOf size.0) orders told all one
 
-pub order_more : (draft : Drafted) (told : Told) → IsWithinLimits draft → IsToldFor draft.size told → IsWithinLimits (record { size = draft.size; queues = draft.queues; orders = draft.orders ++ told ∷ [] })
-order_more draft told limits one = record {
+-- one order more to this core, and as many as before to the others
+number_more : (core : ℕ) (orders : List Told) (told : Told) → orders_to core (orders ++ told ∷ []) ≡ orders_to core orders + cond (eqb told.0 core) 1 0
+number_more core orders told = sum_by-append (λ t. cond (t.0 == core) 1 0) orders (told ∷ []) ∙ ap (λ n. orders_to core orders + n) (zero-add (cond (eqb told.0 core) 1 0))
+
+still_below : (same : Bool) (before after cap : ℕ) → after ≡ before + cond same 1 0 → (same ≡ true → before + 1 < cap) → before < cap → after < cap
+still_below true before after cap e room below = let r = room refl in omega arith
+still_below false before after cap e room below = omega arith
+
+spare_more : (size : Option (ℕ × ℕ)) (orders : List Told) (told : Told) → HasSpare size orders → orders_to told.0 orders + 1 < cap_of size → HasSpare size (orders ++ told ∷ [])
+spare_more None orders told spare room = tt
+spare_more (Some size) orders told spare room =
+    λ core.
+    still_below (eqb told.0 core) (orders_to core orders) (orders_to core (orders ++ told ∷ [])) size.1 (number_more core orders told)
+    (λ same. let e : told.0 ≡ core = grind (arith, nat_tests) in rw (← e) room) (spare core)
+
+pub order_more : (draft : Drafted) (told : Told) → IsWithinLimits draft → IsToldFor draft.size told → orders_to told.0 draft.orders + 1 < cap_of draft.size → IsWithinLimits (record { size = draft.size; queues = draft.queues; orders = draft.orders ++ told ∷ [] })
+order_more draft told limits one room = record {
   sized = limits.sized;
   placed = limits.placed;
   few = limits.few;
   told = told_more draft.size draft.orders told limits.told one;
+  spare = spare_more draft.size draft.orders told limits.spare room;
 }
 
 pub polls_more : (orders : List Told) (told : Told) → polls_in (orders ++ told ∷ []) ≡ polls_in orders + polls_of told.1

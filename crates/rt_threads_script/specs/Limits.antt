@@ -5,7 +5,7 @@ use Rattle.rt_ids.specs.declared.order.Order.TheVariants as order
 use Rattle.rt_jobs.specs.declared.poll.Poll.TheVariants.{Yield}
 use Rattle.rt_jobs.specs.Scripts.{Script}
 use Rattle.rt_script.specs.Limits.{IsSized, ArePlaced, HasFewQueues}
-use Rattle.rt_threads_script.specs.Drafts.{Drafted, Told}
+use Rattle.rt_threads_script.specs.Drafts.{Drafted, Told, orders_to}
 
 -- the job of an order; if it is none, one of a single poll that isn't made
 abbrev pub job_in : Order Script → Script
@@ -28,8 +28,14 @@ abbrev pub AreTold : Option (ℕ × ℕ) → List Told → Type 0
 AreTold None orders = orders ≡ []
 AreTold (Some size) orders = All (IsToldOf size.0) orders
 
+-- one place of each link stays for the order that closes its core: a core gets fewer orders than the capacity
+abbrev pub HasSpare : Option (ℕ × ℕ) → List Told → Type 0
+HasSpare None orders = Unit {0}
+HasSpare (Some size) orders = (core : ℕ) → orders_to core orders < size.1
+
 pub record IsWithinLimits (draft : Drafted) : Type 0 where
   pub sized : IsSized draft.size
   pub placed : ArePlaced draft.size draft.queues
   pub few : HasFewQueues draft.queues
   pub told : AreTold draft.size draft.orders
+  pub spare : HasSpare draft.size draft.orders

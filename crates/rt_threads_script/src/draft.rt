@@ -1,9 +1,9 @@
 //! A script for threads as far as its lines are judged.
 
-ghost use Rattle.std.specs.Prelude.{◌≡◌, Ok, Err, IfOk, IfErr, IfSome, IsNone, None, OnOk, OnErr, length, nat_lt, ◌≤◌, ◌+◌, ◌++◌, ◌∷◌, [], ◌↔◌};
+ghost use Rattle.std.specs.Prelude.{◌≡◌, Ok, Err, IfOk, IfErr, IfSome, IsNone, None, Some, OnOk, OnErr, length, nat_lt, ◌<◌, ◌≤◌, ◌+◌, ◌++◌, ◌∷◌, [], ◌↔◌};
 ghost use Rattle.rt_words.specs.Words.{words};
 ghost use Rattle.rt_script.specs.Drafts.{is_skipped, queue_lines};
-ghost use Rattle.rt_script.specs.Limits.{IsCoreOf, MayFollow, IsEventFor};
+ghost use Rattle.rt_script.specs.Limits.{IsCoreOf, IsSize, MayFollow, IsEventFor};
 ghost use Rattle.rt_threads_script.specs.declared.fault.ThreadsFault.TheVariants.{Memory};
 ghost use Rattle.rt_threads_script.specs.Drafts as spec;
 ghost use Rattle.rt_threads_script.specs.Limits.{IsToldFor};
@@ -67,6 +67,7 @@ impl Draft {
 
     /// The whole script, if the lines end here; None if none told the size.
     pub(crate) fn finish(self) -> Option<ThreadsScript>
+        requires { length self.orders ≤ 4096 }
         ensures whole { IfSome result (λ script. self ≡ drafted script) }
         ensures none { IsNone result ↔ (self.size ≡ None) }
     {
@@ -90,6 +91,7 @@ impl Draft {
         ensures ok { OnOk result (spec.with_text self.old text.now ≡ Ok self.new) }
         ensures faulty { IfErr result (IfFaulty (λ fault.
             (fault.0 ≡ number) × (spec.with_text self.old text.now ≡ Err fault.1))) }
+        ensures one_more { OnOk result (length self.new.orders ≤ length self.old.orders + 1) }
         ensures err { OnErr result (self.new ≡ self.old) }
     {
         if is_skipped(text) {
@@ -122,16 +124,26 @@ impl Draft {
         ensures ok { OnOk result (spec.with_line self.old line ≡ Ok self.new) }
         ensures faulty { IfErr result (IfFaulty (λ fault.
             (fault.0 ≡ number) × (spec.with_line self.old line ≡ Err fault.1))) }
+        ensures one_more { OnOk result (length self.new.orders ≤ length self.old.orders + 1) }
         ensures err { OnErr result (self.new ≡ self.old) }
     {
         match line {
             Line::Size(cores, cap) => {
-                self.size = Some((cores, cap));
+                self.set_size(cores, cap);
                 Ok(())
             }
             Line::Queue(core, shares) => self.add_queue(number, core, shares),
             Line::Step(event) => self.add_event(number, event),
         }
+    }
+
+    /// Takes the first line.
+    fn set_size(&mut self, cores: u8, cap: u16)
+        requires first { self.old.size ≡ None }
+        requires size { IsSize cores cap }
+        ensures { self.new ≡ record self.old { size = Some (cores, cap) } }
+    {
+        self.size = Some((cores, cap));
     }
 
     /// Takes a `queue` line.
@@ -140,6 +152,7 @@ impl Draft {
         ensures ok { OnOk result (spec.with_queue self.old core shares ≡ Ok self.new) }
         ensures faulty { IfErr result (IfFaulty (λ fault.
             (fault.0 ≡ number) × (spec.with_queue self.old core shares ≡ Err fault.1))) }
+        ensures one_more { OnOk result (length self.new.orders ≤ length self.old.orders + 1) }
         ensures err { OnErr result (self.new ≡ self.old) }
     {
         if self.queue_lines(core) >= MOST_QUEUE_LINES {
@@ -158,6 +171,7 @@ impl Draft {
         ensures ok { OnOk result (spec.with_event self.old event ≡ Ok self.new) }
         ensures faulty { IfErr result (IfFaulty (λ fault.
             (fault.0 ≡ number) × (spec.with_event self.old event ≡ Err fault.1))) }
+        ensures one_more { OnOk result (length self.new.orders ≤ length self.old.orders + 1) }
         ensures err { OnErr result (self.new ≡ self.old) }
     {
         match event {
@@ -180,6 +194,7 @@ impl Draft {
         ensures ok { OnOk result (spec.with_order self.old (core, order) ≡ Ok self.new) }
         ensures faulty { IfErr result (IfFaulty (λ fault.
             (fault.0 ≡ number) × (spec.with_order self.old (core, order) ≡ Err fault.1))) }
+        ensures one_more { OnOk result (length self.new.orders ≤ length self.old.orders + 1) }
         ensures err { OnErr result (self.new ≡ self.old) }
     {
         let polls = polls_of(&order);
@@ -202,6 +217,7 @@ impl Draft {
         requires told { IsToldFor self.old.size (core, order) }
         requires polls { polls ≡ spec.polls_of order }
         requires few { spec.polls_in self.old.orders + polls ≤ 4096 }
+        requires room { spec.orders_to core self.old.orders + 1 < spec.cap_of self.old.size }
         ensures ok { OnOk result (self.new
             ≡ record self.old { orders = self.old.orders ++ (core, order) ∷ [] }) }
         ensures fault { IfErr result (λ fault. fault ≡ Memory) }

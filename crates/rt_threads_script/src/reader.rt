@@ -34,7 +34,7 @@ pub(crate) struct ThreadsReader {
 }
 
 impl Model for ThreadsReader {
-    ghost use Rattle.std.specs.Prelude.{◌≤◌};
+    ghost use Rattle.std.specs.Prelude.{◌≤◌, ◌<◌, length};
     ghost use Rattle.rt_threads_script.specs.Scripts.{Reading};
     ghost use Rattle.rt_script.specs.Feeds.{HasNoFeed};
 
@@ -42,7 +42,9 @@ impl Model for ThreadsReader {
 
     ghost view = { λ r. record { draft = r.draft; number = r.number; line = r.line.items } };
 
-    ghost invariant = { λ r. (1 ≤ r.number) × (r.number ≤ 4097) × HasNoFeed r.line.items };
+    // A line adds one order at most.
+    ghost invariant = { λ r. (1 ≤ r.number) × (r.number ≤ 4097) × HasNoFeed r.line.items
+        × (length r.draft.orders < r.number) };
 }
 
 impl ThreadsReader {
@@ -172,6 +174,7 @@ fn judge(draft: &mut Draft, number: u32, line: &[u8]) -> Result<(), ThreadsFault
     requires { length line.now ≤ 2048 }
     ensures ok { OnOk result (judged draft.old number line.now ≡ Ok draft.new) }
     ensures few { OnOk result (number ≤ 4096) }
+    ensures one_more { OnOk result (length draft.new.orders ≤ length draft.old.orders + 1) }
     ensures err { OnErr result (draft.new ≡ draft.old) }
     ensures faulty { IfErr result (IfFaulty (λ fault. (fault.0 ≡ number)
         × (judged draft.old number line.now ≡ Err fault.1))) }

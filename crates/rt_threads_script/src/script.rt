@@ -1,8 +1,8 @@
 //! A whole script for threads.
 
-ghost use Rattle.std.specs.Prelude.{Some};
+ghost use Rattle.std.specs.Prelude.{Some, length, ◌≤◌};
 ghost use Rattle.rt_script.specs.Limits.{IsSize, ArePlaced, HasFewQueues};
-ghost use Rattle.rt_threads_script.specs.Limits.{AreTold};
+ghost use Rattle.rt_threads_script.specs.Limits.{AreTold, HasSpare};
 
 use rt_ids::{CoreNo, Order};
 use rt_jobs::ScriptJob;
@@ -23,4 +23,6 @@ pub struct ThreadsScript {
     ghost placed: { ArePlaced (Some (cores, cap)) queues.items },
     ghost few: { HasFewQueues queues.items },
     ghost told: { AreTold (Some (cores, cap)) orders.items },
+    ghost spare: { HasSpare (Some (cores, cap)) orders.items },
+    ghost short: { length orders.items ≤ 4096 },
 }

@@ -1,4 +1,5 @@
 pub mod Bounds
 pub mod IdleSteps
+pub mod PickLines
 pub mod PickSteps
 pub mod RightPicks

@@ -17,7 +17,6 @@ use Rattle.rt_accounts.specs.Accounts.{has_jobs, fresh_account, greatest_runtime
 use Rattle.rt_accounts.specs.AllAccounts.{KnowsAccounts}
 use Rattle.rt_least.specs.declared.least.Least.{Least}
 use Rattle.rt_least.specs.Winners.{IsTree, key_of}
-use Rattle.rt_tables.specs.Jobs.{KnowsJobs}
 use Rattle.rt_turns.specs.declared.picks.Turns.{Turns}
 
 -- the job that is out, as a list
@@ -83,9 +82,8 @@ pub record IsAt (account : Account) (runtime : ℕ) : Type 0 where
   pub at : account.virtual_runtime ≡ runtime
   pub below : runtime < greatest_runtime
 
--- jobs, queues, the job out and the last pick are known as these notes tell them
+-- queues, the job out and the last pick are known as these notes tell them
 pub record KnowsTurns (turns : Turns) (before : Journal ℕ) : Type 0 where
-  pub jobs : KnowsJobs turns.jobs before
   pub accounts : KnowsAccounts turns.accounts before
   pub tree : IsTree turns.least
   pub least : KnowsLeast turns.least before

@@ -1,6 +1,6 @@
 //! Rule 5: each pick takes the least pair of virtual runtime and number among the queues that have work.
 
-ghost use Rattle.std.specs.Prelude.{◌≡◌, ◌<◌, ◌≤◌, ◌∷◌, ℕ, IfOk, OnOk, IsTrue, None, Some, [], is_some, true, length, get_or};
+ghost use Rattle.std.specs.Prelude.{◌≡◌, ◌<◌, ◌≤◌, ◌∷◌, ℕ, IfSome, IsTrue, None, Some, [], is_some, true, length, get_or};
 ghost use Rattle.rt_ids.specs.Clauses.{PicksRight, IsRightIfPick};
 ghost use Rattle.rt_ids.specs.Journal.{Journal as Notes, EachNote};
 ghost use Rattle.rt_ids.specs.Keys.{KeyAtMost};
@@ -8,21 +8,20 @@ ghost use Rattle.rt_ids.specs.Picks as spec;
 ghost use Rattle.rt_ids.specs.Spelled.{AreSpelledNotes};
 ghost use Rattle.rt_ids.specs.Terms.{Terms};
 ghost use Rattle.rt_accounts.specs.Accounts.{fresh_account, has_jobs, greatest_count, greatest_runtime};
-ghost use Rattle.rt_tables.specs.Names.{known};
+ghost use Rattle.rt_tables.specs.Histories.{FitsPlace, IsHistory};
 ghost use Rattle.rt_least.specs.Winners.{IsTree};
+ghost use Rattle.rt_turns.specs.PickFaults.{IsPickFault, IsLineOf};
 ghost use Rattle.rt_turns.specs.Picks.{KnowsTurns, FitsOut, Follows, out_after, IsAt, IsBelowAll, IsPlaced, AreBelow, runtime_waiting, key_waiting};
 
 use rt_accounts::{Account, Accounts, queue_touched};
 use rt_ids::{JobId, Key, Note, QueueNo};
 use rt_least::Least;
 use rt_notes::Journal;
-use rt_tables::{Jobs, note_at};
-use std::alloc::{AllocError, Global};
+use rt_tables::{Fact, History, note_at};
 
-/// The jobs, the queues, the job that is out, and the queue of the pick that was just made.
+/// The queues, the job that is out, and the queue of the pick that was just made.
 #[derive(Drop)]
 struct Turns {
-    jobs: Jobs,
     accounts: Accounts,
     least: Least,
     out: Option<JobId>,
@@ -127,14 +126,12 @@ fn out_after(out: Option<JobId>, note: &Note<u64>) -> Option<JobId>
 }
 
 impl Turns {
-    fn new(alloc: Global) -> Self
+    fn new() -> Self
         ensures { KnowsTurns result [] }
     {
-        let jobs = Jobs::new(alloc);
         let accounts = Accounts::new();
         let least = Least::new();
         Turns {
-            jobs,
             accounts,
             least,
             out: None,
@@ -143,19 +140,17 @@ impl Turns {
     }
 
     /// Reads the next note.
-    fn add(&mut self, note: &Note<u64>) -> Result<(), AllocError>
+    fn add(&mut self, fact: &Fact, note: &Note<u64>)
         requires { IsTree self.old.least }
-        ensures { OnOk result ((before : Notes ℕ) → length before < greatest_count → FitsOut self.old.out note.now → KnowsTurns self.old before → KnowsTurns self.new (note.now ∷ before)) }
+        ensures { (before : Notes ℕ) → length before < greatest_count → FitsPlace fact.now note.now before → FitsOut self.old.out note.now → KnowsTurns self.old before → KnowsTurns self.new (note.now ∷ before) }
     {
-        let queue = queue_touched(note, &self.jobs);
+        let queue = queue_touched(note, fact);
         self.accounts.add(note, queue);
-        let changed = queue_touched(note, &self.jobs);
+        let changed = queue_touched(note, fact);
         let key = key_waiting(&self.accounts, changed);
         place(&mut self.least, key);
-        self.jobs.add(note)?;
         self.out = out_after(self.out, note);
         self.picked = queue_picked(note);
-        Ok(())
     }
 }
 
@@ -170,28 +165,28 @@ fn queue_picked(note: &Note<u64>) -> Option<QueueNo>
 }
 
 /// Whether the job is of the queue that was just picked.
-fn is_of_pick(turns: &Turns, name: &JobId) -> bool
-    ensures right { IsTrue result → (is_some turns.now.picked ≡ true) × (turns.now.picked ≡ known turns.now.jobs.queues name.now) }
-    ensures only { is_some turns.now.picked ≡ true → turns.now.picked ≡ known turns.now.jobs.queues name.now → IsTrue result }
+fn is_of_pick(turns: &Turns, fact: &Fact) -> bool
+    ensures right { IsTrue result → (is_some turns.now.picked ≡ true) × (turns.now.picked ≡ fact.now.queue) }
+    ensures only { is_some turns.now.picked ≡ true → turns.now.picked ≡ fact.now.queue → IsTrue result }
 {
     let Some(picked) = turns.picked else {
         return false;
     };
-    match turns.jobs.queue_of(name) {
+    match fact.queue {
         Some(queue) => picked.0 == queue.0,
         None => false,
     }
 }
 
 /// Whether a pick is followed by a turn of its queue, and nothing else is.
-fn is_followed(turns: &Turns, note: &Note<u64>) -> bool
-    ensures right { (before : Notes ℕ) → KnowsTurns turns.now before → IsTrue result → Follows note.now before }
-    ensures only { (before : Notes ℕ) → KnowsTurns turns.now before → Follows note.now before → IsTrue result }
+fn is_followed(turns: &Turns, fact: &Fact, note: &Note<u64>) -> bool
+    ensures right { (before : Notes ℕ) → KnowsTurns turns.now before → FitsPlace fact.now note.now before → IsTrue result → Follows note.now before }
+    ensures only { (before : Notes ℕ) → KnowsTurns turns.now before → FitsPlace fact.now note.now before → Follows note.now before → IsTrue result }
 {
     match *note {
-        Note::Start(name) => is_of_pick(turns, &name),
-        Note::Resume(name) => is_of_pick(turns, &name),
-        Note::Returned(name, _) => is_of_pick(turns, &name),
+        Note::Start(_) => is_of_pick(turns, fact),
+        Note::Resume(_) => is_of_pick(turns, fact),
+        Note::Returned(_, _) => is_of_pick(turns, fact),
         _ => turns.picked.is_none(),
     }
 }
@@ -251,47 +246,54 @@ fn right_if_pick(turns: &Turns, note: &Note<u64>) -> bool
 }
 
 /// Whether a pick is right, and a pick is followed by a turn of its queue.
-fn is_in_turn(turns: &Turns, note: &Note<u64>) -> bool
-    ensures right { (before : Notes ℕ) → KnowsTurns turns.now before → IsTrue result → IsRightIfPick note.now before × Follows note.now before }
-    ensures only { (before : Notes ℕ) → KnowsTurns turns.now before → AreBelow greatest_runtime before → IsRightIfPick note.now before → Follows note.now before → IsTrue result }
+fn is_in_turn(turns: &Turns, fact: &Fact, note: &Note<u64>) -> bool
+    ensures right { (before : Notes ℕ) → KnowsTurns turns.now before → FitsPlace fact.now note.now before → IsTrue result → IsRightIfPick note.now before × Follows note.now before }
+    ensures only { (before : Notes ℕ) → KnowsTurns turns.now before → FitsPlace fact.now note.now before → AreBelow greatest_runtime before → IsRightIfPick note.now before → Follows note.now before → IsTrue result }
 {
-    right_if_pick(turns, note) && is_followed(turns, note)
+    right_if_pick(turns, note) && is_followed(turns, fact, note)
 }
 
 /// Whether a note picks, follows a pick and settles as it may.
-fn picks_right(turns: &Turns, note: &Note<u64>) -> bool
-    ensures right { (before : Notes ℕ) → KnowsTurns turns.now before → IsTrue result → PicksRight note.now before × FitsOut turns.now.out note.now }
-    ensures only { (before : Notes ℕ) → KnowsTurns turns.now before → AreBelow greatest_runtime before → EachNote PicksRight before → PicksRight note.now before → IsTrue result }
+fn picks_right(turns: &Turns, fact: &Fact, note: &Note<u64>) -> bool
+    ensures right { (before : Notes ℕ) → KnowsTurns turns.now before → FitsPlace fact.now note.now before → IsTrue result → PicksRight note.now before × FitsOut turns.now.out note.now }
+    ensures only { (before : Notes ℕ) → KnowsTurns turns.now before → FitsPlace fact.now note.now before → AreBelow greatest_runtime before → EachNote PicksRight before → PicksRight note.now before → IsTrue result }
 {
-    is_in_turn(turns, note) && fits_out(turns.out, note)
+    is_in_turn(turns, fact, note) && fits_out(turns.out, note)
 }
 
 /// The line of a wrong note, or of the pick before it, if that isn't followed as it should be.
-fn line_at(turns: &Turns, note: &Note<u64>, place: usize) -> usize
+fn line_at(turns: &Turns, fact: &Fact, note: &Note<u64>, place: usize) -> usize
     requires { place < greatest_count }
+    ensures { (before : Notes ℕ) → KnowsTurns turns.now before → FitsPlace fact.now note.now before → IsLineOf note.now before place result }
 {
-    if turns.picked.is_some() && !is_followed(turns, note) {
+    if is_followed(turns, fact, note) {
+        return place + 1;
+    }
+    if turns.picked.is_some() {
         place
     } else {
         place + 1
     }
 }
 
-/// The line of the first note that picks, follows a pick or settles as it may not. A pick that isn't followed as it should be is named itself.
-pub fn picks_fault(alloc: Global, journal: &Journal<u64>) -> Result<Option<usize>, AllocError>
-    ensures kept { IfOk result (λ line. line ≡ None → EachNote PicksRight journal.now.notes × (spec.queue_just_picked journal.now.notes ≡ None)) }
-    ensures only { IfOk result (λ line. (terms : Terms) → AreSpelledNotes terms journal.now.notes → EachNote PicksRight journal.now.notes → spec.queue_just_picked journal.now.notes ≡ None → line ≡ None) }
+/// The line of the first note that picks, follows a pick or settles as it may not, by the history of the journal. A pick that isn't followed as it should be is named itself.
+pub fn picks_fault(history: &History, journal: &Journal<u64>) -> Option<usize>
+    requires { IsHistory history.now journal.now.notes }
+    ensures kept { result ≡ None → EachNote PicksRight journal.now.notes × (spec.queue_just_picked journal.now.notes ≡ None) }
+    ensures only { (terms : Terms) → AreSpelledNotes terms journal.now.notes → EachNote PicksRight journal.now.notes → spec.queue_just_picked journal.now.notes ≡ None → result ≡ None }
+    ensures named { IfSome result (λ at. (terms : Terms) → AreSpelledNotes terms journal.now.notes → IsPickFault journal.now.notes at) }
 {
-    let mut turns = Turns::new(alloc);
+    let mut turns = Turns::new();
     for place in 0..journal.len() {
         let note = note_at(journal, place);
-        if !picks_right(&turns, &note) {
-            return Ok(Some(line_at(&turns, &note, place)));
+        let fact = history.fact(place);
+        if !picks_right(&turns, &fact, &note) {
+            return Some(line_at(&turns, &fact, &note, place));
         }
-        turns.add(&note)?;
+        turns.add(&fact, &note);
     }
     if turns.picked.is_some() {
-        return Ok(Some(journal.len()));
+        return Some(journal.len());
     }
-    Ok(None)
+    None
 }

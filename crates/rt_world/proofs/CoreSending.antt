@@ -6,10 +6,11 @@ use Rattle.rt_link.specs.Fits.{Fits}
 use Rattle.rt_journal.specs.Recorded.{RecordedView, IsRecorded, desk_of}
 use Rattle.rt_journal.specs.Ends.{KeepsIn, IsSameSeat}
 use Rattle.rt_world.specs.Links.{link_at}
-use Rattle.rt_world.specs.Inside.{Parts, core_at, desks, desk_at, IsWorld}
+use Rattle.rt_world.specs.Inside.{Parts, core_at, desks, desk_at, IsWorld, IsAtRest}
 use Rattle.rt_world.proofs.Desks.{desks-core}
 use Rattle.rt_world.proofs.LinkRows.{with_link}
 use Rattle.rt_world.proofs.LinkSteps.{in_stays}
+use Rattle.rt_world.proofs.WorldAfter.{rest_after}
 use Rattle.rt_world.proofs.CoreSteps.{desk_is, parts_now, rests}
 use Rattle.rt_world.proofs.Sending.{IsDoneOn, changes, all_sent, others_received, outs_sent, lanes_sent}
 
@@ -37,11 +38,13 @@ module _ {J T : Type 0} {same : J → J → Type 0} {made : J → ℕ} {polls : 
   pub core_desks : desks core_sent ≡ set (desks old) sender (desk_of now)
   core_desks = desks-core old sender now (omega (arith, sender_there, world.all_there.cores_are))
 
+  pub core_at_rest : IsAtRest old → IsAtRest core_sent
+  core_at_rest rest = rest_after old sender now (with_link old.links sender to after) rest (ap (λ view. view.core.out) core_did.rest ∙ rest sender sender_there)
+
   pub core_rests : IsWorld same made polls answers core_sent
   core_rests =
       rests world sender sender_there now (with_link old.links sender to after) (record {
         recorded = core_did.sound;
-        at_rest = ap (λ view. view.core.out) core_did.rest ∙ world.at_rest sender sender_there;
         seat = core_did.seat;
         rows_are = (changes world sender to there to_there (desk_of now) after core_done).same_rows;
         links_are = (changes world sender to there to_there (desk_of now) after core_done).same_cores;

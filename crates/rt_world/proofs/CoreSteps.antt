@@ -1,6 +1,6 @@
 -- A step of one core: what it is in its world.
 use Rattle.std.proofs.Common.{◌≡◌, ◌≢◌, ℕ, ◌+◌, ◌<◌, ◌≤◌, List, [], ◌++◌, length, sym, ◌∙◌, ap, subst, arith, get_or, set, get_or-set_same, get_or-set_other, length-set}
-use Rattle.std.specs.Prelude.{None, map}
+use Rattle.std.specs.Prelude.{map}
 use Rattle.std.proofs.lemmas.List.{get_or_default}
 use Rattle.rt_ids.specs.declared.note.Note.{Note}
 use Rattle.rt_jobs.specs.Steps.{Owed}
@@ -60,7 +60,6 @@ module _ {J T : Type 0} {same : J → J → Type 0} {made : J → ℕ} {polls : 
     -- what the call says of the core afterwards, and of the links
     pub record DidStep : Type 0 where
       pub recorded : IsRecorded same made polls now
-      pub at_rest : now.core.out ≡ None
       pub seat : IsSameSeat (core_at core old) now
       pub rows_are : length links ≡ length old.links
       pub links_are : (sender : ℕ) → length (get_or links sender []) ≡ length (get_or old.links sender [])
@@ -94,7 +93,6 @@ module _ {J T : Type 0} {same : J → J → Type 0} {made : J → ℕ} {polls : 
       seat = seat_is did.seat;
       other_cores = λ other away. get_or-set_other old.inside core other now (opened_beside 0 0 0 0) away;
       recorded = λ known. subst (IsRecorded same made polls) (sym core_now) did.recorded;
-      at_rest = λ known. ap (λ view. view.core.out) core_now ∙ did.at_rest;
       written = world.outside;
       received = did.received;
       sent = did.sent;
@@ -110,7 +108,7 @@ module _ {J T : Type 0} {same : J → J → Type 0} {made : J → ℕ} {polls : 
         lane_stays (Fits same answers) to (desk_at core old) (desk_of now) (link_at core to old.links) (link_at core to links)
         (same_lanes ∙ sym (ap (λ desk. desk.lanes) desk_is)) (received to) (world.beside.lanes core to (omega (arith, there)) known)
 
-    -- the world is at rest again
+    -- the world is one again
     pub rests : DidStep → IsWorld same made polls answers parts_now
     rests did = world_after world core (set old.inside core now) old.outside links (desk_of now) (step_of did)
 

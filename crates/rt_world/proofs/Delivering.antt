@@ -19,10 +19,10 @@ use Rattle.rt_journal.proofs.GivenEnds.{gave_rest}
 use Rattle.rt_world.specs.State.{sent_at}
 use Rattle.rt_world.specs.Deliveries.{Delivers, IsDelivery, next_place, taken_reply}
 use Rattle.rt_world.specs.Links.{link_at}
-use Rattle.rt_world.specs.Inside.{Parts, core_at, world_of, IsWorld}
+use Rattle.rt_world.specs.Inside.{Parts, core_at, world_of, IsWorld, IsAtRest}
 use Rattle.rt_world.proofs.Desks.{sent_at-world}
 use Rattle.rt_world.proofs.LinkRows.{with_link, same_sent}
-use Rattle.rt_world.proofs.Receiving.{DidReceive, may_take, sent_is, only_received, receives_rests}
+use Rattle.rt_world.proofs.Receiving.{DidReceive, may_take, sent_is, only_received, receives_rests, receives_at_rest}
 use Rattle.rt_world.proofs.CoreSteps.{number_is, parts_now, journal_is, journals_now}
 
 slice_get-end : {A : Type 0} (items : List A) (place : ℕ) → length items ≡ place → slice_get items place ≡ None
@@ -136,6 +136,9 @@ module _ {J T : Type 0} {same : J → J → Type 0} {made : J → ℕ} {polls : 
 
   abbrev pub delivered : Parts J T
   delivered = parts_now world core core_there now links
+
+  pub delivered_at_rest : IsAtRest old → IsAtRest delivered
+  delivered_at_rest = receives_at_rest world sender core there core_there now after received
 
   pub delivered_rests : IsWorld same made polls answers delivered
   delivered_rests = receives_rests world sender core there core_there now after received

@@ -12,7 +12,7 @@ use Rattle.rt_world.specs.declared.event.Reply.{Reply}
 use Rattle.rt_world.specs.State.{WorldView, journal_at}
 use Rattle.rt_world.specs.Runs.{Happens}
 use Rattle.rt_world.specs.Determined.{is_refusal, tells_refusal, WasRefused, WasRefusedSince, IsToldRun}
-use Rattle.rt_world.proofs.KeptLists.{is_longer}
+use Rattle.rt_world.proofs.KeptLists.{Extends, is_later}
 
 module _ {T : Type 0} where
   -- the notes before tell it
@@ -28,30 +28,6 @@ module _ {T : Type 0} where
       by_note : (first : Bool) → (first || tells_refusal notes) ≡ true → (tells_refusal notes ≡ true → tells_refusal (notes ++ before) ≡ true) → (first || tells_refusal (notes ++ before)) ≡ true
       by_note true told rest = refl
       by_note false told rest = rest told
-
-module _ {T : Type 0} (journals : List (Journal T)) (actor : ℕ) (notes : List (Note T)) where
-  abbrev now : List (Journal T)
-  now = set journals actor (notes ++ get_or journals actor [])
-
-  still_told : tells_refusal (get_or journals actor []) ≡ true → tells_refusal (get_or now actor []) ≡ true
-  still_told told =
-      ⊎_elim (λ within. ap tells_refusal (get_or-set_same journals actor (notes ++ get_or journals actor []) [] within) ∙ tells-longer notes (get_or journals actor []) told)
-      (λ past. ap (λ all. tells_refusal (get_or all actor [])) (set_past journals actor (notes ++ get_or journals actor []) past) ∙ told)
-      (cases_lt actor (length journals))
-
-  told_at : (core : ℕ) → tells_refusal (get_or journals core []) ≡ true → tells_refusal (get_or now core []) ≡ true
-  told_at core told =
-      ⊎_elim
-      (λ here. subst (λ at. tells_refusal (get_or now at []) ≡ true) (sym here) (still_told (subst (λ at. tells_refusal (get_or journals at []) ≡ true) here told)))
-      (λ other. ap tells_refusal (get_or-set_other journals actor core (notes ++ get_or journals actor []) [] other) ∙ told) (cases_eq core actor)
-
-  -- a journal that is longer by some notes tells what it told
-  refused-set : WasRefused journals → WasRefused now
-  refused-set refused = (refused.0, told_at refused.0 refused.1)
-
--- each journal has its old notes behind what it got
-abbrev pub Extends : {T : Type 0} → List (Journal T) → List (Journal T) → Type 0
-Extends {T} old new = (core : ℕ) → (notes : Journal T) × (get_or new core [] ≡ notes ++ get_or old core [])
 
 module _ {T : Type 0} {old middle new : List (Journal T)} where
   -- what was told since an earlier time, or by an earlier time, was told since then
@@ -79,51 +55,16 @@ module _ {T : Type 0} {old middle new : List (Journal T)} where
 pub was_refused : {T : Type 0} {old new : List (Journal T)} → WasRefusedSince old new → WasRefused new
 was_refused {T} {old} refused = (refused.core, ap tells_refusal refused.since ∙ tells-added refused.notes (get_or old refused.core []) refused.told)
 
--- a journal that got some notes has its old ones behind them
-extends-set : {T : Type 0} (journals : List (Journal T)) (actor : ℕ) (notes : List (Note T)) → Extends journals (set journals actor (notes ++ get_or journals actor []))
-extends-set journals actor notes core =
-    ⊎_elim
-    (
-    λ here.
-    ⊎_elim
-    (
-    λ within. (
-      notes,
-      ap (λ at. get_or (set journals actor (notes ++ get_or journals actor [])) at []) here
-          ∙ (get_or-set_same journals actor (notes ++ get_or journals actor []) [] within ∙ ap (λ at. notes ++ get_or journals at []) (sym here)),
-    )
-    )
-    (λ past. ([], ap (λ all. get_or all core []) (set_past journals actor (notes ++ get_or journals actor []) past))) (cases_lt actor (length journals))
-    )
-    (λ other. ([], get_or-set_other journals actor core (notes ++ get_or journals actor []) [] other)) (cases_eq core actor)
-
 module _ {J : Type 0} (same : J → J → Type 0) (made : J → ℕ) (polls : Owed J ℕ) (answers : J → ℕ → Type 0) where
   -- each event keeps what was told
   pub refused-happens : (event : Event J) (old new : WorldView J ℕ) (answer : Reply J) → Happens same made polls answers event old new answer → WasRefused old.journals → WasRefused new.journals
   refused-happens event old new answer happens refused =
-      ⊎_elim (λ same. subst (λ world. WasRefused world.journals) (sym same) refused)
-      (λ longer. subst (λ world. WasRefused world.journals) (sym longer.is) (refused-set old.journals longer.actor longer.notes refused))
-      (is_longer same made polls answers event old new answer happens)
-
-  pub refused-run : (events : List (Event J)) (old new : WorldView J ℕ) (replies : List (Reply J)) → IsToldRun same made polls answers events old new replies →
-      WasRefused old.journals → WasRefused new.journals
-  refused-run [] old new replies run refused = subst (λ world. WasRefused world.journals) (sym run.0) refused
-  refused-run (event ∷ events) old new replies run refused =
-      refused-run events run.0 new run.2 run.4 (refused-happens event old run.0 run.1 run.3 refused)
-
-  pub extends-happens : (event : Event J) (old new : WorldView J ℕ) (answer : Reply J) → Happens same made polls answers event old new answer → Extends old.journals new.journals
-  extends-happens event old new answer happens =
-      ⊎_elim (λ same core. ([], ap (journal_at core) same))
-      (
-      λ longer core.
-      let more = extends-set old.journals longer.actor longer.notes core in
-      (more.0, ap (journal_at core) longer.is ∙ more.1)
-      )
-      (is_longer same made polls answers event old new answer happens)
+      let more = (is_later same made polls answers event old new answer happens).journals refused.0 in
+      (refused.0, ap tells_refusal more.1 ∙ tells-longer more.0 (journal_at refused.0 old) refused.1)
 
   pub extends-run : (events : List (Event J)) (old new : WorldView J ℕ) (replies : List (Reply J)) → IsToldRun same made polls answers events old new replies → Extends old.journals new.journals
   extends-run [] old new replies run core = ([], ap (journal_at core) run.0)
   extends-run (event ∷ events) old new replies run core =
-      let first = extends-happens event old run.0 run.1 run.3 core in
+      let first = (is_later same made polls answers event old run.0 run.1 run.3).journals core in
       let later = extends-run events run.0 new run.2 run.4 core in
       (later.0 ++ first.0, later.1 ∙ (ap (λ rest. later.0 ++ rest) first.1 ∙ sym (append_assoc later.0 first.0 (journal_at core old))))

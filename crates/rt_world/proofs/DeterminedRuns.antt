@@ -10,8 +10,8 @@ use Rattle.rt_world.specs.Sends.{actor_of, AreThere}
 use Rattle.rt_world.specs.Runs.{Steps, Happens, IsRun}
 use Rattle.rt_world.specs.Opening.{HasAllLists}
 use Rattle.rt_world.specs.Determined.{WasRefusedSince, OwesOne, IsToldRun, AreAlike, AreAllAlike, RunIsDetermined, AssemblyIsDetermined}
-use Rattle.rt_world.proofs.KeptLists.{happens_keep}
-use Rattle.rt_world.proofs.DeterminedRefusals.{Extends, refused-earlier, refused-later, extends-happens, extends-run}
+use Rattle.rt_world.proofs.KeptLists.{Extends, is_later, happens_keep}
+use Rattle.rt_world.proofs.DeterminedRefusals.{refused-earlier, refused-later, extends-run}
 use Rattle.rt_world.proofs.DeterminedSends.{sends_once}
 use Rattle.rt_world.proofs.DeterminedDeliveries.{delivers_once}
 use Rattle.rt_world.proofs.DeterminedTurns.{turns_once}
@@ -62,7 +62,7 @@ module _ {J : Type 0} (same : J → J → Type 0) (made : J → ℕ) (polls : Ow
     steps_once (Send sender core order) old new other answer other_answer lists there first second = inl (plainly (sends_once sender core order old new other answer other_answer first second))
     steps_once (Deliver core sender) old new other answer other_answer lists there first second =
         ⊎_elim (λ one. inl (plainly one)) inr (delivers_once core sender old (omega (arith, there.0, lists.journals_are)) new other answer other_answer first second)
-    steps_once (Turn core spent) old new other answer other_answer lists there first second = inl (plainly (turns_once made polls answers owes core spent old new other answer other_answer first second))
+    steps_once (Turn core spent) old new other answer other_answer lists there first second = inl (plainly (turns_once same made polls answers owes core spent old new other answer other_answer first second))
     steps_once (Shut core sender) old new other answer other_answer lists there first second = inl (plainly (shuts_once core sender old new other answer other_answer first second))
     steps_once (Collect sender core) old new other answer other_answer lists there first second = inl (plainly (collects_once sender old new other core answer other_answer first second))
     steps_once (Redeem sender name) old new other answer other_answer lists there first second = inl (redeems_once same answers sender old new other name answer other_answer first second)
@@ -107,7 +107,7 @@ module _ {J : Type 0} (same : J → J → Type 0) (made : J → ℕ) (polls : Ow
         (happens_once event old run.0 other_run.0 run.1 other_run.1 lists run.3 other_run.3)
       where
         first_longer : Extends old.journals run.0.journals
-        first_longer = extends-happens same made polls answers event old run.0 run.1 run.3
+        first_longer = (is_later same made polls answers event old run.0 run.1 run.3).journals
 
     -- what the actors of a run are told
     replies_of : (events : List (Event J)) (old new : WorldView J ℕ) → IsRun same made polls answers events old new → (replies : List (Reply J)) × IsToldRun same made polls answers events old new replies

@@ -14,14 +14,17 @@ use Rattle.rt_ids.specs.Lines.{line}
 use Rattle.rt_ids.specs.Picks.{IsRightPick, turns}
 use Rattle.rt_ids.specs.Runtimes.{virtual_runtime}
 use Rattle.rt_ids.specs.Work.{has_work}
+use Rattle.rt_jobs.specs.Calls.{Makes}
 use Rattle.rt_jobs.specs.declared.job.Step.{Step}
 use Rattle.rt_jobs.specs.Steps.{Owed}
 use Rattle.rt_world.specs.declared.event.Reply.{Reply}
 use Rattle.rt_world.specs.declared.event.Reply.TheVariants as reply
 use Rattle.rt_world.specs.State.{WorldView, journal_at, order_under, noted}
-use Rattle.rt_world.specs.Turns.{polls_made, IsPoll, IsHandBack, Turns}
+use Rattle.rt_world.specs.Calls.{CallsAt}
+use Rattle.rt_world.specs.Turns.{polls_made, pick_notes, settle_note, IsPoll, IsHandBack, Turns}
 use Rattle.rt_world.specs.Determined.{OwesOne}
-use Rattle.rt_world.proofs.KeptLists.{turn_notes, back_notes}
+use Rattle.rt_world.proofs.DeterminedCalls.{calls_once}
+use Rattle.rt_world.proofs.KeptLists.{back_notes}
 
 -- of two pairs that are each at most the other, the numbers are the same
 one_key : (runtime queue other_runtime other : ℕ) → KeyAtMost runtime queue other_runtime other → KeyAtMost other_runtime other runtime queue → queue ≡ other
@@ -62,37 +65,39 @@ module _ {T : Type 0} {journal : Journal T} (first second : IsMade journal) wher
   same_name : first.name ≡ second.name
   same_name = same_head (line first.queue journal) first.name second.name first.others second.others first.first (ap (λ queue. line queue journal) same_queue ∙ second.first)
 
-module _ {J T : Type 0} (made : J → ℕ) (polls : Owed J T) (answers : J → T → Type 0) (owes : OwesOne polls)
-    (core spent : ℕ) (old : WorldView J T) where
-  abbrev journal : Journal T
+module _ {J : Type 0} (same : J → J → Type 0) (made : J → ℕ) (polls : Owed J ℕ) (answers : J → ℕ → Type 0) (owes : OwesOne polls)
+    (core spent : ℕ) (old : WorldView J ℕ) where
+  abbrev journal : Journal ℕ
   journal = journal_at core old
 
-  abbrev Polls : WorldView J T → Type 0
-  Polls new = IsPoll made polls answers core spent old new
+  abbrev Polls : WorldView J ℕ → Type 0
+  Polls new = IsPoll same made polls answers core spent old new
 
-  abbrev HandsBack : WorldView J T → Type 0
+  abbrev HandsBack : WorldView J ℕ → Type 0
   HandsBack new = IsHandBack core old new
 
-  abbrev made_by_poll : (new : WorldView J T) → Polls new → IsMade journal
+  abbrev made_by_poll : (new : WorldView J ℕ) → Polls new → IsMade journal
   made_by_poll new poll = record { left = poll.turn_left; queue = poll.queue; runtime = poll.runtime; right = poll.right; name = poll.name; others = poll.others; first = poll.first }
 
-  abbrev made_by_back : (new : WorldView J T) → HandsBack new → IsMade journal
+  abbrev made_by_back : (new : WorldView J ℕ) → HandsBack new → IsMade journal
   made_by_back new back = record { left = back.turn_left; queue = back.queue; runtime = back.runtime; right = back.right; name = back.name; others = back.others; first = back.first }
 
-  made_by : (new : WorldView J T) → Polls new ⊎ HandsBack new → IsMade journal
+  made_by : (new : WorldView J ℕ) → Polls new ⊎ HandsBack new → IsMade journal
   made_by new turn = ⊎_elim (made_by_poll new) (made_by_back new) turn
 
-  -- the world after a turn with these notes
-  abbrev after : JobId → ℕ → ℕ → ℕ → Step T → WorldView J T
-  after name queue runtime time step = noted core (turn_notes name queue runtime time step journal) old
+  -- the world after a pick, and after a poll is settled
+  abbrev picked : JobId → ℕ → ℕ → WorldView J ℕ
+  picked name queue runtime = noted core (pick_notes name queue runtime journal) old
 
-  abbrev after_back : JobId → Reason → ℕ → ℕ → WorldView J T
+  abbrev settled : JobId → ℕ → Step ℕ → WorldView J ℕ → WorldView J ℕ
+  settled name time step posted = noted core (settle_note name time step ∷ []) posted
+
+  abbrev after_back : JobId → Reason → ℕ → ℕ → WorldView J ℕ
   after_back name reason queue runtime = noted core (back_notes name reason queue runtime) old
 
-  module _ (new other : WorldView J T) where
+  module _ (new other : WorldView J ℕ) where
     one_poll : Polls new → Polls other → new ≡ other
-    one_poll first second =
-        first.notes ∙ ((λ i. after (its_name i) (its_queue i) (its_runtime i) (unwrap_or (its_told i) spent) (its_step i)) ∙ sym second.notes)
+    one_poll first second = first.notes ∙ ((λ i. settled (its_name i) (unwrap_or (its_told i) spent) (its_step i) (its_posted i)) ∙ sym second.notes)
       where
         its_queue : first.queue ≡ second.queue
         its_queue = same_queue (made_by_poll new first) (made_by_poll other second)
@@ -106,16 +111,23 @@ module _ {J T : Type 0} (made : J → ℕ) (polls : Owed J T) (answers : J → T
         its_job : first.job ≡ second.job
         its_job = same_job (order_under first.name old) first.queue second.queue first.job second.job first.task (ap (λ name. order_under name old) its_name ∙ second.task)
 
-        other_owed : polls first.job (made first.job + polls_made first.name journal) [] [] second.step second.told
+        other_owed : polls first.job (made first.job + polls_made first.name journal) second.calls second.step second.told
         other_owed =
-            subst (λ job. polls job (made job + polls_made first.name journal) [] [] second.step second.told) (sym its_job)
-            (subst (λ name. polls second.job (made second.job + polls_made name journal) [] [] second.step second.told) (sym its_name) second.owed)
+            subst (λ job. polls job (made job + polls_made first.name journal) second.calls second.step second.told) (sym its_job)
+            (subst (λ name. polls second.job (made second.job + polls_made name journal) second.calls second.step second.told) (sym its_name) second.owed)
 
         its_step : first.step ≡ second.step
-        its_step = owes.step first.job (made first.job + polls_made first.name journal) [] [] [] first.step second.step first.told second.told first.owed other_owed
+        its_step = owes.step first.job (made first.job + polls_made first.name journal) first.calls second.calls first.step second.step first.told second.told first.owed other_owed
 
         its_told : first.told ≡ second.told
-        its_told = owes.told first.job (made first.job + polls_made first.name journal) [] [] [] first.step second.step first.told second.told first.owed other_owed
+        its_told = owes.told first.job (made first.job + polls_made first.name journal) first.calls second.calls first.step second.step first.told second.told first.owed other_owed
+
+        its_posted : first.posted ≡ second.posted
+        its_posted =
+            calls_once same answers core first.calls second.calls
+            (owes.asks first.job (made first.job + polls_made first.name journal) first.calls second.calls first.step second.step first.told second.told first.owed other_owed)
+            (picked first.name first.queue first.runtime) first.posted second.posted first.posts
+            (subst (λ start. Makes (CallsAt same answers core) second.calls start second.posted) (λ i. picked (sym its_name i) (sym its_queue i) (sym its_runtime i)) second.posts)
 
     one_back : HandsBack new → HandsBack other → new ≡ other
     one_back first second = first.notes ∙ ((λ i. after_back (its_name i) (its_reason i) (its_queue i) (its_runtime i)) ∙ sym second.notes)
@@ -138,7 +150,7 @@ module _ {J T : Type 0} (made : J → ℕ) (polls : Owed J T) (answers : J → T
         none-some back.reason
         (sym poll.kept ∙ (ap (λ queue. return_reason queue journal) (same_queue (made_by_poll new poll) (made_by_back other back)) ∙ back.returns))
 
-  one_turn : (new other : WorldView J T) → Polls new ⊎ HandsBack new → Polls other ⊎ HandsBack other → new ≡ other
+  one_turn : (new other : WorldView J ℕ) → Polls new ⊎ HandsBack new → Polls other ⊎ HandsBack other → new ≡ other
   one_turn new other (inl first) (inl second) = one_poll new other first second
   one_turn new other (inl first) (inr second) = absurd (one_kind new other first second)
   one_turn new other (inr first) (inl second) = absurd (one_kind other new second first)
@@ -151,7 +163,7 @@ module _ {J T : Type 0} (made : J → ℕ) (polls : Owed J T) (answers : J → T
   no_spent : IsMade journal → turns journal ≡ 2 ^ 64 - 1 → ⊥
   no_spent made used = omega (arith, made.left, used)
 
-  pub turns_once : (new other : WorldView J T) (answer other_answer : Reply J) → Turns made polls answers core spent old new answer → Turns made polls answers core spent old other other_answer →
+  pub turns_once : (new other : WorldView J ℕ) (answer other_answer : Reply J) → Turns same made polls answers core spent old new answer → Turns same made polls answers core spent old other other_answer →
       (new ≡ other) × (answer ≡ other_answer)
   turns_once new other reply.Noted reply.Noted first second = (one_turn new other first second, refl)
   turns_once new other reply.Noted reply.Idle first second = absurd (no_idle (made_by new first) second.0)

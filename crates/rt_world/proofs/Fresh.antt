@@ -17,7 +17,7 @@ use Rattle.rt_journal.proofs.LaneEnds.{fresh_has_lane}
 use Rattle.rt_journal.proofs.Opened.{recorded-opened}
 use Rattle.rt_world.specs.State.{journal_at, sent_at}
 use Rattle.rt_world.specs.Links.{row_of, link_at, no_link, AreFresh}
-use Rattle.rt_world.specs.Inside.{Parts, core_at, desks, desk_at, world_of, IsWorld, AreOpened}
+use Rattle.rt_world.specs.Inside.{Parts, core_at, desks, desk_at, world_of, IsWorld, IsAtRest, AreOpened}
 use Rattle.rt_world.specs.Opening.{IsFresh}
 use Rattle.rt_world.proofs.Desks.{desk_count, desk_at-core, desk_at-outside, journal_at-world, sent_at-world}
 use Rattle.rt_world.proofs.Hollow.{world_lists}
@@ -75,7 +75,6 @@ module _ {J T : Type 0} (same : J → J → Type 0) (made : J → ℕ) (polls : 
       seats_are = λ actor known. desk_is actor known ∙ ap (λ desk. record { actor = actor; cores = cores; cap = cap; journal = record { notes = desk.journal.notes; room = room }; lanes = desk.lanes }) (sym (desk_is actor known));
     };
     recorded = λ core known. subst (IsRecorded same made polls) (sym (cores_open.each_opened core known)) (recorded-opened same made polls core cores cap room known);
-    at_rest = λ core known. ap (λ view. view.core.out) (cores_open.each_opened core known);
     outside = written;
     beside = record {
       outs = λ sender core known core_known.
@@ -90,6 +89,9 @@ module _ {J T : Type 0} (same : J → J → Type 0) (made : J → ℕ) (polls : 
           (subst (λ view. IsInOf sender view (inward_of (fresh sender core cap 0))) (sym (cores_open.each_opened core core_known)) (in_of-opened sender core cores cap room known));
     };
   }
+
+  pub rest_at_opening : IsAtRest parts
+  rest_at_opening core known = ap (λ view. view.core.out) (cores_open.each_opened core known)
 
   no_note : (actor : ℕ) → journal_at actor (world_of parts) ≡ []
   no_note actor =

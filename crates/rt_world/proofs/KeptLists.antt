@@ -1,5 +1,5 @@
 -- Each event keeps how many journals there are, and how many lists of orders.
-use Rattle.std.proofs.Common.{◌≡◌, ℕ, List, [], ◌∷◌, ◌++◌, length, refl, sym, ◌∙◌, ap, subst, ◌⊎◌, inl, inr, ⊎_elim, get_or, set}
+use Rattle.std.proofs.Common.{append_assoc, ◌≡◌, ℕ, List, [], ◌∷◌, ◌++◌, length, refl, sym, ◌∙◌, ap, subst, ◌⊎◌, inl, inr, ⊎_elim, get_or, set}
 use Rattle.std.specs.Prelude.{unwrap_or}
 use Rattle.std.proofs.lemmas.Bool.{cases_eq, cases_lt}
 use Rattle.std.proofs.lemmas.List.{length-set, get_or-set_same, get_or-set_other, set_past}
@@ -10,21 +10,23 @@ use Rattle.rt_ids.specs.declared.order.Order.{Order}
 use Rattle.rt_ids.specs.declared.order.Reason.{Reason}
 use Rattle.rt_ids.specs.declared.names.TicketError.TheVariants.{Unknown, Gone}
 use Rattle.rt_ids.specs.declared.order.SendError.TheVariants.{Closed, Full, Spent}
-use Rattle.rt_ids.specs.Filters.{accepted_orders, name_started}
-use Rattle.rt_ids.specs.Journal.{Journal, is_told}
+use Rattle.rt_ids.specs.Filters.{accepted_orders}
+use Rattle.rt_ids.specs.Journal.{Journal}
 use Rattle.rt_ids.specs.Outcomes.{outcome_note}
-use Rattle.rt_jobs.specs.declared.job.Step.{Step}
+use Rattle.rt_jobs.specs.Calls.{Call, Makes}
+use Rattle.rt_jobs.specs.Calls.Call.{Submit, Redeem as RedeemCall, Detach as DetachCall}
 use Rattle.rt_jobs.specs.Steps.{Owed}
 use Rattle.rt_world.specs.declared.event.Event.{Event}
 use Rattle.rt_world.specs.declared.event.Event.TheVariants.{Send, Deliver, Turn, Shut, Collect, Redeem, Detach}
 use Rattle.rt_world.specs.declared.event.Reply.{Reply}
 use Rattle.rt_world.specs.declared.event.Reply.TheVariants as reply
 use Rattle.rt_world.specs.State.{WorldView, without_job, journal_at, sent_at, noted, with_sent}
-use Rattle.rt_world.specs.Sends.{Sends}
+use Rattle.rt_world.specs.Sends.{Sends, sent_reply}
 use Rattle.rt_world.specs.Deliveries.{Delivers}
-use Rattle.rt_world.specs.Turns.{poll_note, settle_note, Turns}
+use Rattle.rt_world.specs.Calls.{CallsAt}
+use Rattle.rt_world.specs.Turns.{pick_notes, settle_note, Turns}
 use Rattle.rt_world.specs.Closings.{Shuts}
-use Rattle.rt_world.specs.Collections.{collected_notes, uncollected, Collects, Redeems, Detaches}
+use Rattle.rt_world.specs.Collections.{collected_notes, uncollected, Collects, Redeems, Detaches, redeemed_reply, detached_reply}
 use Rattle.rt_world.specs.Runs.{Steps, Happens}
 use Rattle.rt_world.specs.Opening.{HasAllLists}
 
@@ -51,13 +53,31 @@ KeepsRows-set rows row items same = record {
         (cases_lt row (length rows))
         )
 
--- the notes of a turn, the newest first
-abbrev pub turn_notes : {T : Type 0} → JobId → ℕ → ℕ → ℕ → Step T → Journal T → List (Note T)
-turn_notes name queue runtime time step before = settle_note name time step ∷ poll_note name (is_told name_started name before) ∷ writes.Pick queue runtime ∷ []
-
 -- the notes of a turn that hands a job back, the newest first
 abbrev pub back_notes : {T : Type 0} → JobId → Reason → ℕ → ℕ → List (Note T)
 back_notes name reason queue runtime = writes.Returned name reason ∷ writes.Pick queue runtime ∷ []
+
+-- each journal has its old notes behind what it got
+abbrev pub Extends : {T : Type 0} → List (Journal T) → List (Journal T) → Type 0
+Extends {T} old new = (core : ℕ) → (notes : Journal T) × (get_or new core [] ≡ notes ++ get_or old core [])
+
+-- a journal that got some notes has its old ones behind them
+pub extends-set : {T : Type 0} (journals : List (Journal T)) (actor : ℕ) (notes : List (Note T)) → Extends journals (set journals actor (notes ++ get_or journals actor []))
+extends-set journals actor notes core =
+    ⊎_elim
+    (
+    λ here.
+    ⊎_elim
+    (
+    λ within. (
+      notes,
+      ap (λ at. get_or (set journals actor (notes ++ get_or journals actor [])) at []) here
+          ∙ (get_or-set_same journals actor (notes ++ get_or journals actor []) [] within ∙ ap (λ at. notes ++ get_or journals at []) (sym here)),
+    )
+    )
+    (λ past. ([], ap (λ all. get_or all core []) (set_past journals actor (notes ++ get_or journals actor []) past))) (cases_lt actor (length journals))
+    )
+    (λ other. ([], get_or-set_other journals actor core (notes ++ get_or journals actor []) [] other)) (cases_eq core actor)
 
 module _ {J T : Type 0} where
   -- one journal is longer by some notes, and there are as many lists of orders as before
@@ -74,6 +94,36 @@ module _ {J T : Type 0} where
     senders_are = longer.kept.same_count ∙ lists.senders_are;
     links_are = λ sender there. longer.kept.same_rows sender ∙ lists.links_are sender there;
   })
+
+  -- some events later: each journal has its old notes behind what it got, and there are as many lists as before
+  pub record IsLater (old new : WorldView J T) : Type 0 where
+    pub journals : Extends old.journals new.journals
+    pub lists : HasAllLists old → HasAllLists new
+
+  pub later_same : (old new : WorldView J T) → new ≡ old → IsLater old new
+  later_same old new same = record { journals = λ actor. ([], ap (journal_at actor) same); lists = λ lists. subst (λ world. HasAllLists world) (sym same) lists }
+
+  pub later_then : (old middle new : WorldView J T) → IsLater old middle → IsLater middle new → IsLater old new
+  later_then old middle new first rest = record {
+    journals = λ actor.
+        let one = first.journals actor in
+        let two = rest.journals actor in
+        (two.0 ++ one.0, two.1 ∙ (ap (λ front. two.0 ++ front) one.1 ∙ sym (append_assoc two.0 one.0 (journal_at actor old))));
+    lists = λ lists. rest.lists (first.lists lists);
+  }
+
+  pub later_longer : (old new : WorldView J T) → IsLonger old new → IsLater old new
+  later_longer old new longer = record {
+    journals = λ actor. let more = extends-set old.journals longer.actor longer.notes actor in (more.0, ap (journal_at actor) longer.is ∙ more.1);
+    lists = keeps_lists old new longer;
+  }
+
+  pub later : (old new : WorldView J T) → (new ≡ old) ⊎ IsLonger old new → IsLater old new
+  later old new found = ⊎_elim (later_same old new) (later_longer old new) found
+
+  -- one journal got some notes
+  pub later_noted : (actor : ℕ) (notes : List (Note T)) (old new : WorldView J T) → new ≡ noted actor notes old → IsLater old new
+  later_noted actor notes old new is = later_longer old new (record { actor = actor; notes = notes; sent = old.sent; kept = same_rows old.sent; is = is })
 
   -- one more order of a link keeps the rows of links
   sent_rows : (sender core : ℕ) (order : Order J) (world : WorldView J T) → KeepsRows world.sent (with_sent sender core order world)
@@ -115,37 +165,48 @@ module _ {J T : Type 0} where
   detaches sender name old new _ happens = absurd happens
 
 module _ {J : Type 0} (same : J → J → Type 0) (made : J → ℕ) (polls : Owed J ℕ) (answers : J → ℕ → Type 0) where
-  turns : (core spent : ℕ) (old new : WorldView J ℕ) (answer : Reply J) → Turns made polls answers core spent old new answer → (new ≡ old) ⊎ IsLonger old new
-  turns core spent old new reply.Noted (inl poll) =
-      inr (record { actor = core; notes = turn_notes poll.name poll.queue poll.runtime (unwrap_or poll.told spent) poll.step (journal_at core old); sent = old.sent; kept = same_rows old.sent; is = poll.notes })
-  turns core spent old new reply.Noted (inr back) =
-      inr (record { actor = core; notes = back_notes back.name back.reason back.queue back.runtime; sent = old.sent; kept = same_rows old.sent; is = back.notes })
-  turns core spent old new reply.Idle happens = inl happens.1
-  turns core spent old new reply.Spent happens = inl happens.2
-  turns core spent old new _ happens = absurd happens
-
   redeems : (sender : ℕ) (name : JobId) (old new : WorldView J ℕ) (answer : Reply J) → Redeems same answers sender name old new answer → (new ≡ old) ⊎ IsLonger old new
   redeems sender name old new (reply.Redeemed outcome) happens =
       inr (record { actor = sender; notes = writes.Redeemed name (outcome_note outcome) ∷ []; sent = old.sent; kept = same_rows old.sent; is = happens.3 })
   redeems sender name old new (reply.NoTicket error) happens = inl happens.1
   redeems sender name old new _ happens = absurd happens
 
-  steps : (event : Event J) (old new : WorldView J ℕ) (answer : Reply J) → Steps same made polls answers event old new answer → (new ≡ old) ⊎ IsLonger old new
-  steps (Send sender core order) = sends sender core order
-  steps (Deliver core sender) = delivers core sender
-  steps (Turn core spent) = turns core spent
-  steps (Shut core sender) = shuts core sender
-  steps (Collect sender core) = collects sender core
-  steps (Redeem sender name) = redeems sender name
-  steps (Detach sender name) = detaches sender name
+  -- what a call of a post does
+  called : (core : ℕ) (call : Call J ℕ) (old new : WorldView J ℕ) → CallsAt same answers core old call new → IsLater old new
+  called core (Submit to order answer) old new (inl none) = later_same old new none.2
+  called core (Submit to order answer) old new (inr sent) = later old new (sends core to order old new (sent_reply answer) sent.1)
+  called core (RedeemCall name answer) old new does = later old new (redeems core name old new (redeemed_reply answer) does)
+  called core (DetachCall name answer) old new does = later old new (detaches core name old new (detached_reply answer) does)
 
-  -- an event changes nothing, or one journal is longer after it
-  pub is_longer : (event : Event J) (old new : WorldView J ℕ) (answer : Reply J) → Happens same made polls answers event old new answer → (new ≡ old) ⊎ IsLonger old new
-  is_longer event old new (reply.NoActor back) happens = inl happens.2
-  is_longer event old new (reply.NoRoom back) happens = inl happens.3
-  is_longer event old new answer happens = steps event old new answer happens.2
+  all_called : (core : ℕ) (calls : List (Call J ℕ)) (old new : WorldView J ℕ) → Makes (CallsAt same answers core) calls old new → IsLater old new
+  all_called core [] old new makes = later_same old new makes
+  all_called core (call ∷ calls) old new makes = later_then old makes.0 new (called core call old makes.0 makes.1) (all_called core calls makes.0 new makes.2)
+
+  turns : (core spent : ℕ) (old new : WorldView J ℕ) (answer : Reply J) → Turns same made polls answers core spent old new answer → IsLater old new
+  turns core spent old new reply.Noted (inl poll) =
+      let notes = pick_notes poll.name poll.queue poll.runtime (journal_at core old) in
+      later_then old (noted core notes old) new (later_noted core notes old (noted core notes old) refl)
+      (later_then (noted core notes old) poll.posted new (all_called core poll.calls (noted core notes old) poll.posted poll.posts)
+      (later_noted core (settle_note poll.name (unwrap_or poll.told spent) poll.step ∷ []) poll.posted new poll.notes))
+  turns core spent old new reply.Noted (inr back) = later_noted core (back_notes back.name back.reason back.queue back.runtime) old new back.notes
+  turns core spent old new reply.Idle happens = later_same old new happens.1
+  turns core spent old new reply.Spent happens = later_same old new happens.2
+  turns core spent old new _ happens = absurd happens
+
+  steps : (event : Event J) (old new : WorldView J ℕ) (answer : Reply J) → Steps same made polls answers event old new answer → IsLater old new
+  steps (Send sender core order) old new answer happens = later old new (sends sender core order old new answer happens)
+  steps (Deliver core sender) old new answer happens = later old new (delivers core sender old new answer happens)
+  steps (Turn core spent) old new answer happens = turns core spent old new answer happens
+  steps (Shut core sender) old new answer happens = later old new (shuts core sender old new answer happens)
+  steps (Collect sender core) old new answer happens = later old new (collects sender core old new answer happens)
+  steps (Redeem sender name) old new answer happens = later old new (redeems sender name old new answer happens)
+  steps (Detach sender name) old new answer happens = later old new (detaches sender name old new answer happens)
+
+  -- what an event leaves
+  pub is_later : (event : Event J) (old new : WorldView J ℕ) (answer : Reply J) → Happens same made polls answers event old new answer → IsLater old new
+  is_later event old new (reply.NoActor back) happens = later_same old new happens.2
+  is_later event old new (reply.NoRoom back) happens = later_same old new happens.3
+  is_later event old new answer happens = steps event old new answer happens.2
 
   pub happens_keep : (event : Event J) (old new : WorldView J ℕ) (answer : Reply J) → Happens same made polls answers event old new answer → HasAllLists old → HasAllLists new
-  happens_keep event old new answer happens lists =
-      ⊎_elim (λ same. subst (λ world. HasAllLists world) (sym same) lists) (λ longer. keeps_lists old new longer lists)
-      (is_longer event old new answer happens)
+  happens_keep event old new answer happens = (is_later event old new answer happens).lists

@@ -27,9 +27,10 @@ pub mod KeptLists
 pub mod DeterminedRefusals
 pub mod DeterminedSends
 pub mod DeterminedDeliveries
-pub mod DeterminedTurns
 pub mod DeterminedShuts
 pub mod DeterminedTickets
+pub mod DeterminedCalls
+pub mod DeterminedTurns
 pub mod DeterminedRuns
 pub mod DeterminedOpenings
 pub mod DeterminedScripts
@@ -41,4 +42,6 @@ pub mod OneJobRow
 pub mod TwoQueuesRow
 pub mod TwoSendersRow
 pub mod ClosedRow
-pub mod InPlace
+pub mod Posted
+pub mod Posting
+pub mod Polling

@@ -21,6 +21,8 @@ use Rattle.rt_ids.specs.Filters.{Outcomes, accepted_orders, name_started}
 use Rattle.rt_ids.specs.Journal.{Journal, is_told}
 use Rattle.rt_ids.specs.Commands.{IsOpening}
 use Rattle.rt_ids.specs.Outcomes.{outcome_note}
+use Rattle.rt_jobs.specs.Calls.{Call, Makes}
+use Rattle.rt_jobs.specs.Calls.Call.{Submit, Redeem as RedeemCall, Detach as DetachCall}
 use Rattle.rt_jobs.specs.declared.job.Step.{Step}
 use Rattle.rt_jobs.specs.Steps.{Owed}
 use Rattle.rt_jobs.specs.declared.job.Step.TheVariants as steps
@@ -29,30 +31,20 @@ use Rattle.rt_world.specs.declared.event.Event.TheVariants.{Send, Deliver, Turn,
 use Rattle.rt_world.specs.declared.event.Reply.{Reply}
 use Rattle.rt_world.specs.declared.event.Reply.TheVariants as reply
 use Rattle.rt_world.specs.State.{WorldView, without_job, journal_at, sent_at, noted, with_sent}
-use Rattle.rt_world.specs.Sends.{Sends}
+use Rattle.rt_world.specs.Sends.{Sends, sent_reply}
 use Rattle.rt_world.specs.Deliveries.{entry_note, with_effect, IsDelivery, next_place, Delivers}
-use Rattle.rt_world.specs.Turns.{poll_note, settle_note, Turns}
+use Rattle.rt_world.specs.Calls.{CallsAt}
+use Rattle.rt_world.specs.Turns.{poll_note, pick_notes, settle_note, Turns}
 use Rattle.rt_world.specs.Closings.{Shuts}
-use Rattle.rt_world.specs.Collections.{collected_notes, uncollected, Collects, Redeems, Detaches}
+use Rattle.rt_world.specs.Collections.{collected_notes, uncollected, Collects, Redeems, Detaches, redeemed_reply, detached_reply}
 use Rattle.rt_world.specs.Runs.{Steps, Happens}
 use Rattle.rt_world.specs.Opening.{IsUnbegun}
 use Rattle.rt_world.specs.Determined.{is_refusal, tells_refusal, WasRefused, IsToldRun}
-use Rattle.rt_world.specs.Creations.{IsNoCreation, OrdersNoQueue, OrderNoQueues, RunOfJobsIsDetermined}
-use Rattle.rt_world.proofs.KeptLists.{turn_notes, back_notes}
+use Rattle.rt_world.specs.Creations.{IsNoCreation, OrdersNoQueue, OrderNoQueues, CallNoQueues, PollsOrderNone, RunOfJobsIsDetermined}
+use Rattle.rt_world.proofs.WorldAfter.{set_or}
+use Rattle.rt_world.proofs.KeptLists.{back_notes}
 use Rattle.rt_world.proofs.DeterminedRefusals.{was_refused}
 use Rattle.rt_world.proofs.DeterminedRuns.{run_once}
-
--- after one place of a list was set, each place has the new item or what it had
-pub set_or : {A : Type 0} (items : List A) (place : ℕ) (item : A) (at : ℕ) (default : A) →
-    (get_or (set items place item) at default ≡ item) ⊎ (get_or (set items place item) at default ≡ get_or items at default)
-set_or items place item at default =
-    ⊎_elim
-    (
-    λ here.
-    ⊎_elim (λ within. inl (ap (λ at. get_or (set items place item) at default) here ∙ get_or-set_same items place item default within))
-    (λ past. inr (ap (λ all. get_or all at default) (set_past items place item past))) (cases_lt place (length items))
-    )
-    (λ other. inr (get_or-set_other items place at item default other)) (cases_eq at place)
 
 -- an item of a longer list is one of the shorter list, or the last
 last_or : {A : Type 0} (items : List A) (last item : A) (place : ℕ) → slice_get (items ++ last ∷ []) place ≡ Some item → (slice_get items place ≡ Some item) ⊎ (last ≡ item)
@@ -104,12 +96,14 @@ module _ (T : Type 0) where
   close_core_plain name mode true = refl
   close_core_plain name mode false = refl
 
+  pick_plain : (name : JobId) (queue runtime : ℕ) (started : Bool) → tells_refusal {T = T} (poll_note name started ∷ writes.Pick queue runtime ∷ []) ≡ false
+  pick_plain name queue runtime true = refl
+  pick_plain name queue runtime false = refl
+
 module _ {T : Type 0} where
-  turn_plain : (name : JobId) (queue runtime time : ℕ) (step : Step T) (started : Bool) → tells_refusal (settle_note name time step ∷ poll_note name started ∷ writes.Pick queue runtime ∷ []) ≡ false
-  turn_plain name queue runtime time (steps.Done out) true = refl
-  turn_plain name queue runtime time (steps.Done out) false = refl
-  turn_plain name queue runtime time steps.Yield true = refl
-  turn_plain name queue runtime time steps.Yield false = refl
+  settle_plain : (name : JobId) (time : ℕ) (step : Step T) → tells_refusal (settle_note name time step ∷ []) ≡ false
+  settle_plain name time (steps.Done out) = refl
+  settle_plain name time steps.Yield = refl
 
   opening_plain : (journal : Journal T) → IsOpening journal → tells_refusal journal ≡ false
   opening_plain [] opening = refl
@@ -219,51 +213,62 @@ module _ {J T : Type 0} where
   detaches_plain sender name old new _ happens plain = absurd happens
 
 module _ {J : Type 0} (same : J → J → Type 0) (made : J → ℕ) (polls : Owed J ℕ) (answers : J → ℕ → Type 0) where
-  turns_plain : (core spent : ℕ) (old new : WorldView J ℕ) (answer : Reply J) → Turns made polls answers core spent old new answer → IsPlain old → IsPlain new
-  turns_plain core spent old new reply.Noted (inl poll) plain =
-      subst (λ world. IsPlain world) (sym poll.notes)
-      (
-      plain_noted old core (turn_notes poll.name poll.queue poll.runtime (unwrap_or poll.told spent) poll.step (journal_at core old))
-      (turn_plain poll.name poll.queue poll.runtime (unwrap_or poll.told spent) poll.step (is_told name_started poll.name (journal_at core old))) plain
-      )
-  turns_plain core spent old new reply.Noted (inr back) plain =
-      subst (λ world. IsPlain world) (sym back.notes) (plain_noted old core (back_notes back.name back.reason back.queue back.runtime) refl plain)
-  turns_plain core spent old new reply.Idle happens plain = subst (λ world. IsPlain world) (sym happens.1) plain
-  turns_plain core spent old new reply.Spent happens plain = subst (λ world. IsPlain world) (sym happens.2) plain
-  turns_plain core spent old new _ happens plain = absurd happens
-
   redeems_plain : (sender : ℕ) (name : JobId) (old new : WorldView J ℕ) (answer : Reply J) → Redeems same answers sender name old new answer → IsPlain old → IsPlain new
   redeems_plain sender name old new (reply.Redeemed outcome) happens plain =
       subst (λ world. IsPlain world) (sym happens.3) (plain_noted old sender (writes.Redeemed name (outcome_note outcome) ∷ []) refl plain)
   redeems_plain sender name old new (reply.NoTicket error) happens plain = subst (λ world. IsPlain world) (sym happens.1) plain
   redeems_plain sender name old new _ happens plain = absurd happens
 
-  steps_plain : (event : Event J) → OrdersNoQueue event → (old new : WorldView J ℕ) (answer : Reply J) → Steps same made polls answers event old new answer → IsPlain old → IsPlain new
-  steps_plain (Send sender core order) none = sends_plain sender core order none
-  steps_plain (Deliver core sender) none = delivers_plain core sender
-  steps_plain (Turn core spent) none = turns_plain core spent
-  steps_plain (Shut core sender) none = shuts_plain core sender
-  steps_plain (Collect sender core) none = collects_plain sender core
-  steps_plain (Redeem sender name) none = redeems_plain sender name
-  steps_plain (Detach sender name) none = detaches_plain sender name
+  -- calls that order no queue
+  calls_plain : (core : ℕ) (calls : List (Call J ℕ)) → CallNoQueues calls → (old new : WorldView J ℕ) → Makes (CallsAt same answers core) calls old new → IsPlain old → IsPlain new
+  calls_plain core [] none old new makes plain = subst (λ world. IsPlain world) (sym makes) plain
+  calls_plain core (Submit to order answer ∷ calls) none old new makes plain = calls_plain core calls none.1 makes.0 new makes.2 (submit_plain makes.0 makes.1)
+    where
+      submit_plain : (then : WorldView J ℕ) → CallsAt same answers core old (Submit to order answer) then → IsPlain then
+      submit_plain then (inl refused) = subst (λ world. IsPlain world) (sym refused.2) plain
+      submit_plain then (inr sent) = sends_plain core to order none.0 old then (sent_reply answer) sent.1 plain
+  calls_plain core (RedeemCall name answer ∷ calls) none old new makes plain = calls_plain core calls none makes.0 new makes.2 (redeems_plain core name old makes.0 (redeemed_reply answer) makes.1 plain)
+  calls_plain core (DetachCall name answer ∷ calls) none old new makes plain = calls_plain core calls none makes.0 new makes.2 (detaches_plain core name old makes.0 (detached_reply answer) makes.1 plain)
 
-  happens_plain : (event : Event J) → OrdersNoQueue event → (old new : WorldView J ℕ) (answer : Reply J) → Happens same made polls answers event old new answer → IsPlain old → IsPlain new
-  happens_plain event none old new (reply.NoActor back) happens plain = subst (λ world. IsPlain world) (sym happens.2) plain
-  happens_plain event none old new (reply.NoRoom back) happens plain = subst (λ world. IsPlain world) (sym happens.3) plain
-  happens_plain event none old new answer happens plain = steps_plain event none old new answer happens.2 plain
+  module _ (orders_none : PollsOrderNone polls) where
+    turns_plain : (core spent : ℕ) (old new : WorldView J ℕ) (answer : Reply J) → Turns same made polls answers core spent old new answer → IsPlain old → IsPlain new
+    turns_plain core spent old new reply.Noted (inl poll) plain =
+        let notes = pick_notes poll.name poll.queue poll.runtime (journal_at core old) in
+        let picked = plain_noted old core notes (pick_plain ℕ poll.name poll.queue poll.runtime (is_told name_started poll.name (journal_at core old))) plain in
+        let posted = calls_plain core poll.calls (orders_none _ _ _ _ _ poll.owed) (noted core notes old) poll.posted poll.posts picked in
+        subst (λ world. IsPlain world) (sym poll.notes) (plain_noted poll.posted core (settle_note poll.name (unwrap_or poll.told spent) poll.step ∷ []) (settle_plain poll.name (unwrap_or poll.told spent) poll.step) posted)
+    turns_plain core spent old new reply.Noted (inr back) plain =
+        subst (λ world. IsPlain world) (sym back.notes) (plain_noted old core (back_notes back.name back.reason back.queue back.runtime) refl plain)
+    turns_plain core spent old new reply.Idle happens plain = subst (λ world. IsPlain world) (sym happens.1) plain
+    turns_plain core spent old new reply.Spent happens plain = subst (λ world. IsPlain world) (sym happens.2) plain
+    turns_plain core spent old new _ happens plain = absurd happens
 
-  pub run_plain : (events : List (Event J)) → OrderNoQueues events → (old new : WorldView J ℕ) (replies : List (Reply J)) → IsToldRun same made polls answers events old new replies → IsPlain old → IsPlain new
-  run_plain [] none old new replies run plain = subst (λ world. IsPlain world) (sym run.0) plain
-  run_plain (event ∷ events) none old new replies run plain =
-      run_plain events none.1 run.0 new run.2 run.4 (happens_plain event none.0 old run.0 run.1 run.3 plain)
+    steps_plain : (event : Event J) → OrdersNoQueue event → (old new : WorldView J ℕ) (answer : Reply J) → Steps same made polls answers event old new answer → IsPlain old → IsPlain new
+    steps_plain (Send sender core order) none = sends_plain sender core order none
+    steps_plain (Deliver core sender) none = delivers_plain core sender
+    steps_plain (Turn core spent) none = turns_plain core spent
+    steps_plain (Shut core sender) none = shuts_plain core sender
+    steps_plain (Collect sender core) none = collects_plain sender core
+    steps_plain (Redeem sender name) none = redeems_plain sender name
+    steps_plain (Detach sender name) none = detaches_plain sender name
+
+    happens_plain : (event : Event J) → OrdersNoQueue event → (old new : WorldView J ℕ) (answer : Reply J) → Happens same made polls answers event old new answer → IsPlain old → IsPlain new
+    happens_plain event none old new (reply.NoActor back) happens plain = subst (λ world. IsPlain world) (sym happens.2) plain
+    happens_plain event none old new (reply.NoRoom back) happens plain = subst (λ world. IsPlain world) (sym happens.3) plain
+    happens_plain event none old new answer happens plain = steps_plain event none old new answer happens.2 plain
+
+    pub run_plain : (events : List (Event J)) → OrderNoQueues events → (old new : WorldView J ℕ) (replies : List (Reply J)) → IsToldRun same made polls answers events old new replies → IsPlain old → IsPlain new
+    run_plain [] none old new replies run plain = subst (λ world. IsPlain world) (sym run.0) plain
+    run_plain (event ∷ events) none old new replies run plain =
+        run_plain events none.1 run.0 new run.2 run.4 (happens_plain event none.0 old run.0 run.1 run.3 plain)
 
   pub jobs_once : RunOfJobsIsDetermined same made polls answers
-  jobs_once owes events old new other replies others unbegun none run other_run =
+  jobs_once owes orders_none events old new other replies others unbegun none run other_run =
       let plain = plain_unbegun old unbegun in
       ⊎_elim (λ same. same)
       (
       λ refused.
-      absurd (⊎_elim (λ told. (run_plain events none old new replies run plain).told (was_refused told))
-      (λ told. (run_plain events none old other others other_run plain).told (was_refused told)) refused)
+      absurd (⊎_elim (λ told. (run_plain orders_none events none old new replies run plain).told (was_refused told))
+      (λ told. (run_plain orders_none events none old other others other_run plain).told (was_refused told)) refused)
       )
       (run_once same made polls answers owes events old new other replies others unbegun.lists run other_run)

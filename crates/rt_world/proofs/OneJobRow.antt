@@ -73,6 +73,9 @@ module _ (room : ℕ) (enough : 100 ≤ room) where
       task = refl;
       step = steps.Done 7;
       told = Some 40;
+      calls = [];
+      posted = _;
+      posts = refl;
       owed = (refl, refl, refl);
       answered = refl;
       notes = refl;

@@ -1,12 +1,13 @@
 -- A pick and the poll that it begins are one turn of a core.
-use Rattle.std.proofs.Common.{◌≡◌, ℕ, ◌+◌, ◌≤◌, Bool, true, false, List, [], ◌∷◌, length, inr, refl, sym, ◌∙◌, ap, subst, arith, add-zero}
-use Rattle.std.specs.Prelude.{Option, Some, None, Result, Ok, Err, unwrap_or}
+use Rattle.std.proofs.Common.{◌≡◌, ℕ, ◌+◌, ◌<◌, ◌≤◌, Bool, true, false, List, [], ◌∷◌, length, inl, inr, refl, sym, ◌∙◌, ap, subst, arith, add-zero}
+use Rattle.std.specs.Prelude.{Option, Some, None, Result, Ok, Err, slice_get}
 use Rattle.std.proofs.lemmas.Option.{same_Some}
 use Rattle.rt_ids.specs.declared.names.JobId.{JobId}
 use Rattle.rt_ids.specs.declared.note.Note.TheVariants as writes
 use Rattle.rt_ids.specs.declared.note.OutcomeNote.{OutcomeNote}
 use Rattle.rt_ids.specs.declared.note.OutcomeNote.TheVariants as outcomes
 use Rattle.rt_ids.specs.declared.order.Order.{Order}
+use Rattle.rt_ids.specs.declared.order.Outcome.{Outcome}
 use Rattle.rt_ids.specs.declared.order.Order.TheVariants.{Job}
 use Rattle.rt_ids.specs.declared.order.Reason.{Reason}
 use Rattle.rt_link.specs.declared.plain.Whole.{Whole}
@@ -29,17 +30,9 @@ use Rattle.rt_journal.specs.Owed.{IsSentUnder, owed_back}
 use Rattle.rt_world.specs.declared.event.Reply.{Reply}
 use Rattle.rt_world.specs.declared.event.Reply.TheVariants as reply
 use Rattle.rt_world.specs.Links.{link_at, GivesOnOne}
-use Rattle.rt_world.specs.OneTurn.{none_owed, IsBesideAll, StaysBeside, PollsOne, Turns}
+use Rattle.rt_world.specs.OneTurn.{none_owed, IsBesideAll, IsKeptBeside, StaysBeside, HasOuts, IsPosted, Turns}
 use Rattle.rt_world.specs.PickedJobs.{turn_of, TookOut, TookNone}
 use Rattle.rt_world.proofs.LentLinks.{no_gift}
-
--- what one call says of a core, of its seat and of the ends beside it, where these outcomes are owed then
-pub record IsKeptBeside {J T : Type 0} (same : J → J → Type 0) (made : J → ℕ) (polls : Owed J T) (owed : ℕ → Option (JobId × OutcomeNote T)) (old new : RecordedView J T) : Type 0 where
-  pub sound : IsRecorded same made polls new
-  pub seat : IsSameSeat old new
-  pub ins : (sender : ℕ) → LeavesOwed sender (owed sender) old new
-  pub outs : KeepsOuts (desk_of old) (desk_of new)
-  pub lanes : new.lanes ≡ old.lanes
 
 -- so each end is beside the core, except for what is owed
 pub beside_then : {J T : Type 0} {same : J → J → Type 0} {made : J → ℕ} {polls : Owed J T} {owed : ℕ → Option (JobId × OutcomeNote T)} {old new : RecordedView J T} →
@@ -62,38 +55,21 @@ owed_as owed other same number view links is = record {
   ins = λ sender there. subst (λ what. IsInOwing sender what view (inward_of (link_at sender number links))) (same sender) (is.ins sender there);
 }
 
--- two steps leave the seat and the sender's ends as they were
-pub same_seat-then : {J T : Type 0} (old middle new : RecordedView J T) → IsSameSeat old middle → IsSameSeat middle new → IsSameSeat old new
-same_seat-then old middle new first then = record {
-  number = then.number ∙ first.number;
-  cores = then.cores ∙ first.cores;
-  cap = then.cap ∙ first.cap;
-  room = then.room ∙ first.room;
-}
-
-pub keeps_outs-then : {J T : Type 0} (old middle new : DeskView J T) → KeepsOuts old middle → KeepsOuts middle new → KeepsOuts old new
-keeps_outs-then old middle new first then = λ core. record { each = λ out credited is. (then core).each out credited ((first core).each out credited is) }
-
 -- the notes of a pick settle no poll
 pub polls_made-picked : {T : Type 0} (name which : JobId) (queue runtime : ℕ) (was_started : Bool) (notes : Journal T) →
     polls_made which (poll_note name was_started ∷ writes.Pick queue runtime ∷ notes) ≡ polls_made which notes
 polls_made-picked name which queue runtime false notes = add-zero (polls_made which notes + 0) ∙ add-zero (polls_made which notes)
 polls_made-picked name which queue runtime true notes = add-zero (polls_made which notes + 0) ∙ add-zero (polls_made which notes)
 
-module _ {J T : Type 0} {same : J → J → Type 0} {made : J → ℕ} {polls : Owed J T}
-    (old : RecordedView J T) (free : old.core.out ≡ None) (picked : Result (Turn J) PickError) (middle : RecordedView J T)
+module _ {J : Type 0} {same : J → J → Type 0} {made : J → ℕ} {polls : Owed J ℕ}
+    (old : RecordedView J ℕ) (free : old.core.out ≡ None) (picked : Result (Turn J) PickError) (middle : RecordedView J ℕ)
     (picks : Picks same old picked middle) (kept : IsKeptBeside same made polls (owed_back picked) old middle)
-    (number : ℕ) (links : List (List (Whole J T))) (before : IsBesideAll number none_owed old links) where
+    (number : ℕ) (links : List (List (Whole J ℕ))) (before : IsBesideAll number none_owed old links) where
   pub not_busy : picked ≡ Err Busy → ⊥
   not_busy busy = (subst (λ answer. Picks same old answer middle) busy picks).0 free
 
   -- where no job is taken, the reply says so, and nothing changes
-  pub no_turn : (answers : J → T → Type 0) (spent : ℕ) (told : Reply J) → TookNone picked told → Turns same made polls answers spent old middle told
-  no_turn answers spent reply.Idle none = subst (λ answer. Picks same old answer middle) none picks
-  no_turn answers spent reply.Spent none = subst (λ answer. Picks same old answer middle) none picks
-  no_turn answers spent _ none = absurd none
-
-  pub no_turn_stays : (told : Reply J) → TookNone picked told → StaysBeside same made polls number old middle links links
+  no_turn_stays : (told : Reply J) → TookNone picked told → StaysBeside same made polls number old middle links links
   no_turn_stays told none = record {
     recorded = kept.sound;
     at_rest = by_reply told none;
@@ -109,10 +85,15 @@ module _ {J T : Type 0} {same : J → J → Type 0} {made : J → ℕ} {polls : 
       by_reply reply.Spent none = ap (λ view. view.core.out) (subst (λ answer. Picks same old answer middle) none picks).2 ∙ free
       by_reply _ none = absurd none
 
-      nobody : (told : Reply J) → TookNone picked told → (sender : ℕ) → owed_back {T = T} picked sender ≡ None
-      nobody reply.Idle none sender = ap (λ answer. owed_back {T = T} answer sender) none
-      nobody reply.Spent none sender = ap (λ answer. owed_back {T = T} answer sender) none
+      nobody : (told : Reply J) → TookNone picked told → (sender : ℕ) → owed_back {T = ℕ} picked sender ≡ None
+      nobody reply.Idle none sender = ap (λ answer. owed_back {T = ℕ} answer sender) none
+      nobody reply.Spent none sender = ap (λ answer. owed_back {T = ℕ} answer sender) none
       nobody _ none sender = absurd none
+
+  pub no_turn : (answers : J → ℕ → Type 0) (spent : ℕ) (told : Reply J) → TookNone picked told → Turns same made polls answers number spent old middle links links told
+  no_turn answers spent reply.Idle none = let did = subst (λ answer. Picks same old answer middle) none picks in (did.0, did.1, no_turn_stays reply.Idle none)
+  no_turn answers spent reply.Spent none = let did = subst (λ answer. Picks same old answer middle) none picks in (did.0, did.1, did.2, no_turn_stays reply.Spent none)
+  no_turn answers spent _ none = absurd none
 
   -- where a job is handed back, its outcome is owed to its sender, who is there
   module _ (name : JobId) (reason : Reason) (order : Order J) (is_back : picked ≡ Ok (Back name reason order)) where
@@ -129,13 +110,14 @@ module _ {J T : Type 0} {same : J → J → Type 0} {made : J → ℕ} {polls : 
     back_sent = record { queue = back.queue; sent = back.sent; task = task_now; job = back.job; back = back.back; same_task = back.same_task }
 
     pub back_owed : IsBesideAll number (told_under name (Some (outcomes.Returned reason))) middle links
-    back_owed = owed_as (owed_back picked) (told_under name (Some (outcomes.Returned reason))) (λ sender. ap (λ answer. owed_back {T = T} answer sender) is_back) number middle links (beside_then kept number links before)
+    back_owed = owed_as (owed_back picked) (told_under name (Some (outcomes.Returned reason))) (λ sender. ap (λ answer. owed_back {T = ℕ} answer sender) is_back) number middle links (beside_then kept number links before)
 
-    pub back_turns : (answers : J → T → Type 0) (spent : ℕ) → Turns same made polls answers spent old middle reply.Noted
-    back_turns answers spent = inr (record { name = name; reason = reason; order = order; did = back })
-
-    pub back_stays : (links_now : List (List (Whole J T))) → GivesOnOne number links links_now → IsBesideAll number none_owed middle links_now → StaysBeside same made polls number old middle links links_now
-    back_stays links_now gives then = record { recorded = kept.sound; at_rest = back.out; seat = kept.seat; outs = kept.outs; lanes = kept.lanes; links = gives; ins = then }
+    pub back_turns : (answers : J → ℕ → Type 0) (spent : ℕ) (links_now : List (List (Whole J ℕ))) → GivesOnOne number links links_now → IsBesideAll number none_owed middle links_now →
+        Turns same made polls answers number spent old middle links links_now reply.Noted
+    back_turns answers spent links_now gives then = inr (
+      record { name = name; reason = reason; order = order; did = back },
+      record { recorded = kept.sound; at_rest = back.out; seat = kept.seat; outs = kept.outs; lanes = kept.lanes; links = gives; ins = then },
+    )
 
   module _ (name : JobId) (job : J) (is_job : TookOut picked name job) where
     abbrev out : JobOut J
@@ -159,65 +141,45 @@ module _ {J T : Type 0} {same : J → J → Type 0} {made : J → ℕ} {polls : 
     job_known = (kept.sound.taken name _ (kept.sound.out out pick.out).task).sender
 
     -- nothing is owed while a job is out
-    pub job_beside : IsBesideAll number none_owed middle links
-    job_beside = owed_as (owed_back picked) none_owed (λ sender. ap (λ answer. owed_back {T = T} answer sender) is_job.turn ∙ by_start is_job.was_started sender) number middle links (beside_then kept number links before)
+    nobody : (sender : ℕ) → owed_back {T = ℕ} picked sender ≡ None
+    nobody sender = ap (λ answer. owed_back {T = ℕ} answer sender) is_job.turn ∙ by_start is_job.was_started sender
       where
-        by_start : (before : Bool) (sender : ℕ) → owed_back {T = T} (Ok (turn_of before name is_job.queue job)) sender ≡ None
+        by_start : (before : Bool) (sender : ℕ) → owed_back {T = ℕ} (Ok (turn_of before name is_job.queue job)) sender ≡ None
         by_start false sender = refl
         by_start true sender = refl
 
-    -- the pick left room for the note of the poll
-    pub room_left : length old.journal.notes + 3 ≤ old.journal.room → length middle.journal.notes + 1 ≤ middle.journal.room
-    room_left room = omega (arith, room, ap (λ journal. length journal.notes) pick.journal, ap (λ journal. journal.room) pick.journal)
+    pub job_beside : IsBesideAll number none_owed middle links
+    job_beside = owed_as (owed_back picked) none_owed nobody number middle links (beside_then kept number links before)
 
-    module _ (answers : J → T → Type 0) (ran : AfterPoll J T) (spent : ℕ) (settled : Settled T) (new : RecordedView J T) (settles : Settles made polls answers middle ran spent settled new) where
-      out_is : settles.out ≡ out
-      out_is = same_Some _ _ (sym settles.was_out ∙ pick.out)
+    -- the pick left room for the notes of the poll
+    pub room_left : (more : ℕ) → length old.journal.notes + (more + 2) < old.journal.room → length middle.journal.notes + more < middle.journal.room
+    room_left more room = omega (arith, room, ap (λ journal. length journal.notes) pick.journal, ap (λ journal. journal.room) pick.journal)
 
-      notes_are : middle.journal.notes ≡ poll_note name is_job.was_started ∷ writes.Pick is_job.queue pick.runtime ∷ old.journal.notes
-      notes_are = ap (λ journal. journal.notes) pick.journal
+    -- the links on which the core sends stay beside its desk
+    pub outs_left : (fits : Order J → Outcome J ℕ → Type 0) → HasOuts fits number old links → HasOuts fits number middle links
+    outs_left fits outs = record {
+      count = outs.count ∙ sym kept.seat.cores;
+      beside = λ core end is. (kept.outs core).each _ _ (outs.beside core end is);
+      lanes = λ core end is. let has = outs.lanes core end is in record { lane = has.lane; is = ap (λ lanes. slice_get lanes core) kept.lanes ∙ has.is; lane_of = has.lane_of };
+    }
 
-      counted : polls_made settles.out.name middle.journal.notes ≡ polls_made name old.journal.notes
-      counted =
-          ap (λ out. polls_made out.name middle.journal.notes) out_is
-          ∙ (ap (polls_made name) notes_are ∙ polls_made-picked name name is_job.queue pick.runtime is_job.was_started old.journal.notes)
-
-      settle_is : new.journal ≡ with_notes (settle_note name (unwrap_or ran.told spent) ran.step ∷ []) middle.journal
-      settle_is = settles.journal ∙ ap (λ out. with_notes (settle_note out.name (unwrap_or ran.told spent) ran.step ∷ []) middle.journal) out_is
-
-      -- the turn is one poll
-      pub turned : polls ran.before (made ran.before) [] [] ran.step ran.told → PollsOne made polls answers spent old new
-      turned owed = record {
-        turn_left = pick.turn_left;
-        queue = is_job.queue;
-        runtime = pick.runtime;
-        right = pick.right;
-        name = name;
-        others = pick.others;
-        first = pick.first;
-        kept = pick.kept;
-        job = settles.sent;
-        task =
-            ap (λ took. order_taken took name) (sym pick.took)
-            ∙ (ap (λ out. order_taken middle.took out.name) (sym out_is) ∙ (settles.task ∙ ap (λ out. Some (Job out.queue settles.sent)) out_is));
-        step = ran.step;
-        told = ran.told;
-        owed = subst (λ count. polls settles.sent (made settles.sent + count) [] [] ran.step ran.told) counted (settles.owed [] [] owed);
-        answered = settles.answered;
-        notes =
-            settle_is
-            ∙ (ap (with_notes (settle_note name (unwrap_or ran.told spent) ran.step ∷ [])) pick.journal
-            ∙ ap (λ before. with_notes (settle_note name (unwrap_or ran.told spent) ran.step ∷ poll_note name before ∷ writes.Pick is_job.queue pick.runtime ∷ []) old.journal) pick.started);
-      }
-
-      pub turned_stays : (links_now : List (List (Whole J T))) → GivesOnOne number links links_now → IsBesideAll number none_owed new links_now →
-          KeepsOuts (desk_of middle) (desk_of new) → new.lanes ≡ middle.lanes → IsSameSeat middle new → IsRecorded same made polls new → StaysBeside same made polls number old new links links_now
-      turned_stays links_now gives then outs lanes seat sound = record {
-        recorded = sound;
-        at_rest = settles.out_now;
-        seat = same_seat-then old middle new kept.seat seat;
-        outs = keeps_outs-then (desk_of old) (desk_of middle) (desk_of new) kept.outs outs;
-        lanes = lanes ∙ kept.lanes;
-        links = gives;
-        ins = then;
-      }
+    -- the turn is one poll
+    pub turned : (answers : J → ℕ → Type 0) (spent : ℕ) (ran : AfterPoll J ℕ) (posted : RecordedView J ℕ) (between : List (List (Whole J ℕ))) → IsPosted same made polls answers number middle job ran posted links between →
+        (settled : Settled ℕ) (new : RecordedView J ℕ) → Settles made polls answers posted ran spent settled new → (after : List (List (Whole J ℕ))) → StaysBeside same made polls number posted new between after →
+        Turns same made polls answers number spent old new links after reply.Noted
+    turned answers spent ran posted between posts settled new settles after stays = inl (record {
+      name = name;
+      queue = is_job.queue;
+      started = is_job.was_started;
+      job = job;
+      picked = middle;
+      picks = pick;
+      keeps = record { sound = kept.sound; seat = kept.seat; ins = λ sender. subst (λ owed. LeavesOwed sender owed old middle) (nobody sender) (kept.ins sender); outs = kept.outs; lanes = kept.lanes };
+      ran = ran;
+      posted = posted;
+      links = between;
+      posts = posts;
+      settled = settled;
+      settles = settles;
+      stays = stays;
+    })

@@ -9,10 +9,11 @@ use Rattle.rt_link.specs.Calls.{SeesMore}
 use Rattle.rt_journal.specs.Recorded.{RecordedView, IsRecorded, desk_of}
 use Rattle.rt_journal.specs.Ends.{IsInOf, IsOutOf, KeepsIn, KeepsOuts, IsSameSeat}
 use Rattle.rt_world.specs.Links.{link_at, ChangesLink}
-use Rattle.rt_world.specs.Inside.{Parts, core_at, IsWorld}
+use Rattle.rt_world.specs.Inside.{Parts, core_at, IsWorld, IsAtRest}
 use Rattle.rt_world.proofs.LinkRows.{with_link, ChangesLink-with_link}
 use Rattle.rt_world.proofs.LinkSteps.{as_long, OnlyReceived, OnlySent, received-same, sent-same, each_link, other_link, out_stays}
 use Rattle.rt_world.proofs.CoreSteps.{desk_is, parts_now, lanes_kept, rests}
+use Rattle.rt_world.proofs.WorldAfter.{rest_after}
 
 -- the end is beside the core that takes from it
 pub may_take : {J T : Type 0} {same : J → J → Type 0} {made : J → ℕ} {polls : Owed J T} {answers : J → T → Type 0} {old : Parts J T}
@@ -78,11 +79,13 @@ module _ {J T : Type 0} {same : J → J → Type 0} {made : J → ℕ} {polls : 
       (λ away. subst (λ link. IsInOf from now (inward_of link)) (sym (changes.others from core (λ one two. away one))) ((did.others from away).each _ (world.beside.ins from core known core_there)))
       (cases_eq from sender)
 
+  pub receives_at_rest : IsAtRest old → IsAtRest (parts_now world core core_there now links)
+  receives_at_rest rest = rest_after old core now links rest (did.at_rest ∙ rest core core_there)
+
   pub receives_rests : IsWorld same made polls answers (parts_now world core core_there now links)
   receives_rests =
       rests world core core_there now links (record {
         recorded = did.sound;
-        at_rest = did.at_rest ∙ world.at_rest core core_there;
         seat = did.seat;
         rows_are = changes.same_rows;
         links_are = changes.same_cores;

@@ -13,7 +13,7 @@ use Rattle.rt_world.specs.ScriptRuns.{ScriptSame, script_made, ScriptPolls, Scri
 use Rattle.rt_world.specs.Determined.{AreAlike, AreAllAlike}
 use Rattle.rt_world.specs.Rows.{RunsJust}
 use Rattle.rt_world.proofs.DeterminedOpenings.{fresh_once}
-use Rattle.rt_world.proofs.DeterminedScripts.{scripts_owe_one}
+use Rattle.rt_world.proofs.DeterminedScripts.{scripts_owe_one, scripts_order_none}
 use Rattle.rt_world.proofs.NoRefusals.{jobs_once}
 use Rattle.rt_world.proofs.UnbegunCreations.{unbegun_fresh, unbegun_creations, first_world, fresh_first}
 
@@ -57,7 +57,7 @@ module _ (cores cap : ℕ) (queues : List (ℕ × ℕ)) (events : List (Event Sc
         run = run;
         ends = found.ends;
         only = λ other others other_run.
-            let one = jobs_once ScriptSame script_made ScriptPolls ScriptAnswers scripts_owe_one events (with_creations queues empty) found.end other replies others
+            let one = jobs_once ScriptSame script_made ScriptPolls ScriptAnswers scripts_owe_one scripts_order_none events (with_creations queues empty) found.end other replies others
             (unbegun_creations queues empty (unbegun_fresh cores cap room empty fresh)) none run other_run in
             (ap (λ world. world.journals) (sym one.0) ∙ found.ends, sym (same_replies ScriptSame ScriptAnswers replies others plain one.1));
       }

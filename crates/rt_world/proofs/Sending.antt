@@ -132,7 +132,6 @@ module _ {J T : Type 0} {same : J → J → Type 0} {made : J → ℕ} {polls : 
             });
         other_cores = λ core away. refl;
         recorded = λ known. absurd (omega (arith, known, is_last));
-        at_rest = λ known. absurd (omega (arith, known, is_last));
         written = outside_did.stays.written;
         received = others_received world sender to there to_there now after outside_done;
         sent = λ from core away. all_sent world sender to there to_there now after outside_done from core;

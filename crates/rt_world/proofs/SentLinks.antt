@@ -28,7 +28,7 @@ use Rattle.rt_world.proofs.LinkRows.{with_link, sent-with_link, same_sent}
 use Rattle.rt_world.proofs.LinkSteps.{OnlySent}
 use Rattle.rt_world.proofs.CoreSteps.{journal_is}
 
-one_gate : (gate other : Bool) → gate_number gate ≡ gate_number other → gate ≡ other
+pub one_gate : (gate other : Bool) → gate_number gate ≡ gate_number other → gate ≡ other
 one_gate true true same = refl
 one_gate true false same = absurd (omega (arith, same))
 one_gate false true same = absurd (omega (arith, same))

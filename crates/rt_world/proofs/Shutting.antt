@@ -13,10 +13,10 @@ use Rattle.rt_journal.specs.Steps.{TellsShut}
 use Rattle.rt_journal.proofs.NumberedOrders.{length-numbered}
 use Rattle.rt_world.specs.State.{journal_at, noted}
 use Rattle.rt_world.specs.Links.{link_at}
-use Rattle.rt_world.specs.Inside.{Parts, core_at, desk_at, world_of, IsWorld}
+use Rattle.rt_world.specs.Inside.{Parts, core_at, desk_at, world_of, IsWorld, IsAtRest}
 use Rattle.rt_world.proofs.Desks.{journal_at-world}
 use Rattle.rt_world.proofs.LinkRows.{with_link, same_sent}
-use Rattle.rt_world.proofs.Receiving.{sent_is, only_received, receives_rests}
+use Rattle.rt_world.proofs.Receiving.{sent_is, only_received, DidReceive, receives_rests, receives_at_rest}
 use Rattle.rt_world.proofs.CoreSteps.{parts_now, journals_now}
 
 -- what shutting a gate says of the core, and of the link
@@ -48,8 +48,8 @@ module _ {J T : Type 0} {same : J → J → Type 0} {made : J → ℕ} {polls : 
   abbrev pub after_shut : Parts J T
   after_shut = parts_now world core core_there now (with_link old.links sender core after)
 
-  pub shut_rests : IsWorld same made polls answers after_shut
-  shut_rests = receives_rests world sender core there core_there now after (record {
+  received : DidReceive same made polls sender (core_at core old) link now after
+  received = record {
     received = only_received link after did.shuts.1 did.untouched rest ([], ap (λ end. end.given) did.shuts.0 ∙ sym (append-nil link.given));
     at_rest = did.tells.out;
     beside = did.beside;
@@ -58,7 +58,13 @@ module _ {J T : Type 0} {same : J → J → Type 0} {made : J → ℕ} {polls : 
     lanes = did.lanes;
     seat = did.seat;
     sound = did.sound;
-  })
+  }
+
+  pub shut_rests : IsWorld same made polls answers after_shut
+  shut_rests = receives_rests world sender core there core_there now after received
+
+  pub shut_at_rest : IsAtRest old → IsAtRest after_shut
+  shut_at_rest = receives_at_rest world sender core there core_there now after received
 
   -- the final count is the number of orders that were accepted
   counts : count ≡ length (accepted_orders core (journal_at sender (world_of old)))

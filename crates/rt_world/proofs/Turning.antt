@@ -1,40 +1,35 @@
--- A world at rest stays one as a core makes a turn, or creates a queue before the first event.
-use Rattle.std.proofs.Common.{◌≡◌, ℕ, ◌+◌, ◌-◌, ◌^◌, ◌<◌, ◌≤◌, [], ◌∷◌, ◌++◌, inl, inr, ⊎_elim, refl, sym, ◌∙◌, ap, subst, arith, set}
-use Rattle.std.specs.Prelude.{List, map, Some, Result, Ok, Err, unwrap_or, slice_get}
+-- A world stays one as a core makes a step that sends nothing, or creates a queue before the first event.
+use Rattle.std.proofs.Common.{◌≡◌, ℕ, ◌+◌, ◌-◌, ◌^◌, ◌<◌, ◌≤◌, [], ◌∷◌, ◌++◌, refl, sym, ◌∙◌, ap, subst, arith, set}
+use Rattle.std.specs.Prelude.{List, map, Some, None, Result, Ok, Err, slice_get}
 use Rattle.std.proofs.lemmas.List.{set-get_or}
-use Rattle.rt_ids.specs.declared.names.JobId.{JobId}
+use Rattle.std.proofs.lemmas.Option.{slice_get_within, get_or_from_slice_get}
+use Rattle.rt_ids.specs.declared.note.Note.{Note}
 use Rattle.rt_ids.specs.declared.note.Note.TheVariants as writes
-use Rattle.rt_ids.specs.declared.order.Order.{Order}
-use Rattle.rt_ids.specs.declared.order.Order.TheVariants.{Job}
 use Rattle.rt_ids.specs.Commands.{created_count, return_reason}
-use Rattle.rt_ids.specs.Filters.{name_started}
-use Rattle.rt_ids.specs.Journal.{is_told}
 use Rattle.rt_ids.specs.Lines.{line}
 use Rattle.rt_ids.specs.Picks.{IsRightPick, turns}
-use Rattle.rt_ids.specs.Work.{has_work}
 use Rattle.rt_jobs.specs.Steps.{Owed}
 use Rattle.rt_taskqueue.specs.declared.queues.CreateError.{CreateError}
 use Rattle.rt_taskqueue.specs.declared.queues.CreateError.TheVariants.{TooMany, Memory}
-use Rattle.rt_journal.specs.Polls.{polls_made, poll_note, settle_note}
-use Rattle.rt_journal.specs.Recorded.{RecordedView, desk_of, order_taken}
-use Rattle.rt_journal.specs.Steps.{CreatesQueue}
+use Rattle.rt_journal.specs.Recorded.{RecordedView, desk_of}
+use Rattle.rt_journal.specs.Steps.{CreatesQueue, with_notes}
+use Rattle.rt_journal.specs.Tickets.{HasLane}
 use Rattle.rt_link.specs.declared.plain.Whole.{Whole}
+use Rattle.rt_link.specs.Fits.{Fits}
 use Rattle.rt_link.specs.Whole.{out_of}
 use Rattle.rt_journal.specs.Ends.{IsOutOf}
-use Rattle.rt_world.specs.declared.event.Reply.{Reply}
-use Rattle.rt_world.specs.declared.event.Reply.TheVariants as reply
-use Rattle.rt_world.specs.State.{journal_at, order_under}
-use Rattle.rt_world.specs.Turns.{IsPoll, IsHandBack, Turns}
+use Rattle.rt_world.specs.State.{journal_at, noted}
+use Rattle.rt_world.specs.Turns.{IsHandBack}
 use Rattle.rt_world.specs.OneTurn as one
 use Rattle.rt_world.specs.Opening.{CreatesAtOpening}
-use Rattle.rt_world.specs.Links.{link_at}
-use Rattle.rt_world.specs.Inside.{Parts, core_at, world_of, IsWorld}
-use Rattle.rt_world.proofs.Desks.{sent_at-world}
+use Rattle.rt_world.specs.Links.{no_link, row_of, link_at}
+use Rattle.rt_world.specs.Inside.{Parts, core_at, world_of, IsWorld, IsAtRest}
 use Rattle.rt_world.proofs.LinkRows.{same_sent}
 use Rattle.rt_world.proofs.LinkSteps.{OnlyReceived, OnlySent, received-same, received-given, sent-same, each_link, other_link, out_stays}
+use Rattle.rt_world.proofs.WorldAfter.{rest_after}
 use Rattle.rt_world.proofs.LentLinks.{no_gift}
-use Rattle.rt_world.proofs.OneTurn.{IsKeptBeside, beside_then}
-use Rattle.rt_world.proofs.CoreSteps.{cores_are, number_is, desk_is, parts_now, lanes_kept, rests, journal_is, journals_now}
+use Rattle.rt_world.proofs.OneTurn.{beside_then}
+use Rattle.rt_world.proofs.CoreSteps.{cores_are, desk_is, parts_now, lanes_kept, rests, journal_is, journals_now}
 
 -- a core that makes a step has each end beside it, and nothing is owed
 pub all_beside : {J T : Type 0} {same : J → J → Type 0} {made : J → ℕ} {polls : Owed J T} {answers : J → T → Type 0} {old : Parts J T}
@@ -47,6 +42,23 @@ all_beside {old = old} world core there = record {
   where
     its : (sender : ℕ) → sender ≤ (core_at core old).core.cores → sender ≤ old.cores
     its sender within = subst (λ cores. sender ≤ cores) (cores_are world core there) within
+
+-- and the ends of the links on which it sends are beside its desk
+pub all_outs : {J T : Type 0} {same : J → J → Type 0} {made : J → ℕ} {polls : Owed J T} {answers : J → T → Type 0} {old : Parts J T}
+    (world : IsWorld same made polls answers old) (core : ℕ) (there : core < old.cores) → one.HasOuts (Fits same answers) core (core_at core old) old.links
+all_outs {same = same} {answers = answers} {old = old} world core there = record {
+  count = world.all_there.links_are core (omega (arith, there)) ∙ sym (cores_are world core there);
+  beside = λ to end is. subst (λ link. IsOutOf to (desk_of (core_at core old)) (out_of link) link.credited) (link_is to end is)
+      (subst (λ desk. IsOutOf to desk (out_of (link_at core to old.links)) (link_at core to old.links).credited) (desk_is world core there) (world.beside.outs core to (omega (arith, there)) (its to end is)));
+  lanes = λ to end is. subst (λ link. HasLane (Fits same answers) to (desk_of (core_at core old)) (out_of link) link.credited) (link_is to end is)
+      (subst (λ desk. HasLane (Fits same answers) to desk (out_of (link_at core to old.links)) (link_at core to old.links).credited) (desk_is world core there) (world.beside.lanes core to (omega (arith, there)) (its to end is)));
+}
+  where
+    its : (to : ℕ) (end : Whole _ _) → slice_get (row_of core old.links) to ≡ Some end → to < old.cores
+    its to end is = omega (arith, slice_get_within (row_of core old.links) to end is, world.all_there.links_are core (omega (arith, there)))
+
+    link_is : (to : ℕ) (end : Whole _ _) → slice_get (row_of core old.links) to ≡ Some end → link_at core to old.links ≡ end
+    link_is to end is = get_or_from_slice_get (row_of core old.links) to end (no_link core to) is
 
 module _ {J T : Type 0} {same : J → J → Type 0} {made : J → ℕ} {polls : Owed J T} {answers : J → T → Type 0} {old : Parts J T}
     (world : IsWorld same made polls answers old) (core : ℕ) (there : core < old.cores) (now : RecordedView J T) (links : List (List (Whole J T)))
@@ -66,7 +78,6 @@ module _ {J T : Type 0} {same : J → J → Type 0} {made : J → ℕ} {polls : 
   pub quiet_rests : IsWorld same made polls answers quiet
   quiet_rests = rests world core there now links (record {
     recorded = stays.recorded;
-    at_rest = stays.at_rest;
     seat = stays.seat;
     rows_are = stays.links.changes.same_rows;
     links_are = stays.links.changes.same_cores;
@@ -79,6 +90,9 @@ module _ {J T : Type 0} {same : J → J → Type 0} {made : J → ℕ} {polls : 
     ins = λ sender known. stays.ins.ins sender (subst (λ cores. sender ≤ cores) (sym (stays.seat.cores ∙ cores_are world core there)) known);
   })
 
+  pub quiet_at_rest : IsAtRest old → IsAtRest quiet
+  quiet_at_rest rest = rest_after old core now links rest stays.at_rest
+
   -- nothing was sent
   same_lists : (world_of quiet).sent ≡ (world_of old).sent
   same_lists = ap (map (map (λ link. link.sent))) stays.links.links ∙ same_sent old.links stays.links.sender core stays.links.link (ap (λ link. link.sent) stays.links.gives)
@@ -86,90 +100,47 @@ module _ {J T : Type 0} {same : J → J → Type 0} {made : J → ℕ} {polls : 
   here : journal_at core (world_of old) ≡ view.journal.notes
   here = journal_is world core there
 
-  unchanged : now ≡ view → world_of quiet ≡ world_of old
+  pub unchanged : now ≡ view → world_of quiet ≡ world_of old
   unchanged is =
       let journals = journals_now world core there now links [] (ap (λ view. view.journal) is) ∙ set-get_or (world_of old).journals core [] in
       λ i. record { cores = old.cores; cap = old.cap; room = old.room; journals = journals i; sent = same_lists i }
 
-  -- the order that was delivered under a name was sent under it
-  task_sent : (name : JobId) (order : Order J) → order_taken view.took name ≡ Some order → order_under name (world_of old) ≡ Some order
-  task_sent name order at =
-      let sender : name.from ≤ old.cores = subst (λ cores. name.from ≤ cores) (cores_are world core there) ((world.recorded core there).taken name order at).sender in
-      let found = (world.beside.ins name.from core sender there).orders name order refl at in
-      let to_is : name.to ≡ core = ap (λ id. id.to) found.1 ∙ number_is world core there in
-      let place : name.number - 1 ≡ found.0 = omega (arith, ap (λ id. id.number) found.1) in
-      ap (λ orders. slice_get orders (name.number - 1)) (sent_at-world old name.from name.to ∙ ap (λ to. (link_at name.from to old.links).sent) to_is)
-      ∙ (ap (slice_get (link_at name.from core old.links).sent) place ∙ found.2)
+  -- the core's journal is longer by these notes, and nothing else changed
+  pub quiet_noted : (notes : List (Note T)) → now.journal ≡ with_notes notes view.journal → world_of quiet ≡ noted core notes (world_of old)
+  quiet_noted notes longer = λ i. record { cores = old.cores; cap = old.cap; room = old.room; journals = journals_now world core there now links notes longer i; sent = same_lists i }
 
-  module _ (spent : ℕ) where
-    polled : one.PollsOne made polls answers spent view now → IsPoll made polls answers core spent (world_of old) (world_of quiet)
-    polled did = record {
-      turn_left = subst (λ journal. turns journal < 2 ^ 64 - 1) (sym here) did.turn_left;
-      queue = did.queue;
-      runtime = did.runtime;
-      right = subst (IsRightPick did.queue did.runtime) (sym here) did.right;
-      name = did.name;
-      others = did.others;
-      first = ap (line did.queue) here ∙ did.first;
-      kept = ap (return_reason did.queue) here ∙ did.kept;
-      job = did.job;
-      task = task_sent did.name (Job did.queue did.job) did.task;
-      step = did.step;
-      told = did.told;
-      owed = subst (λ journal. polls did.job (made did.job + polls_made did.name journal) [] [] did.step did.told) (sym here) did.owed;
-      answered = did.answered;
-      notes =
-          let journals =
-          journals_now world core there now links
-          (settle_note did.name (unwrap_or did.told spent) did.step ∷ poll_note did.name (is_told name_started did.name view.journal.notes) ∷ writes.Pick did.queue did.runtime ∷ [])
-          did.notes
-          ∙ ap (λ journal. set (world_of old).journals core
-          ((settle_note did.name (unwrap_or did.told spent) did.step ∷ poll_note did.name (is_told name_started did.name journal) ∷ writes.Pick did.queue did.runtime ∷ []) ++ journal_at core (world_of old))) (sym here) in
-          λ i. record { cores = old.cores; cap = old.cap; room = old.room; journals = journals i; sent = same_lists i };
-    }
-
-    handed_back : one.HandsOneBack same view now → IsHandBack core (world_of old) (world_of quiet)
-    handed_back did = record {
-      turn_left = subst (λ journal. turns journal < 2 ^ 64 - 1) (sym here) did.did.turn_left;
-      queue = did.did.queue;
-      runtime = did.did.runtime;
-      right = subst (IsRightPick did.did.queue did.did.runtime) (sym here) did.did.right;
-      name = did.name;
-      others = did.did.others;
-      first = ap (line did.did.queue) here ∙ did.did.first;
-      reason = did.reason;
-      returns = ap (return_reason did.did.queue) here ∙ did.did.returns;
-      notes =
-          let journals = journals_now world core there now links (writes.Returned did.name did.reason ∷ writes.Pick did.did.queue did.did.runtime ∷ []) did.did.journal in
-          λ i. record { cores = old.cores; cap = old.cap; room = old.room; journals = journals i; sent = same_lists i };
-    }
-
-    -- the turn is the step of its event
-    pub turns_now : (answer : Reply J) → one.Turns same made polls answers spent view now answer → Turns made polls answers core spent (world_of old) (world_of quiet) answer
-    turns_now reply.Noted did = ⊎_elim (λ poll. inl (polled poll)) (λ back. inr (handed_back back)) did
-    turns_now reply.Idle did = ((λ queue. ap (has_work queue) here ∙ did.0 queue), unchanged did.1)
-    turns_now reply.Spent did = (ap turns here ∙ did.0, (did.1.0, ap (has_work did.1.0) here ∙ did.1.1), unchanged did.2)
-    turns_now _ did = absurd did
+  pub handed_back : one.HandsOneBack same view now → IsHandBack core (world_of old) (world_of quiet)
+  handed_back did = record {
+    turn_left = subst (λ journal. turns journal < 2 ^ 64 - 1) (sym here) did.did.turn_left;
+    queue = did.did.queue;
+    runtime = did.did.runtime;
+    right = subst (IsRightPick did.did.queue did.did.runtime) (sym here) did.did.right;
+    name = did.name;
+    others = did.did.others;
+    first = ap (line did.did.queue) here ∙ did.did.first;
+    reason = did.reason;
+    returns = ap (return_reason did.did.queue) here ∙ did.did.returns;
+    notes = quiet_noted (writes.Returned did.name did.reason ∷ writes.Pick did.did.queue did.did.runtime ∷ []) did.did.journal;
+  }
 
   -- the creation is the one of an opening
   pub creates_now : (weight : ℕ) (told : Result ℕ CreateError) → CreatesQueue weight view told now → CreatesAtOpening core weight (world_of old) told (world_of quiet)
   creates_now weight (Ok queue) did = (
     did.0 ∙ ap (λ journal. created_count journal + 1) (sym here),
     did.1,
-    let journals = journals_now world core there now links (writes.Created queue weight ∷ []) did.2 in
-        λ i. record { cores = old.cores; cap = old.cap; room = old.room; journals = journals i; sent = same_lists i },
+    quiet_noted (writes.Created queue weight ∷ []) did.2,
   )
   creates_now weight (Err TooMany) did = (ap (λ journal. created_count journal + 1) here ∙ did.0, unchanged did.1)
   creates_now weight (Err Memory) did = (subst (λ journal. created_count journal + 1 < 256) (sym here) did.0, unchanged did.1)
 
 -- a creation leaves the core at rest
 pub created_stays : {J T : Type 0} {same : J → J → Type 0} {made : J → ℕ} {polls : Owed J T} {answers : J → T → Type 0} {old : Parts J T}
-    (world : IsWorld same made polls answers old) (core : ℕ) (there : core < old.cores) (now : RecordedView J T) (weight : ℕ) (told : Result ℕ CreateError) →
-    CreatesQueue weight (core_at core old) told now → IsKeptBeside same made polls one.none_owed (core_at core old) now →
+    (world : IsWorld same made polls answers old) (core : ℕ) (there : core < old.cores) (free : (core_at core old).core.out ≡ None) (now : RecordedView J T) (weight : ℕ) (told : Result ℕ CreateError) →
+    CreatesQueue weight (core_at core old) told now → one.IsKeptBeside same made polls one.none_owed (core_at core old) now →
     one.StaysBeside same made polls core (core_at core old) now old.links old.links
-created_stays {old = old} world core there now weight told did kept = record {
+created_stays {old = old} world core there free now weight told did kept = record {
   recorded = kept.sound;
-  at_rest = by_told told did ∙ world.at_rest core there;
+  at_rest = by_told told did ∙ free;
   seat = kept.seat;
   outs = kept.outs;
   lanes = kept.lanes;

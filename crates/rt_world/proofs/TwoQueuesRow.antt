@@ -120,37 +120,37 @@ module _ (room : ℕ) (enough : 100 ≤ room) where
   turned_5 = noted 0 (Yield (name 0 0 1) 30 ∷ Start (name 0 0 1) ∷ Pick 0 0 ∷ []) taken_4
 
   turns_5 : Occurs (Turn 0 0) taken_4 turned_5 reply.Noted
-  turns_5 = (omega arith, some_room room 5 enough (omega arith), inl (record { turn_left = few_turns 0 (omega arith); queue = 0; runtime = 0; right = pick_1; name = (name 0 0 1); others = []; first = refl; kept = refl; job = three_polls; task = refl; step = steps.Yield; told = Some 30; owed = (refl, refl, refl); answered = tt; notes = refl }))
+  turns_5 = (omega arith, some_room room 5 enough (omega arith), inl (record { turn_left = few_turns 0 (omega arith); queue = 0; runtime = 0; right = pick_1; name = (name 0 0 1); others = []; first = refl; kept = refl; job = three_polls; task = refl; step = steps.Yield; told = Some 30; calls = []; posted = _; posts = refl; owed = (refl, refl, refl); answered = tt; notes = refl }))
 
   abbrev turned_6 : WorldView Script ℕ
   turned_6 = noted 0 (Yield (name 0 0 2) 30 ∷ Start (name 0 0 2) ∷ Pick 1 0 ∷ []) turned_5
 
   turns_6 : Occurs (Turn 0 0) turned_5 turned_6 reply.Noted
-  turns_6 = (omega arith, some_room room 8 enough (omega arith), inl (record { turn_left = few_turns 1 (omega arith); queue = 1; runtime = 0; right = pick_2; name = (name 0 0 2); others = []; first = refl; kept = refl; job = three_polls; task = refl; step = steps.Yield; told = Some 30; owed = (refl, refl, refl); answered = tt; notes = refl }))
+  turns_6 = (omega arith, some_room room 8 enough (omega arith), inl (record { turn_left = few_turns 1 (omega arith); queue = 1; runtime = 0; right = pick_2; name = (name 0 0 2); others = []; first = refl; kept = refl; job = three_polls; task = refl; step = steps.Yield; told = Some 30; calls = []; posted = _; posts = refl; owed = (refl, refl, refl); answered = tt; notes = refl }))
 
   abbrev turned_7 : WorldView Script ℕ
   turned_7 = noted 0 (Yield (name 0 0 1) 30 ∷ Resume (name 0 0 1) ∷ Pick 0 30 ∷ []) turned_6
 
   turns_7 : Occurs (Turn 0 0) turned_6 turned_7 reply.Noted
-  turns_7 = (omega arith, some_room room 11 enough (omega arith), inl (record { turn_left = few_turns 2 (omega arith); queue = 0; runtime = 30; right = pick_3; name = (name 0 0 1); others = []; first = refl; kept = refl; job = three_polls; task = refl; step = steps.Yield; told = Some 30; owed = (refl, refl, refl); answered = tt; notes = refl }))
+  turns_7 = (omega arith, some_room room 11 enough (omega arith), inl (record { turn_left = few_turns 2 (omega arith); queue = 0; runtime = 30; right = pick_3; name = (name 0 0 1); others = []; first = refl; kept = refl; job = three_polls; task = refl; step = steps.Yield; told = Some 30; calls = []; posted = _; posts = refl; owed = (refl, refl, refl); answered = tt; notes = refl }))
 
   abbrev turned_8 : WorldView Script ℕ
   turned_8 = noted 0 (Done (name 0 0 1) 30 0 ∷ Resume (name 0 0 1) ∷ Pick 0 60 ∷ []) turned_7
 
   turns_8 : Occurs (Turn 0 0) turned_7 turned_8 reply.Noted
-  turns_8 = (omega arith, some_room room 14 enough (omega arith), inl (record { turn_left = few_turns 3 (omega arith); queue = 0; runtime = 60; right = pick_4; name = (name 0 0 1); others = []; first = refl; kept = refl; job = three_polls; task = refl; step = steps.Done 0; told = Some 30; owed = (refl, refl, refl); answered = refl; notes = refl }))
+  turns_8 = (omega arith, some_room room 14 enough (omega arith), inl (record { turn_left = few_turns 3 (omega arith); queue = 0; runtime = 60; right = pick_4; name = (name 0 0 1); others = []; first = refl; kept = refl; job = three_polls; task = refl; step = steps.Done 0; told = Some 30; calls = []; posted = _; posts = refl; owed = (refl, refl, refl); answered = refl; notes = refl }))
 
   abbrev turned_9 : WorldView Script ℕ
   turned_9 = noted 0 (Yield (name 0 0 2) 30 ∷ Resume (name 0 0 2) ∷ Pick 1 60 ∷ []) turned_8
 
   turns_9 : Occurs (Turn 0 0) turned_8 turned_9 reply.Noted
-  turns_9 = (omega arith, some_room room 17 enough (omega arith), inl (record { turn_left = few_turns 4 (omega arith); queue = 1; runtime = 60; right = pick_5; name = (name 0 0 2); others = []; first = refl; kept = refl; job = three_polls; task = refl; step = steps.Yield; told = Some 30; owed = (refl, refl, refl); answered = tt; notes = refl }))
+  turns_9 = (omega arith, some_room room 17 enough (omega arith), inl (record { turn_left = few_turns 4 (omega arith); queue = 1; runtime = 60; right = pick_5; name = (name 0 0 2); others = []; first = refl; kept = refl; job = three_polls; task = refl; step = steps.Yield; told = Some 30; calls = []; posted = _; posts = refl; owed = (refl, refl, refl); answered = tt; notes = refl }))
 
   abbrev turned_10 : WorldView Script ℕ
   turned_10 = noted 0 (Done (name 0 0 2) 30 0 ∷ Resume (name 0 0 2) ∷ Pick 1 120 ∷ []) turned_9
 
   turns_10 : Occurs (Turn 0 0) turned_9 turned_10 reply.Noted
-  turns_10 = (omega arith, some_room room 20 enough (omega arith), inl (record { turn_left = few_turns 5 (omega arith); queue = 1; runtime = 120; right = pick_6; name = (name 0 0 2); others = []; first = refl; kept = refl; job = three_polls; task = refl; step = steps.Done 0; told = Some 30; owed = (refl, refl, refl); answered = refl; notes = refl }))
+  turns_10 = (omega arith, some_room room 20 enough (omega arith), inl (record { turn_left = few_turns 5 (omega arith); queue = 1; runtime = 120; right = pick_6; name = (name 0 0 2); others = []; first = refl; kept = refl; job = three_polls; task = refl; step = steps.Done 0; told = Some 30; calls = []; posted = _; posts = refl; owed = (refl, refl, refl); answered = refl; notes = refl }))
 
 -- the row, as it is written
 pub two_queues : TwoQueues

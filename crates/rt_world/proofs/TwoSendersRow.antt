@@ -104,19 +104,19 @@ module _ (room : ℕ) (enough : 100 ≤ room) where
   turned_8 = noted 0 (Done (name 2 0 1) 5 1 ∷ Start (name 2 0 1) ∷ Pick 0 0 ∷ []) taken_7
 
   turns_8 : Occurs (Turn 0 0) taken_7 turned_8 reply.Noted
-  turns_8 = (omega arith, some_room room 3 enough (omega arith), inl (record { turn_left = few_turns 0 (omega arith); queue = 0; runtime = 0; right = pick_1; name = (name 2 0 1); others = (name 1 0 1) ∷ (name 2 0 2) ∷ []; first = refl; kept = refl; job = (short_job 1); task = refl; step = steps.Done 1; told = Some 5; owed = (refl, refl, refl); answered = refl; notes = refl }))
+  turns_8 = (omega arith, some_room room 3 enough (omega arith), inl (record { turn_left = few_turns 0 (omega arith); queue = 0; runtime = 0; right = pick_1; name = (name 2 0 1); others = (name 1 0 1) ∷ (name 2 0 2) ∷ []; first = refl; kept = refl; job = (short_job 1); task = refl; step = steps.Done 1; told = Some 5; calls = []; posted = _; posts = refl; owed = (refl, refl, refl); answered = refl; notes = refl }))
 
   abbrev turned_9 : WorldView Script ℕ
   turned_9 = noted 0 (Done (name 1 0 1) 5 2 ∷ Start (name 1 0 1) ∷ Pick 0 5 ∷ []) turned_8
 
   turns_9 : Occurs (Turn 0 0) turned_8 turned_9 reply.Noted
-  turns_9 = (omega arith, some_room room 6 enough (omega arith), inl (record { turn_left = few_turns 1 (omega arith); queue = 0; runtime = 5; right = pick_2; name = (name 1 0 1); others = (name 2 0 2) ∷ []; first = refl; kept = refl; job = (short_job 2); task = refl; step = steps.Done 2; told = Some 5; owed = (refl, refl, refl); answered = refl; notes = refl }))
+  turns_9 = (omega arith, some_room room 6 enough (omega arith), inl (record { turn_left = few_turns 1 (omega arith); queue = 0; runtime = 5; right = pick_2; name = (name 1 0 1); others = (name 2 0 2) ∷ []; first = refl; kept = refl; job = (short_job 2); task = refl; step = steps.Done 2; told = Some 5; calls = []; posted = _; posts = refl; owed = (refl, refl, refl); answered = refl; notes = refl }))
 
   abbrev turned_10 : WorldView Script ℕ
   turned_10 = noted 0 (Done (name 2 0 2) 5 3 ∷ Start (name 2 0 2) ∷ Pick 0 10 ∷ []) turned_9
 
   turns_10 : Occurs (Turn 0 0) turned_9 turned_10 reply.Noted
-  turns_10 = (omega arith, some_room room 9 enough (omega arith), inl (record { turn_left = few_turns 2 (omega arith); queue = 0; runtime = 10; right = pick_3; name = (name 2 0 2); others = []; first = refl; kept = refl; job = (short_job 3); task = refl; step = steps.Done 3; told = Some 5; owed = (refl, refl, refl); answered = refl; notes = refl }))
+  turns_10 = (omega arith, some_room room 9 enough (omega arith), inl (record { turn_left = few_turns 2 (omega arith); queue = 0; runtime = 10; right = pick_3; name = (name 2 0 2); others = []; first = refl; kept = refl; job = (short_job 3); task = refl; step = steps.Done 3; told = Some 5; calls = []; posted = _; posts = refl; owed = (refl, refl, refl); answered = refl; notes = refl }))
 
   empty_11 : Occurs (Deliver 0 2) turned_10 turned_10 reply.Empty
   empty_11 = ((omega arith, omega arith), some_room room 12 enough (omega arith), (refl, refl))

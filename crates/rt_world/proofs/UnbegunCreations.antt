@@ -10,7 +10,7 @@ use Rattle.rt_world.specs.State.{WorldView, journal_at, noted}
 use Rattle.rt_world.specs.Opening.{IsUnbegun, IsFresh}
 use Rattle.rt_world.specs.Creations.{with_creations}
 use Rattle.rt_world.proofs.KeptLists.{same_rows, keeps_lists}
-use Rattle.rt_world.proofs.NoRefusals.{set_or}
+use Rattle.rt_world.proofs.WorldAfter.{set_or}
 
 module _ {J T : Type 0} where
   pub unbegun_fresh : (cores cap room : ℕ) (world : WorldView J T) → IsFresh cores cap room world → IsUnbegun world

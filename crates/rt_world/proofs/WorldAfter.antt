@@ -1,19 +1,39 @@
--- A world at rest stays one where one actor makes a step.
-use Rattle.std.proofs.Common.{◌≡◌, ◌≢◌, ℕ, ◌<◌, ◌≤◌, List, length, sym, ◌∙◌, ap, subst, ⊎_elim, arith, get_or, set, get_or-set_same, get_or-set_other}
+-- A world stays one where one actor makes a step.
+use Rattle.std.proofs.Common.{◌≡◌, ◌≢◌, ℕ, ◌<◌, ◌≤◌, List, length, sym, ◌∙◌, ap, subst, ◌⊎◌, inl, inr, ⊎_elim, arith, get_or, set, get_or-set_same, get_or-set_other}
 use Rattle.std.specs.Prelude.{None}
-use Rattle.std.proofs.lemmas.Bool.{cases_eq}
+use Rattle.std.proofs.lemmas.Bool.{cases_eq, cases_lt}
+use Rattle.std.proofs.lemmas.List.{set_past}
 use Rattle.rt_jobs.specs.Steps.{Owed}
 use Rattle.rt_link.specs.declared.plain.Whole.{Whole}
 use Rattle.rt_link.specs.Whole.{out_of, inward_of}
 use Rattle.rt_journal.specs.Submissions.{DeskView, IsWritten, terms_of_desk, opened_desk}
 use Rattle.rt_journal.specs.Recorded.{RecordedView, IsRecorded}
+use Rattle.rt_journal.specs.Steps.{opened_beside}
 use Rattle.rt_link.specs.Fits.{Fits}
 use Rattle.rt_journal.specs.Ends.{IsOutOf, IsInOf}
 use Rattle.rt_journal.specs.Tickets.{HasLane}
 use Rattle.rt_world.specs.Links.{row_of, link_at}
-use Rattle.rt_world.specs.Inside.{Parts, core_at, desks, desk_at, seat_of, IsWorld}
+use Rattle.rt_world.specs.Inside.{Parts, core_at, desks, desk_at, seat_of, IsWorld, IsAtRest}
 use Rattle.rt_world.proofs.Desks.{desk_count}
 use Rattle.rt_world.proofs.LinkSteps.{OnlyReceived, OnlySent, out_stays, lane_stays, in_stays}
+
+-- after one place of a list was set, each place has the new item or what it had
+pub set_or : {A : Type 0} (items : List A) (place : ℕ) (item : A) (at : ℕ) (default : A) →
+    (get_or (set items place item) at default ≡ item) ⊎ (get_or (set items place item) at default ≡ get_or items at default)
+set_or items place item at default =
+    ⊎_elim
+    (
+    λ here.
+    ⊎_elim (λ within. inl (ap (λ at. get_or (set items place item) at default) here ∙ get_or-set_same items place item default within))
+    (λ past. inr (ap (λ all. get_or all at default) (set_past items place item past))) (cases_lt place (length items))
+    )
+    (λ other. inr (get_or-set_other items place at item default other)) (cases_eq at place)
+
+-- no core has a job out, where the one that made a step has none
+pub rest_after : {J T : Type 0} (old : Parts J T) (core : ℕ) (now : RecordedView J T) (links : List (List (Whole J T))) → IsAtRest old → now.core.out ≡ None →
+    IsAtRest (record old { inside = set old.inside core now; links = links })
+rest_after old core now links rest out other there =
+    ⊎_elim (λ is. ap (λ view. view.core.out) is ∙ out) (λ is. ap (λ view. view.core.out) is ∙ rest other there) (set_or old.inside core now other (opened_beside 0 0 0 0))
 
 module _ {J T : Type 0} {same : J → J → Type 0} {made : J → ℕ} {polls : Owed J T} {answers : J → T → Type 0} {old : Parts J T}
     (world : IsWorld same made polls answers old) (actor : ℕ) (inside : List (RecordedView J T)) (outside : DeskView J T) (links : List (List (Whole J T))) (desk : DeskView J T) where
@@ -30,7 +50,6 @@ module _ {J T : Type 0} {same : J → J → Type 0} {made : J → ℕ} {polls : 
     pub seat : desk ≡ seat_of actor desk old
     pub other_cores : (core : ℕ) → core ≢ actor → core_at core new ≡ core_at core old
     pub recorded : actor < old.cores → IsRecorded same made polls (core_at actor new)
-    pub at_rest : actor < old.cores → (core_at actor new).core.out ≡ None
     pub written : IsWritten (terms_of_desk outside) outside.journal.notes
     pub received : (sender core : ℕ) → sender ≢ actor → OnlyReceived (link_at sender core old.links) (link_at sender core links)
     pub sent : (sender core : ℕ) → core ≢ actor → OnlySent (link_at sender core old.links) (link_at sender core links)
@@ -62,13 +81,6 @@ module _ {J T : Type 0} {same : J → J → Type 0} {made : J → ℕ} {polls : 
         (λ away. subst (IsRecorded same made polls) (sym (step.other_cores core away)) (world.recorded core known))
         (cases_eq core actor)
 
-    rest_now : (core : ℕ) → core < old.cores → (core_at core new).core.out ≡ None
-    rest_now core known =
-        ⊎_elim
-        (λ one. subst (λ at. (core_at at new).core.out ≡ None) (sym one) (step.at_rest (subst (λ at. at < old.cores) one known)))
-        (λ away. ap (λ view. view.core.out) (step.other_cores core away) ∙ world.at_rest core known)
-        (cases_eq core actor)
-
     outs_now : (sender core : ℕ) → sender ≤ old.cores → core < old.cores → IsOutOf core (desk_at sender new) (out_of (link_at sender core links)) (link_at sender core links).credited
     outs_now sender core known core_known =
         ⊎_elim
@@ -96,7 +108,7 @@ module _ {J T : Type 0} {same : J → J → Type 0} {made : J → ℕ} {polls : 
         (in_stays sender (core_at core old) (link_at sender core old.links) (link_at sender core links) (step.sent sender core away) (world.beside.ins sender core known core_known)))
         (cases_eq core actor)
 
-    -- the world is at rest again
+    -- each actor and each end is as it should be again
     pub world_after : IsWorld same made polls answers new
     world_after = record {
       all_there = record {
@@ -106,7 +118,6 @@ module _ {J T : Type 0} {same : J → J → Type 0} {made : J → ℕ} {polls : 
         seats_are = seats_now;
       };
       recorded = recorded_now;
-      at_rest = rest_now;
       outside = step.written;
       beside = record { outs = outs_now; lanes = lanes_now; ins = ins_now };
     }

@@ -11,10 +11,10 @@ use Rattle.rt_journal.specs.Together.{AreTogether, IsAssemblyOf}
 use Rattle.rt_journal.proofs.Together.{together_joined}
 use Rattle.rt_world.specs.State.{assembly_of}
 use Rattle.rt_world.specs.Links.{link_at}
-use Rattle.rt_world.specs.Inside.{Parts, core_at, desks, desk_at, world_of, IsWorld}
+use Rattle.rt_world.specs.Inside.{Parts, core_at, desks, desk_at, world_of, IsWorld, IsAtRest}
 use Rattle.rt_world.proofs.Desks.{desk_count, desk_at-core, desk_at-outside, journal_of-world}
 
-module _ {J : Type 0} {same : J → J → Type 0} {made : J → ℕ} {polls : Owed J ℕ} {answers : J → ℕ → Type 0} (parts : Parts J ℕ) (world : IsWorld same made polls answers parts) where
+module _ {J : Type 0} {same : J → J → Type 0} {made : J → ℕ} {polls : Owed J ℕ} {answers : J → ℕ → Type 0} (parts : Parts J ℕ) (world : IsWorld same made polls answers parts) (rest : IsAtRest parts) where
   -- a plain link shows each end all that the other did
   together : AreTogether same made polls parts.cores parts.cap (λ actor. desk_at actor parts) (λ core. core_at core parts)
       (λ sender core. out_of (link_at sender core parts.links)) (λ sender core. (link_at sender core parts.links).credited) (λ sender core. inward_of (link_at sender core parts.links))
@@ -22,7 +22,7 @@ module _ {J : Type 0} {same : J → J → Type 0} {made : J → ℕ} {polls : Ow
     actors = λ actor known. ap terms_of_desk (world.all_there.seats_are actor known);
     desks = λ core known. desk_at-core parts core (omega (arith, known, world.all_there.cores_are));
     recorded = world.recorded;
-    at_rest = world.at_rest;
+    at_rest = rest;
     outside = subst (λ desk. IsWritten (terms_of_desk desk) desk.journal.notes) (sym (desk_at-outside parts parts.cores world.all_there.cores_are)) world.outside;
     outs = world.beside.outs;
     ins = world.beside.ins;

@@ -1,9 +1,12 @@
 -- Queues that are made before the first event, and events that order none.
-use Rattle.std.specs.Prelude.{◌≡◌, ℕ, ◌+◌, List, [], ◌∷◌}
+use Rattle.std.specs.Prelude.{◌≡◌, ℕ, ◌+◌, Option, List, [], ◌∷◌}
 use Rattle.rt_ids.specs.declared.note.Note.TheVariants.{Created}
 use Rattle.rt_ids.specs.declared.order.Order.{Order}
 use Rattle.rt_ids.specs.declared.order.Order.TheVariants.{Create}
 use Rattle.rt_ids.specs.Commands.{created_count}
+use Rattle.rt_jobs.specs.Calls.{Call}
+use Rattle.rt_jobs.specs.Calls.Call.{Submit}
+use Rattle.rt_jobs.specs.declared.job.Step.{Step}
 use Rattle.rt_jobs.specs.Steps.{Owed}
 use Rattle.rt_world.specs.declared.event.Event.{Event}
 use Rattle.rt_world.specs.declared.event.Event.TheVariants.{Send}
@@ -34,10 +37,20 @@ module _ {J : Type 0} where
   OrderNoQueues [] = Unit {0}
   OrderNoQueues (event ∷ events) = OrdersNoQueue event × OrderNoQueues events
 
+  -- none of the calls of a post orders one
+  abbrev pub CallNoQueues : {T : Type 0} → List (Call J T) → Type 0
+  CallNoQueues [] = Unit {0}
+  CallNoQueues (Submit to order answer ∷ calls) = IsNoCreation order × CallNoQueues calls
+  CallNoQueues (_ ∷ calls) = CallNoQueues calls
+
+  -- no poll orders a queue
+  abbrev pub PollsOrderNone : {T : Type 0} → Owed J T → Type 0
+  PollsOrderNone {T} polls = (job : J) (place : ℕ) (calls : List (Call J T)) (step : Step T) (told : Option ℕ) → polls job place calls step told → CallNoQueues calls
+
 module _ {J : Type 0} (same : J → J → Type 0) (made : J → ℕ) (polls : Owed J ℕ) (answers : J → ℕ → Type 0) where
-  -- before its first event, a world and events that order no queue have one result
+  -- before its first event, a world and events that order no queue have one result, where no job orders one
   abbrev pub RunOfJobsIsDetermined : Type 0
   RunOfJobsIsDetermined =
-      OwesOne polls → (events : List (Event J)) (old new other : WorldView J ℕ) (replies others : List (Reply J)) → IsUnbegun old → OrderNoQueues events →
+      OwesOne polls → PollsOrderNone polls → (events : List (Event J)) (old new other : WorldView J ℕ) (replies others : List (Reply J)) → IsUnbegun old → OrderNoQueues events →
       IsToldRun same made polls answers events old new replies → IsToldRun same made polls answers events old other others →
       (new ≡ other) × AreAllAlike same answers replies others

@@ -5,11 +5,13 @@ use Rattle.rt_ids.specs.declared.note.Note.TheVariants.{Answered}
 use Rattle.rt_ids.specs.declared.order.Answer.TheVariants.{NoMemory}
 use Rattle.rt_ids.specs.Assembly.{Assembly}
 use Rattle.rt_ids.specs.Journal.{Journal}
+use Rattle.rt_jobs.specs.Calls.{Call}
 use Rattle.rt_jobs.specs.declared.job.Step.{Step}
 use Rattle.rt_jobs.specs.Steps.{Owed}
 use Rattle.rt_world.specs.declared.event.Event.{Event}
 use Rattle.rt_world.specs.declared.event.Reply.{Reply}
 use Rattle.rt_world.specs.State.{WorldView}
+use Rattle.rt_world.specs.Calls.{AskAlike}
 use Rattle.rt_world.specs.Collections.{AreBothRedeemed}
 use Rattle.rt_world.specs.Opening.{HasAllLists, IsFresh}
 use Rattle.rt_world.specs.Runs.{Happens, RunsTo}
@@ -37,12 +39,14 @@ module _ {T : Type 0} where
     pub told : IsTrue (tells_refusal notes)
 
 module _ {J T : Type 0} (polls : Owed J T) where
-  -- each poll of a job owes one step, and one time, whatever became of what it posted
+  -- each poll of a job owes one step and one time, whatever its post answered, and asks the same of it as long as it is answered alike
   pub record OwesOne : Type 0 where
-    pub step : (job : J) (place : ℕ) (before after other_after : Journal T) (step other : Step T) (told other_told : Option ℕ) →
-        polls job place before after step told → polls job place before other_after other other_told → step ≡ other
-    pub told : (job : J) (place : ℕ) (before after other_after : Journal T) (step other : Step T) (told other_told : Option ℕ) →
-        polls job place before after step told → polls job place before other_after other other_told → told ≡ other_told
+    pub step : (job : J) (place : ℕ) (calls others : List (Call J T)) (step other : Step T) (told other_told : Option ℕ) →
+        polls job place calls step told → polls job place others other other_told → step ≡ other
+    pub told : (job : J) (place : ℕ) (calls others : List (Call J T)) (step other : Step T) (told other_told : Option ℕ) →
+        polls job place calls step told → polls job place others other other_told → told ≡ other_told
+    pub asks : (job : J) (place : ℕ) (calls others : List (Call J T)) (step other : Step T) (told other_told : Option ℕ) →
+        polls job place calls step told → polls job place others other other_told → AskAlike calls others
 
 module _ {J : Type 0} (same : J → J → Type 0) (answers : J → ℕ → Type 0) where
   -- two replies are the same, except that jobs which come back with a redeemed outcome may differ: no journal tells how far such a job got

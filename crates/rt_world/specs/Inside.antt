@@ -70,15 +70,18 @@ module _ {J T : Type 0} where
         IsInOf sender (core_at core parts) (inward_of (link_at sender core parts.links))
 
 module _ {J T : Type 0} (same : J → J → Type 0) (made : J → ℕ) (polls : Owed J T) (answers : J → T → Type 0) where
-  -- a world at rest: each core is recorded and has no job out, and the ends of its links are beside their actors
+  -- each core is recorded, and the ends of its links are beside their actors
   pub record IsWorld (parts : Parts J T) : Type 0 where
     pub all_there : AreAllThere parts
     pub recorded : (core : ℕ) → core < parts.cores → IsRecorded same made polls (core_at core parts)
-    pub at_rest : (core : ℕ) → core < parts.cores → (core_at core parts).core.out ≡ None
     pub outside : IsWritten (terms_of_desk parts.outside) parts.outside.journal.notes
     pub beside : AreBeside (Fits same answers) parts
 
 module _ {J T : Type 0} where
+  -- no core has a job out
+  abbrev pub IsAtRest : Parts J T → Type 0
+  IsAtRest parts = (core : ℕ) → core < parts.cores → (core_at core parts).core.out ≡ None
+
   -- a core of each number, just opened
   pub record AreOpened (cores cap room : ℕ) (inside : List (RecordedView J T)) : Type 0 where
     pub cores_are : length inside ≡ cores

@@ -4,6 +4,7 @@ pub mod Collections
 pub mod Stats
 pub mod Sends
 pub mod Deliveries
+pub mod Calls
 pub mod OneTurn
 pub mod Turns
 pub mod PickedJobs

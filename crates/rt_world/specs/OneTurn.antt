@@ -1,26 +1,23 @@
 -- What a turn is to its core and the journal beside it.
-use Rattle.std.specs.Prelude.{◌≡◌, ◌⊎◌, ℕ, ◌+◌, ◌-◌, ◌^◌, ◌<◌, ◌≤◌, Option, Some, None, true, false, unwrap_or, List, [], ◌∷◌, length}
+use Rattle.std.specs.Prelude.{◌≡◌, ◌⊎◌, ℕ, ◌-◌, ◌^◌, ◌<◌, ◌≤◌, Option, None, Bool, true, false, List, length, slice_set}
 use Rattle.rt_ids.specs.declared.names.JobId.{JobId}
-use Rattle.rt_ids.specs.declared.note.Note.TheVariants as writes
 use Rattle.rt_ids.specs.declared.note.OutcomeNote.{OutcomeNote}
 use Rattle.rt_ids.specs.declared.order.Order.{Order}
-use Rattle.rt_ids.specs.declared.order.Order.TheVariants.{Job}
+use Rattle.rt_ids.specs.declared.order.Outcome.{Outcome}
 use Rattle.rt_ids.specs.declared.order.Reason.{Reason}
-use Rattle.rt_ids.specs.Journal.{is_told}
-use Rattle.rt_ids.specs.Filters.{name_started}
 use Rattle.rt_ids.specs.Work.{has_work}
-use Rattle.rt_ids.specs.Lines.{line}
-use Rattle.rt_ids.specs.Picks.{IsRightPick, turns}
-use Rattle.rt_ids.specs.Commands.{return_reason}
-use Rattle.rt_jobs.specs.declared.job.Step.{Step}
-use Rattle.rt_jobs.specs.Steps.{IfDone, Owed}
-use Rattle.rt_journal.specs.Polls.{polls_made, poll_note, settle_note}
-use Rattle.rt_journal.specs.Recorded.{RecordedView, IsRecorded, desk_of, order_taken}
-use Rattle.rt_journal.specs.Steps.{with_notes}
-use Rattle.rt_journal.specs.Turns.{IsHandBack}
-use Rattle.rt_journal.specs.Ends.{IsInOwing, KeepsOuts, IsSameSeat}
+use Rattle.rt_ids.specs.Picks.{turns}
+use Rattle.rt_jobs.specs.Steps.{AfterPoll, Owed, OwesAt}
+use Rattle.rt_core.specs.declared.turn.Settled.{Settled}
+use Rattle.rt_journal.specs.Calls.{Does}
+use Rattle.rt_journal.specs.Posts.{AreOutsOf, HasPosted}
+use Rattle.rt_journal.specs.Recorded.{RecordedView, IsRecorded, desk_of}
+use Rattle.rt_journal.specs.Turns.{IsPick, IsHandBack, IsPolled, Settles}
+use Rattle.rt_journal.specs.Whole.{post_of}
+use Rattle.rt_journal.specs.Ends.{IsInOwing, LeavesOwed, KeepsOuts, IsSameSeat}
 use Rattle.rt_link.specs.declared.plain.Whole.{Whole}
-use Rattle.rt_link.specs.Whole.{inward_of}
+use Rattle.rt_link.specs.Fits.{Fits}
+use Rattle.rt_link.specs.Whole.{out_of, inward_of, kept_by_sender}
 use Rattle.rt_world.specs.Links.{row_of, link_at, GivesOnOne}
 use Rattle.rt_world.specs.declared.event.Reply.{Reply}
 use Rattle.rt_world.specs.declared.event.Reply.TheVariants as reply
@@ -36,7 +33,19 @@ module _ {J T : Type 0} where
     pub cores : (sender : ℕ) → sender ≤ view.core.cores → number < length (row_of sender links)
     pub ins : (sender : ℕ) → sender ≤ view.core.cores → IsInOwing sender (owed sender) view (inward_of (link_at sender number links))
 
+-- there is a link from this core to each core, beside its desk
+abbrev pub HasOuts : {J T : Type 0} → (Order J → Outcome J T → Type 0) → ℕ → RecordedView J T → List (List (Whole J T)) → Type 0
+HasOuts fits number view links = AreOutsOf fits out_of (λ link. link.credited) (desk_of view) (row_of number links)
+
 module _ {J T : Type 0} (same : J → J → Type 0) (made : J → ℕ) (polls : Owed J T) where
+  -- a call of a core that sends nothing: it is recorded at the same seat, and the ends are beside it, except for these outcomes, which are owed then
+  pub record IsKeptBeside (owed : ℕ → Option (JobId × OutcomeNote T)) (old new : RecordedView J T) : Type 0 where
+    pub sound : IsRecorded same made polls new
+    pub seat : IsSameSeat old new
+    pub ins : (sender : ℕ) → LeavesOwed sender (owed sender) old new
+    pub outs : KeepsOuts (desk_of old) (desk_of new)
+    pub lanes : new.lanes ≡ old.lanes
+
   -- the core is recorded and has no job out, its seat is the same, and the ends of its links are beside it: the outcome of the turn, if there is one, was given
   pub record StaysBeside (number : ℕ) (old new : RecordedView J T) (before after : List (List (Whole J T))) : Type 0 where
     pub recorded : IsRecorded same made polls new
@@ -55,36 +64,45 @@ module _ {J T : Type 0} (same : J → J → Type 0) where
     pub order : Order J
     pub did : IsHandBack same old name reason order new
 
-module _ {J T : Type 0} (made : J → ℕ) (polls : Owed J T) (answers : J → T → Type 0) where
-  -- a turn is left, and the right pick is made: the first job of that line is polled once, and the poll owes what the order under its name says
-  pub record PollsOne (spent : ℕ) (old new : RecordedView J T) : Type 0 where
-    pub turn_left : turns old.journal.notes < 2 ^ 64 - 1
-    pub queue : ℕ
-    pub runtime : ℕ
-    pub right : IsRightPick queue runtime old.journal.notes
-    pub name : JobId
-    pub others : List JobId
-    pub first : line queue old.journal.notes ≡ name ∷ others
-    pub kept : return_reason queue old.journal.notes ≡ None
-    pub job : J
-    pub task : order_taken old.took name ≡ Some (Job queue job)
-    pub step : Step T
-    pub told : Option ℕ
-    pub owed : polls job (made job + polls_made name old.journal.notes) [] [] step told
-    pub answered : IfDone step (answers job)
-    pub notes : new.journal
-        ≡ with_notes
-        (
-        settle_note name (unwrap_or told spent) step
-        ∷ poll_note name (is_told name_started name old.journal.notes)
-        ∷ writes.Pick queue runtime ∷ []
-        ) old.journal
+module _ {J : Type 0} (same : J → J → Type 0) (made : J → ℕ) (polls : Owed J ℕ) (answers : J → ℕ → Type 0) where
+  -- a job is polled once, and calls its post; the core and the links on which it sends say no more than what these calls did
+  pub record IsPosted (number : ℕ) (old : RecordedView J ℕ) (job : J) (ran : AfterPoll J ℕ) (new : RecordedView J ℕ) (before after : List (List (Whole J ℕ))) : Type 0 where
+    pub was : ran.before ≡ job
+    pub owed : OwesAt polls (Does (Fits same answers) out_of (λ link. link.credited) kept_by_sender) job (made job)
+        (post_of old (row_of number before)) (post_of new (row_of number after)) ran.step ran.told
+    pub polled : IsPolled same made polls answers ran
+    pub posted : HasPosted out_of kept_by_sender (post_of old (row_of number before)) (post_of new (row_of number after))
+    pub rest : new ≡ record old { journal = new.journal; lanes = new.lanes }
+    pub seat : IsSameSeat old new
+    pub sound : IsRecorded same made polls new
+    pub spare : length new.journal.notes < new.journal.room
+    pub links : after ≡ slice_set before number (row_of number after)
+    pub beside : IsBesideAll number none_owed new after
 
-module _ {J T : Type 0} (same : J → J → Type 0) (made : J → ℕ) (polls : Owed J T) (answers : J → T → Type 0) where
+  -- the right pick takes a job out, which is polled once with its post; then its poll is settled
+  pub record PollsOne (number spent : ℕ) (old new : RecordedView J ℕ) (before after : List (List (Whole J ℕ))) : Type 0 where
+    pub name : JobId
+    pub queue : ℕ
+    pub started : Bool
+    pub job : J
+    pub picked : RecordedView J ℕ
+    pub picks : IsPick old name queue started job picked
+    pub keeps : IsKeptBeside same made polls none_owed old picked
+    pub ran : AfterPoll J ℕ
+    pub posted : RecordedView J ℕ
+    pub links : List (List (Whole J ℕ))
+    pub posts : IsPosted number picked job ran posted before links
+    pub settled : Settled ℕ
+    pub settles : Settles made polls answers posted ran spent settled new
+    pub stays : StaysBeside same made polls number posted new links after
+
   -- a poll, or a job is handed back; nothing where no queue has work, and nothing where all turns are used
-  abbrev pub Turns : ℕ → RecordedView J T → RecordedView J T → Reply J → Type 0
-  Turns spent old new reply.Noted = PollsOne made polls answers spent old new ⊎ HandsOneBack same old new
-  Turns spent old new reply.Idle = ((queue : ℕ) → has_work queue old.journal.notes ≡ false) × (new ≡ old)
-  Turns spent old new reply.Spent =
+  abbrev pub Turns : ℕ → ℕ → RecordedView J ℕ → RecordedView J ℕ → List (List (Whole J ℕ)) → List (List (Whole J ℕ)) → Reply J → Type 0
+  Turns number spent old new before after reply.Noted =
+      PollsOne number spent old new before after ⊎ (HandsOneBack same old new × StaysBeside same made polls number old new before after)
+  Turns number spent old new before after reply.Idle =
+      ((queue : ℕ) → has_work queue old.journal.notes ≡ false) × (new ≡ old) × StaysBeside same made polls number old new before after
+  Turns number spent old new before after reply.Spent =
       (turns old.journal.notes ≡ 2 ^ 64 - 1) × ((queue : ℕ) × (has_work queue old.journal.notes ≡ true)) × (new ≡ old)
-  Turns spent old new _ = ⊥
+      × StaysBeside same made polls number old new before after
+  Turns number spent old new before after _ = ⊥

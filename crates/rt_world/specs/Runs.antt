@@ -19,7 +19,7 @@ module _ {J : Type 0} (same : J → J → Type 0) (made : J → ℕ) (polls : Ow
   abbrev pub Steps : Event J → WorldView J ℕ → WorldView J ℕ → Reply J → Type 0
   Steps (Send sender core order) old new answer = Sends sender core order old new answer
   Steps (Deliver core sender) old new answer = Delivers core sender old new answer
-  Steps (Turn core spent) old new answer = Turns made polls answers core spent old new answer
+  Steps (Turn core spent) old new answer = Turns same made polls answers core spent old new answer
   Steps (Shut core sender) old new answer = Shuts core sender old new answer
   Steps (Collect sender core) old new answer = Collects sender core old new answer
   Steps (Redeem sender name) old new answer = Redeems same answers sender name old new answer

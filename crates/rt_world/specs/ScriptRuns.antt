@@ -16,7 +16,7 @@ abbrev pub script_made : Script → ℕ
 script_made job = job.polled
 
 abbrev pub ScriptPolls : Owed Script ℕ
-ScriptPolls job place before after step told = Does (slice_get job.polls place) before after step told
+ScriptPolls job place calls step told = Does (slice_get job.polls place) calls step told
 
 abbrev pub ScriptAnswers : Script → ℕ → Type 0
 ScriptAnswers job out = IsAnswer job.polls out

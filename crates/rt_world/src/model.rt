@@ -45,7 +45,7 @@ impl<J: Task<Out = u64>, A: Allocator + Clone> Model for World<J, A> {
     ghost Value = { WorldView J ℕ };
 
     ghost use Rattle.std.specs.Prelude.{◌+◌, map, vec_items, vec_capacity};
-    ghost use Rattle.rt_world.specs.Inside.{world_of, IsWorld, HasRoomFor};
+    ghost use Rattle.rt_world.specs.Inside.{world_of, IsWorld, IsAtRest, HasRoomFor};
     ghost use Rattle.rt_world.specs.Opening.{IsConfig};
 
     ghost view = { λ w. world_of (record { cores = w.cores; cap = w.cap; room = w.room; inside = w.inside.items; outside = w.outside; links = map vec_items w.links.items }) };
@@ -54,7 +54,8 @@ impl<J: Task<Out = u64>, A: Allocator + Clone> Model for World<J, A> {
         IsConfig w.cores w.cap w.room
         × IsWorld J.SameTask J.made J.Polls J.Answers
         (record { cores = w.cores; cap = w.cap; room = w.room; inside = w.inside.items; outside = w.outside; links = map vec_items w.links.items })
-        × HasRoomFor (w.cores + 1) w.gathered.items (vec_capacity w.gathered) };
+        × HasRoomFor (w.cores + 1) w.gathered.items (vec_capacity w.gathered)
+        × IsAtRest (record { cores = w.cores; cap = w.cap; room = w.room; inside = w.inside.items; outside = w.outside; links = map vec_items w.links.items }) };
 }
 
 /// Why a world can't be opened.

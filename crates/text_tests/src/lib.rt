@@ -1,4 +1,4 @@
-//! Tests of the text of journals over the public calls.
+//! Tests of the text of journals, and of what is told of them, over the public calls.
 #![tactic(auto)]
 
 #[cfg(test)]
@@ -11,5 +11,7 @@ mod reading;
 mod spelled;
 #[cfg(test)]
 mod texts;
+#[cfg(test)]
+mod verdicts;
 #[cfg(test)]
 mod written;

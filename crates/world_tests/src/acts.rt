@@ -6,7 +6,7 @@ ghost use Rattle.rt_world.specs.Opening.{HasReadyEvent};
 use rt_ids::{
     ActorNo, CoreNo, JobId, Mode, Order, Outcome, QueueNo, SendError, Ticket, TicketError,
 };
-use rt_jobs::{ScriptJob, Task};
+use rt_jobs::{Poll, ScriptJob, Task};
 use rt_shares::Shares;
 use rt_world::{Event, Reply, World};
 use std::process::Abort;
@@ -18,6 +18,8 @@ pub enum Act {
     Job(u8, u8, u8, u64, u64),
     /// A job for this queue that yields after so many nanoseconds, and is done with the answer at its next poll of 1 ns.
     Work(u8, u8, u8, u64, u64),
+    /// A job for queue 0 whose first polls, of 10 ns, each submit to queue 0 of one of these cores. It is done with 7 at its next poll of 1 ns.
+    Posts(u8, u8, [u8; 5]),
     /// The order to make a queue of these shares.
     Create(u8, u8, Shares),
     /// The order to close the core.
@@ -76,6 +78,22 @@ fn two_polls(time: u64, answer: u64) -> ScriptJob {
     job
 }
 
+/// A job that submits to these cores, one a poll.
+fn posting(rt: &impl Abort, to: &[u8; 5]) -> ScriptJob {
+    let polls = [
+        Poll::Submit(10, CoreNo(to[0]), QueueNo(0)),
+        Poll::Submit(10, CoreNo(to[1]), QueueNo(0)),
+        Poll::Submit(10, CoreNo(to[2]), QueueNo(0)),
+        Poll::Submit(10, CoreNo(to[3]), QueueNo(0)),
+        Poll::Submit(10, CoreNo(to[4]), QueueNo(0)),
+        Poll::Done(1, 7),
+    ];
+    match ScriptJob::try_new(&polls) {
+        Some(job) => job,
+        None => panic!(rt; "a script job has these polls"),
+    }
+}
+
 /// The ticket of this submission.
 fn ticket(from: u8, to: u8, number: u64) -> Ticket {
     Ticket::named(JobId {
@@ -96,6 +114,7 @@ pub fn event_of(rt: &impl Abort, act: &Act) -> Event<ScriptJob>
         Act::Work(from, to, queue, time, answer) => {
             send_job(rt, *from, *to, *queue, two_polls(*time, *answer))
         }
+        Act::Posts(from, to, cores) => send_job(rt, *from, *to, 0, posting(rt, cores)),
         Act::Create(from, to, shares) => send(*from, *to, Order::Create(*shares)),
         Act::CloseCore(from, to, mode) => send(*from, *to, Order::CloseCore(*mode)),
         Act::Deliver(core, from) => Event::Deliver(CoreNo(*core), ActorNo(*from)),

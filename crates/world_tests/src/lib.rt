@@ -11,3 +11,5 @@ mod closings;
 mod journal;
 #[cfg(test)]
 mod model;
+#[cfg(test)]
+mod posts;

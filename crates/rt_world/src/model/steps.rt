@@ -1,15 +1,14 @@
 //! The steps: an order is sent, the next one is delivered, a core makes a turn.
 
-ghost use Rattle.std.specs.Prelude.{◌≡◌, ◌≢◌, ◌≤◌, ◌<◌, ◌+◌, length, map, vec_items, [], Some, None, Err};
+ghost use Rattle.std.specs.Prelude.{◌≡◌, ◌≢◌, ◌≤◌, ◌<◌, ◌+◌, ◌*◌, false, length, map, vec_items, Some, None, Err};
 ghost use Rattle.rt_ids.specs.declared.note.OutcomeNote.TheVariants.{Returned};
 ghost use Rattle.rt_core.specs.declared.turn.PickError.TheVariants.{Busy};
 ghost use Rattle.rt_jobs.specs.Ready.{HasReadyJob};
 ghost use Rattle.rt_journal.specs.Recorded.{IsRecorded, desk_of};
 ghost use Rattle.rt_journal.specs.Ends.{KeepsOuts, IsSameSeat, told_under};
 ghost use Rattle.rt_journal.specs.Owed.{IsSentUnder};
-ghost use Rattle.rt_core.specs.Whole.{IsAhead};
 ghost use Rattle.rt_journal.specs.Turns.{IsOut, IsOutUnder, IsPolled, Settles};
-ghost use Rattle.rt_journal.specs.Whole.{IsTurn};
+ghost use Rattle.rt_link.specs.Fits.{Fits};
 ghost use Rattle.rt_world.specs.State.{journal_at};
 ghost use Rattle.rt_world.specs.Sends.{Sends, sent_reply};
 ghost use Rattle.rt_world.specs.Deliveries.{Delivers, taken_reply};
@@ -20,9 +19,9 @@ ghost use Rattle.rt_world.specs.PickedJobs.{IsPicked};
 
 use super::World;
 use crate::event::Reply;
-use rt_core::{Ahead, Next, PickError, Settled, Turn};
+use rt_core::{PickError, Settled, Turn};
 use rt_ids::{ActorNo, CoreNo, JobId, Order, Reason, SendError, Ticket};
-use rt_jobs::{Job, NoPost, Ran, Task};
+use rt_jobs::{Job, Ran, Task};
 use rt_journal::Recorded;
 use rt_link::PlainLink;
 use std::alloc::Allocator;
@@ -62,81 +61,33 @@ impl<J: Job + Task<Out = u64>, A: Allocator + Clone> World<J, A> {
     /// Picks a queue of the core and polls its first job once, or hands it back. The outcome goes to the sender's link.
     pub(super) fn turn(&mut self, core: CoreNo, spent: u64) -> Reply<J>
         requires core { core < self.old.cores }
-        requires room { length (journal_at core self.old) + 4 ≤ self.old.room }
-        ensures { Turns J.made J.Polls J.Answers core spent self.old self.new result }
+        requires room { length (journal_at core self.old) + (3 * self.old.cores * self.old.cap + 4) ≤ self.old.room }
+        ensures { Turns J.SameTask J.made J.Polls J.Answers core spent self.old self.new result }
     {
         let number = core.0 as usize;
         turn_of(&mut self.inside[number], &mut self.links, number, spent)
     }
 }
 
-// One core picks a queue and polls its first job once, or hands it back. The outcome, if there is one, is given on the link of the
-// job's sender.
+// One core picks a queue and polls its first job once, or hands it back. The job's post has the links on which the core sends. The
+// outcome, if there is one, is given on the link of the job's sender.
 fn turn_of<J: Job + Task<Out = u64>, A: Allocator + Clone>(
     core: &mut Recorded<J, A>,
     links: &mut Vec<Vec<PlainLink<J>>>,
     number: usize,
     spent: u64,
 ) -> Reply<J>
+    requires number { number < core.old.core.cores }
     requires free { core.old.core.out ≡ None }
-    requires room { length core.old.journal.notes + 3 ≤ core.old.journal.room }
+    requires room { length core.old.journal.notes + (core.old.core.cores * (3 * core.old.cap) + 2) < core.old.journal.room }
     requires sound { IsRecorded J.SameTask J.made J.Polls core.old }
+    requires outs { one.HasOuts (Fits J.SameTask J.Answers) number core.old (map vec_items links.old.items) }
     requires beside { one.IsBesideAll number one.none_owed core.old (map vec_items links.old.items) }
-    ensures turns { one.Turns J.SameTask J.made J.Polls J.Answers spent core.old core.new result }
-    ensures beside { one.StaysBeside J.SameTask J.made J.Polls number core.old core.new (map vec_items links.old.items) (map vec_items links.new.items) }
-{
-    match core.ahead() {
-        Ok(Ahead::Job(next)) => {
-            drop(turn_on(core, links, number, &next, spent));
-            Reply::Noted
-        }
-        Ok(_) | Err(_) => turn_by_pick(core, links, number, spent),
-    }
-}
-
-// The turn of the job that was told ahead, with the job in its place. Its outcome, if it is done, is given on the link of its sender.
-fn turn_on<J: Job + Task<Out = u64>, A: Allocator + Clone>(
-    core: &mut Recorded<J, A>,
-    links: &mut Vec<Vec<PlainLink<J>>>,
-    number: usize,
-    next: &Next,
-    spent: u64,
-) -> Settled<u64>
-    requires ahead { IsAhead core.old.core next.now.queue next.now.vr next.now.name next.now.started }
-    requires sender { next.now.name.from ≤ core.old.core.cores }
-    requires room { length core.old.journal.notes + 3 ≤ core.old.journal.room }
-    requires beside { one.IsBesideAll number one.none_owed core.old (map vec_items links.old.items) }
-    ensures turns { IsTurn J.SameTask J.made J.Polls J.Answers core.old next.now.name next.now.queue next.now.started [] [] spent result core.new }
-    ensures links { GivesOnOne number (map vec_items links.old.items) (map vec_items links.new.items) }
-    ensures beside { one.IsBesideAll number one.none_owed core.new (map vec_items links.new.items) }
-    ensures outs { KeepsOuts (desk_of core.old) (desk_of core.new) }
-    ensures seat { IsSameSeat core.old core.new }
-    ensures lanes { core.new.lanes ≡ core.old.lanes }
-    ensures sound { IsRecorded J.SameTask J.made J.Polls core.new }
-{
-    let row = &mut links[next.name.from.0 as usize];
-    let link = &mut row[number];
-    core.turn(link, next, &mut NoPost, spent)
-}
-
-// The same by a pick and a settling.
-fn turn_by_pick<J: Job + Task<Out = u64>, A: Allocator + Clone>(
-    core: &mut Recorded<J, A>,
-    links: &mut Vec<Vec<PlainLink<J>>>,
-    number: usize,
-    spent: u64,
-) -> Reply<J>
-    requires free { core.old.core.out ≡ None }
-    requires room { length core.old.journal.notes + 3 ≤ core.old.journal.room }
-    requires sound { IsRecorded J.SameTask J.made J.Polls core.old }
-    requires beside { one.IsBesideAll number one.none_owed core.old (map vec_items links.old.items) }
-    ensures turns { one.Turns J.SameTask J.made J.Polls J.Answers spent core.old core.new result }
-    ensures beside { one.StaysBeside J.SameTask J.made J.Polls number core.old core.new (map vec_items links.old.items) (map vec_items links.new.items) }
+    ensures { one.Turns J.SameTask J.made J.Polls J.Answers number spent core.old core.new (map vec_items links.old.items) (map vec_items links.new.items) result }
 {
     match picked_of(core.pick()) {
         Picked::Job(name, job) => {
-            // No outcome is collected by now, so a job that is polled gets a post without links.
-            let ran = Ran::poll(job, &mut NoPost);
+            let ran = poll_on(core, links, number, job);
             drop(settle_on(core, links, number, name, ran, spent));
             Reply::Noted
         }
@@ -146,6 +97,25 @@ fn turn_by_pick<J: Job + Task<Out = u64>, A: Allocator + Clone>(
         }
         Picked::Nothing(reply) => reply,
     }
+}
+
+// Polls the job that is out, and lends it the links on which the core sends.
+fn poll_on<J: Job + Task<Out = u64>, A: Allocator + Clone>(
+    core: &mut Recorded<J, A>,
+    links: &mut Vec<Vec<PlainLink<J>>>,
+    number: usize,
+    job: J,
+) -> Ran<J>
+    requires number { number < core.old.core.cores }
+    requires room { length core.old.journal.notes + core.old.core.cores * (3 * core.old.cap) < core.old.journal.room }
+    requires outs { one.HasOuts (Fits J.SameTask J.Answers) number core.old (map vec_items links.old.items) }
+    requires beside { one.IsBesideAll number one.none_owed core.old (map vec_items links.old.items) }
+    requires open { J.done job ≡ false }
+    requires ready { J.CanPoll job }
+    ensures { one.IsPosted J.SameTask J.made J.Polls J.Answers number core.old job result core.new (map vec_items links.old.items) (map vec_items links.new.items) }
+{
+    let alloc = *links.allocator();
+    core.poll(alloc, &mut links[number], job)
 }
 
 // Settles the poll of the job that is out. Its outcome, if it is done, is given on the link of its sender.

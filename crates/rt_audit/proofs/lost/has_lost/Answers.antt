@@ -3,13 +3,12 @@ use Rattle.std.proofs.lemmas.Bool.{both_ways, not_from_true}
 use Rattle.rt_ids.specs.Assembly.{journal_of}
 use Rattle.rt_ids.specs.Closing.{IsDrained}
 use Rattle.rt_ids.specs.Journal.{Journal}
-use Rattle.rt_audit.specs.Held.{KnowsHeld}
 use Rattle.rt_audit.proofs.AllEnded.{all_ended, each_ended, is_kept}
 use Rattle.rt_audit.proofs.lost.has_lost.Goals as goal
 
 pub returns-then-not-are_emptied-clause-kept : goal.returns-then-not-are_emptied-clause-kept
 returns-then-not-are_emptied-clause-kept c =
-    λ lost orders drained.
+    λ lost drained.
     let notes = c.journal-journal.ensures ∙ ap (λ (actor : ℕ). journal_of actor c.args.assembly.now) c.core.view_is in
     let here = subst (λ (journal : Journal ℕ). IsDrained c.args.assembly.now.cores journal) (sym notes) drained in
     let emptied : c.are_emptied.result ≡ true =
@@ -18,35 +17,27 @@ returns-then-not-are_emptied-clause-kept c =
 
 pub returns-then-not-is_idle-clause-kept : goal.returns-then-not-is_idle-clause-kept
 returns-then-not-is_idle-clause-kept c =
-    λ lost orders drained.
+    λ lost drained.
     let notes = c.journal-journal.ensures ∙ ap (λ (actor : ℕ). journal_of actor c.args.assembly.now) c.core.view_is in
     let here = subst (λ (journal : Journal ℕ). IsDrained c.args.assembly.now.cores journal) (sym notes) drained in
-    let idle : c.is_idle.result ≡ true = c.is_idle.ensures.only c.journal-journal.result.now.notes c.in_ok-held.ensures here.idle in
+    let idle : c.is_idle.result ≡ true = c.is_idle.ensures.only c.journal-journal.result.now.notes c.accounts_after-accounts.ensures here.idle in
     absurd (both_ways c.is_idle.result c.if-not-is_idle.true idle)
 
 pub returns-clause-kept : goal.returns-clause-kept
 returns-clause-kept c =
-    λ kept orders drained.
-    let notes = c.journal-journal.ensures ∙ ap (λ (actor : ℕ). journal_of actor c.args.assembly.now) c.core.view_is in
-    all_ended c.args.assembly.now c.in_ok-held.held c.args.core c.cores-count.ensures.journals
-    (subst (λ (journal : Journal ℕ). KnowsHeld c.in_ok-held.held journal) notes c.in_ok-held.ensures)
-    (c.ended_of_all.ensures.right orders (is_kept c.ended_of_all.result kept))
+    λ kept drained.
+    all_ended c.args.assembly.now c.args.core c.cores-count.ensures.journals
+    (c.ended_of_all.ensures.right (is_kept c.ended_of_all.result kept))
 
 pub returns-clause-only : goal.returns-clause-only
 returns-clause-only c =
-    λ orders ended.
+    λ ended.
     let notes = c.journal-journal.ensures ∙ ap (λ (actor : ℕ). journal_of actor c.args.assembly.now) c.core.view_is in
     let drained : IsDrained c.args.assembly.now.cores c.journal-journal.result.now.notes =
     record {
       delivered_all = λ sender within. c.are_emptied.ensures.right c.if-not-are_emptied.false sender (omega (arith, within, c.cores-count.ensures.value));
-      idle = c.is_idle.ensures.right c.journal-journal.result.now.notes c.in_ok-held.ensures c.if-not-is_idle.false;
+      idle = c.is_idle.ensures.right c.journal-journal.result.now.notes c.accounts_after-accounts.ensures c.if-not-is_idle.false;
     } in
     let all = ended (subst (λ (journal : Journal ℕ). IsDrained c.args.assembly.now.cores journal) notes drained) in
     not_from_true c.ended_of_all.result
-    (
-    c.ended_of_all.ensures.only orders
-    (
-    each_ended c.args.assembly.now c.in_ok-held.held c.args.core c.cores-count.ensures.journals
-    (subst (λ (journal : Journal ℕ). KnowsHeld c.in_ok-held.held journal) notes c.in_ok-held.ensures) all
-    )
-    )
+    (c.ended_of_all.ensures.only (each_ended c.args.assembly.now c.args.core c.cores-count.ensures.journals all))

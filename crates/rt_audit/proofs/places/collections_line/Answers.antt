@@ -1,9 +1,19 @@
-use Rattle.std.proofs.Common.{ℕ, arith, below_more}
+use Rattle.std.proofs.Common.{◌≡◌, ℕ, refl, subst, arith, below_more}
 use Rattle.rt_ids.specs.Assembly.{journal_of, IsPrefix, names_of}
 use Rattle.rt_ids.specs.Filters.{given_outcomes, collected_outcomes}
 use Rattle.rt_ids.specs.Journal.{Journal}
 use Rattle.rt_prefixes.proofs.ToldNames.{none_off, collected_at_place}
+use Rattle.rt_audit.specs.OrderFaults.{IsLeast, CollectionsOff}
+use Rattle.rt_audit.proofs.LeastLines.{prefix_least}
+use Rattle.rt_audit.proofs.LinksOff.{next_collected}
 use Rattle.rt_audit.proofs.places.collections_line.Goals as goal
+
+pub loop-core-init : goal.loop-core-init
+loop-core-init c = record {
+  kept = λ none core within. absurd (omega (arith, within));
+  only = λ whole. refl;
+  least = λ line off. absurd (omega (arith, off.few));
+}
 
 pub loop-core-preserved : goal.loop-core-preserved
 loop-core-preserved c = record {
@@ -27,7 +37,25 @@ loop-core-preserved c = record {
       (rw (c.journal-collected.ensures, c.journal-given.ensures) at c.collections_fault-fault.ensures.named)
       (whole c.loop-core.core (omega arith))
       );
+  least =
+      rw c.first_line-line.ensures.value
+      (
+      next_collected c.args.assembly.now c.args.sender c.loop-core.core c.loop-core.line c.collections_fault-fault.result c.loop-core.invariant.least
+      (
+      prefix_least (λ (notes : Journal ℕ). names_of (collected_outcomes c.loop-core.core notes)) (collected_at_place c.loop-core.core)
+      (journal_of c.args.sender c.args.assembly.now) (names_of (given_outcomes c.args.sender (journal_of c.loop-core.core c.args.assembly.now)))
+      c.collections_fault-fault.result (rw (c.journal-collected.ensures, c.journal-given.ensures) at c.collections_fault-fault.ensures.kept)
+      (rw (c.journal-collected.ensures, c.journal-given.ensures) at c.collections_fault-fault.ensures.named)
+      )
+      );
 }
 
 pub returns : goal.returns
-returns c = record { kept = λ none core within. c.loop-core.invariant.kept none core (omega arith); only = c.loop-core.invariant.only }
+returns c =
+    let all : c.loop-core.core ≡ c.args.assembly.now.cores = omega arith in
+    record {
+      kept = λ none core within. c.loop-core.invariant.kept none core (omega arith);
+      only = c.loop-core.invariant.only;
+      least =
+          subst (λ (count : ℕ). IsLeast (CollectionsOff c.args.assembly.now c.args.sender count) c.loop-core.line) all c.loop-core.invariant.least;
+    }

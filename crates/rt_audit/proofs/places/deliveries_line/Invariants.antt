@@ -2,6 +2,7 @@ use Rattle.std.proofs.Common.{◌≡◌, ℕ, ◌<◌}
 use Rattle.std.specs.Prelude.{None}
 use Rattle.rt_ids.specs.Assembly.{journal_of, IsPrefix, names_of}
 use Rattle.rt_ids.specs.Filters.{accepted_orders, delivered_names}
+use Rattle.rt_audit.specs.OrderFaults.{IsLeast, DeliveriesOff}
 use Rattle.rt_audit.specs.Places.{DeliveriesOf}
 use Rattle.rt_audit.proofs.places.deliveries_line.Given as goal
 
@@ -10,4 +11,5 @@ invariant-loop-sender l = record {
   kept : l.line ≡ None → (sender : ℕ) → sender < l.sender →
       IsPrefix (delivered_names sender (journal_of l.core l.assembly)) (names_of (accepted_orders l.core (journal_of sender l.assembly)));
   only : DeliveriesOf l.assembly l.core → l.line ≡ None;
+  least : IsLeast (DeliveriesOff l.assembly l.core l.sender) l.line;
 }

@@ -1,4 +1,7 @@
-use Rattle.std.proofs.Common.{arith}
+use Rattle.std.proofs.Common.{◌+◌, arith}
+use Rattle.rt_audit.specs.OrderFaults.{DeliveriesOff, CollectionsOff}
+use Rattle.rt_audit.proofs.LeastLines.{both_least}
+use Rattle.rt_audit.proofs.LinksOff.{core_links, outside_links}
 use Rattle.rt_audit.proofs.places.links_line.Goals as goal
 
 pub returns-then-actor-cores : goal.returns-then-actor-cores
@@ -10,6 +13,16 @@ returns-then-actor-cores c = record {
       λ deliveries collections.
       c.first_line.ensures.only (c.deliveries_line.ensures.only (deliveries (omega (arith, c.if-actor-cores.true, c.cores.ensures.value))))
       (c.collections_line-collections.ensures.only collections);
+  least =
+      rw c.first_line.ensures.value
+      (
+      core_links c.args.assembly.now c.args.actor (omega (arith, c.if-actor-cores.true, c.cores.ensures.value)) _
+      (
+      both_least (DeliveriesOff c.args.assembly.now c.args.actor (c.args.assembly.now.cores + 1))
+      (CollectionsOff c.args.assembly.now c.args.actor c.args.assembly.now.cores) c.deliveries_line.result c.collections_line-collections.result
+      c.deliveries_line.ensures.least c.collections_line-collections.ensures.least
+      )
+      );
 }
 
 pub returns-else-actor-cores : goal.returns-else-actor-cores
@@ -17,4 +30,7 @@ returns-else-actor-cores c = record {
   kept =
       λ none. (λ within. absurd (omega (arith, within, c.if-actor-cores.false, c.cores.ensures.value)), c.collections_line-collections.ensures.kept none);
   only = λ deliveries collections. c.collections_line-collections.ensures.only collections;
+  least =
+      outside_links c.args.assembly.now c.args.actor (λ within. absurd (omega (arith, within, c.if-actor-cores.false, c.cores.ensures.value))) _
+      c.collections_line-collections.ensures.least;
 }

@@ -1,43 +1,60 @@
-use Rattle.std.proofs.Common.{ℕ, sym, subst}
+use Rattle.std.proofs.Common.{ℕ, subst, refl}
 use Rattle.rt_ids.specs.Clauses.{StandsInOrder}
 use Rattle.rt_ids.specs.Journal.{Journal, EachNote}
 use Rattle.rt_ids.specs.Terms.{terms_of}
-use Rattle.rt_audit.proofs.NoFaults.{none_if, if_found}
+use Rattle.rt_ids.specs.Assembly.{journal_of}
+use Rattle.rt_tables.specs.Faults.{IsFirstFault}
+use Rattle.rt_audit.specs.OrderFaults.{IsLeast, LinksOff, OrderOff}
+use Rattle.rt_audit.proofs.LeastLines.{both_least, notes_least, least_some}
+use Rattle.rt_audit.proofs.NoFaults.{if_found}
 use Rattle.rt_audit.proofs.places.order_line.Goals as goal
 
 pub returns-clause-kept : goal.returns-clause-kept
 returns-clause-kept c =
-    λ none knows starts.
+    λ none.
     let both = c.first_line.ensures.kept none in
     let links = c.links_line.ensures.kept both.1 in
     record {
       notes =
           subst (λ (journal : Journal ℕ). EachNote (StandsInOrder c.args.assembly.now) journal) c.journal-journal.ensures
           (
-          c.in_ok-notes.ensures.kept both.0 c.args.assembly.now knows
+          c.order_fault-notes.ensures.kept both.0 c.args.assembly.now c.requires.orders
           (
-          rw c.journal-journal.ensures (starts.notes c.args.actor c.requires.here)
+          rw c.journal-journal.ensures (c.requires.starts.notes c.args.actor c.requires.here)
           )
           );
       deliveries = links.0;
       collections = links.1;
     }
 
-pub returns-clause-only : goal.returns-clause-only
-returns-clause-only c =
-    λ knows spelled starts order.
-    c.first_line.ensures.only
+pub returns-clause-named : goal.returns-clause-named
+returns-clause-named c =
+    let P = StandsInOrder c.args.assembly.now in
+    let notes : IsLeast (IsFirstFault P (journal_of c.args.actor c.args.assembly.now)) c.order_fault-notes.result =
+    subst (λ (journal : Journal ℕ). IsLeast (IsFirstFault P journal) c.order_fault-notes.result) c.journal-journal.ensures
     (
-    none_if (StandsInOrder c.args.assembly.now) c.journal-journal.result.now.notes c.in_ok-notes.notes
+    notes_least P c.journal-journal.result.now.notes c.order_fault-notes.result
     (
-    if_found c.in_ok-notes.notes _ _
+    λ none.
+    c.order_fault-notes.ensures.kept none c.args.assembly.now c.requires.orders
+    (rw c.journal-journal.ensures (c.requires.starts.notes c.args.actor c.requires.here))
+    )
+    (
+    if_found c.order_fault-notes.result _ _
     (
     λ at found.
-    found c.args.assembly.now (terms_of c.args.actor c.args.assembly.now) (sym c.cores.ensures.value) (sym c.cores.ensures.value) knows
-    (rw c.journal-journal.ensures (spelled.notes c.args.actor c.requires.here)) (rw c.journal-journal.ensures (starts.notes c.args.actor c.requires.here))
+    found c.args.assembly.now (terms_of c.args.actor c.args.assembly.now) c.requires.few refl c.requires.orders
+    (rw c.journal-journal.ensures (c.requires.spelled.notes c.args.actor c.requires.here))
+    (rw c.journal-journal.ensures (c.requires.starts.notes c.args.actor c.requires.here))
     )
-    c.in_ok-notes.ensures.named
+    c.order_fault-notes.ensures.named
     )
-    (rw c.journal-journal.ensures order.notes)
+    ) in
+    least_some (OrderOff c.args.assembly.now c.args.actor) c.first_line.result
+    (
+    rw c.first_line.ensures.value
+    (
+    both_least (IsFirstFault P (journal_of c.args.actor c.args.assembly.now)) (LinksOff c.args.assembly.now c.args.actor) c.order_fault-notes.result
+    c.links_line.result notes c.links_line.ensures.least
     )
-    (c.links_line.ensures.only order.deliveries order.collections)
+    )

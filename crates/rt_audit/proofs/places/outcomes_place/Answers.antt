@@ -1,33 +1,22 @@
-use Rattle.std.proofs.Common.{ℕ, sym, ◌∙◌, arith, below_more}
-use Rattle.rt_rules.specs.Links.{KnowsOrders, KnowsOutcomes}
-use Rattle.rt_turns.proofs.PickSteps.{none_left}
-use Rattle.rt_audit.proofs.NoFaults.{some_none}
+use Rattle.std.proofs.Common.{arith, below_more}
 use Rattle.rt_audit.specs.Places.{OutcomesOf}
 use Rattle.rt_audit.proofs.places.outcomes_place.Goals as goal
 
+pub outcomes_line-requires-clause-history : goal.outcomes_line-requires-clause-history
+outcomes_line-requires-clause-history c =
+    c.requires.histories.each c.loop-actor.actor c.history_of-history.result.now c.history_of-history.ensures
+
 pub loop-actor-preserved : goal.loop-actor-preserved
 loop-actor-preserved c =
-    below_more
-    (
-    λ (actor : ℕ).
-    KnowsOrders c.args.orders.now c.args.assembly.now → KnowsOutcomes c.args.outcomes.now c.args.assembly.now → OutcomesOf c.args.assembly.now actor
-    )
-    c.loop-actor.actor c.loop-actor.invariant (c.in_ok-line.ensures.kept (none_left c.in_ok-line.line (sym c.is_some.ensures ∙ c.if-is_some.false)))
+    below_more (OutcomesOf c.args.assembly.now) c.loop-actor.actor c.loop-actor.invariant (c.outcomes_line.ensures.kept c.in_default.is)
+
+pub returns-in-Some-clause-named : goal.returns-in-Some-clause-named
+returns-in-Some-clause-named c = record { within = omega arith; before = c.loop-actor.invariant; here = c.in-Some.ensures.named }
 
 pub returns-clause-kept : goal.returns-clause-kept
 returns-clause-kept c =
-    λ none knows given.
+    λ none.
     record {
-      notes = λ actor within. (c.loop-actor.invariant actor (omega arith) knows given).notes;
-      all_ended = λ core within. (c.loop-actor.invariant core (omega arith) knows given).all_ended within;
+      notes = λ actor within. (c.loop-actor.invariant actor (omega arith)).notes;
+      all_ended = λ core within. (c.loop-actor.invariant core (omega arith)).all_ended within;
     }
-
-pub returns-then-is_some-clause-only : goal.returns-then-is_some-clause-only
-returns-then-is_some-clause-only c =
-    λ knows given sound.
-    let outcomes : OutcomesOf c.args.assembly.now c.loop-actor.actor =
-    record { notes = sound.notes c.loop-actor.actor (omega arith); all_ended = sound.all_ended c.loop-actor.actor } in
-    absurd
-    (
-    some_none c.in_ok-line.line (sym c.is_some.ensures ∙ c.if-is_some.true) (c.in_ok-line.ensures.only knows given outcomes)
-    )

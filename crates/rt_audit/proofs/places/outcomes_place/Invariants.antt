@@ -1,8 +1,6 @@
 use Rattle.std.proofs.Common.{ℕ, ◌<◌}
-use Rattle.rt_rules.specs.Links.{KnowsOrders, KnowsOutcomes}
 use Rattle.rt_audit.specs.Places.{OutcomesOf}
 use Rattle.rt_audit.proofs.places.outcomes_place.Given as goal
 
 abbrev pub invariant-loop-actor : goal.invariant-loop-actor
-invariant-loop-actor l =
-    (actor : ℕ) → actor < l.actor → KnowsOrders l.orders l.assembly → KnowsOutcomes l.outcomes l.assembly → OutcomesOf l.assembly actor
+invariant-loop-actor l = (actor : ℕ) → actor < l.actor → OutcomesOf l.assembly actor

@@ -1,41 +1,41 @@
-use Rattle.std.proofs.Common.{◌≡◌, ℕ, sym, ◌∙◌, subst, arith, below_more}
+use Rattle.std.proofs.Common.{◌≡◌, ℕ, sym, subst, arith, below_more}
 use Rattle.std.specs.Prelude.{None}
-use Rattle.rt_ids.specs.Assembly.{journal_of}
 use Rattle.rt_ids.specs.Clauses.{PicksRight, queue_just_picked}
 use Rattle.rt_ids.specs.Journal.{Journal, EachNote}
 use Rattle.rt_ids.specs.Terms.{terms_of}
-use Rattle.rt_turns.proofs.PickSteps.{none_left}
-use Rattle.rt_audit.proofs.NoFaults.{some_none}
+use Rattle.rt_tables.specs.Histories.{IsHistory}
+use Rattle.rt_turns.specs.PickFaults.{IsPickFault}
+use Rattle.rt_audit.specs.Places.{PicksOf}
 use Rattle.rt_audit.proofs.places.picks_place.Goals as goal
+
+pub picks_fault-requires : goal.picks_fault-requires
+picks_fault-requires c =
+    subst (λ (journal : Journal ℕ). IsHistory c.history_of-history.result.now journal) (sym c.journal-journal.ensures)
+    (c.requires.histories.each c.loop-core.core c.history_of-history.result.now c.history_of-history.ensures)
 
 pub loop-core-preserved : goal.loop-core-preserved
 loop-core-preserved c =
-    below_more
-    (λ (core : ℕ). EachNote PicksRight (journal_of core c.args.assembly.now) × (queue_just_picked (journal_of core c.args.assembly.now) ≡ None))
-    c.loop-core.core c.loop-core.invariant
-    (
-    subst (λ (journal : Journal ℕ). EachNote PicksRight journal × (queue_just_picked journal ≡ None)) c.journal.ensures
-    (c.in_ok-line.ensures.kept (none_left c.in_ok-line.line (sym c.is_some.ensures ∙ c.if-is_some.false)))
-    )
+    let kept =
+    subst (λ (journal : Journal ℕ). EachNote PicksRight journal × (queue_just_picked journal ≡ None)) c.journal-journal.ensures
+    (c.picks_fault.ensures.kept c.in_default.is) in
+    below_more (PicksOf c.args.assembly.now) c.loop-core.core c.loop-core.invariant (record { notes = kept.0; last_followed = kept.1 })
+
+pub returns-in-Some-clause-named : goal.returns-in-Some-clause-named
+returns-in-Some-clause-named c = record {
+  within = omega arith;
+  before = c.loop-core.invariant;
+  here =
+      subst (λ (journal : Journal ℕ). IsPickFault journal c.in-Some.line) c.journal-journal.ensures
+      (
+      c.in-Some.ensures.named (terms_of c.loop-core.core c.args.assembly.now)
+      (rw c.journal-journal.ensures (c.requires.spelled.notes c.loop-core.core (omega arith)))
+      );
+}
 
 pub returns-clause-kept : goal.returns-clause-kept
 returns-clause-kept c =
     λ none.
     record {
-      notes = λ core within. (c.loop-core.invariant core (omega arith)).0;
-      last_followed = λ core within. (c.loop-core.invariant core (omega arith)).1;
+      notes = λ core within. (c.loop-core.invariant core (omega arith)).notes;
+      last_followed = λ core within. (c.loop-core.invariant core (omega arith)).last_followed;
     }
-
-pub returns-then-is_some-clause-only : goal.returns-then-is_some-clause-only
-returns-then-is_some-clause-only c =
-    λ spelled sound.
-    absurd
-    (
-    some_none c.in_ok-line.line (sym c.is_some.ensures ∙ c.if-is_some.true)
-    (
-    c.in_ok-line.ensures.only (terms_of c.loop-core.core c.args.assembly.now)
-    (rw c.journal.ensures (spelled.notes c.loop-core.core (omega arith)))
-    (rw c.journal.ensures (sound.notes c.loop-core.core (omega arith)))
-    (rw c.journal.ensures (sound.last_followed c.loop-core.core (omega arith)))
-    )
-    )

@@ -10,7 +10,7 @@ returns-in-Ok-clause-done g c =
     let page = c.in_ok-put_verdict.ensures ∙ ap (λ front. front ++ verdict_text c.in_ok-verdict.verdict) (c.in_ok-put_outcomes.ensures ∙ ap (λ front. front ++ outcomes_text c.args.assembly.now) c.new-page.ensures.bytes) in
     record {
       verdict = c.in_ok-verdict.verdict;
-      judged = record { spelled = c.requires; sound = (λ sound. (found.sound sound).1, found.only c.requires); rule = found.rule c.requires };
+      judged = record { spelled = c.requires; sound = (λ sound. (found.sound sound).1, found.only c.requires); rule = found.rule c.requires; place = found.place c.requires };
       answered = c.is_sound.ensures;
       appends = subst (Appends (g.W.Write.contents c.args.sink.now) (g.W.Write.contents c.write_out.new.sink)) (c.as_bytes.ensures.value ∙ page) c.in-Ok.ensures.ok;
     }

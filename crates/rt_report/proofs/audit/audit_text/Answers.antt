@@ -5,7 +5,7 @@ use Rattle.rt_report.proofs.audit.audit_text.Goals as goal
 pub returns-in-Ok-clause-done : goal.returns-in-Ok-clause-done
 returns-in-Ok-clause-done g c = record {
   verdict = c.in_ok-verdict.verdict;
-  judged = judged (g.R.Read.remaining c.args.source.now) c.in_ok-assembly.assembly c.in_ok-verdict.verdict c.in_ok-assembly.ensures.same_text c.in_ok-verdict.ensures.sound c.in_ok-verdict.ensures.rule c.in_ok-verdict.ensures.only;
+  judged = judged (g.R.Read.remaining c.args.source.now) c.in_ok-assembly.assembly c.in_ok-verdict.verdict c.in_ok-assembly.ensures.same_text c.in_ok-verdict.ensures.sound c.in_ok-verdict.ensures.rule c.in_ok-verdict.ensures.place c.in_ok-verdict.ensures.only;
   answered = c.is_sound.ensures;
   appends = c.in-Ok.ensures.ok;
 }

@@ -2,7 +2,7 @@ use Rattle.std.proofs.Common.{ℕ, refl, sym, subst, arith}
 use Rattle.rt_ids.specs.Journal.{Journal, at_place}
 use Rattle.rt_tables.proofs.Walks.{at_start, whole_walk}
 use Rattle.rt_rules.specs.Links.{KnowsOutcomesOf}
-use Rattle.rt_rules.proofs.FirstUnder.{next_outcome}
+use Rattle.rt_tables.proofs.FirstUnder.{next_outcome}
 use Rattle.rt_rules.proofs.links.outcomes_of.Goals as goal
 
 pub loop-place-init : goal.loop-place-init

@@ -1,4 +1,4 @@
-use Rattle.std.proofs.Common.{ℕ, ◌+◌, ◌*◌, sym, ap, subst, ◌∙◌, arith}
+use Rattle.std.proofs.Common.{ℕ, ◌+◌, sym, subst, ◌∙◌, arith}
 use Rattle.std.proofs.lemmas.Bool.{both_ways}
 use Rattle.rt_ids.specs.Clauses.{StandsInOrder, StartsRight}
 use Rattle.rt_ids.specs.Journal.{Journal, EachNote, at_place}
@@ -13,13 +13,13 @@ pub loop-place-init : goal.loop-place-init
 loop-place-init c = record {
   so_far =
       λ assembly orders starts.
-      subst (λ (before : Journal ℕ). OrderSoFar assembly c.in_ok-numbers.numbers before) (sym (at_start c.args.journal.now.notes))
-      (record { known = c.in_ok-numbers.ensures.known assembly; right = tt });
+      subst (λ (before : Journal ℕ). OrderSoFar assembly c.new-numbers.result before) (sym (at_start c.args.journal.now.notes))
+      (record { known = c.new-numbers.ensures.known assembly; right = tt });
   reached =
       λ assembly orders.
-      subst (λ (before : Journal ℕ). AreReached assembly c.in_ok-numbers.numbers before) (sym (at_start c.args.journal.now.notes))
-      (c.in_ok-numbers.ensures.reached assembly);
-  rows = c.in_ok-numbers.ensures.rows;
+      subst (λ (before : Journal ℕ). AreReached assembly c.new-numbers.result before) (sym (at_start c.args.journal.now.notes))
+      (c.new-numbers.ensures.reached assembly);
+  rows = c.new-numbers.ensures.rows;
 }
 
 pub loop-place-preserved : goal.loop-place-preserved
@@ -63,7 +63,7 @@ returns-then-not-stands_in_order-clause-named c =
     (each_before (λ note before. IsSpelledNote terms note) (c.loop-place.place + 1) c.args.journal.now.notes spelled) in
     let knows : KnowsOrder assembly c.loop-place.numbers read =
     record {
-      rows = c.loop-place.invariant.rows ∙ ap (λ (count : ℕ). (count + 1) * 256) (sym cores);
+      rows = omega (arith, cores, c.loop-place.invariant.rows);
       known = so_far.known;
       reached = c.loop-place.invariant.reached assembly orders;
       entered = entered_as_sent assembly read so_far.right;
@@ -78,5 +78,5 @@ returns-then-not-stands_in_order-clause-named c =
       broken =
           λ stands.
           both_ways c.stands_in_order.result c.if-not-stands_in_order.true
-          (c.stands_in_order.ensures.only assembly read terms orders knows (same ∙ sym cores) here.0 right.0 stands);
+          (c.stands_in_order.ensures.only assembly read terms orders knows same here.0 right.0 stands);
     }

@@ -1,9 +1,9 @@
-use Rattle.std.proofs.Common.{◌≡◌, ℕ, ◌+◌, ◌*◌, length}
+use Rattle.std.proofs.Common.{◌≡◌, ℕ, length}
 use Rattle.rt_ids.specs.Assembly.{Assembly}
 use Rattle.rt_ids.specs.Clauses.{StartsRight}
 use Rattle.rt_ids.specs.Journal.{EachNote, at_place}
 use Rattle.rt_rules.specs.Links.{KnowsOrders}
-use Rattle.rt_rules.specs.Numbers.{OrderSoFar, AreReached}
+use Rattle.rt_rules.specs.Numbers.{OrderSoFar, AreReached, all_rows}
 use Rattle.rt_rules.proofs.order.order_fault.Given as goal
 
 abbrev pub invariant-loop-place : goal.invariant-loop-place
@@ -11,5 +11,5 @@ invariant-loop-place l = record {
   so_far : (assembly : Assembly ℕ) → KnowsOrders l.orders assembly → EachNote (StartsRight assembly) l.journal.notes →
       OrderSoFar assembly l.numbers (at_place l.place l.journal.notes);
   reached : (assembly : Assembly ℕ) → KnowsOrders l.orders assembly → AreReached assembly l.numbers (at_place l.place l.journal.notes);
-  rows : length l.numbers.started.items ≡ (l.cores + 1) * 256;
+  rows : length l.numbers.started ≡ all_rows;
 }

@@ -5,8 +5,8 @@ use Rattle.rt_turns.proofs.picks.picks_right.Goals as goal
 
 pub returns-then-is_in_turn-clause-right : goal.returns-then-is_in_turn-clause-right
 returns-then-is_in_turn-clause-right c =
-    λ before knows yes.
-    let turn = c.is_in_turn.ensures.right before knows c.if-is_in_turn.true in
+    λ before knows facts yes.
+    let turn = c.is_in_turn.ensures.right before knows facts c.if-is_in_turn.true in
     let fits = c.fits_out.ensures.right yes in (
       record {
         right = turn.0;
@@ -19,13 +19,13 @@ returns-then-is_in_turn-clause-right c =
 
 pub returns-then-is_in_turn-clause-only : goal.returns-then-is_in_turn-clause-only
 returns-then-is_in_turn-clause-only c =
-    λ before knows below each right. c.fits_out.ensures.only (fits c.args.turns.now.out before knows.out each c.args.note.now right)
+    λ before knows facts below each right. c.fits_out.ensures.only (fits c.args.turns.now.out before knows.out each c.args.note.now right)
 
 pub returns-else-is_in_turn-clause-only : goal.returns-else-is_in_turn-clause-only
 returns-else-is_in_turn-clause-only c =
-    λ before knows below each right.
+    λ before knows facts below each right.
     absurd
     (
     both_ways c.is_in_turn.result c.if-is_in_turn.false
-    (c.is_in_turn.ensures.only before knows below right.right (record { turn = right.turn; followed = right.followed }))
+    (c.is_in_turn.ensures.only before knows facts below right.right (record { turn = right.turn; followed = right.followed }))
     )

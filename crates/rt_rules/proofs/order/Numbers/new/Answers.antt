@@ -1,6 +1,6 @@
-use Rattle.std.proofs.Common.{sym, arith}
+use Rattle.std.proofs.Common.{refl, sym, arith}
 use Rattle.std.proofs.lemmas.Bool.{true≢false}
-use Rattle.rt_rules.specs.Numbers.{slot, greatest_word}
+use Rattle.rt_rules.specs.Numbers.{all_rows, slot, greatest_word}
 use Rattle.rt_rules.proofs.NumberSteps.{zero_there}
 use Rattle.rt_rules.proofs.Reached.{zeros_of}
 use Rattle.rt_rules.proofs.order.Numbers.new.Goals as goal
@@ -11,6 +11,5 @@ returns-clause-known c = λ assembly. record { started = λ name queue told aske
 pub returns-clause-reached : goal.returns-clause-reached
 returns-clause-reached c =
     λ assembly sender queue small more within.
-    let none =
-    zeros_of c.in_ok-started.started.items _ (c.in_ok-started.ensures.items_if_clones_equal (λ other is. is)) (slot sender queue) greatest_word within in
+    let none = zeros_of _ all_rows refl (slot sender queue) greatest_word within in
     absurd (omega (arith, more, none))

@@ -6,11 +6,10 @@ use Rattle.rt_turns.proofs.picks.Turns.add.Goals as goal
 
 pub returns : goal.returns
 returns c =
-    λ before short fits knows.
-    let accounts = c.add.ensures before (c.queue_touched-queue.ensures before knows.jobs) short knows.accounts in
-    let placed = rw (c.key_waiting-key.ensures, c.queue_touched-changed.ensures before knows.jobs) at c.place.ensures.placed in
+    λ before short facts fits knows.
+    let accounts = c.add.ensures before (c.queue_touched-queue.ensures before facts) short knows.accounts in
+    let placed = rw (c.key_waiting-key.ensures, c.queue_touched-changed.ensures before facts) at c.place.ensures.placed in
     record {
-      jobs = c.in_ok-add.ensures before knows.jobs;
       accounts = accounts;
       tree = c.place.ensures.tree;
       least =

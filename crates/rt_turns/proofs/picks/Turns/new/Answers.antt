@@ -5,7 +5,6 @@ use Rattle.rt_turns.proofs.picks.Turns.new.Goals as goal
 
 pub returns : goal.returns
 returns c = record {
-  jobs = c.new-jobs.ensures;
   accounts = c.new-accounts.ensures;
   tree = c.new-least.ensures.tree;
   least = λ queue work. absurd (true≢false (sym work));

@@ -8,7 +8,7 @@ use Rattle.rt_world.specs.Links.{link_at}
 use Rattle.rt_world.proofs.Borrowed.{row_within, link_within, link_here, links_now}
 use Rattle.rt_world.proofs.CoreSteps.{viewed, free, desk_is, core_cap}
 use Rattle.rt_world.proofs.Sending.{IsDoneOn, may_send, may_ask, outside_desk, outside_free, outside_cap, outside_done, outside_rests, outside_desks}
-use Rattle.rt_world.proofs.CoreSending.{IsDoneBy, core_done, core_rests, core_desks}
+use Rattle.rt_world.proofs.CoreSending.{IsDoneBy, core_done, core_rests, core_at_rest, core_desks}
 use Rattle.rt_link.specs.Whole.{out_of, kept_by_sender}
 use Rattle.rt_journal.specs.Tickets.{GetsAll, CollectsFrom}
 use Rattle.rt_world.proofs.Ticketing.{got_more, same_given, collects_now}
@@ -41,10 +41,12 @@ collect_from-requires g c =
     let room = subst (λ world. length (journal_at c.from.inside.0 world) + world.cap ≤ world.room) (sym c.self.view_is)
     (subst (λ actor. length (journal_at actor c.args.self.now) + c.args.self.now.cap ≤ c.args.self.now.room) (sym c.from.view_is) c.requires.room) in
     let places = free c.self.invariant.1 c.from.inside.0 sender_there c.self.inside.cap room in
+    let beside = may_send c.self.invariant.1 c.from.inside.0 c.args.to there to_there _ desk _ link in
+    let lane = may_ask c.self.invariant.1 c.from.inside.0 c.args.to there to_there _ desk _ link in
     record {
-      beside = may_send c.self.invariant.1 c.from.inside.0 c.args.to there to_there _ desk _ link;
-      lane = may_ask c.self.invariant.1 c.from.inside.0 c.args.to there to_there _ desk _ link;
-      room = omega (arith, places, ap (λ at. length at.journal.notes) view, ap (λ at. at.journal.room) view, ap (λ at. at.cap) view, core_cap c.self.invariant.1 c.from.inside.0 sender_there);
+      beside = beside;
+      lane = lane;
+      room = omega (arith, lane.lane_of.sound.room, lane.lane_of.sound.credits, beside.capacity, places, ap (λ at. length at.journal.notes) view, ap (λ at. at.journal.room) view, ap (λ at. at.cap) view, core_cap c.self.invariant.1 c.from.inside.0 sender_there);
     }
 
 pub invariant_of-self : goal.invariant_of-self
@@ -68,7 +70,7 @@ invariant_of-self g c =
       ins = c.collect_from.ensures.ins;
       sound = c.collect_from.ensures.sound;
     })) in
-    rw links (c.self.invariant.0, core_rests c.self.invariant.1 c.from.inside.0 c.args.to sender_there to_there c.collect_from.new.self c.collect_from.new.end did, c.self.invariant.2)
+    rw links (c.self.invariant.0, core_rests c.self.invariant.1 c.from.inside.0 c.args.to sender_there to_there c.collect_from.new.self c.collect_from.new.end did, c.self.invariant.2, core_at_rest c.self.invariant.1 c.from.inside.0 c.args.to sender_there to_there c.collect_from.new.self c.collect_from.new.end did c.self.invariant.3)
 
 pub returns-then-from-self : goal.returns-then-from-self
 returns-then-from-self g c =
@@ -111,10 +113,12 @@ collect_from-requires-2 g c =
     let room = subst (λ world. length (journal_at c.from.inside.0 world) + world.cap ≤ world.room) (sym c.self.view_is)
     (subst (λ actor. length (journal_at actor c.args.self.now) + c.args.self.now.cap ≤ c.args.self.now.room) (sym c.from.view_is) c.requires.room) in
     let places = outside_free c.self.invariant.1 c.from.inside.0 is_last c.self.inside.cap room in
+    let beside = may_send c.self.invariant.1 c.from.inside.0 c.args.to there to_there _ desk _ link in
+    let lane = may_ask c.self.invariant.1 c.from.inside.0 c.args.to there to_there _ desk _ link in
     record {
-      beside = may_send c.self.invariant.1 c.from.inside.0 c.args.to there to_there _ desk _ link;
-      lane = may_ask c.self.invariant.1 c.from.inside.0 c.args.to there to_there _ desk _ link;
-      room = omega (arith, places, outside_cap c.self.invariant.1 c.from.inside.0 is_last);
+      beside = beside;
+      lane = lane;
+      room = omega (arith, lane.lane_of.sound.room, lane.lane_of.sound.credits, beside.capacity, places, outside_cap c.self.invariant.1 c.from.inside.0 is_last);
     }
 
 pub invariant_of-self-2 : goal.invariant_of-self-2
@@ -130,7 +134,7 @@ invariant_of-self-2 g c =
     (with_item c.index_mut-row.result.now c.to.inside.0 c.collect_from-2.new.end) c.collect_from-2.new.end (ap (λ at. set c.index_mut-row.result.now.items at c.collect_from-2.new.end) to_is) in
     let did = subst (λ at. IsDoneOn (Fits g.J.Task.SameTask g.J.Task.Answers) c.args.to c.self.inside.outside at c.collect_from-2.new.self c.collect_from-2.new.end) link
     (record { only_sent = got_more _ _ c.collect_from-2.ensures.untouched c.collect_from-2.ensures.end.1 c.collect_from-2.ensures.end.0; stays = c.collect_from-2.ensures.stays }) in
-    rw links (c.self.invariant.0, outside_rests c.self.invariant.1 c.from.inside.0 c.args.to is_last to_there c.collect_from-2.new.self c.collect_from-2.new.end did, c.self.invariant.2)
+    rw links (c.self.invariant.0, outside_rests c.self.invariant.1 c.from.inside.0 c.args.to is_last to_there c.collect_from-2.new.self c.collect_from-2.new.end did, c.self.invariant.2, c.self.invariant.3)
 
 pub returns : goal.returns
 returns g c =

@@ -4,9 +4,8 @@ use Rattle.rt_journal.specs.Steps.{CreatesQueue}
 use Rattle.rt_world.specs.State.{journal_at}
 use Rattle.rt_world.specs.Opening.{IsUnbegun}
 use Rattle.rt_world.proofs.CoreSteps.{viewed, free, journal_is}
-use Rattle.rt_world.specs.OneTurn.{none_owed}
-use Rattle.rt_world.proofs.OneTurn.{IsKeptBeside}
-use Rattle.rt_world.proofs.Turning.{quiet_rests, created_stays, creates_now}
+use Rattle.rt_world.specs.OneTurn.{none_owed, IsKeptBeside}
+use Rattle.rt_world.proofs.Turning.{quiet_rests, quiet_at_rest, created_stays, creates_now}
 use Rattle.rt_world.proofs.model.World.create.Goals as goal
 
 pub create-requires : goal.create-requires
@@ -29,8 +28,8 @@ invariant_of-self g c =
     let kept = subst (λ at. IsKeptBeside g.J.Task.SameTask g.J.Task.made g.J.Task.Polls none_owed at c.create.new.self) view
     (record { sound = c.create.ensures.sound; seat = c.create.ensures.seat; ins = c.create.ensures.ins; outs = c.create.ensures.outs; lanes = c.create.ensures.lanes }) in
     let creates = subst (λ at. CreatesQueue c.args.shares at c.create.result c.create.new.self) view c.create.ensures.creates in
-    let stays = created_stays c.self.invariant.1 c.core.inside.0 there c.create.new.self c.args.shares c.create.result creates kept in
-    (c.self.invariant.0, quiet_rests c.self.invariant.1 c.core.inside.0 there c.create.new.self _ stays, c.self.invariant.2)
+    let stays = created_stays c.self.invariant.1 c.core.inside.0 there (c.self.invariant.3 c.core.inside.0 there) c.create.new.self c.args.shares c.create.result creates kept in
+    (c.self.invariant.0, quiet_rests c.self.invariant.1 c.core.inside.0 there c.create.new.self _ stays, c.self.invariant.2, quiet_at_rest c.self.invariant.1 c.core.inside.0 there c.create.new.self _ stays c.self.invariant.3)
 
 pub returns : goal.returns
 returns g c =
@@ -39,5 +38,5 @@ returns g c =
     let kept = subst (λ at. IsKeptBeside g.J.Task.SameTask g.J.Task.made g.J.Task.Polls none_owed at c.create.new.self) view
     (record { sound = c.create.ensures.sound; seat = c.create.ensures.seat; ins = c.create.ensures.ins; outs = c.create.ensures.outs; lanes = c.create.ensures.lanes }) in
     let creates = subst (λ at. CreatesQueue c.args.shares at c.create.result c.create.new.self) view c.create.ensures.creates in
-    let stays = created_stays c.self.invariant.1 c.core.inside.0 there c.create.new.self c.args.shares c.create.result creates kept in
+    let stays = created_stays c.self.invariant.1 c.core.inside.0 there (c.self.invariant.3 c.core.inside.0 there) c.create.new.self c.args.shares c.create.result creates kept in
     rw (← c.self.view_is, ← c.core.view_is) (creates_now c.self.invariant.1 c.core.inside.0 there c.create.new.self _ stays c.args.shares c.create.result creates)

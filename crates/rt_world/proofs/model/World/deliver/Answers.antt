@@ -5,7 +5,7 @@ use Rattle.rt_world.specs.State.{journal_at}
 use Rattle.rt_world.specs.Links.{link_at}
 use Rattle.rt_world.proofs.Borrowed.{row_within, link_within, link_here, links_now}
 use Rattle.rt_world.proofs.CoreSteps.{viewed, free}
-use Rattle.rt_world.proofs.Delivering.{IsTakenBy, may_take_from, delivered_rests, delivers_now}
+use Rattle.rt_world.proofs.Delivering.{IsTakenBy, may_take_from, delivered_rests, delivered_at_rest, delivers_now}
 use Rattle.rt_world.proofs.model.World.deliver.Goals as goal
 
 pub index_mut-row-requires : goal.index_mut-row-requires
@@ -46,7 +46,7 @@ invariant_of-self g c =
     let did = subst (λ at. IsTakenBy g.J.Task.SameTask g.J.Task.made g.J.Task.Polls at (link_at c.from.inside.0 c.core.inside.0 (map vec_items c.self.inside.links.items)) c.deliver.result c.deliver.new.self c.deliver.new.end) view
     (subst (λ at. IsTakenBy g.J.Task.SameTask g.J.Task.made g.J.Task.Polls c.index_mut.result.now at c.deliver.result c.deliver.new.self c.deliver.new.end) link
     (record { delivers = c.deliver.ensures.delivers; beside = c.deliver.ensures.beside; others = c.deliver.ensures.others; outs = c.deliver.ensures.outs; lanes = c.deliver.ensures.lanes; seat = c.deliver.ensures.seat; sound = c.deliver.ensures.sound; untouched = c.deliver.ensures.untouched })) in
-    rw links (c.self.invariant.0, delivered_rests c.self.invariant.1 c.from.inside.0 c.core.inside.0 there core_there c.deliver.result c.deliver.new.self c.deliver.new.end did, c.self.invariant.2)
+    rw links (c.self.invariant.0, delivered_rests c.self.invariant.1 c.from.inside.0 c.core.inside.0 there core_there c.deliver.result c.deliver.new.self c.deliver.new.end did, c.self.invariant.2, delivered_at_rest c.self.invariant.1 c.from.inside.0 c.core.inside.0 there core_there c.deliver.result c.deliver.new.self c.deliver.new.end did c.self.invariant.3)
 
 pub returns : goal.returns
 returns g c =

@@ -90,7 +90,7 @@ returns-clause-sound g c =
     let parts : Parts g.row.J.Denot ℕ = record { cores = c.self.inside.cores; cap = c.self.inside.cap; room = c.self.inside.room; inside = c.self.inside.inside.items; outside = c.self.inside.outside; links = map vec_items c.self.inside.links.items } in
     let value : c.of.result ≡ assembly_of (world_of parts) =
     c.of.ensures ∙ (λ i. record { cores = c.self.inside.cores; cap = c.self.inside.cap; journals = (ap (map (λ journal. journal.notes)) items_are ∙ gathered_are parts) i }) in
-    subst IsSound (sym value) (world_sound parts c.self.invariant.1)
+    subst IsSound (sym value) (world_sound parts c.self.invariant.1 c.self.invariant.3)
 
 pub returns-clause-joined : goal.returns-clause-joined
 returns-clause-joined g c =
@@ -104,4 +104,4 @@ returns-clause-joined g c =
     let parts : Parts g.row.J.Denot ℕ = record { cores = c.self.inside.cores; cap = c.self.inside.cap; room = c.self.inside.room; inside = c.self.inside.inside.items; outside = c.self.inside.outside; links = map vec_items c.self.inside.links.items } in
     let value : c.of.result ≡ assembly_of (world_of parts) =
     c.of.ensures ∙ (λ i. record { cores = c.self.inside.cores; cap = c.self.inside.cap; journals = (ap (map (λ journal. journal.notes)) items_are ∙ gathered_are parts) i }) in
-    subst AreJoined (sym value) (world_joined parts c.self.invariant.1)
+    subst AreJoined (sym value) (world_joined parts c.self.invariant.1 c.self.invariant.3)

@@ -5,4 +5,4 @@ use Rattle.rt_world.proofs.WorldSound.{world_joined}
 use Rattle.rt_world.proofs.model.World.joined.Goals as goal
 
 pub returns : goal.returns
-returns g c = subst (λ world. AreJoined (assembly_of world)) c.self.view_is (world_joined _ c.self.invariant.1)
+returns g c = subst (λ world. AreJoined (assembly_of world)) c.self.view_is (world_joined _ c.self.invariant.1 c.self.invariant.3)

@@ -8,7 +8,7 @@ use Rattle.rt_world.specs.Links.{link_at}
 use Rattle.rt_world.proofs.Borrowed.{row_within, link_within, link_here, links_now}
 use Rattle.rt_world.proofs.CoreSteps.{viewed, free, desk_is}
 use Rattle.rt_world.proofs.Sending.{IsDoneOn, may_send, may_ask, outside_desk, outside_free, outside_done, outside_rests, outside_desks}
-use Rattle.rt_world.proofs.CoreSending.{IsDoneBy, core_done, core_rests, core_desks}
+use Rattle.rt_world.proofs.CoreSending.{IsDoneBy, core_done, core_rests, core_at_rest, core_desks}
 use Rattle.std.specs.Prelude.{IfOk}
 use Rattle.rt_link.specs.Whole.{out_of}
 use Rattle.rt_desk.specs.Lanes.{IsGot, FitsSent}
@@ -46,7 +46,7 @@ redeem-requires g c =
     record {
       beside = may_send c.self.invariant.1 c.from.inside.0 c.args.ticket.to there to_there _ desk _ link;
       lane = may_ask c.self.invariant.1 c.from.inside.0 c.args.ticket.to there to_there _ desk _ link;
-      room = omega (arith, places, ap (λ at. length at.journal.notes) view, ap (λ at. at.journal.room) view);
+      room = λ held. omega (arith, places, ap (λ at. length at.journal.notes) view, ap (λ at. at.journal.room) view);
     }
 
 pub invariant_of-self : goal.invariant_of-self
@@ -70,7 +70,7 @@ invariant_of-self g c =
       ins = c.redeem.ensures.ins;
       sound = c.redeem.ensures.sound;
     })) in
-    rw links (c.self.invariant.0, core_rests c.self.invariant.1 c.from.inside.0 c.args.ticket.to sender_there to_there c.redeem.new.self c.redeem.new.end did, c.self.invariant.2)
+    rw links (c.self.invariant.0, core_rests c.self.invariant.1 c.from.inside.0 c.args.ticket.to sender_there to_there c.redeem.new.self c.redeem.new.end did, c.self.invariant.2, core_at_rest c.self.invariant.1 c.from.inside.0 c.args.ticket.to sender_there to_there c.redeem.new.self c.redeem.new.end did c.self.invariant.3)
 
 pub returns-then-from-self : goal.returns-then-from-self
 returns-then-from-self g c =
@@ -117,7 +117,7 @@ redeem-requires-2 g c =
     record {
       beside = may_send c.self.invariant.1 c.from.inside.0 c.args.ticket.to there to_there _ desk _ link;
       lane = may_ask c.self.invariant.1 c.from.inside.0 c.args.ticket.to there to_there _ desk _ link;
-      room = omega (arith, places);
+      room = λ held. omega (arith, places);
     }
 
 pub invariant_of-self-2 : goal.invariant_of-self-2
@@ -133,7 +133,7 @@ invariant_of-self-2 g c =
     (with_item c.index_mut-row.result.now c.to.inside.0 c.redeem-2.new.end) c.redeem-2.new.end (ap (λ at. set c.index_mut-row.result.now.items at c.redeem-2.new.end) to_is) in
     let did = subst (λ at. IsDoneOn (Fits g.J.Task.SameTask g.J.Task.Answers) c.args.ticket.to c.self.inside.outside at c.redeem-2.new.self c.redeem-2.new.end) link
     (record { only_sent = got_same _ _ c.redeem-2.ensures.untouched c.redeem-2.ensures.out; stays = c.redeem-2.ensures.stays }) in
-    rw links (c.self.invariant.0, outside_rests c.self.invariant.1 c.from.inside.0 c.args.ticket.to is_last to_there c.redeem-2.new.self c.redeem-2.new.end did, c.self.invariant.2)
+    rw links (c.self.invariant.0, outside_rests c.self.invariant.1 c.from.inside.0 c.args.ticket.to is_last to_there c.redeem-2.new.self c.redeem-2.new.end did, c.self.invariant.2, c.self.invariant.3)
 
 pub returns : goal.returns
 returns g c =

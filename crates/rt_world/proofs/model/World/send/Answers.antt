@@ -8,7 +8,7 @@ use Rattle.rt_world.specs.Links.{link_at}
 use Rattle.rt_world.proofs.Borrowed.{row_within, link_within, link_here, links_now}
 use Rattle.rt_world.proofs.CoreSteps.{viewed, free, desk_is}
 use Rattle.rt_world.proofs.Sending.{IsDoneOn, may_send, may_ask, outside_desk, outside_free, outside_rests, outside_desks}
-use Rattle.rt_world.proofs.CoreSending.{IsDoneBy, core_rests, core_desks}
+use Rattle.rt_world.proofs.CoreSending.{IsDoneBy, core_rests, core_at_rest, core_desks}
 use Rattle.rt_world.proofs.SentLinks.{IsSubmitted, only_sent, sends_now}
 use Rattle.rt_world.proofs.model.World.send.Goals as goal
 
@@ -67,7 +67,7 @@ invariant_of-self g c =
       ins = c.submit.ensures.ins;
       sound = c.submit.ensures.sound;
     })) in
-    rw links (c.self.invariant.0, core_rests c.self.invariant.1 c.from.inside.0 c.args.to sender_there to_there c.submit.new.self c.submit.new.end did, c.self.invariant.2)
+    rw links (c.self.invariant.0, core_rests c.self.invariant.1 c.from.inside.0 c.args.to sender_there to_there c.submit.new.self c.submit.new.end did, c.self.invariant.2, core_at_rest c.self.invariant.1 c.from.inside.0 c.args.to sender_there to_there c.submit.new.self c.submit.new.end did c.self.invariant.3)
 
 pub returns-then-from-self : goal.returns-then-from-self
 returns-then-from-self g c =
@@ -129,7 +129,7 @@ invariant_of-self-2 g c =
     (with_item c.index_mut-row.result.now c.to.inside.0 c.submit-2.new.end) c.submit-2.new.end (ap (λ at. set c.index_mut-row.result.now.items at c.submit-2.new.end) to_is) in
     let did = subst (λ at. IsDoneOn (Fits g.J.Task.SameTask g.J.Task.Answers) c.args.to c.self.inside.outside at c.submit-2.new.self c.submit-2.new.end) link
     (record { only_sent = only_sent c.args.to c.args.order _ _ c.submit-2.result _ _ (record { submits = c.submit-2.ensures.submits; sends = c.submit-2.ensures.sends; credited = c.submit-2.ensures.credited; untouched = c.submit-2.ensures.untouched }); stays = c.submit-2.ensures.stays }) in
-    rw links (c.self.invariant.0, outside_rests c.self.invariant.1 c.from.inside.0 c.args.to is_last to_there c.submit-2.new.self c.submit-2.new.end did, c.self.invariant.2)
+    rw links (c.self.invariant.0, outside_rests c.self.invariant.1 c.from.inside.0 c.args.to is_last to_there c.submit-2.new.self c.submit-2.new.end did, c.self.invariant.2, c.self.invariant.3)
 
 pub returns : goal.returns
 returns g c =

@@ -10,7 +10,7 @@ use Rattle.rt_world.proofs.Borrowed.{row_within, link_within, link_here, links_n
 use Rattle.rt_world.proofs.CoreSteps.{viewed, free, journal_is}
 use Rattle.rt_ids.specs.Closing.{core_mode, final_count}
 use Rattle.rt_world.proofs.Receiving.{may_take}
-use Rattle.rt_world.proofs.Shutting.{IsShutBy, shut_rests, shuts_now}
+use Rattle.rt_world.proofs.Shutting.{IsShutBy, shut_rests, shut_at_rest, shuts_now}
 use Rattle.rt_world.proofs.model.World.shut_gate.Goals as goal
 
 pub index_mut-row-requires : goal.index_mut-row-requires
@@ -58,7 +58,7 @@ invariant_of-self g c =
     (subst (λ at. IsShutBy g.J.Task.SameTask g.J.Task.made g.J.Task.Polls c.from.inside.0 c.index_mut.result.now at c.shut.result c.shut.new.self c.shut.new.end) link
     (subst (λ from. IsShutBy g.J.Task.SameTask g.J.Task.made g.J.Task.Polls from c.index_mut.result.now c.index_mut-link.result.now c.shut.result c.shut.new.self c.shut.new.end) (sym c.from.view_is)
     (record { shuts = c.shut.ensures.shuts; tells = c.shut.ensures.tells; beside = c.shut.ensures.beside; others = c.shut.ensures.others; outs = c.shut.ensures.outs; lanes = c.shut.ensures.lanes; seat = c.shut.ensures.seat; sound = c.shut.ensures.sound; untouched = c.shut.ensures.untouched }))) in
-    rw links (c.self.invariant.0, shut_rests c.self.invariant.1 c.from.inside.0 c.core.inside.0 there core_there c.shut.result c.shut.new.self c.shut.new.end did, c.self.invariant.2)
+    rw links (c.self.invariant.0, shut_rests c.self.invariant.1 c.from.inside.0 c.core.inside.0 there core_there c.shut.result c.shut.new.self c.shut.new.end did, c.self.invariant.2, shut_at_rest c.self.invariant.1 c.from.inside.0 c.core.inside.0 there core_there c.shut.result c.shut.new.self c.shut.new.end did c.self.invariant.3)
 
 pub returns : goal.returns
 returns g c =

@@ -1,5 +1,5 @@
 use Rattle.std.proofs.Common.{refl, arith}
-use Rattle.rt_world.proofs.Fresh.{world_at_opening, fresh_at_opening}
+use Rattle.rt_world.proofs.Fresh.{world_at_opening, rest_at_opening, fresh_at_opening}
 use Rattle.rt_world.proofs.model.World.try_new.Goals as goal
 
 pub invariant_of-result : goal.invariant_of-result
@@ -8,6 +8,8 @@ invariant_of-result g c = (
   world_at_opening g.J.Task.SameTask g.J.Task.made g.J.Task.Polls g.J.Task.Answers c.args.cores c.args.cap c.args.room _ _ _
       c.in_ok-inside.ensures c.in_ok-outside.ensures.opened c.in_ok-outside.ensures.written c.in_ok-links.ensures,
   record { no_item = c.in_ok-gathered.ensures.items; reserved = omega (arith, c.in_ok-gathered.ensures.capacity) },
+  rest_at_opening g.J.Task.SameTask g.J.Task.made g.J.Task.Polls g.J.Task.Answers c.args.cores c.args.cap c.args.room _ _ _
+      c.in_ok-inside.ensures c.in_ok-outside.ensures.opened c.in_ok-outside.ensures.written c.in_ok-links.ensures,
 )
 
 pub returns : goal.returns

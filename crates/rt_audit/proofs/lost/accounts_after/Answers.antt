@@ -1,0 +1,24 @@
+use Rattle.std.proofs.Common.{ℕ, ◌<◌, length, sym, subst, arith}
+use Rattle.rt_accounts.specs.Accounts.{greatest_count}
+use Rattle.rt_accounts.specs.AllAccounts.{KnowsAccounts}
+use Rattle.rt_ids.specs.Journal.{Journal, at_place}
+use Rattle.rt_tables.proofs.Walks.{at_start, whole_walk}
+use Rattle.rt_turns.proofs.PickSteps.{length-at_place}
+use Rattle.rt_audit.proofs.lost.accounts_after.Goals as goal
+
+pub loop-place-init : goal.loop-place-init
+loop-place-init c =
+    subst (λ (before : Journal ℕ). KnowsAccounts c.new-accounts.result before) (sym (at_start c.args.journal.now.notes)) c.new-accounts.ensures
+
+pub loop-place-preserved : goal.loop-place-preserved
+loop-place-preserved c =
+    let before = at_place c.loop-place.place c.args.journal.now.notes in
+    let read : length before < greatest_count =
+    omega (arith, length-at_place c.loop-place.place c.args.journal.now.notes, c.loop-place-test.true, c.len-place-end.type_inv) in
+    let facts = c.fact-fact.ensures c.args.journal.now.notes _ _ c.requires (omega arith) c.note_at-note.ensures in
+    subst (λ (journal : Journal ℕ). KnowsAccounts c.add.new.self journal) (sym c.note_at-note.ensures)
+    (c.add.ensures before (c.queue_touched.ensures before facts) read c.loop-place.invariant)
+
+pub returns : goal.returns
+returns c =
+    whole_walk (λ journal. KnowsAccounts c.loop-place.accounts journal) c.args.journal.now.notes c.loop-place.place (omega arith) c.loop-place.invariant

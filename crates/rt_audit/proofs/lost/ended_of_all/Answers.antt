@@ -1,0 +1,15 @@
+use Rattle.std.proofs.Common.{ℕ, subst, below_more}
+use Rattle.rt_ids.specs.Assembly.{journal_of}
+use Rattle.rt_ids.specs.Journal.{Journal, EachNote}
+use Rattle.rt_audit.specs.Ends.{EndedIfSent}
+use Rattle.rt_audit.proofs.lost.ended_of_all.Goals as goal
+
+pub loop-sender-preserved : goal.loop-sender-preserved
+loop-sender-preserved c =
+    let kept = journal_of c.args.core c.args.assembly.now in
+    below_more (λ (sender : ℕ). EachNote (EndedIfSent kept c.args.assembly.now c.args.core) (journal_of sender c.args.assembly.now)) c.loop-sender.sender
+    c.loop-sender.invariant
+    (
+    subst (λ (journal : Journal ℕ). EachNote (EndedIfSent kept c.args.assembly.now c.args.core) journal) c.journal.ensures
+    (c.all_ended.ensures.right c.args.assembly.now kept c.requires.orders c.requires.history c.if-not-all_ended.false)
+    )

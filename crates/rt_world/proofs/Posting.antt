@@ -1,0 +1,219 @@
+-- What a job's calls of its post do in the world, while its core polls it.
+use Rattle.std.proofs.Common.{◌≡◌, ℕ, ◌<◌, ◌≤◌, List, [], ◌∷◌, length, refl, sym, ◌∙◌, ap, subst, ⊎_elim, inl, inr, arith, get_or, set, map, get_or-set_same}
+use Rattle.std.specs.Prelude.{Some, Result, Ok, Err, slice_get, IfOk}
+use Rattle.std.proofs.lemmas.List.{set-set, length-set}
+use Rattle.std.proofs.lemmas.Option.{get_or_from_slice_get}
+use Rattle.rt_ids.specs.declared.names.JobId.{JobId}
+use Rattle.rt_ids.specs.declared.names.TicketError.{TicketError}
+use Rattle.rt_ids.specs.declared.names.TicketError.TheVariants.{Unknown}
+use Rattle.rt_ids.specs.declared.order.Order.{Order}
+use Rattle.rt_ids.specs.declared.order.Outcome.{Outcome}
+use Rattle.rt_ids.specs.declared.order.SendError.{SendError}
+use Rattle.rt_ids.specs.Journal.{Journal}
+use Rattle.rt_jobs.specs.Calls.{Call, Makes}
+use Rattle.rt_jobs.specs.Calls.Call.{Submit, Redeem, Detach}
+use Rattle.rt_jobs.specs.Steps.{Owed}
+use Rattle.rt_link.specs.declared.plain.Whole.{Whole}
+use Rattle.rt_link.specs.Fits.{Fits}
+use Rattle.rt_link.specs.Whole.{out_of, kept_by_sender}
+use Rattle.rt_desk.specs.Lanes.{IsGot, FitsSent}
+use Rattle.rt_journal.specs.Calls.{Does, LendsEnd, SubmitsOn, RedeemsOn, DetachesOn, RefusesUnknown}
+use Rattle.rt_journal.specs.Ends.{KeepsIn}
+use Rattle.rt_journal.specs.Posts.{PostView}
+use Rattle.rt_journal.specs.Recorded.{RecordedView, IsRecorded, desk_of}
+use Rattle.rt_journal.specs.Steps.{opened_beside}
+use Rattle.rt_journal.specs.Submissions.{DeskView, IsWritten, Submits, terms_of_desk}
+use Rattle.rt_journal.specs.Tickets.{RefusesTicket, RedeemsTicket, DetachesTicket, StaysBeside}
+use Rattle.rt_journal.proofs.SentNotes.{SaysNoMore, recorded_silent, ins_silent, submitted_silent, redeemed_silent, detached_silent}
+use Rattle.rt_world.specs.Calls.{CallsAt}
+use Rattle.rt_world.specs.Collections.{Redeems, Detaches, redeemed_reply, detached_reply}
+use Rattle.rt_world.specs.Sends.{Sends, sent_reply}
+use Rattle.rt_world.specs.Links.{no_link, row_of, link_at}
+use Rattle.rt_world.specs.Inside.{Parts, core_at, desks, desk_at, world_of, IsWorld}
+use Rattle.rt_world.specs.State.{WorldView, journal_at}
+use Rattle.rt_world.proofs.LinkRows.{with_link}
+use Rattle.rt_world.proofs.LinkSteps.{OnlySent}
+use Rattle.rt_world.proofs.CoreSteps.{cores_are, desk_is, journal_is}
+use Rattle.rt_world.proofs.CoreSending.{IsDoneBy, core_done, core_sent, core_desks, core_rests}
+use Rattle.rt_world.proofs.SentLinks.{IsSubmitted, only_sent, sends_now}
+use Rattle.rt_world.proofs.Ticketing.{got_same, redeems_now, detaches_now}
+
+-- a core's desk and the links on which it sends
+abbrev pub Post : Type 0 → Type 0
+Post J = PostView J ℕ (Whole J ℕ)
+
+module _ {J : Type 0} (base : Parts J ℕ) (number : ℕ) (picked : RecordedView J ℕ) where
+  -- the core and the world, where the post stands so
+  abbrev pub view_at : Post J → RecordedView J ℕ
+  view_at post = record picked { journal = post.desk.journal; lanes = post.desk.lanes }
+
+  abbrev pub parts_at : Post J → Parts J ℕ
+  parts_at post = record base { inside = set base.inside number (view_at post); links = set base.links number post.ends }
+
+module _ {J : Type 0} (same : J → J → Type 0) (made : J → ℕ) (polls : Owed J ℕ) (answers : J → ℕ → Type 0) (base : Parts J ℕ) (number : ℕ) (picked : RecordedView J ℕ) where
+  -- each actor and each end is as it should be there, and the post is the core's own
+  pub record IsAt (post : Post J) : Type 0 where
+    pub world : IsWorld same made polls answers (parts_at base number picked post)
+    pub desk : post.desk ≡ desk_of (view_at base number picked post)
+
+module _ {J : Type 0} (same : J → J → Type 0) (made : J → ℕ) (polls : Owed J ℕ) (answers : J → ℕ → Type 0) (base : Parts J ℕ) (number : ℕ) (there : number < base.cores) (picked : RecordedView J ℕ) where
+  abbrev Here : Post J → Type 0
+  Here = IsAt same made polls answers base number picked
+
+  abbrev view : Post J → RecordedView J ℕ
+  view = view_at base number picked
+
+  abbrev parts : Post J → Parts J ℕ
+  parts = parts_at base number picked
+
+  module _ (post : Post J) (at : Here post) where
+    core_is : core_at number (parts post) ≡ view post
+    core_is = get_or-set_same base.inside number (view post) (opened_beside 0 0 0 0) (omega (arith, there, at.world.all_there.cores_are, length-set base.inside number (view post)))
+
+    row_is : row_of number (parts post).links ≡ post.ends
+    row_is = get_or-set_same base.links number post.ends [] (omega (arith, there, at.world.all_there.rows_are, length-set base.links number post.ends))
+
+    its_desk : desk_at number (parts post) ≡ post.desk
+    its_desk = desk_is at.world number there ∙ (ap desk_of core_is ∙ sym at.desk)
+
+    its_notes : journal_at number (world_of (parts post)) ≡ post.desk.journal.notes
+    its_notes = journal_is at.world number there ∙ ap (λ view. view.journal.notes) core_is
+
+    its_cores : post.desk.cores ≡ base.cores
+    its_cores = ap (λ desk. desk.cores) at.desk ∙ (ap (λ view. view.core.cores) (sym core_is) ∙ cores_are at.world number there)
+
+    its_number : post.desk.actor ≡ number
+    its_number = sym (ap (λ desk. desk.actor) its_desk) ∙ ap (λ desk. desk.actor) (at.world.all_there.seats_are number (omega (arith, there)))
+
+    -- a call on one link
+    module _ (to : ℕ) (next : Post J) (lent : LendsEnd (Fits same answers) out_of (λ link. link.credited) kept_by_sender to post next)
+        (only : OnlySent lent.end lent.later) (silent : SaysNoMore post.desk.journal.notes next.desk.journal.notes) where
+      rest_is : next.desk ≡ record post.desk { journal = record post.desk.journal { notes = next.desk.journal.notes }; lanes = next.desk.lanes }
+      rest_is = lent.stays.rest
+
+      pub to_there : to < base.cores
+      to_there = omega (arith, lent.stays.beside.known, ap (λ desk. desk.cores) rest_is, its_cores)
+
+      pub link_is : lent.end ≡ link_at number to (parts post).links
+      link_is = sym (ap (λ row. get_or row to (no_link number to)) row_is ∙ get_or_from_slice_get post.ends to lent.end (no_link number to) lent.is)
+
+      next_desk : next.desk ≡ desk_of (view next)
+      next_desk = λ i. record {
+        actor = (ap (λ desk. desk.actor) rest_is ∙ ap (λ desk. desk.actor) at.desk) i;
+        cores = (ap (λ desk. desk.cores) rest_is ∙ ap (λ desk. desk.cores) at.desk) i;
+        cap = (ap (λ desk. desk.cap) rest_is ∙ ap (λ desk. desk.cap) at.desk) i;
+        journal = next.desk.journal;
+        lanes = next.desk.lanes;
+      }
+
+      view_is : view next ≡ record (view post) { journal = record post.desk.journal { notes = next.desk.journal.notes }; lanes = next.desk.lanes }
+      view_is = λ i. record picked { journal = ap (λ desk. desk.journal) rest_is i; lanes = next.desk.lanes }
+
+      recorded : IsRecorded same made polls (view post)
+      recorded = subst (IsRecorded same made polls) core_is (at.world.recorded number there)
+
+      written : IsWritten (terms_of_desk (desk_of (view post))) next.desk.journal.notes
+      written = subst (λ terms. IsWritten terms next.desk.journal.notes) (ap terms_of_desk rest_is ∙ ap terms_of_desk at.desk) lent.stays.written
+
+      done_by : IsDoneBy same made polls answers to (view post) lent.end (view next) lent.later
+      done_by = record {
+        done = record {
+          only_sent = only;
+          stays = subst (λ desk. StaysBeside (Fits same answers) to desk (desk_of (view next)) (out_of lent.later) lent.later.credited) at.desk
+              (subst (λ desk. StaysBeside (Fits same answers) to post.desk desk (out_of lent.later) lent.later.credited) next_desk lent.stays);
+        };
+        rest = refl;
+        seat = record { number = refl; cores = refl; cap = refl; room = ap (λ desk. desk.journal.room) rest_is };
+        ins = λ from. subst (KeepsIn from (view post)) (sym view_is) (ins_silent (view post) next.desk.journal.notes next.desk.lanes silent from);
+        sound = subst (IsRecorded same made polls) (sym view_is) (recorded_silent (view post) next.desk.journal.notes next.desk.lanes silent recorded written);
+      }
+
+      pub did : IsDoneBy same made polls answers to (core_at number (parts post)) (link_at number to (parts post).links) (view next) lent.later
+      did = subst (λ at. IsDoneBy same made polls answers to at (link_at number to (parts post).links) (view next) lent.later) (sym core_is)
+          (subst (λ link. IsDoneBy same made polls answers to (view post) link (view next) lent.later) link_is done_by)
+
+      -- the world after it is the one where the post stands as it does then
+      pub sent_is : core_sent at.world number to there to_there (view next) lent.later did ≡ parts next
+      sent_is = λ i. record base {
+        inside = set-set base.inside number (view post) (view next) i;
+        links = (set-set base.links number post.ends (set (row_of number (parts post).links) to lent.later) ∙ ap (set base.links number) (ap (λ row. set row to lent.later) row_is ∙ sym lent.ends)) i;
+      }
+
+      pub next_at : Here next
+      next_at = record { world = subst (IsWorld same made polls answers) sent_is (core_rests at.world number to there to_there (view next) lent.later did); desk = next_desk }
+
+      pub journals : map (λ desk. desk.journal.notes) (desks (core_sent at.world number to there to_there (view next) lent.later did)) ≡ map (λ desk. desk.journal.notes) (set (desks (parts post)) number (desk_of (view next)))
+      journals = ap (map (λ desk. desk.journal.notes)) (core_desks at.world number to there to_there (view next) lent.later did)
+
+    abbrev Now : Call J ℕ → Post J → Type 0
+    Now call next = Here next × CallsAt same answers number (world_of (parts post)) call (world_of (parts next))
+
+    submit_now : (to : ℕ) (order : Order J) (answer : Result JobId (SendError J)) (next : Post J) → SubmitsOn (Fits same answers) out_of (λ link. link.credited) kept_by_sender to order answer post next → Now (Submit to order answer) next
+    submit_now to order answer next on =
+        let lent = on.lent in
+        let submitted : IsSubmitted to order post.desk lent.end answer next.desk lent.later = record { submits = on.submits; sends = on.sends; credited = on.credited; untouched = lent.untouched } in
+        let only = only_sent to order post.desk lent.end answer next.desk lent.later submitted in
+        let silent = submitted_silent post.desk next.desk to order answer on.submits in
+        let its = next_at to next lent only silent in
+        let its_own = subst (λ desk. IsSubmitted to order desk (link_at number to (parts post).links) answer (desk_of (view next)) lent.later) (sym its_desk)
+        (subst (λ link. IsSubmitted to order post.desk link answer (desk_of (view next)) lent.later) (link_is to next lent only silent)
+        (subst (λ desk. IsSubmitted to order post.desk lent.end answer desk lent.later) its.desk submitted)) in
+        let sends = sends_now at.world number to (omega (arith, there)) (to_there to next lent only silent) order answer (desk_of (view next)) lent.later its_own _ (journals to next lent only silent) in
+        (its, inr (to_there to next lent only silent, subst (λ then. Sends number to order (world_of (parts post)) (world_of then) (sent_reply answer)) (sent_is to next lent only silent) sends))
+
+    redeem_now : (name : JobId) (answer : Result (Outcome J ℕ) TicketError) (next : Post J) → RedeemsOn (Fits same answers) out_of (λ link. link.credited) kept_by_sender name answer post next → Now (Redeem name answer) next
+    redeem_now name answer next on =
+        let lent = on.lent in
+        let only = got_same lent.end lent.later lent.untouched on.out in
+        let silent = redeemed_silent post.desk next.desk name answer on.redeems in
+        let its = next_at name.to next lent only silent in
+        let link = link_is name.to next lent only silent in
+        let redeems = subst (λ desk. RedeemsTicket name desk answer (desk_of (view next))) (sym its_desk) (subst (RedeemsTicket name post.desk answer) its.desk on.redeems) in
+        let done = redeems_now at.world number name (omega (arith, there)) (to_there name.to next lent only silent) (desk_of (view next)) lent.later
+        (core_done at.world number name.to there (to_there name.to next lent only silent) (view next) lent.later (did name.to next lent only silent)) _ (journals name.to next lent only silent)
+        (ap (λ out. out.sent) on.out ∙ ap (λ link. link.sent) link) (on.knows.0 ∙ its_number) answer redeems
+        (subst (λ at. IfOk answer (IsGot (out_of at) name.number)) link on.given) (subst (λ at. IfOk answer (FitsSent (Fits same answers) (out_of at) name.number)) link on.fits) in
+        (its, subst (λ then. Redeems same answers number name (world_of (parts post)) (world_of then) (redeemed_reply answer)) (sent_is name.to next lent only silent) done)
+
+    detach_now : (name : JobId) (answer : Result (Unit {0}) TicketError) (next : Post J) → DetachesOn (Fits same answers) out_of (λ link. link.credited) kept_by_sender name answer post next → Now (Detach name answer) next
+    detach_now name answer next on =
+        let lent = on.lent in
+        let only = got_same lent.end lent.later lent.untouched on.out in
+        let silent = detached_silent post.desk next.desk name answer on.detaches in
+        let its = next_at name.to next lent only silent in
+        let link = link_is name.to next lent only silent in
+        let detaches = subst (λ desk. DetachesTicket name desk answer (desk_of (view next))) (sym its_desk) (subst (DetachesTicket name post.desk answer) its.desk on.detaches) in
+        let done = detaches_now at.world number name (omega (arith, there)) (to_there name.to next lent only silent) (desk_of (view next)) lent.later
+        (core_done at.world number name.to there (to_there name.to next lent only silent) (view next) lent.later (did name.to next lent only silent)) _ (journals name.to next lent only silent)
+        (ap (λ out. out.sent) on.out ∙ ap (λ link. link.sent) link) answer detaches in
+        (its, subst (λ then. Detaches number name (world_of (parts post)) (world_of then) (detached_reply answer)) (sent_is name.to next lent only silent) done)
+
+    -- nothing changed
+    same_at : (next : Post J) → next ≡ post → Here next
+    same_at next is = subst Here (sym is) at
+
+    same_world : (next : Post J) → next ≡ post → world_of (parts next) ≡ world_of (parts post)
+    same_world next is = ap (λ post. world_of (parts post)) is
+
+    unknown : (name : JobId) → RefusesTicket name Unknown post.desk.journal.notes → RefusesTicket name Unknown (journal_at number (world_of (parts post)))
+    unknown name refuses = subst (RefusesTicket name Unknown) (sym its_notes) refuses
+
+    -- each call does in the world what the event of its name does
+    pub call_now : (call : Call J ℕ) (next : Post J) → Does (Fits same answers) out_of (λ link. link.credited) kept_by_sender post call next → Now call next
+    call_now (Submit to order answer) next (inl none) = (same_at next none.2, inl (subst (λ cores. cores ≤ to) its_cores none.0, none.1, same_world next none.2))
+    call_now (Submit to order answer) next (inr on) = submit_now to order answer next on
+    call_now (Redeem name answer) next (inl none) =
+        (same_at next none.3, subst (λ answer. Redeems same answers number name (world_of (parts post)) (world_of (parts next)) (redeemed_reply answer)) (sym none.1) (unknown name none.2, same_world next none.3))
+    call_now (Redeem name answer) next (inr on) = redeem_now name answer next on
+    call_now (Detach name answer) next (inl none) =
+        (same_at next none.3, subst (λ answer. Detaches number name (world_of (parts post)) (world_of (parts next)) (detached_reply answer)) (sym none.1) (unknown name none.2, same_world next none.3))
+    call_now (Detach name answer) next (inr on) = detach_now name answer next on
+
+  -- and so do all of them, one after another
+  pub calls_now : (calls : List (Call J ℕ)) (post later : Post J) → Here post → Makes (Does (Fits same answers) out_of (λ link. link.credited) kept_by_sender) calls post later →
+      Here later × Makes (CallsAt same answers number) calls (world_of (parts post)) (world_of (parts later))
+  calls_now [] post later at makes = (same_at post at later makes, same_world post at later makes)
+  calls_now (call ∷ calls) post later at makes =
+      let first = call_now post at call makes.0 makes.1 in
+      let rest = calls_now calls makes.0 later first.0 makes.2 in
+      (rest.0, (world_of (parts makes.0), first.1, rest.1))

@@ -1,0 +1,5 @@
+//! Tests of scripts for threads, over the public calls.
+#![tactic(auto)]
+
+#[cfg(test)]
+mod rows;
