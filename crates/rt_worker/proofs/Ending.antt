@@ -2,6 +2,7 @@
 use Rattle.std.proofs.Common.{◌≡◌, ◌≢◌, ℕ, ◌<◌, ◌≤◌, List, [], ◌∷◌, ◌++◌, length, map, get_or, sym, ◌∙◌, ap, subst, arith, ⊎_elim}
 use Rattle.std.proofs.lemmas.Bool.{cases_eq}
 use Rattle.std.proofs.lemmas.List.{get_or-map, get_or_append_left, length-map}
+use Rattle.std.proofs.lemmas.Option.{slice_get-get_or}
 use Rattle.std.proofs.Math.Seq.{get_or-append_seam}
 use Rattle.rt_ids.specs.declared.order.Order.{Order}
 use Rattle.rt_ids.specs.declared.order.Outcome.{Outcome}
@@ -12,7 +13,7 @@ use Rattle.rt_journal.specs.Submissions.{IsWritten, terms_of_desk}
 use Rattle.rt_journal.specs.Recorded.{desk_of}
 use Rattle.rt_journal.specs.Ends.{IsOutOf}
 use Rattle.rt_journal.specs.Together.{AreTogether, IsAssemblyOf}
-use Rattle.rt_grid.specs.Ends.{out_at, in_at}
+use Rattle.rt_grid.specs.Ends.{out_at, in_at, no_out}
 use Rattle.rt_grid.specs.Grid.{ends_at, no_ends}
 use Rattle.rt_worker.specs.Linked.{LinkedView}
 use Rattle.rt_worker.specs.Together.{OutsideView, HaveEnded, no_linked, worker_at, desk_among, all_ends}
@@ -42,6 +43,14 @@ module _ {J T : Type 0} {same : J → J → Type 0} {made : J → ℕ} {polls : 
   cores_here : (core : ℕ) → core < cores → (worker_at core workers).recorded.core.cores ≡ cores
   cores_here core low = ap (λ terms. terms.cores) (have.seats core low)
 
+  -- the end on which a worker sends
+  ended_out : (sender number : ℕ) → sender < cores → number < cores →
+      IsOutOf number (desk_of (worker_at sender workers).recorded) (out_at number (worker_at sender workers).ends).out (out_at number (worker_at sender workers).ends).credited
+  ended_out sender number here low =
+      let outs = (have.ended sender here).linked.beside.outs in
+      outs.beside number (out_at number (worker_at sender workers).ends)
+      (slice_get-get_or (worker_at sender workers).ends.outs number no_out (omega (arith, low, outs.count, cores_here sender here)))
+
   -- the end on which an actor sends
   sends : (sender number : ℕ) → sender ≤ cores → number < cores →
       IsOutOf number (desk_among workers outside sender) (out_at number (ends_at sender (all_ends workers outside))).out (out_at number (ends_at sender (all_ends workers outside))).credited
@@ -51,7 +60,7 @@ module _ {J T : Type 0} {same : J → J → Type 0} {made : J → ℕ} {polls : 
       rw is (rw desk_outside (rw ends_outside (have.outside_is.outs number (omega (arith, low, ap (λ terms. terms.cores) have.outside_terms))))))
       (λ (away : sender ≢ cores).
       let here : sender < cores = omega (arith, known, away) in
-      rw (desk_here sender here) (rw (ends_here sender here) ((have.ended sender here).linked.beside.outs number (omega (arith, low, cores_here sender here)))))
+      rw (desk_here sender here) (rw (ends_here sender here) (ended_out sender number here low)))
       (cases_eq sender cores)
 
   terms_are : (actor : ℕ) → actor ≤ cores → terms_of_desk (desk_among workers outside actor) ≡ record { actor = actor; cores = cores; cap = cap }

@@ -2,6 +2,9 @@ pub mod Along
 pub mod Stepping
 pub mod Delivered
 pub mod Polled
+pub mod Posted
+pub mod InPlace
+pub mod Collected
 pub mod Turning
 pub mod Noted
 pub mod Spare

@@ -1,7 +1,9 @@
 -- Each step of a worker leaves it room for the next.
-use Rattle.std.proofs.Common.{◌≡◌, inr, ℕ, suc, ◌+◌, ◌*◌, ◌≤◌, ◌∷◌, ◌++◌, length, sym, ◌∙◌, ap, subst, arith}
+use Rattle.std.proofs.Common.{◌≡◌, inr, ℕ, suc, ◌+◌, ◌*◌, ◌≤◌, [], ◌∷◌, ◌++◌, length, sym, ◌∙◌, ap, subst, arith}
 use Rattle.std.specs.Prelude.{◌==◌, Bool, true, false, Some, unwrap_or, IsSome}
 use Rattle.std.proofs.lemmas.List.{length-append}
+use Rattle.rt_ids.specs.declared.order.Outcome.{Outcome}
+use Rattle.rt_ids.specs.declared.order.Order.{Order}
 use Rattle.rt_ids.specs.declared.note.Note.TheVariants as writes
 use Rattle.rt_ids.specs.declared.order.Mode.TheVariants.{Return}
 use Rattle.rt_ids.specs.Filters.{given_outcomes}
@@ -18,26 +20,44 @@ use Rattle.rt_journal.specs.Polls.{poll_note, settle_note}
 use Rattle.rt_journal.specs.Recorded.{RecordedView, terms_at, sum_upto, given_count}
 use Rattle.rt_journal.specs.Ends.{IsSameSeat}
 use Rattle.rt_journal.specs.Steps.{Delivers, Receives}
+use Rattle.rt_journal.specs.Posts.{ArePosts}
+use Rattle.rt_journal.specs.Tickets.{AreCollected}
 use Rattle.rt_journal.proofs.Sums.{sum_upto-same, sum_upto-one_more}
 use Rattle.rt_grid.specs.Ends.{in_at}
 use Rattle.rt_worker.specs.Linked.{LinkedView, IsLinked}
-use Rattle.rt_worker.specs.Steps.{DeliversFrom, MakesTurn, PollsOne, HandsBack}
+use Rattle.rt_worker.specs.Steps.{DeliversFrom, CollectsOf, MakesTurn, PollsOne, HandsBack}
 use Rattle.rt_worker.specs.Gates.{ShutsFirst}
 use Rattle.rt_worker.specs.Ended.{IsServed}
 use Rattle.rt_worker.specs.Rooms.{least_free, last_through, ClosesRightly, ClosesOnlyShort, HasSpare, IsEnding, IsProvided, IsReady}
 use Rattle.rt_worker.specs.declared.turn.Made.{Made}
 use Rattle.rt_worker.specs.declared.turn.Made.TheVariants as came
 use Rattle.rt_worker.proofs.Noted.{more_from, delivery_short, delivery_closes, delivery_gives}
-use Rattle.rt_worker.proofs.Spare.{stays_returning, places_some, places_more}
+use Rattle.rt_worker.proofs.Spare.{stays_returning, places_some, places_more, places_few, posts_few}
 
 module _ {T : Type 0} where
-  -- the notes of a poll close nothing
-  polls_close : (least room : ℕ) (name other : JobId) (time : ℕ) (did : Step T) (was_started : Bool) (queue runtime : ℕ) (before : Journal T) → EachNote (ClosesRightly least room) before →
-      EachNote (ClosesRightly least room) (settle_note name time did ∷ poll_note other was_started ∷ writes.Pick queue runtime ∷ before)
-  polls_close least room name other time step.Yield false queue runtime before each = (tt, (tt, (tt, each)))
-  polls_close least room name other time step.Yield true queue runtime before each = (tt, (tt, (tt, each)))
-  polls_close least room name other time (step.Done out) false queue runtime before each = (tt, (tt, (tt, each)))
-  polls_close least room name other time (step.Done out) true queue runtime before each = (tt, (tt, (tt, each)))
+  -- the notes of a pick close nothing, nor do those of a post, nor that of a settling
+  picks_close : (least room : ℕ) (name : JobId) (was_started : Bool) (queue runtime : ℕ) (before : Journal T) → EachNote (ClosesRightly least room) before →
+      EachNote (ClosesRightly least room) (poll_note name was_started ∷ writes.Pick queue runtime ∷ before)
+  picks_close least room name false queue runtime before each = (tt, (tt, each))
+  picks_close least room name true queue runtime before each = (tt, (tt, each))
+
+  posts_close : (least room : ℕ) (notes before : Journal T) → ArePosts notes → EachNote (ClosesRightly least room) before → EachNote (ClosesRightly least room) (notes ++ before)
+  posts_close least room [] before posts each = each
+  posts_close least room (writes.Sent name order ∷ notes) before posts each = (tt, posts_close least room notes before posts each)
+  posts_close least room (writes.Redeemed name outcome ∷ notes) before posts each = (tt, posts_close least room notes before posts each)
+  posts_close least room (writes.Detached name ∷ notes) before posts each = (tt, posts_close least room notes before posts each)
+  posts_close least room (_ ∷ notes) before posts each = absurd posts
+
+  settles_close : (least room : ℕ) (name : JobId) (time : ℕ) (did : Step T) (before : Journal T) → EachNote (ClosesRightly least room) before →
+      EachNote (ClosesRightly least room) (settle_note name time did ∷ before)
+  settles_close least room name time step.Yield before each = (tt, each)
+  settles_close least room name time (step.Done out) before each = (tt, each)
+
+  -- nor do the notes of outcomes that were collected
+  collects_close : (least room core : ℕ) (notes before : Journal T) → AreCollected core notes → EachNote (ClosesRightly least room) before → EachNote (ClosesRightly least room) (notes ++ before)
+  collects_close least room core [] before are each = each
+  collects_close least room core (writes.Collected name outcome ∷ notes) before are each = (tt, collects_close least room core notes before are.1 each)
+  collects_close least room core (_ ∷ notes) before are each = absurd are
 
 module _ {J T : Type 0} where
   -- what was closed rightly by the old numbers was so by the new ones
@@ -54,10 +74,10 @@ module _ {J T : Type 0} where
   ready_provided true view ready = ready
 
   -- a step with at most so many notes leaves room for the end
-  spare_after : (old new : RecordedView J T) (count : ℕ) → IsSameSeat old new → IsReady false old → length new.journal.notes ≤ length old.journal.notes + count → count ≤ old.core.cores + 3 → HasSpare new
+  spare_after : (old new : RecordedView J T) (count : ℕ) → IsSameSeat old new → IsReady false old → length new.journal.notes ≤ length old.journal.notes + count → count ≤ 4 * ((old.core.cores + 1) * (old.cap + 1)) → HasSpare new
   spare_after old new count seat ready longer few =
       let same_places : (new.core.cores + 1) * (new.cap + 1) ≡ (old.core.cores + 1) * (old.cap + 1) = ap (λ cores. (cores + 1) * (new.cap + 1)) seat.cores ∙ ap (λ cap. (old.core.cores + 1) * (cap + 1)) seat.cap in
-      omega (arith, ready, longer, few, same_places, seat.room, places_some old.core.cores old.cap, places_more old.core.cores old.cap)
+      omega (arith, ready, longer, few, same_places, seat.room)
 
   -- at its end a worker writes at most two notes for an outcome
   record AnswersOne (old new : RecordedView J T) : Type 0 where
@@ -83,17 +103,17 @@ module _ {J T : Type 0} where
         omega (arith, given, through, given_here, through_here, did.longer, did.seat.room, ending.room);
   }
 
-  module _ {same : J → J → Type 0} {made : J → ℕ} {polls : Owed J T} where
+  module _ {same : J → J → Type 0} {made : J → ℕ} {polls : Owed J T} {fits : Order J → Outcome J T → Type 0} where
     -- the same core is as well served as before
-    pub unmoved : (ending : Bool) (old new : LinkedView J T) → IsLinked same made polls new → IsReady ending old.recorded → new.recorded ≡ old.recorded →
-        ClosesOnlyShort old.recorded.core.cores old.recorded.cap old.recorded.journal → IsServed same made polls (record { linked = new; ending = ending })
+    pub unmoved : (ending : Bool) (old new : LinkedView J T) → IsLinked same made polls fits new → IsReady ending old.recorded → new.recorded ≡ old.recorded →
+        ClosesOnlyShort old.recorded.core.cores old.recorded.cap old.recorded.journal → IsServed same made polls fits (record { linked = new; ending = ending })
     unmoved ending old new linked ready is closes = record {
       linked = linked;
       provided = subst (IsProvided ending) (sym is) (ready_provided ending old.recorded ready);
       closes = subst (λ (view : RecordedView J T). ClosesOnlyShort view.core.cores view.cap view.journal) (sym is) closes;
     }
 
-    module _ (sender : ℕ) (old new : LinkedView J T) (was : IsLinked same made polls old) (now : IsLinked same made polls new) (known : sender ≤ old.recorded.core.cores) (seat : IsSameSeat old.recorded new.recorded)
+    module _ (sender : ℕ) (old new : LinkedView J T) (was : IsLinked same made polls fits old) (now : IsLinked same made polls fits new) (known : sender ≤ old.recorded.core.cores) (seat : IsSameSeat old.recorded new.recorded)
         (does : Delivers old.recorded (in_at sender old.ends).inward new.recorded (in_at sender new.ends).inward true) where
       abbrev received : Receives old.recorded does.0 new.recorded
       received = does.2
@@ -123,11 +143,11 @@ module _ {J T : Type 0} where
       }
 
       delivered_provided : (ending : Bool) → IsReady ending old.recorded → IsProvided ending new.recorded
-      delivered_provided false ready = spare_after old.recorded new.recorded 2 seat ready delivered_longer (omega arith)
+      delivered_provided false ready = spare_after old.recorded new.recorded 2 seat ready delivered_longer (omega (arith, places_some old.recorded.core.cores old.recorded.cap))
       delivered_provided true ready = ending_after old.recorded new.recorded (delivered_one ready.returning) ready
 
       pub delivered_served : (ending : Bool) → IsReady ending old.recorded → ClosesOnlyShort old.recorded.core.cores old.recorded.cap old.recorded.journal →
-          IsServed same made polls (record { linked = new; ending = ending })
+          IsServed same made polls fits (record { linked = new; ending = ending })
       delivered_served ending ready closes = record {
         linked = now;
         provided = delivered_provided ending ready;
@@ -137,44 +157,66 @@ module _ {J T : Type 0} where
       }
 
     -- whether an order was delivered or not
-    pub delivers_served : (sender : ℕ) (found ending : Bool) (old new : LinkedView J T) → IsLinked same made polls old → IsLinked same made polls new → sender ≤ old.recorded.core.cores →
+    pub delivers_served : (sender : ℕ) (found ending : Bool) (old new : LinkedView J T) → IsLinked same made polls fits old → IsLinked same made polls fits new → sender ≤ old.recorded.core.cores →
         DeliversFrom sender old found new → IsReady ending old.recorded → ClosesOnlyShort old.recorded.core.cores old.recorded.cap old.recorded.journal →
-        IsServed same made polls (record { linked = new; ending = ending })
+        IsServed same made polls fits (record { linked = new; ending = ending })
     delivers_served sender true ending old new was now known does ready closes = delivered_served sender old new was now known does.stays.seat does.delivers ending ready closes
     delivers_served sender false ending old new was now known does ready closes = unmoved ending old new now ready does.delivers.1 closes
 
     -- gates that are shut in a core that was closed by an order
-    pub shuts_served : (old new : LinkedView J T) → IsLinked same made polls new → ShutsFirst (old.recorded.core.cores + 1) old new → IsReady false old.recorded →
-        ClosesOnlyShort old.recorded.core.cores old.recorded.cap old.recorded.journal → IsServed same made polls (record { linked = new; ending = false })
+    pub shuts_served : (old new : LinkedView J T) → IsLinked same made polls fits new → ShutsFirst (old.recorded.core.cores + 1) old new → IsReady false old.recorded →
+        ClosesOnlyShort old.recorded.core.cores old.recorded.cap old.recorded.journal → IsServed same made polls fits (record { linked = new; ending = false })
     shuts_served old new now shuts ready closes = record {
       linked = now;
-      provided = spare_after old.recorded new.recorded (old.recorded.core.cores + 1) shuts.stays.seat ready shuts.longer (omega arith);
+      provided = spare_after old.recorded new.recorded (old.recorded.core.cores + 1) shuts.stays.seat ready shuts.longer (omega (arith, places_more old.recorded.core.cores old.recorded.cap));
       closes = closes_here old.recorded new.recorded shuts.stays.seat (shuts.closes (least_free old.recorded.core.cores old.recorded.cap) closes);
     }
 
-    module _ (old new : LinkedView J T) (was : IsLinked same made polls old) (now : IsLinked same made polls new) (seat : IsSameSeat old.recorded new.recorded) where
-      -- a poll
-      module _ {answers : J → T → Type 0} (did : PollsOne made polls answers old.recorded new.recorded) where
-        polled_notes : new.recorded.journal.notes
-            ≡ settle_note did.settles.settles.out.name (unwrap_or did.settles.ran.told did.settles.spent) did.settles.ran.step ∷ poll_note did.name did.was_started ∷ writes.Pick did.queue did.picks.runtime ∷ old.recorded.journal.notes
-        polled_notes =
-            ap (λ journal. journal.notes) did.settles.settles.journal
-            ∙ ap (λ journal. settle_note did.settles.settles.out.name (unwrap_or did.settles.ran.told did.settles.spent) did.settles.ran.step ∷ journal.notes) did.picks.journal
+    -- outcomes that were collected
+    pub collects_served : (core count : ℕ) (old new : LinkedView J T) → IsLinked same made polls fits new → CollectsOf core old count new → IsReady false old.recorded →
+        ClosesOnlyShort old.recorded.core.cores old.recorded.cap old.recorded.journal → IsServed same made polls fits (record { linked = new; ending = false })
+    collects_served core count old new now did ready closes =
+        let notes_now : new.recorded.journal.notes ≡ did.collects.0 ++ old.recorded.journal.notes = ap (λ journal. journal.notes) did.collects.3 in
+        let longer : length new.recorded.journal.notes ≡ length did.collects.0 + length old.recorded.journal.notes = ap length notes_now ∙ length-append did.collects.0 old.recorded.journal.notes in
+        record {
+          linked = now;
+          provided = spare_after old.recorded new.recorded old.recorded.cap did.stays.seat ready (omega (arith, longer, did.collects.2, did.few)) (places_few old.recorded.core.cores old.recorded.cap);
+          closes = closes_here old.recorded new.recorded did.stays.seat
+              (subst (EachNote (ClosesRightly (least_free old.recorded.core.cores old.recorded.cap) old.recorded.journal.room)) (sym notes_now)
+              (collects_close _ _ core did.collects.0 old.recorded.journal.notes did.collects.1 closes));
+        }
 
-        polled_longer : length new.recorded.journal.notes ≤ length old.recorded.journal.notes + 3
-        polled_longer = let now : length new.recorded.journal.notes ≡ suc (suc (suc (length old.recorded.journal.notes))) = ap length polled_notes in omega (arith, now)
+    module _ (old new : LinkedView J T) (was : IsLinked same made polls fits old) (now : IsLinked same made polls fits new) (seat : IsSameSeat old.recorded new.recorded) where
+      -- a poll
+      module _ {answers : J → T → Type 0} {tells : ℕ → Type 0} (did : PollsOne made polls answers fits tells old new) where
+        picked_notes : did.picked.journal.notes ≡ poll_note did.name did.was_started ∷ writes.Pick did.queue did.picks.runtime ∷ old.recorded.journal.notes
+        picked_notes = ap (λ journal. journal.notes) did.picks.journal
+
+        posted_notes : did.left.journal.notes ≡ did.posted.notes ++ did.picked.journal.notes
+        posted_notes = ap (λ desk. desk.journal.notes) did.posted.desk
+
+        settled_notes : new.recorded.journal.notes ≡ settle_note did.settles.out.name (unwrap_or did.ran.told did.spent) did.ran.step ∷ did.left.journal.notes
+        settled_notes = ap (λ journal. journal.notes) did.settles.journal
+
+        polled_closes : EachNote (ClosesRightly (least_free old.recorded.core.cores old.recorded.cap) old.recorded.journal.room) old.recorded.journal.notes →
+            EachNote (ClosesRightly (least_free old.recorded.core.cores old.recorded.cap) old.recorded.journal.room) new.recorded.journal.notes
+        polled_closes closes =
+            subst (EachNote (ClosesRightly (least_free old.recorded.core.cores old.recorded.cap) old.recorded.journal.room)) (sym settled_notes)
+            (settles_close _ _ _ _ did.ran.step did.left.journal.notes
+            (subst (EachNote (ClosesRightly (least_free old.recorded.core.cores old.recorded.cap) old.recorded.journal.room)) (sym posted_notes)
+            (posts_close _ _ did.posted.notes did.picked.journal.notes did.posted.posts
+            (subst (EachNote (ClosesRightly (least_free old.recorded.core.cores old.recorded.cap) old.recorded.journal.room)) (sym picked_notes)
+            (picks_close _ _ did.name did.was_started did.queue did.picks.runtime old.recorded.journal.notes closes)))))
 
         polled_provided : (ending : Bool) → IsReady ending old.recorded → IsProvided ending new.recorded
-        polled_provided false ready = spare_after old.recorded new.recorded 3 seat ready polled_longer (omega arith)
+        polled_provided false ready = spare_after old.recorded new.recorded (old.recorded.core.cores * (3 * old.recorded.cap) + 3) seat ready (omega (arith, did.few)) (posts_few old.recorded.core.cores old.recorded.cap)
         polled_provided true ready = absurd (has_reason did.queue old.recorded.journal.notes (inr ready.returning) did.picks.kept)
 
-        polled_served : (ending : Bool) → IsReady ending old.recorded → ClosesOnlyShort old.recorded.core.cores old.recorded.cap old.recorded.journal → IsServed same made polls (record { linked = new; ending = ending })
+        polled_served : (ending : Bool) → IsReady ending old.recorded → ClosesOnlyShort old.recorded.core.cores old.recorded.cap old.recorded.journal → IsServed same made polls fits (record { linked = new; ending = ending })
         polled_served ending ready closes = record {
           linked = now;
           provided = polled_provided ending ready;
-          closes = closes_here old.recorded new.recorded seat
-              (subst (EachNote (ClosesRightly (least_free old.recorded.core.cores old.recorded.cap) old.recorded.journal.room)) (sym polled_notes)
-              (polls_close _ _ _ did.name _ did.settles.ran.step did.was_started did.queue did.picks.runtime old.recorded.journal.notes closes));
+          closes = closes_here old.recorded new.recorded seat (polled_closes closes);
         }
 
       -- a job that is handed back
@@ -186,7 +228,7 @@ module _ {J T : Type 0} where
         returned_longer = let now : length new.recorded.journal.notes ≡ suc (suc (length old.recorded.journal.notes)) = ap length returned_notes in omega (arith, now)
 
         returned_provided : (ending : Bool) → IsReady ending old.recorded → IsProvided ending new.recorded
-        returned_provided false ready = spare_after old.recorded new.recorded 2 seat ready returned_longer (omega arith)
+        returned_provided false ready = spare_after old.recorded new.recorded 2 seat ready returned_longer (omega (arith, places_some old.recorded.core.cores old.recorded.cap))
         returned_provided true ready =
             ending_after old.recorded new.recorded
             (record {
@@ -200,7 +242,7 @@ module _ {J T : Type 0} where
             })
             ready
 
-        returned_served : (ending : Bool) → IsReady ending old.recorded → ClosesOnlyShort old.recorded.core.cores old.recorded.cap old.recorded.journal → IsServed same made polls (record { linked = new; ending = ending })
+        returned_served : (ending : Bool) → IsReady ending old.recorded → ClosesOnlyShort old.recorded.core.cores old.recorded.cap old.recorded.journal → IsServed same made polls fits (record { linked = new; ending = ending })
         returned_served ending ready closes = record {
           linked = now;
           provided = returned_provided ending ready;
@@ -209,9 +251,9 @@ module _ {J T : Type 0} where
         }
 
       -- whatever a turn came to
-      pub turned_served : (answers : J → T → Type 0) (came_to : Made) (ending : Bool) → MakesTurn same made polls answers old.recorded came_to new.recorded → IsReady ending old.recorded →
-          ClosesOnlyShort old.recorded.core.cores old.recorded.cap old.recorded.journal → IsServed same made polls (record { linked = new; ending = ending })
-      turned_served answers came.Polled ending did ready closes = polled_served did ending ready closes
-      turned_served answers came.Returned ending did ready closes = returned_served did ending ready closes
-      turned_served answers came.Idle ending did ready closes = unmoved ending old new now ready did.1 closes
-      turned_served answers came.Spent ending did ready closes = unmoved ending old new now ready did.2 closes
+      pub turned_served : (answers : J → T → Type 0) (tells : ℕ → Type 0) (came_to : Made) (ending : Bool) → MakesTurn same made polls answers fits tells old came_to new → IsReady ending old.recorded →
+          ClosesOnlyShort old.recorded.core.cores old.recorded.cap old.recorded.journal → IsServed same made polls fits (record { linked = new; ending = ending })
+      turned_served answers tells came.Polled ending did ready closes = polled_served did ending ready closes
+      turned_served answers tells came.Returned ending did ready closes = returned_served did ending ready closes
+      turned_served answers tells came.Idle ending did ready closes = unmoved ending old new now ready did.1 closes
+      turned_served answers tells came.Spent ending did ready closes = unmoved ending old new now ready did.2 closes

@@ -1,6 +1,8 @@
 -- Sums over senders, and the room that a worker keeps.
 use Rattle.std.proofs.Common.{◌≡◌, ℕ, zero, suc, ◌+◌, ◌*◌, ◌≤◌, [], ◌∷◌, ◌++◌, length, ap, subst, arith}
 use Rattle.std.specs.Prelude.{Some, unwrap_or, IsSome, Bool, true, false}
+use Rattle.rt_ids.specs.declared.order.Outcome.{Outcome}
+use Rattle.rt_ids.specs.declared.order.Order.{Order}
 use Rattle.rt_ids.specs.Terms.{Terms}
 use Rattle.rt_ids.specs.declared.order.Mode.TheVariants.{Return}
 use Rattle.rt_ids.specs.Journal.{Journal, EachNote}
@@ -14,7 +16,7 @@ use Rattle.rt_journal.specs.Recorded.{sum_upto, given_count, delivered_count}
 use Rattle.rt_journal.specs.Ends.{IsInOf}
 use Rattle.rt_grid.specs.Ends.{in_at}
 use Rattle.rt_worker.specs.Linked.{LinkedView, IsLinked}
-use Rattle.rt_worker.specs.Rooms.{last_through, IsEnding, IsReady}
+use Rattle.rt_worker.specs.Rooms.{last_through, HasTurnRoom, IsEnding, IsReady}
 
 -- each of them at most so much above the other, and so are the sums
 pub sums_within : (f g : ℕ → ℕ) (more last : ℕ) → ((s : ℕ) → s ≤ last → f s ≤ g s + more) → sum_upto f last ≤ sum_upto g last + (last + 1) * more
@@ -38,13 +40,25 @@ places_more cores cap = grind arith
 pub places_some : (cores cap : ℕ) → 1 ≤ (cores + 1) * (cap + 1)
 places_some cores cap = omega (arith, places_more cores cap)
 
+-- a link's places, and all notes of a turn, are few enough
+pub places_few : (cores cap : ℕ) → cap ≤ 4 * ((cores + 1) * (cap + 1))
+places_few cores cap =
+    let all : (cores + 1) * (cap + 1) ≡ cores * cap + cores + cap + 1 = grind arith in
+    omega (arith, all)
+
+pub posts_few : (cores cap : ℕ) → cores * (3 * cap) + 3 ≤ 4 * ((cores + 1) * (cap + 1))
+posts_few cores cap =
+    let all : (cores + 1) * (cap + 1) ≡ cores * cap + cores + cap + 1 = grind arith in
+    let posts : cores * (3 * cap) ≡ 3 * (cores * cap) = grind arith in
+    omega (arith, all, posts)
+
 module _ {T : Type 0} (terms : Terms) where
   -- a core that hands back goes on so
   pub stays_returning : (notes before : Journal T) → EachNote (MayStand terms) (notes ++ before) → core_mode before ≡ Some Return → core_mode (notes ++ before) ≡ Some Return
   stays_returning [] before each was = was
   stays_returning (note ∷ notes) before each was = core_stays_returning terms note (notes ++ before) each.0.may_follow (stays_returning notes before each.1 was)
 
-module _ {J T : Type 0} {same : J → J → Type 0} {made : J → ℕ} {polls : Owed J T} (view : LinkedView J T) (linked : IsLinked same made polls view) where
+module _ {J T : Type 0} {same : J → J → Type 0} {made : J → ℕ} {polls : Owed J T} {fits : Order J → Outcome J T → Type 0} (view : LinkedView J T) (linked : IsLinked same made polls fits view) where
   -- what was delivered of a sender came through its gate
   delivered_through : (sender : ℕ) → sender ≤ view.recorded.core.cores → IsSome (final_count sender view.recorded.journal.notes) →
       delivered_count view.recorded.journal.notes sender ≤ last_through view.recorded.journal.notes sender
@@ -76,3 +90,14 @@ module _ {J T : Type 0} {same : J → J → Type 0} {made : J → ℕ} {polls : 
   pub ready_room : (ending : Bool) → IsReady ending view.recorded → length view.recorded.journal.notes + 3 ≤ view.recorded.journal.room
   ready_room true ready = step_room ready
   ready_room false ready = omega (arith, ready, places_some view.recorded.core.cores view.recorded.cap)
+
+  -- there is room for a turn
+  pub turn_room : (ending : Bool) → IsReady ending view.recorded → HasTurnRoom view.recorded
+  turn_room true ready = record {
+    back = omega (arith, step_room ready);
+    poll = λ goes_on. absurd (goes_on ready.returning);
+  }
+  turn_room false ready = record {
+    back = omega (arith, ready, places_some view.recorded.core.cores view.recorded.cap);
+    poll = λ goes_on. omega (arith, ready, posts_few view.recorded.core.cores view.recorded.cap);
+  }

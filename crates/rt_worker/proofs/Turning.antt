@@ -1,7 +1,8 @@
 -- What a pick leaves for the poll, or for the outcome that is given.
-use Rattle.std.proofs.Common.{◌≡◌, ◌≢◌, ℕ, ◌+◌, ◌≤◌, cond, refl, sym, ◌∙◌, ap, subst, arith}
+use Rattle.std.proofs.Common.{◌≡◌, ◌≢◌, inr, ℕ, suc, ◌+◌, ◌*◌, ◌<◌, ◌≤◌, length, cond, refl, sym, ◌∙◌, ap, subst, arith}
 use Rattle.std.specs.Prelude.{Bool, true, false, Some, None, Result, Ok, Err}
 use Rattle.std.proofs.lemmas.Bool.{eq-eqb, ne_eqb}
+use Rattle.rt_ids.specs.declared.order.Outcome.{Outcome}
 use Rattle.rt_ids.specs.declared.names.JobId.{JobId}
 use Rattle.rt_ids.specs.declared.order.Order.{Order}
 use Rattle.rt_ids.specs.declared.order.Reason.{Reason}
@@ -19,6 +20,9 @@ use Rattle.rt_journal.specs.Ends.{KeepsIn, KeepsOuts, IsSameSeat, LeavesOwed, Is
 use Rattle.rt_journal.specs.Owed.{owed_back, IsSentUnder}
 use Rattle.rt_journal.specs.Turns.{Picks, IsPick, IsHandBack, IsOut, IsOutUnder}
 use Rattle.rt_worker.specs.Linked.{AreBeside, AreOwing}
+use Rattle.rt_worker.proofs.Stepping.{sends_kept}
+use Rattle.rt_ids.proofs.Returning.{has_reason}
+use Rattle.rt_worker.specs.Rooms.{HasTurnRoom}
 use Rattle.rt_worker.specs.Next.{TakesOut, HandsOut, FindsNothing}
 use Rattle.rt_worker.specs.declared.turn.Made.{Made}
 
@@ -54,6 +58,15 @@ module _ {J T : Type 0} where
   taken_out same old new (Ok turn.Idle) name job picks is = absurd is
   taken_out same old new (Err error) name job picks is = absurd is
 
+  -- there is room for its poll
+  pub poll_room : (old new : RecordedView J T) (name : JobId) (job : J) → IsTakenOut old name job new → IsSameSeat old new → HasTurnRoom old →
+      length new.journal.notes + new.core.cores * (3 * new.cap) < new.journal.room
+  poll_room old new name job out seat turn =
+      let room = turn.poll (λ is. has_reason out.queue old.journal.notes (inr is) out.picks.kept) in
+      let longer : length new.journal.notes ≡ suc (suc (length old.journal.notes)) = ap (λ journal. length journal.notes) out.picks.journal in
+      let places : new.core.cores * (3 * new.cap) ≡ old.core.cores * (3 * old.cap) = ap (λ cores. cores * (3 * new.cap)) seat.cores ∙ ap (λ cap. old.core.cores * (3 * cap)) seat.cap in
+      omega (arith, room, longer, places, seat.room)
+
   -- no outcome is owed to anybody then
   keeps_out : (old new : RecordedView J T) (picked : Result (Turn J) PickError) (name : JobId) (job : J) → TakesOut picked name job →
       (sender : ℕ) → LeavesOwed sender (owed_back picked sender) old new → KeepsIn sender old new
@@ -75,13 +88,12 @@ module _ {J T : Type 0} where
   sender_known old new name job out sound = let task = sound.out _ out.picks.out in (sound.taken name _ task.task).sender
 
   -- the ends stay beside a core whose job was taken out
-  pub stay_out : (old new : RecordedView J T) (ends : EndsView J T) (picked : Result (Turn J) PickError) (name : JobId) (job : J) → AreBeside old ends → TakesOut picked name job → IsSameSeat old new →
-      KeepsOuts (desk_of old) (desk_of new) → ((sender : ℕ) → LeavesOwed sender (owed_back picked sender) old new) → AreBeside new ends
-  stay_out old new ends picked name job beside takes seat outs ins = record {
+  pub stay_out : {fits : Order J → Outcome J T → Type 0} (old new : RecordedView J T) (ends : EndsView J T) (picked : Result (Turn J) PickError) (name : JobId) (job : J) → AreBeside fits old ends → TakesOut picked name job → IsSameSeat old new →
+      KeepsOuts (desk_of old) (desk_of new) → new.lanes ≡ old.lanes → ((sender : ℕ) → LeavesOwed sender (owed_back picked sender) old new) → AreBeside fits new ends
+  stay_out old new ends picked name job beside takes seat outs lanes ins = record {
     number = beside.number ∙ sym seat.number;
-    outs_are = beside.outs_are ∙ sym seat.cores;
     ins_are = beside.ins_are ∙ ap (λ cores. cores + 1) (sym seat.cores);
-    outs = λ core low. (outs core).each _ _ (beside.outs core (omega (arith, low, seat.cores)));
+    outs = sends_kept old new ends outs lanes seat beside.outs;
     ins = λ sender known. (keeps_out old new picked name job takes sender (ins sender)).each _ (beside.ins sender (omega (arith, known, seat.cores)));
   }
 
@@ -112,13 +124,12 @@ module _ {J T : Type 0} where
   owed_none (Err error) name reason order is sender away = absurd is
 
   -- the ends beside a core that has just handed a job back
-  pub stay_owing : (old new : RecordedView J T) (ends : EndsView J T) (picked : Result (Turn J) PickError) (name : JobId) (reason : Reason) (order : Order J) → AreBeside old ends → HandsOut picked name reason order →
-      name.from ≤ old.core.cores → IsSameSeat old new → KeepsOuts (desk_of old) (desk_of new) → ((sender : ℕ) → LeavesOwed sender (owed_back picked sender) old new) → AreOwing name reason new ends
-  stay_owing old new ends picked name reason order beside hands known seat outs ins = record {
+  pub stay_owing : {fits : Order J → Outcome J T → Type 0} (old new : RecordedView J T) (ends : EndsView J T) (picked : Result (Turn J) PickError) (name : JobId) (reason : Reason) (order : Order J) → AreBeside fits old ends → HandsOut picked name reason order →
+      name.from ≤ old.core.cores → IsSameSeat old new → KeepsOuts (desk_of old) (desk_of new) → new.lanes ≡ old.lanes → ((sender : ℕ) → LeavesOwed sender (owed_back picked sender) old new) → AreOwing fits name.from (Some (name, outcomes.Returned reason)) new ends
+  stay_owing old new ends picked name reason order beside hands known seat outs lanes ins = record {
     number = beside.number ∙ sym seat.number;
-    outs_are = beside.outs_are ∙ sym seat.cores;
     ins_are = beside.ins_are ∙ ap (λ cores. cores + 1) (sym seat.cores);
-    outs = λ core low. (outs core).each _ _ (beside.outs core (omega (arith, low, seat.cores)));
+    outs = sends_kept old new ends outs lanes seat beside.outs;
     owed = subst (λ owed. IsInOwing name.from owed new (in_at name.from ends).inward) (owed_to picked name reason order hands) ((ins name.from).each _ (beside.ins name.from known));
     ins = λ sender there away.
         subst (λ owed. IsInOwing sender owed new (in_at sender ends).inward) (owed_none picked name reason order hands sender away) ((ins sender).each _ (beside.ins sender (omega (arith, there, seat.cores))));

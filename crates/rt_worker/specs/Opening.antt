@@ -33,5 +33,6 @@ module _ {J T : Type 0} (same : J → J → Type 0) (made : J → ℕ) (polls : 
     pub seat : IsSameSeat old new
     pub ins : (sender : ℕ) → KeepsIn sender old new
     pub outs : KeepsOuts (desk_of old) (desk_of new)
+    pub lanes : new.lanes ≡ old.lanes
     pub out : new.core.out ≡ old.core.out
     pub sound : IsRecorded same made polls new

@@ -1,5 +1,5 @@
 -- How many notes a worker keeps free, and what it does where few are free.
-use Rattle.std.specs.Prelude.{◌≡◌, ◌⊎◌, ℕ, ◌+◌, ◌-◌, ◌*◌, ◌<◌, ◌≤◌, Bool, true, false, Some, length, unwrap_or, IsSome}
+use Rattle.std.specs.Prelude.{◌≡◌, ◌≢◌, ◌⊎◌, ℕ, ◌+◌, ◌-◌, ◌*◌, ◌<◌, ◌≤◌, Bool, true, false, Some, length, unwrap_or, IsSome}
 use Rattle.rt_ids.specs.declared.note.Note.{Note}
 use Rattle.rt_ids.specs.declared.note.Note.TheVariants.{CoreClosed}
 use Rattle.rt_ids.specs.declared.order.Mode.TheVariants.{Return}
@@ -35,6 +35,15 @@ module _ {J T : Type 0} where
   -- there is room for a step, and behind it for all notes of the end
   abbrev pub HasSpare : RecordedView J T → Type 0
   HasSpare view = length view.journal.notes + 4 * ((view.core.cores + 1) * (view.cap + 1)) ≤ view.journal.room
+
+  -- there is room for a poll: three notes for each place of each link, which it may post, and three for its pick and its settling
+  abbrev pub HasPollRoom : RecordedView J T → Type 0
+  HasPollRoom view = length view.journal.notes + view.core.cores * (3 * view.cap) + 3 ≤ view.journal.room
+
+  -- there is room for a turn: a core that hands back takes two notes and polls nothing
+  pub record HasTurnRoom (view : RecordedView J T) : Type 0 where
+    pub back : length view.journal.notes + 2 ≤ view.journal.room
+    pub poll : core_mode view.journal.notes ≢ Some Return → HasPollRoom view
 
   -- The core hands back what is inside, and each gate is shut. There is room for three notes, and for two more for each order that has no outcome yet.
   pub record IsEnding (view : RecordedView J T) : Type 0 where

@@ -48,7 +48,7 @@ module _ {J T : Type 0} (same : J → J → Type 0) (made : J → ℕ) (polls : 
   pub record HaveEnded (cores cap : ℕ) (workers : List (LinkedView J T)) (outside : OutsideView J T) : Type 0 where
     pub count : length workers ≡ cores
     pub seats : (core : ℕ) → core < cores → terms_at (worker_at core workers).recorded ≡ record { actor = core; cores = cores; cap = cap }
-    pub ended : (core : ℕ) → core < cores → HasEnded same made polls (worker_at core workers)
+    pub ended : (core : ℕ) → core < cores → HasEnded same made polls fits (worker_at core workers)
     pub outside_terms : terms_of_desk outside.desk ≡ record { actor = cores; cores = cores; cap = cap }
     pub outside_is : IsOutside outside
     pub reunited : AreReunited fits cores (all_ends workers outside)

@@ -4,11 +4,12 @@ ghost use Rattle.std.specs.Prelude.{◌≡◌, ◌+◌, ◌<◌, ◌≤◌, IsSo
 ghost use Rattle.rt_ids.specs.Closing.{core_mode, final_count};
 ghost use Rattle.rt_grid.specs.Ends.{in_at};
 ghost use Rattle.rt_link.specs.Ends.{SoundIn};
+ghost use Rattle.rt_link.specs.Fits.{Fits};
 ghost use Rattle.rt_worker.specs.Linked.{IsLinked};
-ghost use Rattle.rt_worker.specs.Steps.{ShutsGate, DeliversFrom};
+ghost use Rattle.rt_worker.specs.Steps.{ShutsGate, DeliversFrom, CollectsOf};
 
 use rt_grid::Ends;
-use rt_ids::ActorNo;
+use rt_ids::{ActorNo, CoreNo};
 use rt_jobs::Task;
 use rt_journal::Recorded;
 use rt_link::InEnd;
@@ -19,12 +20,12 @@ pub(crate) fn shut_on<J: Task<Out = u64>>(
     ends: &mut Ends<J>,
     sender: ActorNo,
 )
-    requires linked { IsLinked J.SameTask J.made J.Polls (record { recorded = recorded.old; ends = ends.old }) }
+    requires linked { IsLinked J.SameTask J.made J.Polls (Fits J.SameTask J.Answers) (record { recorded = recorded.old; ends = ends.old }) }
     requires known { sender ≤ recorded.old.core.cores }
     requires closed { IsSome (core_mode recorded.old.journal.notes) }
     requires untold { final_count sender recorded.old.journal.notes ≡ None }
     requires room { length recorded.old.journal.notes < recorded.old.journal.room }
-    ensures linked { IsLinked J.SameTask J.made J.Polls (record { recorded = recorded.new; ends = ends.new }) }
+    ensures linked { IsLinked J.SameTask J.made J.Polls (Fits J.SameTask J.Answers) (record { recorded = recorded.new; ends = ends.new }) }
     ensures does { ShutsGate sender (record { recorded = recorded.old; ends = ends.old }) (record { recorded = recorded.new; ends = ends.new }) }
 {
     recorded.shut(&mut ends.ins[sender.0 as usize], sender);
@@ -36,13 +37,28 @@ pub(crate) fn deliver_on<J: Task<Out = u64>>(
     ends: &mut Ends<J>,
     sender: ActorNo,
 ) -> bool
-    requires linked { IsLinked J.SameTask J.made J.Polls (record { recorded = recorded.old; ends = ends.old }) }
+    requires linked { IsLinked J.SameTask J.made J.Polls (Fits J.SameTask J.Answers) (record { recorded = recorded.old; ends = ends.old }) }
     requires known { sender ≤ recorded.old.core.cores }
     requires room { length recorded.old.journal.notes + 2 ≤ recorded.old.journal.room }
-    ensures linked { IsLinked J.SameTask J.made J.Polls (record { recorded = recorded.new; ends = ends.new }) }
+    ensures linked { IsLinked J.SameTask J.made J.Polls (Fits J.SameTask J.Answers) (record { recorded = recorded.new; ends = ends.new }) }
     ensures does { DeliversFrom sender (record { recorded = recorded.old; ends = ends.old }) result (record { recorded = recorded.new; ends = ends.new }) }
 {
     recorded.deliver(&mut ends.ins[sender.0 as usize])
+}
+
+/// Collects all outcomes that the end to this core shows. How many there were.
+pub(crate) fn collect_on<J: Task<Out = u64>>(
+    recorded: &mut Recorded<J>,
+    ends: &mut Ends<J>,
+    core: CoreNo,
+) -> usize
+    requires linked { IsLinked J.SameTask J.made J.Polls (Fits J.SameTask J.Answers) (record { recorded = recorded.old; ends = ends.old }) }
+    requires known { core < recorded.old.core.cores }
+    requires room { length recorded.old.journal.notes + recorded.old.cap ≤ recorded.old.journal.room }
+    ensures linked { IsLinked J.SameTask J.made J.Polls (Fits J.SameTask J.Answers) (record { recorded = recorded.new; ends = ends.new }) }
+    ensures does { CollectsOf core (record { recorded = recorded.old; ends = ends.old }) result (record { recorded = recorded.new; ends = ends.new }) }
+{
+    recorded.collect_from(&mut ends.outs[core.0 as usize], core)
 }
 
 /// What the end of this sender tells of itself: how many orders may be without an outcome.

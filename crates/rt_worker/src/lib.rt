@@ -1,6 +1,7 @@
 //! One worker: a core beside its journal, over its actor's ends of the links.
 #![tactic(auto)]
 
+pub mod bell;
 pub mod ended;
 mod gates;
 pub mod laws;
@@ -8,12 +9,17 @@ mod lent;
 pub mod linked;
 mod next;
 mod opening;
+mod polling;
+mod posting;
 pub mod served;
+pub mod stopwatch;
 pub mod turn;
 pub mod worker;
 
+pub use bell::{Bell, ring};
 pub use ended::Ended;
 pub use linked::Linked;
 pub use served::Served;
+pub use stopwatch::Stopwatch;
 pub use turn::Made;
-pub use worker::{Bell, Worker};
+pub use worker::Worker;

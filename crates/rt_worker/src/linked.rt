@@ -2,13 +2,14 @@
 
 ghost use Rattle.std.specs.Prelude.{◌≡◌, ◌+◌, ◌<◌, ◌≤◌, ◌↔◌, IsSome, IsTrue, None, length, is_some};
 ghost use Rattle.rt_ids.specs.Closing.{IsDrained, core_mode, final_count};
+ghost use Rattle.rt_link.specs.Fits.{Fits};
 ghost use Rattle.rt_worker.specs.Linked.{IsLinked};
 ghost use Rattle.rt_worker.specs.Rooms.{IsShort};
-ghost use Rattle.rt_worker.specs.Steps.{ShutsGate, DeliversFrom};
+ghost use Rattle.rt_worker.specs.Steps.{ShutsGate, DeliversFrom, CollectsOf};
 
-use crate::lent::{deliver_on, shut_on};
+use crate::lent::{collect_on, deliver_on, shut_on};
 use rt_grid::Ends;
-use rt_ids::ActorNo;
+use rt_ids::{ActorNo, CoreNo};
 use rt_jobs::Task;
 use rt_journal::Recorded;
 use std::marker::Model;
@@ -28,17 +29,18 @@ impl<J: Task<Out = u64>> Model for Linked<J> {
     ghost Value = { LinkedView J ℕ };
 
     ghost use Rattle.std.specs.Prelude.{◌≡◌};
+    ghost use Rattle.rt_link.specs.Fits.{Fits};
     ghost use Rattle.rt_worker.specs.Linked.{IsLinked};
 
     ghost view = { λ l. record { recorded = l.recorded; ends = l.ends } };
 
-    ghost invariant = { λ l. IsLinked J.SameTask J.made J.Polls (record { recorded = l.recorded; ends = l.ends }) × (l.cores ≡ l.recorded.core.cores) };
+    ghost invariant = { λ l. IsLinked J.SameTask J.made J.Polls (Fits J.SameTask J.Answers) (record { recorded = l.recorded; ends = l.ends }) × (l.cores ≡ l.recorded.core.cores) };
 }
 
 impl<J: Task<Out = u64>> Linked<J> {
     /// A core beside its ends. There are so many cores in its house.
     pub fn of(cores: u8, recorded: Recorded<J>, ends: Ends<J>) -> Self
-        requires linked { IsLinked J.SameTask J.made J.Polls (record { recorded = recorded; ends = ends }) }
+        requires linked { IsLinked J.SameTask J.made J.Polls (Fits J.SameTask J.Answers) (record { recorded = recorded; ends = ends }) }
         requires cores { cores ≡ recorded.core.cores }
         ensures { result ≡ record { recorded = recorded; ends = ends } }
     {
@@ -53,7 +55,7 @@ impl<J: Task<Out = u64>> Linked<J> {
     pub fn into_parts(self) -> (Recorded<J>, Ends<J>)
         ensures recorded { result.0 ≡ self.recorded }
         ensures ends { result.1 ≡ self.ends }
-        ensures linked { IsLinked J.SameTask J.made J.Polls self }
+        ensures linked { IsLinked J.SameTask J.made J.Polls (Fits J.SameTask J.Answers) self }
     {
         let Linked { recorded, ends, .. } = self;
         (recorded, ends)
@@ -105,8 +107,18 @@ impl<J: Task<Out = u64>> Linked<J> {
         requires known { sender ≤ self.old.recorded.core.cores }
         requires room { length self.old.recorded.journal.notes + 2 ≤ self.old.recorded.journal.room }
         ensures delivers { DeliversFrom sender self.old result self.new }
-        ensures linked { IsLinked J.SameTask J.made J.Polls self.new }
+        ensures linked { IsLinked J.SameTask J.made J.Polls (Fits J.SameTask J.Answers) self.new }
     {
         deliver_on(&mut self.recorded, &mut self.ends, sender)
+    }
+
+    /// Collects all outcomes that the link to this core shows. How many there were.
+    pub fn collect_from(&mut self, core: CoreNo) -> usize
+        requires known { core < self.old.recorded.core.cores }
+        requires room { length self.old.recorded.journal.notes + self.old.recorded.cap ≤ self.old.recorded.journal.room }
+        ensures collects { CollectsOf core self.old result self.new }
+        ensures linked { IsLinked J.SameTask J.made J.Polls (Fits J.SameTask J.Answers) self.new }
+    {
+        collect_on(&mut self.recorded, &mut self.ends, core)
     }
 }

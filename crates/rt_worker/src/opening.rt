@@ -6,9 +6,10 @@ ghost use Rattle.rt_settings.specs.Configs.{least_room, queues_of};
 ghost use Rattle.rt_journal.specs.Steps.{opened_beside};
 ghost use Rattle.rt_worker.specs.Opening.{AreEndsOf, CreatesSince, IsOpenedOver};
 
+use crate::bell::Bell;
 use crate::linked::Linked;
 use crate::served::Served;
-use crate::worker::{Bell, Worker};
+use crate::worker::Worker;
 use rt_grid::Ends;
 use rt_ids::CoreNo;
 use rt_jobs::Task;
@@ -97,6 +98,6 @@ impl<J: Task<Out = u64>, C: Drop, G: Drop> Worker<J, C, G> {
         ensures { IfOk result (λ worker. IsOpenedOver config.now.cores config.now.cap config.now.room ends worker) }
     {
         let served = serve_core(alloc, config, ends)?;
-        Ok(Worker::of(served, clock, gate, bell))
+        Ok(Worker::of(alloc, served, clock, gate, bell))
     }
 }

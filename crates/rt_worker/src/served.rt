@@ -1,7 +1,8 @@
 //! A linked core that keeps room for its end: each of its steps is one of a worker's round.
 
-ghost use Rattle.std.specs.Prelude.{◌≡◌, ◌≤◌, ◌↔◌, IsTrue, false};
+ghost use Rattle.std.specs.Prelude.{◌≡◌, ◌<◌, ◌≤◌, ◌↔◌, IsTrue, false};
 ghost use Rattle.rt_ids.specs.Closing.{IsDrained};
+ghost use Rattle.rt_link.specs.Fits.{Fits};
 ghost use Rattle.rt_worker.specs.Ended.{HasEnded};
 ghost use Rattle.rt_worker.specs.Linked.{StaysLinked};
 ghost use Rattle.rt_worker.specs.Rooms.{ClosesOnlyShort, HasSpare, IsReady};
@@ -9,9 +10,12 @@ ghost use Rattle.rt_worker.specs.Rooms.{ClosesOnlyShort, HasSpare, IsReady};
 use crate::ended::Ended;
 use crate::linked::Linked;
 use crate::turn::Made;
-use rt_ids::ActorNo;
+use rt_ids::{ActorNo, CoreNo};
 use rt_jobs::{Job, Task};
-use rt_settings::{Clock, Gate};
+use rt_notes::Journal;
+use rt_settings::Gate;
+use rt_taskqueue::Meter;
+use std::alloc::Global;
 use std::marker::Model;
 
 /// A linked core, and whether its worker is at its end: then each gate is shut, and nothing is polled any more.
@@ -27,11 +31,12 @@ impl<J: Task<Out = u64>> Model for Served<J> {
 
     ghost Value = { ServedView J ℕ };
 
+    ghost use Rattle.rt_link.specs.Fits.{Fits};
     ghost use Rattle.rt_worker.specs.Ended.{IsServed};
 
     ghost view = { λ s. record { linked = s.linked; ending = s.ending } };
 
-    ghost invariant = { λ s. IsServed J.SameTask J.made J.Polls (record { linked = s.linked; ending = s.ending }) };
+    ghost invariant = { λ s. IsServed J.SameTask J.made J.Polls (Fits J.SameTask J.Answers) (record { linked = s.linked; ending = s.ending }) };
 }
 
 impl<J: Task<Out = u64>> Served<J> {
@@ -110,6 +115,38 @@ impl<J: Task<Out = u64>> Served<J> {
         some
     }
 
+    /// Collects what the link to this core shows. Whether there was anything. A worker at its end leaves it.
+    fn collect_one(&mut self, core: CoreNo) -> bool
+        requires { core < self.old.linked.recorded.core.cores }
+        ensures { StaysLinked self.old.linked self.new.linked }
+    {
+        self.look();
+        if self.ending {
+            return false;
+        }
+        self.linked.collect_from(core) > 0
+    }
+
+    /// Collects what the links to all cores show. Whether there was anything.
+    pub(crate) fn collect_all(&mut self) -> bool
+        ensures { StaysLinked self.old.linked self.new.linked }
+    {
+        let mut some = false;
+        for core in 0..self.linked.cores {
+            if self.collect_one(CoreNo(core)) {
+                some = true;
+            }
+        }
+        some
+    }
+
+    /// The notes of this worker.
+    pub(crate) fn journal(&self) -> &Journal<u64>
+        ensures { result.now ≡ self.now.linked.recorded.journal }
+    {
+        self.linked.recorded.journal()
+    }
+
     /// Shuts the open gates of a core that was closed. Whether there was one.
     pub(crate) fn close_gates(&mut self) -> bool
         ensures { StaysLinked self.old.linked self.new.linked }
@@ -128,11 +165,16 @@ impl<J: Task<Out = u64>> Served<J> {
 
 impl<J: Job + Task<Out = u64>> Served<J> {
     /// Makes one turn. Whether there was work.
-    pub(crate) fn take_turn<C: Clock, G: Gate>(&mut self, clock: &mut C, gate: &mut G) -> bool
+    pub(crate) fn take_turn<M: Meter, G: Gate>(
+        &mut self,
+        alloc: Global,
+        meter: &mut M,
+        gate: &mut G,
+    ) -> bool
         ensures { StaysLinked self.old.linked self.new.linked }
     {
         self.look();
-        match self.linked.turn(clock, gate) {
+        match self.linked.turn(alloc, meter, gate) {
             Made::Polled | Made::Returned => true,
             Made::Idle | Made::Spent => false,
         }

@@ -1,34 +1,33 @@
 //! A worker: it serves one core until the core is drained.
 
-ghost use Rattle.std.specs.Prelude.{◌≡◌, ◌↔◌, IsTrue};
+ghost use Rattle.std.specs.Prelude.{◌≡◌, ◌≤◌, length};
 ghost use Rattle.rt_worker.specs.Linked.{StaysLinked};
 
+use crate::bell::{Bell, ring_for, sleep};
 use crate::ended::Ended;
 use crate::served::Served;
+use crate::stopwatch::Stopwatch;
 use rt_jobs::{Job, Task};
 use rt_settings::{Clock, Gate};
 use rt_workers::{Promised, Work};
 use std::alloc::Global;
 use std::marker::Model;
-use std::sync::atomic::{AtomicU64, Ordering};
-use std::sync::{Arc, Wait};
+use std::sync::Wait;
+use std::sync::atomic::Ordering;
 
 /// How many rounds in which nothing was done a worker makes before it parks.
 const TRIES: u32 = 256;
 
-/// A thread parks on the low half of its bell.
-const BELL_TURNS: u64 = 1 << 32;
-
-/// The word that an idle worker parks on. Whoever has something for it adds one, and wakes it.
-pub type Bell = Arc<AtomicU64, Global>;
-
 /// A core beside its journal, over its actor's ends of the links, with a clock, a gate and a bell of its own.
 #[derive(Drop)]
 pub struct Worker<J: Task<Out = u64>, C: Drop, G: Drop> {
+    alloc: Global,
     served: Served<J>,
-    clock: C,
+    watch: Stopwatch<C>,
     gate: G,
     bell: Bell,
+    /// The bells of all workers, each at the number of its core. There may be none: then nobody is woken.
+    bells: Vec<Bell>,
     /// How many rounds in a row nothing was done.
     idle: u32,
 }
@@ -43,16 +42,36 @@ impl<J: Task<Out = u64>, C: Drop, G: Drop> Model for Worker<J, C, G> {
 }
 
 impl<J: Task<Out = u64>, C: Drop, G: Drop> Worker<J, C, G> {
-    /// A worker that has not begun.
-    pub fn of(served: Served<J>, clock: C, gate: G, bell: Bell) -> Self
+    /// A worker that has not begun. It wakes nobody.
+    pub fn of(alloc: Global, served: Served<J>, clock: C, gate: G, bell: Bell) -> Self
         ensures { result ≡ served.linked }
     {
         Worker {
+            alloc,
             served,
-            clock,
+            watch: Stopwatch::new(clock),
             gate,
             bell,
+            bells: Vec::new(alloc),
             idle: 0,
+        }
+    }
+
+    /// The same worker, which wakes the workers of these bells: one to which a job of its core sent an order, and one whose order has its
+    /// outcome. Each bell stands at the number of its core.
+    pub fn with_bells(self, bells: Vec<Bell>) -> Self
+        ensures { result ≡ self }
+    {
+        let mut worker = self;
+        worker.bells = bells;
+        worker
+    }
+
+    /// Wakes the workers that have something from the notes behind the first `count`.
+    fn ring_since(&self, count: usize) {
+        let notes = self.served.journal().as_slice();
+        if count < notes.len() {
+            ring_for(&self.bells, &notes[count..]);
         }
     }
 
@@ -63,23 +82,46 @@ impl<J: Task<Out = u64>, C: Drop, G: Drop> Worker<J, C, G> {
         if self.idle < TRIES {
             self.idle += 1;
         } else {
-            self.bell.park(rt, (heard % BELL_TURNS) as u32);
+            sleep(rt, &self.bell, heard);
         }
+    }
+
+    /// Shuts the gates of a closed core, and delivers what shows. Whether anything was done.
+    fn take_in(&mut self) -> bool
+        ensures { StaysLinked self.old self.new }
+    {
+        let before = self.served.journal().len();
+        let shut = self.served.close_gates();
+        let delivered = self.served.deliver_all();
+        self.ring_since(before);
+        shut || delivered
     }
 }
 
 impl<J: Job + Task<Out = u64>, C: Clock + Drop, G: Gate + Drop> Worker<J, C, G> {
-    /// One round: gates, deliveries, one turn. Whether anything was done.
+    /// Makes one turn. Whether there was work.
+    fn take_turn(&mut self) -> bool
+        ensures { StaysLinked self.old self.new }
+    {
+        let before = self.served.journal().len();
+        let turned = self
+            .served
+            .take_turn(self.alloc, &mut self.watch, &mut self.gate);
+        self.ring_since(before);
+        turned
+    }
+
+    /// One round: gates, deliveries, one turn, outcomes. Whether anything was done.
     fn round(&mut self) -> bool
         ensures { StaysLinked self.old self.new }
     {
-        let shut = self.served.close_gates();
-        let delivered = self.served.deliver_all();
-        let turned = self.served.take_turn(&mut self.clock, &mut self.gate);
-        shut || delivered || turned
+        let taken = self.take_in();
+        let turned = self.take_turn();
+        let collected = self.served.collect_all();
+        taken || turned || collected
     }
 
-    /// One round, and a rest where nothing was to be done.
+    /// One round, and a rest if nothing was to be done.
     fn serve<R: Wait>(&mut self, rt: &R)
         ensures { StaysLinked self.old self.new }
     {

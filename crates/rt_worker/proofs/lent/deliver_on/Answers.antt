@@ -10,9 +10,9 @@ deliver-requires-clause-beside g c =
 pub returns-clause-linked : goal.returns-clause-linked
 returns-clause-linked g c =
     delivers_linked c.args.sender c.args.recorded.now c.deliver.new.self c.args.ends.now c.sender.inside.0 _ c.index_mut.result.now c.deliver.new.end (record { number = c.sender.view_is; seen = c.ends.view_is }) c.requires.linked c.requires.known c.index_mut.ensures.value
-    c.deliver.result c.deliver.ensures.delivers c.deliver.ensures.beside c.deliver.ensures.others c.deliver.ensures.outs c.deliver.ensures.seat c.deliver.ensures.untouched c.deliver.ensures.sound
+    c.deliver.result c.deliver.ensures.delivers c.deliver.ensures.beside c.deliver.ensures.others c.deliver.ensures.outs c.deliver.ensures.lanes c.deliver.ensures.seat c.deliver.ensures.untouched c.deliver.ensures.sound
 
 pub returns-clause-does : goal.returns-clause-does
 returns-clause-does g c =
     delivers_does c.args.sender c.args.recorded.now c.deliver.new.self c.args.ends.now c.sender.inside.0 _ c.index_mut.result.now c.deliver.new.end (record { number = c.sender.view_is; seen = c.ends.view_is }) c.requires.linked c.requires.known c.index_mut.ensures.value
-    c.deliver.result c.deliver.ensures.delivers c.deliver.ensures.beside c.deliver.ensures.others c.deliver.ensures.outs c.deliver.ensures.seat c.deliver.ensures.untouched
+    c.deliver.result c.deliver.ensures.delivers c.deliver.ensures.beside c.deliver.ensures.others c.deliver.ensures.outs c.deliver.ensures.lanes c.deliver.ensures.seat c.deliver.ensures.untouched

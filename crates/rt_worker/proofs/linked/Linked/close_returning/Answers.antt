@@ -4,6 +4,6 @@ use Rattle.std.proofs.Common.{◌∙◌, sym}
 
 pub invariant_of-self : goal.invariant_of-self
 invariant_of-self g c = (
-  returned_linked c.self.inside.recorded c.close.new.self c.self.inside.ends c.self.invariant.0 c.close.result c.close.ensures.closes c.close.ensures.ins c.close.ensures.outs c.close.ensures.seat c.close.ensures.sound,
+  returned_linked c.self.inside.recorded c.close.new.self c.self.inside.ends c.self.invariant.0 c.close.result c.close.ensures.closes c.close.ensures.ins c.close.ensures.outs c.close.ensures.lanes c.close.ensures.seat c.close.ensures.sound,
   c.self.invariant.1 ∙ sym c.close.ensures.seat.cores,
 )

@@ -1,4 +1,5 @@
 use Rattle.std.proofs.Common.{sym, subst, ◌∙◌}
+use Rattle.rt_link.specs.Fits.{Fits}
 use Rattle.rt_worker.specs.Linked.{IsLinked}
 use Rattle.rt_worker.proofs.Gated.{leaves_then, leaves_else}
 use Rattle.rt_worker.proofs.linked.Linked.shut_if_open.Goals.{then-not-shut, else-not-shut}
@@ -12,4 +13,4 @@ returns-clause-leaves g c =
     ]
 
 pub returns-clause-linked : goal.returns-clause-linked
-returns-clause-linked g c = subst (IsLinked g.J.Task.SameTask g.J.Task.made g.J.Task.Polls) c.self-2.view_is c.self-2.invariant.0
+returns-clause-linked g c = subst (IsLinked g.J.Task.SameTask g.J.Task.made g.J.Task.Polls (Fits g.J.Task.SameTask g.J.Task.Answers)) c.self-2.view_is c.self-2.invariant.0
