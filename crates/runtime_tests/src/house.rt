@@ -1,7 +1,8 @@
 //! A house of cores on threads: what its caller submits, and what its journals say at the end.
 
 use rt_ids::{
-    ActorNo, Answer, CoreNo, JobId, Mode, Note, Order, Outcome, QueueNo, Reason, Ticket, TicketError,
+    ActorNo, Answer, CoreNo, JobId, Mode, Note, Order, Outcome, QueueNo, Reason, Ticket,
+    TicketError,
 };
 use rt_jobs::example::Work;
 use rt_journal::{Assembly, Journal};

@@ -111,12 +111,17 @@ fn submit<R: Drop>(
         other: Arc::try_clone(other)?,
         ended: false,
     };
-    Ok(house.submit(core, Order::Job(QueueNo(0), job)).is_ok()
-        && house.close_core(core, Mode::Finish).is_ok())
+    Ok(
+        house.submit(core, Order::Job(QueueNo(0), job)).is_ok()
+            && house.close_core(core, Mode::Finish).is_ok(),
+    )
 }
 
 /// Whether the job of this core answered 1.
 fn saw(assembly: &Assembly, core: u8) -> bool {
+    if core > assembly.cores() {
+        return false;
+    }
     let name = JobId {
         from: ActorNo(2),
         to: CoreNo(core),

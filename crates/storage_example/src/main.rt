@@ -25,6 +25,7 @@ const CORES: u8 = 2;
 
 /// Each core has a queue of reads and a queue of compaction beside queue 0.
 const READS: QueueNo = QueueNo(1);
+
 const COMPACTION: QueueNo = QueueNo(2);
 
 /// A core reads the system's clock round each poll, and asks nobody before it.
@@ -137,11 +138,12 @@ where
 /// The statistics of each core and its queues, as text.
 fn statistics(alloc: Global, assembly: &Assembly) -> Result<String, AllocError> {
     let mut page = String::new(alloc);
-    for core in 0..CORES {
+    let cores = assembly.cores();
+    for core in 0..cores {
         put_stats(
             alloc,
             CoreNo(core),
-            CORES,
+            cores,
             assembly.journal(ActorNo(core)),
             &mut page,
         )?;
