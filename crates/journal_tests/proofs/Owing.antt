@@ -1,6 +1,6 @@
 -- What a pick that hands a job back leaves owed, and to whom.
 use Rattle.std.proofs.Common.{◌≡◌, ◌≢◌, ℕ, Bool, true, false, Ok, Some, None, refl, sym, ap, subst, cond}
-use Rattle.std.specs.Prelude.{◌==◌}
+use Rattle.std.specs.Prelude.{◌==◌, Option}
 use Rattle.std.proofs.lemmas.Bool.{eq-eqb, ne_eqb}
 use Rattle.rt_ids.specs.declared.names.JobId.{JobId}
 use Rattle.rt_ids.specs.declared.note.OutcomeNote.{OutcomeNote}
@@ -14,7 +14,8 @@ use Rattle.rt_link.specs.declared.ends.Inward.{Inward}
 use Rattle.rt_journal.specs.Recorded.{RecordedView, order_taken}
 use Rattle.rt_journal.specs.Owed.{IsSentUnder}
 use Rattle.rt_journal.specs.Turns.{Picks, IsHandBack}
-use Rattle.rt_journal.specs.Ends.{IsInOf, IsInOwing, LeavesOwed}
+use Rattle.rt_journal.specs.Ends.{IsInOf, IsInOwing, LeavesOwed, told_under}
+use Rattle.rt_journal.proofs.DeliveredEnds.{told_elsewhere}
 
 module _ {J T : Type 0} (old new : RecordedView J T) (name : JobId) (what : JobId × OutcomeNote T) (end : Inward J T) where
   -- to its sender
@@ -39,3 +40,12 @@ hands_sent {same = same} old new turn name reason order is picks =
       back = hands.back;
       same_task = hands.same_task;
     }
+
+-- what a turn in place leaves owed: to the sender of its job
+module _ {J T : Type 0} (old new : RecordedView J T) (name : JobId) (what : Option (OutcomeNote T)) (end : Inward J T) (sender : ℕ) (leaves : LeavesOwed sender (told_under name what sender) old new) (is : IsInOf sender old end) where
+  pub turn_owes : name.from ≡ sender → IsInOwing name.from (told_under name what name.from) new end
+  turn_owes from = subst (λ at. IsInOwing at (told_under name what at) new end) (sym from) (leaves.each end is)
+
+  -- and to nobody else
+  pub turn_keeps : name.from ≢ sender → IsInOf sender new end
+  turn_keeps apart = subst (λ owed. IsInOwing sender owed new end) (told_elsewhere name what sender (λ same. apart (sym same))) (leaves.each end is)

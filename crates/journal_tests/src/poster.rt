@@ -7,7 +7,7 @@ ghost use Rattle.rt_journal.specs.Tickets.{HasLane};
 ghost use Rattle.rt_link.specs.Fits.{Fits};
 
 use crate::actors::{OUTSIDE, OWN, tells};
-use rt_core::{Ahead, Turn};
+use rt_core::Ahead;
 use rt_ids::{ActorNo, Note};
 use rt_jobs::{ScriptJob, Task};
 use rt_journal::Recorded;
@@ -87,7 +87,9 @@ impl<O: OutEnd<ScriptJob> + Drop, I: InEnd<ScriptJob> + Drop> Poster<O, I> {
             return false;
         };
         let mut spent = 5;
-        let settled = self.core.turn_posting(alloc, &mut self.outs, &next, &mut spent);
+        let settled = self
+            .core
+            .turn_posting(alloc, &mut self.outs, &next, &mut spent);
         if next.name.from == OWN {
             self.core.give_done(&mut self.own, next.name, &settled);
         } else if next.name.from == OUTSIDE {
@@ -103,23 +105,6 @@ impl<O: OutEnd<ScriptJob> + Drop, I: InEnd<ScriptJob> + Drop> Poster<O, I> {
                 return false;
             }
         }
-        true
-    }
-
-    /// Whether a job of the outside actor was picked, polled and settled.
-    pub fn turn_in_parts(&mut self, alloc: Global) -> bool {
-        let cap = self.core.cap();
-        if self.core.journal().free() < 3 * cap as u32 + 3 {
-            return false;
-        }
-        let Ok(Turn::Start(name, _, job)) = self.core.pick() else {
-            return false;
-        };
-        if name.from != OUTSIDE {
-            return false;
-        }
-        let ran = self.core.poll(alloc, &mut self.outs, job);
-        drop(self.core.settle(&mut self.outside, name, ran, 5));
         true
     }
 

@@ -1,7 +1,8 @@
 //! Jobs that submit from inside their polls.
 
-ghost use Rattle.std.specs.Prelude.{◌≡◌};
+ghost use Rattle.std.specs.Prelude.{◌≡◌, IfOk};
 ghost use Rattle.rt_jobs.specs.Ready.{HasReadyJob};
+ghost use Rattle.rt_link.specs.Whole.{fresh};
 
 use crate::actors::{CORE, OUTSIDE, OWN, Sender, name};
 use crate::poster::Poster;
@@ -10,7 +11,7 @@ use rt_jobs::{Poll, ScriptJob, Task};
 use rt_journal::{Recorded, RecordedDesk};
 use rt_link::{OutEnd, PlainLink};
 use rt_ring::RingLink;
-use std::alloc::Global;
+use std::alloc::{AllocError, Global};
 use std::process::Abort;
 use std::test::Fail;
 
@@ -31,31 +32,39 @@ fn job(rt: &impl Abort) -> Order<ScriptJob>
     Order::Job(QUEUE, job)
 }
 
+/// A link of one place from the outside actor to core 0, on which a job was sent.
+fn link_with(alloc: Global, job: Order<ScriptJob>) -> Result<PlainLink<ScriptJob>, AllocError>
+    requires { HasReadyJob ⟦<ScriptJob as Task>⟧.done ⟦<ScriptJob as Task>⟧.CanPoll job }
+    ensures { IfOk result (λ link. link ≡ record (fresh 1 0 1 0) { sent = link.sent }) }
+{
+    let mut link = PlainLink::open(alloc, OUTSIDE, CORE, 1)?;
+    drop(link.send(job));
+    Ok(link)
+}
+
 /// What the core notes of that job, and then of the job that it submitted. The link to itself has one place, so the second submission is
 /// refused, and there is no core 9.
 fn noted() -> [Note<u64>; 19] {
-    let job = name(OUTSIDE, 1);
-    let own = name(OWN, 1);
     [
-        Note::Took(job, QUEUE),
+        Note::Took(name(OUTSIDE, 1), QUEUE),
         Note::Pick(QUEUE, 0),
-        Note::Start(job),
-        Note::Sent(own, Order::Job(QUEUE, ())),
-        Note::Detached(own),
-        Note::Yield(job, 10),
+        Note::Start(name(OUTSIDE, 1)),
+        Note::Sent(name(OWN, 1), Order::Job(QUEUE, ())),
+        Note::Detached(name(OWN, 1)),
+        Note::Yield(name(OUTSIDE, 1), 10),
         Note::Pick(QUEUE, 10),
-        Note::Resume(job),
-        Note::Yield(job, 10),
+        Note::Resume(name(OUTSIDE, 1)),
+        Note::Yield(name(OUTSIDE, 1), 10),
         Note::Pick(QUEUE, 20),
-        Note::Resume(job),
-        Note::Yield(job, 10),
+        Note::Resume(name(OUTSIDE, 1)),
+        Note::Yield(name(OUTSIDE, 1), 10),
         Note::Pick(QUEUE, 30),
-        Note::Resume(job),
-        Note::Done(job, 1, 7),
-        Note::Took(own, QUEUE),
+        Note::Resume(name(OUTSIDE, 1)),
+        Note::Done(name(OUTSIDE, 1), 1, 7),
+        Note::Took(name(OWN, 1), QUEUE),
         Note::Pick(QUEUE, 31),
-        Note::Start(own),
-        Note::Done(own, 1, 0),
+        Note::Start(name(OWN, 1)),
+        Note::Done(name(OWN, 1), 1, 0),
     ]
 }
 
@@ -78,12 +87,10 @@ fn a_job_submits_over_rings(rt: HostRuntime) -> Result<(), Fail> {
 fn a_job_submits_over_plain_links(rt: HostRuntime) -> Result<(), Fail> {
     let out = PlainLink::open(rt.alloc(), OWN, CORE, 1)?;
     let own = PlainLink::open(rt.alloc(), OWN, CORE, 1)?;
-    let mut outside = PlainLink::open(rt.alloc(), OUTSIDE, CORE, 1)?;
-    let sent = outside.send(job(&rt)).is_ok();
+    let outside = link_with(rt.alloc(), job(&rt))?;
     let core = Recorded::open(rt.alloc(), rt.alloc(), CORE, 1, 1, 30)?;
     let mut poster = Poster::new(rt.alloc(), core, out, own, outside)?;
-    let first = poster.deliver(OUTSIDE) && poster.turn_in_parts(rt.alloc());
-    let rest = poster.turns(rt.alloc(), 3);
-    assert!(rt; sent && first && rest && poster.tells(&noted()[..15]));
+    let polled = poster.deliver(OUTSIDE) && poster.turns(rt.alloc(), 4);
+    assert!(rt; polled && poster.tells(&noted()[..15]));
     Ok(())
 }

@@ -23,12 +23,15 @@ pub sent_at_most : (notes : List (Note ℕ)) → sent_count notes ≤ length not
 sent_at_most [] = omega arith
 sent_at_most (note ∷ notes) = let one = one_at_most (name_sent note) in let others = sent_at_most notes in omega arith
 
--- notes that add at most six to the count
-pub record AreLight (notes : List (Note ℕ)) : Type 0 where
-  pub most : length notes + sent_count notes ≤ collected_count notes + 6
+-- notes that add at most so many to the count
+pub record AreLight (most : ℕ) (notes : List (Note ℕ)) : Type 0 where
+  pub within : length notes + sent_count notes ≤ collected_count notes + most
 
-pub few_light : (notes : List (Note ℕ)) → length notes ≤ 3 → AreLight notes
-few_light notes few = record { most = let sent = sent_at_most notes in omega arith }
+pub light : (most : ℕ) (notes : List (Note ℕ)) → length notes + sent_count notes ≤ most → AreLight most notes
+light most notes few = record { within = omega arith }
+
+pub few_light : (notes : List (Note ℕ)) → length notes ≤ 3 → AreLight 6 notes
+few_light notes few = let sent = sent_at_most notes in light 6 notes (omega arith)
 
 -- collected outcomes add nothing
 collected_light_more : (outcomes : Outcomes ℕ) → (sent_count (collected_notes outcomes) ≡ 0) × (length (collected_notes outcomes) ≡ collected_count (collected_notes outcomes))
@@ -41,14 +44,14 @@ collected_light_more (outcome ∷ later) =
     let count = length-append (collected_notes later) last in
     (omega (arith, more.0), omega (arith, more.1))
 
-pub collected_light : (outcomes : Outcomes ℕ) → AreLight (collected_notes outcomes)
-collected_light outcomes = let all = collected_light_more outcomes in record { most = omega (arith, all.0, all.1) }
+pub collected_light : (outcomes : Outcomes ℕ) → AreLight 6 (collected_notes outcomes)
+collected_light outcomes = let all = collected_light_more outcomes in record { within = omega (arith, all.0, all.1) }
 
 -- a journal behind light notes
-pub light_more : (notes before : List (Note ℕ)) → AreLight notes →
-    length (notes ++ before) + sent_count (notes ++ before) + collected_count before ≤ length before + sent_count before + collected_count (notes ++ before) + 6
-light_more notes before light =
-    let most = light.most in
+pub light_more : (most : ℕ) (notes before : List (Note ℕ)) → AreLight most notes →
+    length (notes ++ before) + sent_count (notes ++ before) + collected_count before ≤ length before + sent_count before + collected_count (notes ++ before) + most
+light_more most notes before light =
+    let within = light.within in
     let sent = sent_more notes before in
     let collected = collected_more notes before in
     let count = length-append notes before in

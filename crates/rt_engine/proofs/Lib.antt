@@ -1,5 +1,6 @@
 pub mod EventLimits
 pub mod EventTexts
+pub mod Growing
 pub mod OpeningLemmas
 pub mod PrintLemmas
 pub mod WorldSteps

@@ -19,7 +19,7 @@ use Rattle.rt_world.proofs.KeptLists.{happens_keep}
 use Rattle.rt_world.proofs.DeterminedOpenings.{fresh_once}
 use Rattle.rt_world.proofs.DeterminedRefusals.{refused-happens, was_refused}
 use Rattle.rt_world.proofs.DeterminedRuns.{happens_once, assembly_once}
-use Rattle.rt_world.proofs.DeterminedScripts.{scripts_owe_one}
+use Rattle.rt_world.proofs.DeterminedScripts.{scripts_owe_one, scripts_order_none}
 use Rattle.rt_world.proofs.NoRefusals.{plain_unbegun, run_plain}
 use Rattle.rt_world.proofs.UnbegunCreations.{unbegun_fresh, unbegun_creations}
 use Rattle.rt_script.specs.declared.event.ScriptEvent.{ScriptEvent}
@@ -100,7 +100,7 @@ module _ (script : Drafted) (output : List ℕ) (is : IsOutput script output) wh
   not_refused none =
       let start = with_queues script.queues is.empty in
       let run = run_of script.events start is.end output is.all in
-      (run_plain ScriptSame script_made ScriptPolls ScriptAnswers (map event_of script.events) none start is.end run.0 run.1 (plain_unbegun start (begins script is.cores is.cap is.empty is.fresh))).told
+      (run_plain ScriptSame script_made ScriptPolls ScriptAnswers scripts_order_none (map event_of script.events) none start is.end run.0 run.1 (plain_unbegun start (begins script is.cores is.cap is.empty is.fresh))).told
 
 -- and there is one such world
 module _ (script : Drafted) (cores cap other_cores other_cap : ℕ) (size : script.size ≡ Some (cores, cap)) (other_size : script.size ≡ Some (other_cores, other_cap)) (empty other_empty : ScriptWorld) (fresh : IsFresh cores cap (script_room cores cap) empty) (other_fresh : IsFresh other_cores other_cap (script_room other_cores other_cap) other_empty) where

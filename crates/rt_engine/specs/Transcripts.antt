@@ -1,9 +1,9 @@
 -- What is printed of a script's events.
-use Rattle.std.specs.Prelude.{◌≡◌, ℕ, ◌+◌, ◌*◌, ◌++◌, List, [], ◌∷◌, codes, reverse, slice_get, Option, Some, None}
+use Rattle.std.specs.Prelude.{◌≡◌, ℕ, ◌+◌, ◌*◌, ◌++◌, List, [], ◌∷◌, codes, reverse, Option, Some, None}
 use Rattle.rt_ids.specs.declared.note.Note.{Note}
 use Rattle.rt_ids.specs.declared.note.Note.TheVariants.{Created}
 use Rattle.rt_ids.specs.Commands.{created_count}
-use Rattle.rt_jobs.specs.Scripts.{Script, Does, IsAnswer}
+use Rattle.rt_jobs.specs.Scripts.{Script}
 use Rattle.rt_world.specs.declared.event.Event.{Event}
 use Rattle.rt_script.specs.declared.event.ScriptEvent.{ScriptEvent}
 use Rattle.rt_world.specs.declared.event.Reply.{Reply}
@@ -15,6 +15,7 @@ use Rattle.rt_world.specs.State.{WorldView, journal_at, noted, assembly_of}
 use Rattle.rt_world.specs.Sends.{actor_of}
 use Rattle.rt_world.specs.Opening.{IsFresh, HasAllLists}
 use Rattle.rt_world.specs.Runs.{Happens, IsRun, RunsTo}
+use Rattle.rt_world.specs.ScriptRuns.{ScriptSame, script_made, ScriptPolls, ScriptAnswers}
 use Rattle.rt_text.specs.declared.reply.Ends.{Ends}
 use Rattle.rt_text.specs.declared.reply.Quiet.{Quiet}
 use Rattle.rt_script.specs.Drafts.{Drafted}
@@ -28,16 +29,15 @@ ScriptWorld = WorldView Script ℕ
 
 -- one event of script jobs
 abbrev pub Occurs : Event Script → ScriptWorld → ScriptWorld → Reply Script → Type 0
-Occurs event old new answer =
-    Happens (λ job other. job.polls ≡ other.polls) (λ job. job.polled) (λ job made before after step told. Does (slice_get job.polls made) before after step told) (λ job out. IsAnswer job.polls out) event old new answer
+Occurs event old new answer = Happens ScriptSame script_made ScriptPolls ScriptAnswers event old new answer
 
 -- a run of events of script jobs
 abbrev pub RunOf : List (Event Script) → ScriptWorld → ScriptWorld → Type 0
-RunOf = IsRun (λ job other. job.polls ≡ other.polls) (λ job. job.polled) (λ job made before after step told. Does (slice_get job.polls made) before after step told) (λ job out. IsAnswer job.polls out)
+RunOf = IsRun ScriptSame script_made ScriptPolls ScriptAnswers
 
 -- these are the journals after such a run
 abbrev pub RunsOf : List (Event Script) → ScriptWorld → Assembly ℕ → Type 0
-RunsOf = RunsTo (λ job other. job.polls ≡ other.polls) (λ job. job.polled) (λ job made before after step told. Does (slice_get job.polls made) before after step told) (λ job out. IsAnswer job.polls out)
+RunsOf = RunsTo ScriptSame script_made ScriptPolls ScriptAnswers
 
 -- the event was not handed back: its actors exist, and their journals have room
 abbrev pub IsHeard : Reply Script → Type 0

@@ -8,6 +8,7 @@ ghost use Rattle.rt_world.specs.State.{journal_at};
 ghost use Rattle.rt_script.specs.Limits.{IsSize, ArePlaced, HasFewQueues};
 ghost use Rattle.rt_script.specs.ScriptFaults.{IfText};
 ghost use Rattle.rt_script.specs.Scripts.{script_of};
+ghost use Rattle.rt_script.specs.Taking.{IsPrompt};
 ghost use Rattle.rt_script.specs.Whole.{drafted};
 ghost use Rattle.rt_engine.specs.Begun.{BreaksOff, IsCutShort};
 ghost use Rattle.rt_engine.specs.Outputs.{IsDone, IfUnread, TellsScript, IfUnwritten, IfEnded};
@@ -45,6 +46,7 @@ pub fn run_script<R: Read, W: Write>(
         × IsDone journal stats (R.remaining source.old) (W.contents sink.old) (W.contents sink.new)) }
     ensures faulty { IfErr result (IfText (λ fault.
         IfSome (R.remaining source.old) (λ text. script_of text ≡ Err fault))) }
+    ensures prompt { IfErr result (IsPrompt (R.remaining source.old) (R.remaining source.new)) }
     ensures silent { IfErr result (IfUnread (Keeps (W.contents sink.old) (W.contents sink.new))) }
     ensures judged { IfErr result (IfUnwritten (TellsScript (R.remaining source.old))) }
     ensures begun { IfErr result (IfEnded (IsCutShort journal stats (R.remaining source.old) (W.contents sink.old) (W.contents sink.new))) }

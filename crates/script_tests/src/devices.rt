@@ -42,15 +42,33 @@ impl Read for FaultyReader {
     }
 }
 
-/// Keeps what is written, ten bytes at a time. Calls are interrupted and fail as a reader's do; where it is full it takes nothing.
+/// Keeps what is written, ten bytes at a time, and counts its calls and the flushes among them. Calls are interrupted and fail as a
+/// reader's do; where it is full it takes nothing.
 #[derive(Drop)]
 pub(crate) struct FaultyWriter {
     pub(crate) written: Vec<u8>,
+    pub(crate) calls: u32,
+    pub(crate) flushes: u32,
     interruptions: u32,
     interrupted: u32,
-    calls: u32,
     failing: u32,
     most: usize,
+}
+
+impl FaultyWriter {
+    /// What becomes of a call, by the calls before it.
+    fn call(&mut self) -> io::Result<()> {
+        if self.interrupted < self.interruptions {
+            self.interrupted = self.interrupted.saturating_add(1);
+            return Err(io::Error::from(ErrorKind::Interrupted));
+        }
+        self.interrupted = 0;
+        self.calls = self.calls.saturating_add(1);
+        if self.calls == self.failing {
+            return Err(io::Error::from(ErrorKind::Other));
+        }
+        Ok(())
+    }
 }
 
 pub(crate) fn writer_of(
@@ -61,9 +79,10 @@ pub(crate) fn writer_of(
 ) -> FaultyWriter {
     FaultyWriter {
         written: Vec::new(alloc),
+        calls: 0,
+        flushes: 0,
         interruptions,
         interrupted: 0,
-        calls: 0,
         failing,
         most,
     }
@@ -71,15 +90,7 @@ pub(crate) fn writer_of(
 
 impl Write for FaultyWriter {
     fn write(&mut self, bytes: &[u8]) -> io::Result<usize> {
-        if self.interrupted < self.interruptions {
-            self.interrupted = self.interrupted.saturating_add(1);
-            return Err(io::Error::from(ErrorKind::Interrupted));
-        }
-        self.interrupted = 0;
-        self.calls = self.calls.saturating_add(1);
-        if self.calls == self.failing {
-            return Err(io::Error::from(ErrorKind::Other));
-        }
+        self.call()?;
         let room = self.most.saturating_sub(self.written.len());
         let count = bytes.len().min(10).min(room);
         self.written.extend_from_slice(&bytes[..count])?;
@@ -87,6 +98,8 @@ impl Write for FaultyWriter {
     }
 
     fn flush(&mut self) -> io::Result<()> {
+        self.call()?;
+        self.flushes = self.flushes.saturating_add(1);
         Ok(())
     }
 }

@@ -9,3 +9,7 @@ mod faults;
 mod runs;
 #[cfg(test)]
 mod texts;
+#[cfg(test)]
+mod tickets;
+#[cfg(test)]
+mod writes;

@@ -6,7 +6,7 @@ use rt_text::{Cause, EngineFault};
 use std::alloc::Global;
 
 /// One job, from its submission to its answer.
-const SCRIPT: &str = "cores 1 cap 4\nsubmit 0 0 0 d40=7\ndeliver 0 0\nturn 0\n";
+pub(crate) const SCRIPT: &str = "cores 1 cap 4\nsubmit 0 0 0 d40=7\ndeliver 0 0\nturn 0\n";
 
 /// What it prints.
 const PRINTED: &str =
@@ -60,6 +60,14 @@ fn each_run_comes_to_its_answer(rt: HostRuntime) {
     for row in RUNS.iter() {
         assert!(rt; comes_to(rt.alloc(), row, 0), "{} {}", row.1, row.2);
     }
+}
+
+/// The faulty line ends with the third read: before it the read fails, and behind it the fault is told.
+#[test]
+fn a_faulty_line_is_told_before_the_next_read(rt: HostRuntime) {
+    let unread: Row = (FAULTY, 0, 0, Err(EngineFault::Read), "");
+    let told = comes_to(rt.alloc(), &RUNS[4], 4);
+    assert!(rt; told && comes_to(rt.alloc(), &unread, 3));
 }
 
 #[test]
