@@ -1,5 +1,6 @@
 -- A script's configuration is good.
 use Rattle.std.proofs.Common.{◌≡◌, ℕ, ◌+◌, ◌*◌, ◌≤◌, ◌<◌, ◌==◌, eqb, cond, true, false, Bool, List, [], ◌∷◌, length, Some, refl, sym, ap, ◌∙◌, arith}
+use Rattle.std.proofs.Math.Nat.{mul-le-mul}
 use Rattle.std.proofs.lemmas.Bool.Decides.{nat_tests}
 use Rattle.std.proofs.lemmas.List.Elements.{All-head, All-tail}
 use Rattle.std.proofs.lemmas.List.Sums.{sum_by-cons}
@@ -36,9 +37,12 @@ none_strays cores (queue ∷ rest) placed =
 room_for_queues : (cores cap count : ℕ) → count ≤ 255 → least_room cores cap + count ≤ room_of cores cap
 room_for_queues cores cap count few = omega (arith, few)
 
+one_more : (n most : ℕ) → n ≤ most → n + 1 ≤ most + 1
+one_more n most few = omega (arith, few)
+
 -- the room is within the limit of a journal
 room_within : (cores cap : ℕ) → cores ≤ 16 → cap ≤ 1024 → (cores + 1) * (cap + 1) ≤ 17425
-room_within cores cap few small = grind (arith, few, small)
+room_within cores cap few small = let most = mul-le-mul (one_more cores 16 few) (one_more cap 1024 small) in omega (arith, most)
 
 pub config_good : (cores cap clocks gates : ℕ) (queues : List Entry) → IsSize cores cap → ArePlaced (Some (cores, cap)) queues → HasFewQueues queues → clocks ≡ cores → gates ≡ cores →
     IsGood cores cap (room_of cores cap) queues clocks gates

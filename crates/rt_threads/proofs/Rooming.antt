@@ -1,5 +1,6 @@
 -- A script's orders have room in the outside journal and on their links.
 use Rattle.std.proofs.Common.{◌≡◌, ℕ, zero, suc, ◌+◌, ◌*◌, ◌≤◌, ◌<◌, List, length, refl, arith}
+use Rattle.std.proofs.Math.Nat.{mul-le-mul}
 use Rattle.std.proofs.lemmas.List.Sums.{count_by-le-length}
 use Rattle.rt_ids.specs.Filters.{accepted_orders}
 use Rattle.rt_ids.specs.Journal.{Journal}
@@ -20,15 +21,15 @@ upto_few : (count cap : ℕ) (notes : Journal ℕ) → ((core : ℕ) → length 
 upto_few zero cap notes each = omega arith
 upto_few (suc core) cap notes each =
     let before = upto_few core cap notes each in let here = outstanding_few core notes in let most = each core in
-    grind (arith, before, here, most)
+    omega (arith, before, here, most)
 
 -- sixteen links of 1024 places
 places_few : (cores cap sum : ℕ) → cores ≤ 16 → cap ≤ 1024 → sum ≤ cores * cap → sum ≤ 16384
-places_few cores cap sum few small sum_few = grind (arith, few, small, sum_few)
+places_few cores cap sum few small sum_few = let most = mul-le-mul few small in omega (arith, most, sum_few)
 
 -- the journal is long enough
 room_enough : (each cores cap notes outstanding room : ℕ) → each ≤ 3 → cores ≤ 16 → notes ≤ 4111 → outstanding ≤ 16384 → room ≡ room_of cores cap → 3 * (outstanding + 1) + each * cores ≤ room - notes
-room_enough each cores cap notes outstanding room some few short less is = grind (arith, some, few, short, less, is)
+room_enough each cores cap notes outstanding room some few short less is = let most = mul-le-mul some few in omega (arith, most, short, less, is)
 
 pub has_room : (each core : ℕ) (view : RuntimeView Script ℕ) → each ≤ 3 → HasPlace core view → room_left each view ≤ free_notes view.desk.journal
 has_room each core view some place =

@@ -1,6 +1,7 @@
 -- What orders that are sent one after another change.
-use Rattle.std.proofs.Common.{◌≡◌, ◌≢◌, ℕ, zero, suc, ◌+◌, ◌≤◌, ◌<◌, ◌++◌, ◌==◌, ◌||◌, eqb, cond, Bool, true, false, List, [], ◌∷◌, length, length-append, Option, Some, None, Result, Ok, Err, refl, sym, ap, subst, ◌∙◌, append-nil, append_assoc, arith, zero-add, eqb-refl, get_or-set_same, get_or-set_other, length-set, length-replicate}
+use Rattle.std.proofs.Common.{◌≡◌, ◌≢◌, ℕ, zero, suc, ◌+◌, ◌≤◌, ◌<◌, ◌++◌, ◌==◌, ◌||◌, eqb, cond, Bool, true, false, List, [], ◌∷◌, length, length-append, Option, Some, None, Result, Ok, Err, refl, sym, ap, subst, ◌∙◌, append-nil, append_assoc, arith, zero-add, get_or-set_same, get_or-set_other, length-set}
 use Rattle.std.proofs.lemmas.Bool.Decides.{nat_tests}
+use Rattle.std.proofs.lemmas.List.{length-replicate}
 use Rattle.std.proofs.lemmas.List.Sums.{sum_by-cons, sum_by-append}
 use Rattle.rt_ids.specs.declared.names.JobId.{JobId}
 use Rattle.rt_ids.specs.declared.note.Note.TheVariants.{Sent}
@@ -26,7 +27,7 @@ use Rattle.rt_threads.specs.Counting.{sent_to, IsOfScript, HasPlace, CanClose, A
 use Rattle.rt_threads.specs.Offers.{IsTaken, Offers, OffersAll, closings}
 use Rattle.rt_threads.proofs.Rooming.{outstanding_few, has_room}
 
-View : Type 0
+abbrev View : Type 0
 View = RuntimeView Script ℕ
 
 -- a send to a core with a place is accepted, or the core is closed
@@ -151,6 +152,9 @@ started_of cores cap view started size =
     pair_is : (a b c d : ℕ) → a ≡ b → c ≡ d → (a, c) ≡ (b, d)
     pair_is a b c d first second = rw (first, second) refl
 
+one_self : (core : ℕ) → cond (eqb core core) 1 0 ≡ 1
+one_self core = let same : eqb core core ≡ true = grind (arith, nat_tests) in rw same refl
+
 -- an order of a script has a place, wherever it stands among the others
 pub place_of_order : (all done rest : List Told) (told : Told) (cap : ℕ) (old view : View) → all ≡ done ++ told ∷ rest → length all ≤ 4096 → ((core : ℕ) → orders_to core all < cap) →
     IsOfScript old × (length old.desk.journal.notes ≡ 0) × ((core : ℕ) → sent_to core old ≡ 0) × (old.desk.cap ≡ cap) → OffersAll done old view → HasPlace told.0 view
@@ -166,7 +170,7 @@ place_of_order all done rest told cap old view parts short spare (of, no_notes, 
       each = λ core. let a = more.each core in let b = none_sent core in let c = split core in let d = spare core in rw cap_now (omega (arith, a, b, c, d));
       here =
           let a = more.each told.0 in let b = none_sent told.0 in let c = split told.0 in let d = spare told.0 in let e = head told.0 in
-          let f : cond (eqb told.0 told.0) 1 0 ≡ 1 = rw (eqb-refl told.0) refl in
+          let f : cond (eqb told.0 told.0) 1 0 ≡ 1 = one_self told.0 in
           rw cap_now (omega (arith, a, b, c, d, e, f));
     }
 

@@ -1,6 +1,8 @@
 -- Where a walk over the orders of a script stands.
-use Rattle.std.proofs.Common.{◌≡◌, ℕ, suc, ◌+◌, ◌<◌, ◌++◌, List, ◌∷◌, length, map, take, drop, refl, sym, ap, subst, ◌∙◌, arith, get_or}
-use Rattle.std.proofs.lemmas.List.{map-id, take-append-drop, drop-cons}
+use Rattle.std.proofs.Common.{◌≡◌, ℕ, suc, ◌+◌, ◌<◌, ◌++◌, List, ◌∷◌, length, take, drop, refl, sym, ap, subst, ◌∙◌, arith, get_or}
+use Rattle.std.proofs.Math.Seq.{drop-cons}
+use Rattle.std.proofs.lemmas.List.{map-id, take-append-drop}
+use Rattle.std.specs.Prelude.{map}
 use Rattle.rt_ids.specs.declared.order.Mode.TheVariants.{Finish}
 use Rattle.rt_ids.specs.declared.order.Order.TheVariants.{CloseCore}
 use Rattle.rt_jobs.specs.Scripts.{Script}
