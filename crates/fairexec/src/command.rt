@@ -57,9 +57,6 @@ Exit status:
 
 /// What follows the options in the help of `threads`.
 const AFTER_THREADS: &str = "\
-Example:
-  fairexec threads examples/on_threads.script
-
 Such a script has the lines cores, queue, submit, create, shares and close, and the outside actor sends each order.
 
 Exit status:
