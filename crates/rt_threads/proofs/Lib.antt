@@ -1,0 +1,5 @@
+pub mod Rooming
+pub mod Sending
+pub mod Good
+pub mod Walking
+pub mod Running
