@@ -3,3 +3,4 @@ pub mod Sending
 pub mod Good
 pub mod Walking
 pub mod Running
+pub mod Ready

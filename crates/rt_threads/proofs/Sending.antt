@@ -14,6 +14,7 @@ use Rattle.rt_ids.specs.Filters.{Orders, accepted_orders}
 use Rattle.rt_ids.specs.Journal.{Journal, with_last}
 use Rattle.rt_ids.specs.Orders.{without_job}
 use Rattle.rt_journal.specs.Submissions.{DeskView, Submits}
+use Rattle.rt_notes.specs.Journals.{JournalView}
 use Rattle.rt_runtime.specs.Calls.{IsStarted}
 use Rattle.rt_script.specs.Limits.{IsSize}
 use Rattle.rt_threads.specs.Rooms.{room_of}
@@ -63,16 +64,16 @@ record GrowsOnce (core : ℕ) (old new : DeskView Script ℕ) : Type 0 where
 
 stays_same : (core : ℕ) (old new : DeskView Script ℕ) → new ≡ old → GrowsOnce core old new
 stays_same core old new same = record {
-  notes = let e = ap (λ desk. length desk.journal.notes) same in omega (arith, e);
-  each = λ other. let e = ap (λ desk. length (accepted_orders other desk.journal.notes)) same in omega (arith, e);
+  notes = let e = ap (λ (desk : DeskView Script ℕ). length desk.journal.notes) same in omega (arith, e);
+  each = λ other. let e = ap (λ (desk : DeskView Script ℕ). length (accepted_orders other desk.journal.notes)) same in omega (arith, e);
 }
 
 submits_one : (core : ℕ) (order : Order Script) (old : DeskView Script ℕ) (answer : Result JobId (SendError Script)) (new : DeskView Script ℕ) → Submits core order old answer new → GrowsOnce core old new
 submits_one core order old (Ok name) new (next, to, is) = record {
-  notes = let e = ap (λ journal. length journal.notes) is in omega (arith, e);
+  notes = let e = ap (λ (journal : JournalView ℕ). length journal.notes) is in omega (arith, e);
   each =
       λ other.
-      let e = ap (λ journal. length (accepted_orders other journal.notes)) is in
+      let e = ap (λ (journal : JournalView ℕ). length (accepted_orders other journal.notes)) is in
       let more = sent_more core other name (without_job order) old.journal.notes to in
       omega (arith, e, more);
 }
@@ -92,65 +93,62 @@ pub record Grows (orders : List Told) (old new : View) : Type 0 where
 
 pub grows : (orders : List Told) (old new : View) → OffersAll orders old new → Grows orders old new
 grows [] old new same = record {
-  cores = ap (λ view. view.desk.cores) same;
-  cap = ap (λ view. view.desk.cap) same;
-  room = ap (λ view. view.desk.journal.room) same;
-  closings = ap (λ view. length view.closing) same;
-  notes = let e = ap (λ view. length view.desk.journal.notes) same in omega (arith, e);
-  each = λ core. let e = ap (λ view. sent_to core view) same in omega (arith, e);
+  cores = ap (λ (view : View). view.desk.cores) same;
+  cap = ap (λ (view : View). view.desk.cap) same;
+  room = ap (λ (view : View). view.desk.journal.room) same;
+  closings = ap (λ (view : View). length view.closing) same;
+  notes = let e = ap (λ (view : View). length view.desk.journal.notes) same in omega (arith, e);
+  each = λ core. let e = ap (λ (view : View). sent_to core view) same in omega (arith, e);
 }
 grows (told ∷ rest) old new (between, one, others) =
     let sends = one.sends in
     let first = submits_one told.0 told.1 old.desk one.answer between.desk sends.submits in
     let later = grows rest between new others in
     record {
-      cores = later.cores ∙ ap (λ desk. desk.cores) sends.stays.desk;
-      cap = later.cap ∙ ap (λ desk. desk.cap) sends.stays.desk;
-      room = later.room ∙ ap (λ desk. desk.journal.room) sends.stays.desk;
+      cores = later.cores ∙ ap (λ (desk : DeskView Script ℕ). desk.cores) sends.stays.desk;
+      cap = later.cap ∙ ap (λ (desk : DeskView Script ℕ). desk.cap) sends.stays.desk;
+      room = later.room ∙ ap (λ (desk : DeskView Script ℕ). desk.journal.room) sends.stays.desk;
       closings = later.closings ∙ (ap length sends.closing ∙ length-set old.closing told.0 _);
       notes = let a = first.notes in let b = later.notes in omega (arith, a, b);
       each = λ core. let a = first.each core in let b = later.each core in let c = sum_by-cons (λ t. cond (t.0 == core) 1 0) told rest in omega (arith, a, b, c);
     }
 
 pub script_kept : (orders : List Told) (old new : View) → Grows orders old new → IsOfScript old → IsOfScript new
-script_kept orders old new more of = record {
-  some_cores = rw more.cores of.some_cores;
-  few_cores = rw more.cores of.few_cores;
-  small_cap = rw more.cap of.small_cap;
-  room = rw (more.room, more.cores, more.cap) of.room;
-  closings = rw (more.closings, more.cores) of.closings;
+script_kept orders old new more script = record {
+  some_cores = rw more.cores script.some_cores;
+  few_cores = rw more.cores script.few_cores;
+  small_cap = rw more.cap script.small_cap;
+  room = rw (more.room, more.cores, more.cap) script.room;
+  closings = rw (more.closings, more.cores) script.closings;
 }
 
 -- one order more at the end
 pub offers_more : (orders : List Told) (told : Told) (old between new : View) → OffersAll orders old between → Offers told between new → OffersAll (orders ++ told ∷ []) old new
-offers_more [] told old between new same one = (new, subst (λ view. Offers told view new) same one, refl)
+offers_more [] told old between new same one = (new, subst (λ (view : View). Offers told view new) same one, refl)
 offers_more (first ∷ rest) told old between new (next, done, others) one = (next, done, offers_more rest told next between new others one)
 
 -- all orders, and then others
 pub offers_both : (first second : List Told) (old between new : View) → OffersAll first old between → OffersAll second between new → OffersAll (first ++ second) old new
-offers_both [] second old between new same then = subst (λ view. OffersAll second view new) same then
-offers_both (told ∷ rest) second old between new (next, done, others) then = (next, done, offers_both rest second next between new others then)
+offers_both [] second old between new same later = subst (λ (view : View). OffersAll second view new) same later
+offers_both (told ∷ rest) second old between new (next, done, others) later = (next, done, offers_both rest second next between new others later)
 
 -- a runtime that was just started
 pub started_of : (cores cap : ℕ) (view : View) → IsStarted cores cap (room_of cores cap) view → IsSize cores cap → IsOfScript view × (length view.desk.journal.notes ≡ 0) × ((core : ℕ) → sent_to core view ≡ 0) × (view.desk.cap ≡ cap)
 started_of cores cap view started size =
-    let cores_are : view.desk.cores ≡ cores = ap (λ desk. desk.cores) started.desk in
-    let cap_is : view.desk.cap ≡ cap = ap (λ desk. desk.cap) started.desk in
+    let cores_are : view.desk.cores ≡ cores = ap (λ (desk : DeskView Script ℕ). desk.cores) started.desk in
+    let cap_is : view.desk.cap ≡ cap = ap (λ (desk : DeskView Script ℕ). desk.cap) started.desk in
     (
       record {
         some_cores = rw cores_are size.some_cores;
         few_cores = rw cores_are size.few_cores;
         small_cap = rw cap_is size.small_cap;
-        room = ap (λ desk. desk.journal.room) started.desk ∙ sym (ap (λ numbers. room_of numbers.0 numbers.1) (pair_is view.desk.cores cores view.desk.cap cap cores_are cap_is));
+        room = rw (cores_are, cap_is) (ap (λ (desk : DeskView Script ℕ). desk.journal.room) started.desk);
         closings = ap length started.closing ∙ (length-replicate cores false ∙ sym cores_are);
       },
-      ap (λ desk. length desk.journal.notes) started.desk,
-      (λ core. ap (λ desk. length (accepted_orders core desk.journal.notes)) started.desk),
+      ap (λ (desk : DeskView Script ℕ). length desk.journal.notes) started.desk,
+      (λ core. ap (λ (desk : DeskView Script ℕ). length (accepted_orders core desk.journal.notes)) started.desk),
       cap_is,
     )
-  where
-    pair_is : (a b c d : ℕ) → a ≡ b → c ≡ d → (a, c) ≡ (b, d)
-    pair_is a b c d first second = rw (first, second) refl
 
 one_self : (core : ℕ) → cond (eqb core core) 1 0 ≡ 1
 one_self core = let same : eqb core core ≡ true = grind (arith, nat_tests) in rw same refl
@@ -158,14 +156,14 @@ one_self core = let same : eqb core core ≡ true = grind (arith, nat_tests) in 
 -- an order of a script has a place, wherever it stands among the others
 pub place_of_order : (all done rest : List Told) (told : Told) (cap : ℕ) (old view : View) → all ≡ done ++ told ∷ rest → length all ≤ 4096 → ((core : ℕ) → orders_to core all < cap) →
     IsOfScript old × (length old.desk.journal.notes ≡ 0) × ((core : ℕ) → sent_to core old ≡ 0) × (old.desk.cap ≡ cap) → OffersAll done old view → HasPlace told.0 view
-place_of_order all done rest told cap old view parts short spare (of, no_notes, none_sent, cap_is) offers =
+place_of_order all done rest told cap old view parts short spare (script, no_notes, none_sent, cap_is) offers =
     let more = grows done old view offers in
     let cap_now : view.desk.cap ≡ cap = more.cap ∙ cap_is in
     let count : length all ≡ length done + (1 + length rest) = ap length parts ∙ length-append done (told ∷ rest) in
-    let split = λ (core : ℕ). ap (orders_to core) parts ∙ sum_by-append (λ t. cond (t.0 == core) 1 0) done (told ∷ rest) in
+    let split = λ (core : ℕ). ap (λ orders. orders_to core orders) parts ∙ sum_by-append (λ t. cond (t.0 == core) 1 0) done (told ∷ rest) in
     let head = λ (core : ℕ). sum_by-cons (λ t. cond (t.0 == core) 1 0) told rest in
     record {
-      of_script = script_kept done old view more of;
+      of_script = script_kept done old view more script;
       notes = let a = more.notes in omega (arith, a, no_notes, count, short);
       each = λ core. let a = more.each core in let b = none_sent core in let c = split core in let d = spare core in rw cap_now (omega (arith, a, b, c, d));
       here =
@@ -177,11 +175,11 @@ place_of_order all done rest told cap old view parts short spare (of, no_notes, 
 -- behind all orders of a script there is room to close each core
 pub can_close : (all : List Told) (cap : ℕ) (old view : View) → length all ≤ 4096 → ((core : ℕ) → orders_to core all < cap) →
     IsOfScript old × (length old.desk.journal.notes ≡ 0) × ((core : ℕ) → sent_to core old ≡ 0) × (old.desk.cap ≡ cap) → OffersAll all old view → CanClose view
-can_close all cap old view short spare (of, no_notes, none_sent, cap_is) offers =
+can_close all cap old view short spare (script, no_notes, none_sent, cap_is) offers =
     let more = grows all old view offers in
     let cap_now : view.desk.cap ≡ cap = more.cap ∙ cap_is in
     record {
-      of_script = script_kept all old view more of;
+      of_script = script_kept all old view more script;
       notes = let a = more.notes in omega (arith, a, no_notes, short);
       each = λ core. let a = more.each core in let b = none_sent core in let d = spare core in rw cap_now (omega (arith, a, b, d));
     }
