@@ -42,7 +42,7 @@ there : (g : Over) (c : After-place g) → slice_index_or c.self.inside.queues.s
 there g c = slip_there _ _ c.self.inside.ready.keys c.args.queue (exists g c) (not_listed g c) c.self.invariant.slipped
 
 pub index_mut-requires : goal.index_mut-requires
-index_mut-requires g c = omega (arith, c.self.invariant.counted.tallies, exists g (goal.at.index_mut-requires g c).After-place, c.place.ensures, c.self.inside.tallies.ok.0)
+index_mut-requires g c = omega (arith, c.self.invariant.counted.tallies, exists g (goal.at.index_mut-requires g c).After-place, c.place.ensures)
 
 pub take_slip-requires : goal.take_slip-requires
 take_slip-requires g c = record { exists = exists g (goal.at.take_slip-requires g c).After-place }

@@ -47,10 +47,10 @@ pub shares-shares-requires : goal.shares-shares-requires
 shares-shares-requires g c = record { exists = exists g (goal.at.shares-shares-requires g c).In-Some }
 
 pub index-requires : goal.index-requires
-index-requires g c = omega (arith, c.self.invariant.counted.tallies, exists g (goal.at.index-requires g c).In-Some, c.place.ensures, c.self.inside.tallies.ok.0)
+index-requires g c = omega (arith, c.self.invariant.counted.tallies, exists g (goal.at.index-requires g c).In-Some, c.place.ensures)
 
 pub index_mut-requires : goal.index_mut-requires
-index_mut-requires g c = omega (arith, c.self.invariant.counted.tallies, exists g (goal.at.index_mut-requires g c).In-Some, c.place-2.ensures, c.self.inside.tallies.ok.0)
+index_mut-requires g c = omega (arith, c.self.invariant.counted.tallies, exists g (goal.at.index_mut-requires g c).In-Some, c.place-2.ensures)
 
 pub charged-tally-requires : goal.charged-tally-requires
 charged-tally-requires g c =
