@@ -2,6 +2,12 @@
 #![tactic(auto)]
 
 #[cfg(test)]
+mod boxed;
+#[cfg(test)]
+mod calls;
+#[cfg(test)]
+mod closing;
+#[cfg(test)]
 mod house;
 #[cfg(test)]
 mod meeting;

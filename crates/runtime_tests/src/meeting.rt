@@ -2,26 +2,24 @@
 
 ghost use Rattle.std.specs.Prelude.{◌≡◌, false};
 
+use crate::house::{Mark, is_set_soon, new_mark};
 use rt_ids::{ActorNo, CoreNo, JobId, Mode, Note, Order, QueueNo};
 use rt_jobs::{Job, Post, Step, Task};
 use rt_journal::Assembly;
 use rt_runtime::Runtime;
 use rt_settings::{Config, NoGate, SystemClock};
 use std::alloc::{AllocError, Global};
-use std::sync::atomic::{AtomicU64, Ordering};
+use std::sync::atomic::Ordering;
 use std::sync::{Arc, Wait};
 use std::test::Fail;
 use std::thread::Threads;
 use std::time::Clock;
 
-/// How often a job looks for the other.
-const TRIES: u64 = 1 << 30;
-
 /// Sets its mark, and looks for the other's. Answers 1 where it saw it, else 0.
 #[derive(Drop)]
 struct Meeter {
-    mine: Arc<AtomicU64, Global>,
-    other: Arc<AtomicU64, Global>,
+    mine: Mark,
+    other: Mark,
     ended: bool,
 }
 
@@ -60,21 +58,11 @@ impl Task for Meeter {
     }
 }
 
-/// Whether the mark comes to be set, within so many tries.
-fn sees(mark: &AtomicU64) -> bool {
-    for _ in 0..TRIES {
-        if mark.load(Ordering::SeqCst) == 1 {
-            return true;
-        }
-    }
-    false
-}
-
 impl Job for Meeter {
     fn poll<P: Post<Self, u64>>(&mut self, _post: &mut P) -> Step<u64> {
         self.mine.store(1, Ordering::SeqCst);
         self.ended = true;
-        Step::Done(sees(&self.other) as u64)
+        Step::Done(is_set_soon(&self.other) as u64)
     }
 }
 
@@ -103,8 +91,8 @@ where
 fn submit<R: Drop>(
     house: &mut House<R>,
     core: CoreNo,
-    mine: &Arc<AtomicU64, Global>,
-    other: &Arc<AtomicU64, Global>,
+    mine: &Mark,
+    other: &Mark,
 ) -> Result<bool, AllocError> {
     let job = Meeter {
         mine: Arc::try_clone(mine)?,
@@ -137,8 +125,7 @@ fn saw(assembly: &Assembly, core: u8) -> bool {
 
 #[test]
 fn two_polls_at_once(rt: HostRuntime) -> Result<(), Fail> {
-    let one = Arc::new(rt.alloc(), AtomicU64::new(0))?;
-    let two = Arc::new(rt.alloc(), AtomicU64::new(0))?;
+    let (one, two) = (new_mark(rt.alloc())?, new_mark(rt.alloc())?);
     let Some(mut house) = start(rt, rt.alloc())? else {
         assert!(rt; false, "no house");
         return Ok(());
