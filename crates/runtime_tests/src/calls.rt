@@ -113,6 +113,43 @@ fn a_core_that_is_open_is_told(rt: HostRuntime) -> Result<(), Fail> {
     Ok(())
 }
 
+/// Whether names that the caller has no ticket of are unknown, whatever is asked of them.
+fn are_unknown(house: &mut House<Work>) -> bool {
+    let names = [
+        named(0, 0, 1),
+        named(1, 99, 1),
+        named(1, 0, 0),
+        named(1, 0, u64::MAX),
+        named(255, 255, u64::MAX),
+    ];
+    let mut unknown = 0;
+    for name in names.iter() {
+        let ticket = Ticket::named(*name);
+        let redeemed = house.redeem(ticket);
+        let detached = house.detach(ticket);
+        if matches!(redeemed, Err(TicketError::Unknown))
+            && matches!(detached, Err(TicketError::Unknown))
+        {
+            unknown += 1;
+        }
+    }
+    unknown == 5
+}
+
+#[test]
+fn foreign_tickets_are_unknown(rt: HostRuntime) -> Result<(), Fail> {
+    let asked = new_mark(rt.alloc())?;
+    let config = plain(rt.alloc(), 1, 2, 96);
+    let Ok(mut house) = begin::<Work, _>(rt, rt.alloc(), config, 1, &asked)? else {
+        assert!(rt; false, "no house");
+        return Ok(());
+    };
+    // The order that closes the core has the name 1>0#1.
+    assert!(rt; are_unknown(&mut house) && house.close_core(CoreNo(0), Mode::Finish).is_ok());
+    assert!(rt; are_unknown(&mut house) && house.finish(&rt).is_ok());
+    Ok(())
+}
+
 /// Changes the shares of a queue that there isn't, and redeems the answer. Its ticket.
 fn change_shares(house: &mut House<Work>, shares: Shares) -> Option<Ticket> {
     let Ok(ticket) = house.submit(CoreNo(0), Order::SetShares(QueueNo(9), shares)) else {

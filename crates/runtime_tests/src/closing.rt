@@ -3,8 +3,9 @@
 ghost use Rattle.std.specs.Prelude.{◌≡◌, false};
 
 use crate::house::{House, Mark, begin, collects, is_set_soon, new_mark, plain};
-use rt_ids::{CoreNo, Mode, Order, Outcome, QueueNo, Ticket};
+use rt_ids::{CoreNo, Mode, Order, Outcome, QueueNo, SendError, Ticket};
 use rt_jobs::{Job, Post, Step, Task};
+use rt_runtime::SubmitError;
 use std::alloc::AllocError;
 use std::sync::Arc;
 use std::sync::atomic::Ordering;
@@ -95,6 +96,14 @@ fn close_each_other(house: &mut House<Closer>, both_there: &Mark) -> Result<bool
     Ok(answers(house, first) && answers(house, second))
 }
 
+/// Whether the caller's own order to close a core is accepted, or comes after the core has shut its gates.
+fn is_closed(house: &mut House<Closer>, core: u8) -> bool {
+    matches!(
+        house.close_core(CoreNo(core), Mode::Return),
+        Ok(_) | Err(SubmitError::Send(SendError::Closed(_, _)))
+    )
+}
+
 #[test]
 fn two_cores_close_each_other(rt: HostRuntime) -> Result<(), Fail> {
     let (asked, both_there) = (new_mark(rt.alloc())?, new_mark(rt.alloc())?);
@@ -104,10 +113,6 @@ fn two_cores_close_each_other(rt: HostRuntime) -> Result<(), Fail> {
         return Ok(());
     };
     assert!(rt; close_each_other(&mut house, &both_there)?);
-    // A core may have shut its gates by now: then this is refused as closed, which the runtime keeps in mind as well.
-    for core in 0..2 {
-        let _closed = house.close_core(CoreNo(core), Mode::Finish);
-    }
-    assert!(rt; house.finish(&rt).is_ok());
+    assert!(rt; is_closed(&mut house, 0) && is_closed(&mut house, 1) && house.finish(&rt).is_ok());
     Ok(())
 }
