@@ -1,6 +1,6 @@
 use Rattle.std.proofs.Common.{◌∙◌, ap, sym, subst, length, arith}
 use Rattle.std.specs.Vec.Iter.{into_iter_items, into_iter_len}
-use Rattle.rt_workers.proofs.Lists.{IsMade, made_first, made_more}
+use Rattle.rt_workers.proofs.Lists.{IsMade, made_all, made_first, made_more}
 use Rattle.rt_worker.specs.Opening.{IsOpenedOver}
 use Rattle.rt_runtime.specs.Starting.{AreOpening}
 use Rattle.rt_runtime.proofs.Started.{holds_next}
@@ -40,3 +40,10 @@ loop-ends-preserved g c =
       clocks = omega (arith, loop.invariant.clocks, c.remove-clock.ensures.len, steps.1, loop.clocks.ok.0, c.remove-clock.new.self.ok.0);
       gates = omega (arith, loop.invariant.gates, c.remove-gate.ensures.len, steps.1, loop.gates.ok.0, c.remove-gate.new.self.ok.0);
     }
+
+pub returns : goal.returns
+returns g c =
+    let opened = IsOpenedOver c.args.config.now.cores c.args.config.now.cap c.args.config.now.room in
+    let rest = into_iter_items c.loop-ends.ends-iterator in
+    made_all opened c.args.all.items rest c.loop-ends.workers.items
+    (subst (λ left. IsMade opened c.args.all.items rest left c.loop-ends.workers.items) c.in-None.ensures.steps.0 c.loop-ends.invariant.made)
