@@ -1,6 +1,6 @@
 //! Boxed jobs on a runtime: their times, and what becomes of one that never ends.
 
-use crate::house::{begin, named, new_mark, plain, says, House};
+use crate::house::{House, begin, named, new_mark, plain, says};
 use rt_audit::{Verdict, audit};
 use rt_ids::{ActorNo, CoreNo, Mode, Note, Order, QueueNo, Reason};
 use rt_jobs::{AnyJob, Polled, Range, Step, polled_job};
@@ -46,11 +46,7 @@ impl Polled for Countdown {
 }
 
 /// Submits a box that yields so often, and closes its core. Whether it was accepted: its core may be closed by then.
-fn submit_box(
-    alloc: Global,
-    house: &mut House<AnyJob>,
-    yields: u32,
-) -> Result<bool, AllocError> {
+fn submit_box(alloc: Global, house: &mut House<AnyJob>, yields: u32) -> Result<bool, AllocError> {
     let work = Countdown {
         yields,
         ended: false,

@@ -1,6 +1,6 @@
 //! The calls of a runtime: what becomes of orders, and how it starts and finishes.
 
-use crate::house::{begin, collects, named, new_mark, plain, says, with_queue, House};
+use crate::house::{House, begin, collects, named, new_mark, plain, says, with_queue};
 use rt_ids::{
     ActorNo, Answer, CoreNo, Mode, Note, Order, Outcome, QueueNo, Reason, Ticket, TicketError,
 };

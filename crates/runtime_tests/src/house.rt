@@ -85,7 +85,7 @@ fn gates(alloc: Global, count: u8, asked: &Mark) -> Result<Vec<Counter>, AllocEr
 
 /// A mark that isn't set: 0.
 pub fn new_mark(alloc: Global) -> Result<Mark, AllocError> {
-    Arc::new(alloc, AtomicU64::new(0))
+    Ok(Arc::new(alloc, AtomicU64::new(0))?)
 }
 
 /// A house on threads with so many clocks, or why there is none.
