@@ -17,6 +17,9 @@ const GATE: u64 = 1 << 63;
 // How many places a link has.
 const PLACES: usize = 64;
 
+// After so many idle rounds a worker parks, as the runtime's do.
+const PATIENCE: u64 = 256;
+
 // A worker that never parks.
 const NEVER: u64 = u64::MAX;
 
@@ -316,22 +319,32 @@ fn middle(rounds: usize, measure: impl Fn() -> f64) -> f64 {
     times[rounds / 2]
 }
 
-fn main() {
-    let rounds = std::env::args().nth(1).map_or(9, |word| word.parse().unwrap());
-    for (name, outstanding, jobs) in [("single", 1, 20_000), ("trip_64", 64, 200_000)] {
-        for (form, patience) in [("", NEVER), ("_parking", 300)] {
-            let taken = middle(rounds, || {
-                let (out, worker) = over_words(patience);
-                trips(out, worker, jobs, outstanding)
-            });
-            println!("{name} words{form} {taken:.1}");
-            let taken = middle(rounds, || {
-                let (out, worker) = over_channels(patience);
-                trips(out, worker, jobs, outstanding)
-            });
-            println!("{name} channels{form} {taken:.1}");
-        }
+// One job polled so often on one thread, with two readings of the clock round each poll and three notes in a journal for it, as a
+// worker makes them. Nanoseconds for each poll.
+fn polls(count: u64) -> f64 {
+    let mut journal: Vec<[u64; 5]> = Vec::with_capacity(3 * count as usize + 1);
+    let mut queue = VecDeque::with_capacity(PLACES);
+    queue.push_back((1, Job { value: 0 }));
+    let (base, start) = (Instant::now(), Instant::now());
+    let mut runtime = 0;
+    for _ in 0..count {
+        let Some((number, mut job)) = queue.pop_front() else { break };
+        journal.push([0, runtime, 0, 0, 0]);
+        journal.push([1, number, 0, 0, 0]);
+        let before = base.elapsed().as_nanos() as u64;
+        black_box(job.poll());
+        let spent = base.elapsed().as_nanos() as u64 - before;
+        runtime += spent.max(1);
+        journal.push([2, number, spent, 0, 0]);
+        queue.push_back((number, job));
     }
+    let taken = start.elapsed().as_nanos() as f64 / count as f64;
+    black_box(&journal);
+    taken
+}
+
+// How many idle rounds before a worker parks, and how long the pause before each job is.
+fn table(rounds: usize) {
     for patience in [0, 10, 30, 100, 300, 1000, 3000, 10_000, 30_000, NEVER] {
         for pause in [0, 1, 10, 100] {
             let taken = middle(rounds, || {
@@ -341,5 +354,26 @@ fn main() {
             let rounds_of_idleness = if patience == NEVER { "never".to_string() } else { patience.to_string() };
             println!("idle {rounds_of_idleness} {pause} {taken:.1}");
         }
+    }
+}
+
+// One measure over each kind of link: a line with its name and the nanoseconds of a job.
+fn both(name: &str, over: impl Fn((Out, JoinHandle<()>)) -> f64, beside: impl Fn((Front, JoinHandle<()>)) -> f64) {
+    println!("words {name} {:.1}", over(over_words(PATIENCE)));
+    println!("channels {name} {:.1}", beside(over_channels(PATIENCE)));
+}
+
+fn main() {
+    let words: Vec<String> = std::env::args().skip(1).collect();
+    let number = |place: usize, or: u64| words.get(place).map_or(or, |word| word.parse().unwrap());
+    match words.first().map(String::as_str) {
+        Some("single") => both("single", |(out, worker)| trips(out, worker, 20_000, 1), |(out, worker)| trips(out, worker, 20_000, 1)),
+        Some("trip_64") => both("trip_64", |(out, worker)| trips(out, worker, 200_000, 64), |(out, worker)| trips(out, worker, 200_000, 64)),
+        Some("idle") => {
+            let pause = Duration::from_micros(number(1, 0));
+            both("idle", |(out, worker)| paused(out, worker, 1000, pause), |(out, worker)| paused(out, worker, 1000, pause))
+        }
+        Some("polls") => println!("words polls {:.1}", polls(1_000_000)),
+        _ => table(number(0, 9) as usize),
     }
 }

@@ -1,0 +1,7 @@
+//! Tests of the runtime on threads, over its public calls.
+#![tactic(auto)]
+
+#[cfg(test)]
+mod house;
+#[cfg(test)]
+mod meeting;
