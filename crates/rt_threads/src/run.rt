@@ -4,6 +4,7 @@ ghost use Rattle.std.specs.Prelude.{◌≡◌, Err, IfOk, IfErr, IfSome, true};
 ghost use Rattle.std.specs.Io.KnownBytes.{Keeps};
 ghost use Rattle.rt_threads_script.specs.ScriptFaults.{IfText};
 ghost use Rattle.rt_threads_script.specs.Scripts.{threads_script_of};
+ghost use Rattle.rt_threads_script.specs.Taking.{IsPrompt};
 ghost use Rattle.rt_threads.specs.Runs.{RunsOrders, IsRun, IsCutShort, IfUnwritten, IfUntold};
 ghost use Rattle.rt_threads.specs.Starting.{IsOfStart};
 
@@ -60,6 +61,7 @@ where
     ensures sound { IfOk result (λ sound. sound ≡ true) }
     ensures faulty { IfErr result (IfText (λ fault.
         IfSome (R.remaining source.old) (λ text. threads_script_of text ≡ Err fault))) }
+    ensures prompt { IfErr result (IsPrompt (R.remaining source.old) (R.remaining source.new)) }
     ensures silent { IfErr result (IfUntold (Keeps (W.contents sink.old) (W.contents sink.new))) }
     ensures unwritten { IfErr result (IfUnwritten (IsCutShort (R.remaining source.old) (W.contents sink.old) (W.contents sink.new))) }
 {
