@@ -57,7 +57,11 @@ Exit status:
 
 /// What follows the options in the help of `threads`.
 const AFTER_THREADS: &str = "\
-Such a script has the lines cores, queue, submit, create, shares and close, and the outside actor sends each order.
+Example:
+  fairexec threads examples/two_tenants.threads
+
+Such a script has the lines cores, queue, submit, create, shares and close alone. The outside actor sends each order:
+  docs/SCRIPTS.md
 
 Exit status:
   0  all is done
@@ -86,7 +90,7 @@ pub fn command<'a>(alloc: Global) -> Result<Command<'a>, AllocError>
 {
     Command::new(alloc, "fairexec")
         .bin_name("fairexec")?
-        .about("Runs scripts on the model of a thread-per-core executor with fair task queues")
+        .about("Runs scripts on the model of a thread-per-core executor with fair task queues, or on its threads")
         .version(VERSION)
         .subcommand_required(true)
         .after_help(AFTER_HELP)
@@ -129,7 +133,7 @@ fn threads_command<'a>(alloc: Global) -> Result<Command<'a>, AllocError>
     let file = Arg::new(alloc, FILE).help("The script; without it, standard input is read");
     Ok(
         Command::new(alloc, THREADS)
-            .about("Runs a script on a thread for each core, and prints what became of each order and the audit's verdict")
+            .about("Runs a script on threads, and prints the outcome of each order and the verdict of the audit")
             .arg(file)?
             .after_help(AFTER_THREADS),
     )

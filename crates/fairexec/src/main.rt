@@ -1,4 +1,4 @@
-//! Runs scripts on the model of a thread-per-core executor with fair task queues, and judges journals.
+//! Runs scripts on the model of a thread-per-core executor with fair task queues, or on its threads, and judges journals.
 #![tactic(auto)]
 
 ghost use Rattle.std.specs.Prelude.{◌≡◌, ◌≢◌, true, IfOk, codes};
