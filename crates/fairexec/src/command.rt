@@ -60,7 +60,7 @@ const AFTER_THREADS: &str = "\
 Example:
   fairexec threads examples/two_tenants.threads
 
-Such a script has the lines cores, queue, submit, create, shares and close alone. The outside actor sends each order:
+Each line of a script, each line that is printed, and each cause of a refusal:
   docs/SCRIPTS.md
 
 Exit status:
