@@ -1,5 +1,5 @@
 -- A script's configuration is good.
-use Rattle.std.proofs.Common.{◌≡◌, ℕ, ◌+◌, ◌*◌, ◌≤◌, ◌<◌, ◌==◌, eqb, cond, true, false, Bool, List, [], ◌∷◌, length, Some, refl, sym, ap, ◌∙◌, arith}
+use Rattle.std.proofs.Common.{◌≡◌, ℕ, ◌+◌, ◌*◌, ◌≤◌, ◌<◌, ◌==◌, eqb, cond, true, false, Bool, List, [], ◌∷◌, length, Some, Err, refl, sym, subst, ap, ◌∙◌, arith}
 use Rattle.std.proofs.Math.Nat.{mul-le-mul}
 use Rattle.std.proofs.lemmas.Bool.Decides.{nat_tests}
 use Rattle.std.proofs.lemmas.List.Elements.{All-head, All-tail}
@@ -9,6 +9,9 @@ use Rattle.rt_ids.specs.Work.{number_if}
 use Rattle.rt_script.specs.Drafts.{queue_lines}
 use Rattle.rt_script.specs.Limits.{IsSize, ArePlaced, HasFewQueues}
 use Rattle.rt_settings.specs.Configs.{Entry, queues_of, strays, least_room, IsGood}
+use Rattle.rt_runtime.specs.declared.error.StartError.{StartError}
+use Rattle.rt_runtime.specs.declared.error.StartError.TheVariants.{BadConfig}
+use Rattle.rt_runtime.specs.Calls.{Starts}
 use Rattle.rt_threads.specs.Rooms.{room_of}
 
 number_of : (same : Bool) → number_if same ≡ cond same 1 0
@@ -63,3 +66,8 @@ config_good cores cap clocks gates queues size placed few clocks_are gates_are =
   clocks_are = clocks_are;
   gates_are = gates_are;
 }
+
+-- so it is never refused
+pub never_bad : {J T : Type 0} → (cores cap room clocks gates : ℕ) (queues : List Entry) (error : StartError) → Starts {J = J} {T = T} cores cap room queues clocks gates (Err error) → error ≡ BadConfig →
+    IsGood cores cap room queues clocks gates → ⊥
+never_bad {J} {T} cores cap room clocks gates queues error starts bad good = subst (λ why. Starts {J = J} {T = T} cores cap room queues clocks gates (Err why)) bad starts good

@@ -21,7 +21,7 @@ own P a b c d first second p = rw (first, second) p
 -- the run is of the script that the source tells
 pub tells_run : (source : Option (List ℕ)) (script : ThreadsScript) (assembly : Assembly ℕ) → IfSome source (λ text. threads_script_of text ≡ Ok (drafted script)) → RunsOrders script.cores script.cap script.orders.items assembly → TellsRun source assembly
 tells_run None script assembly told runs = tt
-tells_run (Some text) script assembly told runs = (drafted script, told, (script.cores, script.cap), refl, runs)
+tells_run (Some text) script assembly told runs = (drafted script, told, ((script.cores, script.cap), refl, runs))
 
 -- sound journals are told as sound
 pub told_sound : (cores cap : ℕ) (orders : _) (assembly : Assembly ℕ) (old new : Option (List ℕ)) (answer : Bool) → RunsOrders cores cap orders assembly → IsTold assembly old new answer → answer ≡ true

@@ -150,7 +150,7 @@ started_of cores cap view started size =
       cap_is,
     )
 
-one_self : (core : ℕ) → cond (eqb core core) 1 0 ≡ 1
+one_self : (core : ℕ) → ◌≡◌ {A = ℕ} (cond (eqb core core) 1 0) 1
 one_self core = let same : eqb core core ≡ true = grind (arith, nat_tests) in rw same refl
 
 -- an order of a script has a place, wherever it stands among the others
@@ -159,7 +159,7 @@ pub place_of_order : (all done rest : List Told) (told : Told) (cap : ℕ) (old 
 place_of_order all done rest told cap old view parts short spare (script, no_notes, none_sent, cap_is) offers =
     let more = grows done old view offers in
     let cap_now : view.desk.cap ≡ cap = more.cap ∙ cap_is in
-    let count : length all ≡ length done + (1 + length rest) = ap length parts ∙ length-append done (told ∷ rest) in
+    let count : length all ≡ length done + suc (length rest) = ap length parts ∙ length-append done (told ∷ rest) in
     let split = λ (core : ℕ). ap (λ orders. orders_to core orders) parts ∙ sum_by-append (λ t. cond (t.0 == core) 1 0) done (told ∷ rest) in
     let head = λ (core : ℕ). sum_by-cons (λ t. cond (t.0 == core) 1 0) told rest in
     record {
@@ -168,7 +168,7 @@ place_of_order all done rest told cap old view parts short spare (script, no_not
       each = λ core. let a = more.each core in let b = none_sent core in let c = split core in let d = spare core in rw cap_now (omega (arith, a, b, c, d));
       here =
           let a = more.each told.0 in let b = none_sent told.0 in let c = split told.0 in let d = spare told.0 in let e = head told.0 in
-          let f : cond (eqb told.0 told.0) 1 0 ≡ 1 = one_self told.0 in
+          let f = one_self told.0 in
           rw cap_now (omega (arith, a, b, c, d, e, f));
     }
 
@@ -198,17 +198,16 @@ none_later (suc core) other later =
 
 one_at_most : (count other : ℕ) → orders_to other (closings count) ≤ 1
 one_at_most zero other = omega arith
-one_at_most (suc core) other = by_test (eqb core other) refl
+one_at_most (suc core) other = by_test (one_at_most core other) (eqb core other) refl
   where
-    by_test : (same : Bool) → eqb core other ≡ same → orders_to other (closings (suc core)) ≤ 1
-    by_test true is =
+    by_test : orders_to other (closings core) ≤ 1 → (same : Bool) → eqb core other ≡ same → orders_to other (closings (suc core)) ≤ 1
+    by_test before true is =
         let more = closing_more core other ∙ ap (λ same. orders_to other (closings core) + cond same 1 0) is in
         let at : core ≡ other = grind (arith, nat_tests, is) in
         let none = none_later core other (omega (arith, at)) in
         omega (arith, more, none)
-    by_test false is =
+    by_test before false is =
         let more = closing_more core other ∙ ap (λ same. orders_to other (closings core) + cond same 1 0) is in
-        let before = one_at_most core other in
         omega (arith, more, before)
 
 closings_length : (count : ℕ) → length (closings count) ≡ count

@@ -5,4 +5,4 @@ use Rattle.rt_threads.proofs.calls.close.Goals as goal
 use Rattle.std.proofs.Common.{arith}
 
 pub returns : goal.returns
-returns c = offered 0 c.args.core (CloseCore Finish) c.args.house.now c.close_core-_answer.result c.close_core-_answer.new.self (omega arith) c.requires.there c.requires.place c.close_core-_answer.ensures
+returns c = offered 0 c.args.core (CloseCore Finish) c.args.house.now c.close_core-answer.result c.close_core-answer.new.self (omega arith) c.requires.there c.requires.place c.close_core-answer.ensures

@@ -1,10 +1,10 @@
-use Rattle.std.proofs.Common.{◌≡◌, ap, Some}
+use Rattle.std.proofs.Common.{◌≡◌, ◌∙◌, ap, Some}
 use Rattle.rt_runtime.specs.Calls.{IsStarted}
 use Rattle.rt_script.specs.Limits.{IsSize}
 use Rattle.rt_threads_script.specs.Limits.{AreTold, HasSpare}
 use Rattle.rt_threads.specs.Rooms.{room_of}
 use Rattle.rt_threads.proofs.Running.{own}
-use Rattle.rt_threads.proofs.Sending.{offers_both}
+use Rattle.rt_threads.proofs.Sending.{offers_both, grows}
 use Rattle.rt_threads.proofs.run.run_orders.Goals as goal
 
 pub offer_all-requires : goal.offer_all-requires
@@ -21,8 +21,13 @@ offer_all-requires g c =
       short = script.short;
     }
 
-pub returns-in-Ok-clause-ok : goal.returns-in-Ok-clause-ok
-returns-in-Ok-clause-ok g c = record {
+pub close_all-requires-clause-cores : goal.close_all-requires-clause-cores
+close_all-requires-clause-cores g c =
+    let more = grows c.args.script.orders.items c.in_ok-house.house c.offer_all.new.house c.offer_all.ensures.offers in
+    more.cores ∙ ap (λ desk. desk.cores) c.in_ok-house.ensures.ok.desk
+
+pub returns-clause-ok : goal.returns-clause-ok
+returns-clause-ok g c = record {
   started = c.in_ok-house.house;
   ended = c.close_all.new.house;
   starts = c.in_ok-house.ensures.ok;
