@@ -1,6 +1,6 @@
 //! One worker alone: what is sent to it before it begins, and what its journal says when its core is drained.
 
-ghost use Rattle.std.specs.Prelude.{IfOk};
+ghost use Rattle.std.specs.Prelude.{IfOk, ◌<◌, ◌^◌};
 ghost use Rattle.rt_grid.specs.Grid.{IsGrid, AreAllFresh};
 ghost use Rattle.rt_jobs.specs.Ready.{HasReadyJob};
 ghost use Rattle.rt_worker.specs.Opening.{AreEndsOf};
@@ -11,7 +11,7 @@ use rt_jobs::{Poll, ScriptJob, Task};
 use rt_link::OutEnd;
 use rt_notes::Journal;
 use rt_ring::OpenError;
-use rt_settings::{Clock, Config, NoGate};
+use rt_settings::{Clock, Config, Gate};
 use rt_worker::{Bell, Worker};
 use rt_workers::Work;
 use std::alloc::{AllocError, Global};
@@ -34,13 +34,55 @@ const CAP: u16 = 4;
 /// The least room of a journal: it is short with fewer than 80 notes free.
 const ROOM: u32 = 160;
 
-/// A clock that stands still. Script jobs tell their own times.
+/// A clock that stands still and counts its readings. Script jobs tell their own times.
 #[derive(Drop)]
-struct Still;
+struct Still {
+    readings: Arc<AtomicU64, Global>,
+}
 
 impl Clock for Still {
     fn now(&mut self) -> u64 {
+        self.readings.fetch_add(1, Ordering::SeqCst);
         0
+    }
+}
+
+/// A gate that counts how often it is asked.
+#[derive(Drop)]
+struct Counter {
+    asked: Arc<AtomicU64, Global>,
+}
+
+impl Gate for Counter {
+    fn before_poll(&mut self, _core: CoreNo, _job: JobId) {
+        self.asked.fetch_add(1, Ordering::SeqCst);
+    }
+}
+
+/// What a worker shares with its test: its bell, the readings of its clock, and how often its gate was asked.
+#[derive(Drop)]
+struct Shared {
+    bell: Bell,
+    readings: Arc<AtomicU64, Global>,
+    asked: Arc<AtomicU64, Global>,
+}
+
+impl Shared {
+    fn new(alloc: Global) -> Result<Self, AllocError> {
+        Ok(Shared {
+            bell: Arc::new(alloc, AtomicU64::new(0))?,
+            readings: Arc::new(alloc, AtomicU64::new(0))?,
+            asked: Arc::new(alloc, AtomicU64::new(0))?,
+        })
+    }
+
+    /// How often the bell rang, the clock was read and the gate asked.
+    fn counts(&self) -> (u64, u64, u64) {
+        (
+            self.bell.load(Ordering::SeqCst),
+            self.readings.load(Ordering::SeqCst),
+            self.asked.load(Ordering::SeqCst),
+        )
     }
 }
 
@@ -106,8 +148,8 @@ fn send(outside: &mut Ends<ScriptJob>, order: Order<ScriptJob>) -> bool
 fn open(
     alloc: Global,
     own: Ends<ScriptJob>,
-    bell: &Bell,
-) -> Result<Worker<ScriptJob, Still, NoGate>, AllocError>
+    shared: &Shared,
+) -> Result<Worker<ScriptJob, Still, Counter>, AllocError>
     requires { AreEndsOf 1 4 own }
 {
     let config = Config {
@@ -117,9 +159,16 @@ fn open(
         queues: Vec::new(alloc),
     };
     let mut bells = Vec::new(alloc);
-    bells.push(Arc::try_clone(bell)?)?;
-    let worker = Worker::open(alloc, &config, own, Still, NoGate, Arc::try_clone(bell)?)?;
-    Ok(worker.with_bells(bells))
+    bells.push(Arc::try_clone(&shared.bell)?)?;
+    let clock = Still {
+        readings: Arc::try_clone(&shared.readings)?,
+    };
+    let gate = Counter {
+        asked: Arc::try_clone(&shared.asked)?,
+    };
+    let bell = Arc::try_clone(&shared.bell)?;
+    let worker = Worker::open(alloc, &config, own, clock, gate, bell)?;
+    Ok(worker.with_bells(bells).with_tries(0))
 }
 
 /// What a worker over these ends notes until its core is drained.
@@ -127,11 +176,11 @@ fn serve<R: Wait>(
     rt: &R,
     alloc: Global,
     own: Ends<ScriptJob>,
-    bell: &Bell,
+    shared: &Shared,
 ) -> Result<Journal<u64>, AllocError>
     requires { AreEndsOf 1 4 own }
 {
-    let worker = open(alloc, own, bell)?;
+    let worker = open(alloc, own, shared)?;
     let (recorded, _ends) = worker.run(rt).into_linked().into_parts();
     Ok(recorded.into_journal())
 }
@@ -152,13 +201,26 @@ fn says(journal: &Journal<u64>, want: Note<u64>) -> bool {
     false
 }
 
+/// How many polls there were.
+fn count_polls(journal: &Journal<u64>) -> u64
+    ensures { result < 2 ^ 32 }
+{
+    let mut polls: u32 = 0;
+    for note in journal.as_slice() {
+        if matches!(note, Note::Start(_) | Note::Resume(_)) {
+            polls = polls.saturating_add(1);
+        }
+    }
+    polls as u64
+}
+
 #[test]
 fn an_order_closes_a_worker(rt: HostRuntime) -> Result<(), Fail> {
-    let bell = Arc::new(rt.alloc(), AtomicU64::new(0))?;
+    let shared = Shared::new(rt.alloc())?;
     let (own, mut outside) = ends(rt.alloc())?;
     let job = order(&rt, ScriptJob::done(10, 7));
     let sent = send(&mut outside, job) && send(&mut outside, Order::CloseCore(Mode::Finish));
-    let journal = serve(&rt, rt.alloc(), own, &bell)?;
+    let journal = serve(&rt, rt.alloc(), own, &shared)?;
     let notes = [
         Note::Took(name(OUTSIDE, 1), QUEUE),
         Note::Answered(name(OUTSIDE, 2), Answer::Closed),
@@ -170,17 +232,18 @@ fn an_order_closes_a_worker(rt: HostRuntime) -> Result<(), Fail> {
         Note::Shut(OUTSIDE, 2),
     ];
     assert!(rt; sent && journal.len() == notes.len() && begins(&journal, &notes));
-    assert!(rt; bell.load(Ordering::SeqCst) == 0);
+    // Nobody's bell rang, and there was one poll.
+    assert!(rt; shared.counts() == (0, 2, 1));
     Ok(())
 }
 
 #[test]
 fn a_job_submits_until_the_journal_is_short(rt: HostRuntime) -> Result<(), Fail> {
-    let bell = Arc::new(rt.alloc(), AtomicU64::new(0))?;
+    let shared = Shared::new(rt.alloc())?;
     let (own, mut outside) = ends(rt.alloc())?;
     let job = order(&rt, long_job(&rt));
     let sent = send(&mut outside, job);
-    let journal = serve(&rt, rt.alloc(), own, &bell)?;
+    let journal = serve(&rt, rt.alloc(), own, &shared)?;
     let (long, short) = (name(OUTSIDE, 1), name(OWN, 1));
     let notes = [
         Note::Took(long, QUEUE),
@@ -201,7 +264,8 @@ fn a_job_submits_until_the_journal_is_short(rt: HostRuntime) -> Result<(), Fail>
     let closed = says(&journal, Note::CoreClosed(Mode::Return));
     let returned = says(&journal, Note::Returned(long, Reason::CoreReturned));
     assert!(rt; sent && begins(&journal, &notes) && closed && returned);
-    // It rang once for the order, and once for the outcome.
-    assert!(rt; bell.load(Ordering::SeqCst) == 2);
+    // It rang once for the order, and once for the outcome. The clock is read twice a poll.
+    let polls = count_polls(&journal);
+    assert!(rt; shared.counts() == (2, 2 * polls, polls));
     Ok(())
 }
