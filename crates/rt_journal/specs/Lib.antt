@@ -1,6 +1,7 @@
 pub mod Orders
 pub mod Polls
 pub mod Deliveries
+pub mod Figures
 pub mod Agreement
 pub mod Submissions
 pub mod Recorded
