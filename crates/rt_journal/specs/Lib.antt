@@ -8,8 +8,10 @@ pub mod Recorded
 pub mod Lists
 pub mod Ends
 pub mod Steps
+pub mod Settling
 pub mod Turns
 pub mod Owed
+pub mod KnownLanes
 pub mod Tickets
 pub mod Spending
 pub mod Posts
