@@ -25,22 +25,22 @@ use Rattle.rt_journal.proofs.Drained.{drained_told, drained_here}
 use Rattle.rt_world.specs.Stats.{TellsCore, TellsQueues}
 use Rattle.rt_world.proofs.JobsHeld.{held_told}
 
--- no journal has more turns than there may be
-turns_within : {T : Type 0} (terms : Terms) (journal : Journal T) → EachNote (MayStand terms) journal → turns journal ≤ most_turns
-turns_within terms [] notes = omega arith
-turns_within terms (note ∷ before) notes = by_note note notes.0.may_follow (turns_within terms before notes.1)
-  where
-    by_note : (note : Note _) → MayFollow terms note before → turns before ≤ most_turns → turns (note ∷ before) ≤ most_turns
-    by_note (Pick queue runtime) law within = omega (arith, law.turn_left)
-    by_note _ law within = omega (arith, within)
+module _ {T : Type 0} (terms : Terms) where
+  -- no journal has more turns than there may be
+  turns_within : (journal : Journal T) → EachNote (MayStand terms) journal → turns journal ≤ most_turns
+  turns_within [] notes = omega arith
+  turns_within (note ∷ before) notes = by_note note notes.0.may_follow (turns_within before notes.1)
+    where
+      by_note : (note : Note T) → MayFollow terms note before → turns before ≤ most_turns → turns (note ∷ before) ≤ most_turns
+      by_note (Pick queue runtime) law within = omega (arith, law.turn_left)
+      by_note _ law within = omega (arith, within)
 
--- so a virtual runtime is never cut
-runtime_fits : {T : Type 0} (terms : Terms) (queue : ℕ) (journal : Journal T) → EachNote (MayStand terms) journal →
-    virtual_runtime queue journal ≡ min (virtual_runtime queue journal) (2 ^ 128 - 1)
-runtime_fits terms queue journal notes =
-    let low = no_runtime_wraps terms queue journal notes in
-    let few = turns_within terms journal notes in
-    omega arith
+  -- so a virtual runtime is never cut
+  runtime_fits : (queue : ℕ) (journal : Journal T) → EachNote (MayStand terms) journal → virtual_runtime queue journal ≡ min (virtual_runtime queue journal) (2 ^ 128 - 1)
+  runtime_fits queue journal notes =
+      let low = no_runtime_wraps terms queue journal notes in
+      let few = turns_within journal notes in
+      omega arith
 
 module _ {J T : Type 0} {same : J → J → Type 0} {made : J → ℕ} {polls : Owed J T} (view : RecordedView J T) (recorded : IsRecorded same made polls view) where
   pub core_told : (told : CoreStats) → told ≡ core_stats view.core told.drained → IsTrue told.drained ↔ core.IsDrained view.core → TellsCore view.core.cores view.journal.notes told
