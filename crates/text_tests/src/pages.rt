@@ -22,6 +22,12 @@ fn long_text(alloc: Global) -> Result<String, AllocError> {
 fn a_text_of_pages_is_read_and_written(rt: HostRuntime) -> Result<(), Fail> {
     let text = long_text(rt.alloc())?;
     let same = is_same(rt.alloc(), text.as_str());
-    assert!(rt; comes_to(rt.alloc(), text.as_str(), 1, "fault actor 0 note 1 rule 5\n") && same);
+    let judged = comes_to(
+        rt.alloc(),
+        text.as_str(),
+        1,
+        "fault actor 0 note 1 rule 5\n",
+    );
+    assert!(rt; same && judged);
     Ok(())
 }
