@@ -89,11 +89,13 @@ impl<J: Drop, A: Allocator + Clone> Queues<J, A> {
             return Err(CreateError::TooMany);
         }
         let queue = QueueNo(count as u8);
-        if self.slips.add(queue).is_err() {
-            return Err(CreateError::Memory);
+        match self.slips.add(queue) {
+            Ok(()) => {
+                self.lines.push_reserved(Line::empty(shares));
+                Ok(queue)
+            }
+            Err(_) => Err(CreateError::Memory),
         }
-        self.lines.push_reserved(Line::empty(shares));
-        Ok(queue)
     }
 
     /// How many queues there are.

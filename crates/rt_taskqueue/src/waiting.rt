@@ -34,7 +34,11 @@ pub fn link<J, A: Allocator>(jobs: &mut SealedSlab<Waiting<J>, A>, tail: usize, 
 }
 
 /// A job comes behind the tail of a line. The answer: the line with it.
-pub fn append<J, A: Allocator>(jobs: &mut SealedSlab<Waiting<J>, A>, line: Line, last: Waiting<J>) -> Line
+pub fn append<J, A: Allocator>(
+    jobs: &mut SealedSlab<Waiting<J>, A>,
+    line: Line,
+    last: Waiting<J>,
+) -> Line
     requires room { HasRoomFor jobs.old 1 }
     requires tail { 0 < line.count → ContainsKey jobs.old line.tail }
     requires short { line.count + 1 < 2 ^ 64 }
