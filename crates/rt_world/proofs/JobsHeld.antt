@@ -42,16 +42,17 @@ none_below : (last : ℕ) → below (λ number. number_if (is_number number None
 none_below zero = refl
 none_below (suc last) = omega (arith, none_below last)
 
--- one number is met once, if it is among the first
-one_below : (queue last : ℕ) → ((last ≤ queue) × (below (λ number. number_if (number == queue)) last ≡ 0)) ⊎ ((queue < last) × (below (λ number. number_if (number == queue)) last ≡ 1))
+-- how often a number is met among the first
+abbrev met : ℕ → ℕ → ℕ
+met queue = below (λ number. number_if (number == queue))
+
+-- it is met once, if it is among them
+one_below : (queue last : ℕ) → ((last ≤ queue) × (met queue last ≡ 0)) ⊎ ((queue < last) × (met queue last ≡ 1))
 one_below queue zero = inl (omega arith, refl)
 one_below queue (suc last) = by_place (cases_eq last queue) (one_below queue last)
   where
-    abbrev met : ℕ → ℕ
-    met = below (λ number. number_if (number == queue))
-
-    by_place : (last ≡ queue) ⊎ (last ≡ queue → ⊥) → ((last ≤ queue) × (met last ≡ 0)) ⊎ ((queue < last) × (met last ≡ 1)) →
-        ((suc last ≤ queue) × (met (suc last) ≡ 0)) ⊎ ((queue < suc last) × (met (suc last) ≡ 1))
+    by_place : (last ≡ queue) ⊎ (last ≡ queue → ⊥) → ((last ≤ queue) × (met queue last ≡ 0)) ⊎ ((queue < last) × (met queue last ≡ 1)) →
+        ((suc last ≤ queue) × (met queue (suc last) ≡ 0)) ⊎ ((queue < suc last) × (met queue (suc last) ≡ 1))
     by_place (inl same) (inl past) = inr (omega (arith, same), omega (arith, past.1, ap number_if (eq-eqb last queue same)))
     by_place (inl same) (inr within) = absurd (omega (arith, same, within.0))
     by_place (inr apart) (inl past) = inl (further apart past.0, omega (arith, past.1, ap number_if (ne_eqb last queue apart)))
@@ -71,8 +72,7 @@ module _ {J : Type 0} where
   out_below count None there = none_below count
   out_below count (Some job) there = by_place (one_below job.queue count)
     where
-      by_place : ((count ≤ job.queue) × (below (λ number. number_if (number == job.queue)) count ≡ 0)) ⊎ ((job.queue < count) × (below (λ number. number_if (number == job.queue)) count ≡ 1)) →
-          below (λ number. number_if (number == job.queue)) count ≡ 1
+      by_place : ((count ≤ job.queue) × (met job.queue count ≡ 0)) ⊎ ((job.queue < count) × (met job.queue count ≡ 1)) → met job.queue count ≡ 1
       by_place (inl past) = absurd (omega (arith, past.0, there job refl))
       by_place (inr within) = within.1
 
