@@ -1,5 +1,5 @@
 -- What the lines of a script say keeps within the limits.
-use Rattle.std.proofs.Common.{IfOk, eqb, sym, ap, zero-add, ◌∙◌, ◌≡◌, ℕ, ◌+◌, ◌-◌, ◌≤◌, ◌<◌, ◌++◌, ◌==◌, Bool, true, false, cond, List, [], ◌∷◌, Option, Some, None, Result, Ok, Err, refl, arith}
+use Rattle.std.proofs.Common.{IfOk, eqb, sym, ap, zero-add, zero, suc, get_or, replicate, ◌∙◌, ◌≡◌, ℕ, ◌+◌, ◌-◌, ◌≤◌, ◌<◌, ◌++◌, ◌==◌, Bool, true, false, cond, List, [], ◌∷◌, Option, Some, None, Result, Ok, Err, refl, arith}
 use Rattle.std.proofs.lemmas.Bool.Decides.{nat_tests}
 use Rattle.std.proofs.lemmas.List.Sums.{sum_by-append}
 use Rattle.std.proofs.lemmas.List.Elements.{All-push}
@@ -70,8 +70,14 @@ keyword_line_ok (Some k) size late ws line some e =
 pub later_line_ok : (size : ℕ × ℕ) (late : Bool) (ws : List (List ℕ)) (line : Line) → 1 ≤ size.0 → later_line size.0 late ws ≡ Ok line → MayFollow (Some size) line
 later_line_ok size late ws line some e = keyword_line_ok (keyword_of (first ws)) size late ws line some e
 
+-- before any core was named
+pub none_named : (count core : ℕ) → ◌≡◌ {A = ℕ} (get_or (replicate count 0) core 0) 0
+none_named zero core = refl
+none_named (suc count) zero = refl
+none_named (suc count) (suc core) = none_named count core
+
 -- one `queue` line more
-count_more : (core : ℕ) (queues : List (ℕ × ℕ)) (queue : ℕ × ℕ) → queue_lines core (queues ++ queue ∷ []) ≡ queue_lines core queues + cond (eqb queue.0 core) 1 0
+pub count_more : (core : ℕ) (queues : List (ℕ × ℕ)) (queue : ℕ × ℕ) → queue_lines core (queues ++ queue ∷ []) ≡ queue_lines core queues + cond (eqb queue.0 core) 1 0
 count_more core queues queue = sum_by-append (λ q. cond (q.0 == core) 1 0) queues (queue ∷ []) ∙ ap (λ n. queue_lines core queues + n) (zero-add (cond (eqb queue.0 core) 1 0))
 
 few_of : (same : Bool) (before after : ℕ) → after ≡ before + cond same 1 0 → (same ≡ true → before < 255) → before ≤ 255 → after ≤ 255
@@ -87,7 +93,7 @@ placed_more : (size : Option (ℕ × ℕ)) (queues : List (ℕ × ℕ)) (queue :
 placed_more None queues queue placed core = absurd core
 placed_more (Some s) queues queue placed core = All-push (λ q. q.0 < s.0) queues queue placed core
 
-limits_more : (draft : Drafted) (queue : ℕ × ℕ) → IsWithinLimits draft → IsCoreOf draft.size queue.0 → queue_lines queue.0 draft.queues < 255 → IsWithinLimits (record { size = draft.size; queues = draft.queues ++ queue ∷ []; events = draft.events })
+pub limits_more : (draft : Drafted) (queue : ℕ × ℕ) → IsWithinLimits draft → IsCoreOf draft.size queue.0 → queue_lines queue.0 draft.queues < 255 → IsWithinLimits (record { size = draft.size; queues = draft.queues ++ queue ∷ []; events = draft.events })
 limits_more draft queue limits core room = record {
   sized = limits.sized;
   placed = placed_more draft.size draft.queues queue limits.placed core;
