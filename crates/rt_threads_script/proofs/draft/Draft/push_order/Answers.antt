@@ -1,7 +1,12 @@
 use Rattle.std.proofs.Common.{◌+◌, ap, sym, ◌∙◌}
 use Rattle.rt_threads_script.specs.Drafts.{polls_in}
-use Rattle.rt_threads_script.proofs.LimitLemmas.{order_more, polls_more}
+use Rattle.rt_threads_script.proofs.LimitLemmas.{order_more, polls_more, sent_counted, few_sent}
 use Rattle.rt_threads_script.proofs.draft.Draft.push_order.Goals as goal
+
+pub requires-add : goal.requires-add
+requires-add c =
+    rw c.self.invariant.3.sent_are c.args.core
+    (few_sent c.self.inside.size _ c.self.invariant.0.sized (rw (← c.self.view_is) at c.requires.room))
 
 pub invariant_of-self-2 : goal.invariant_of-self-2
 invariant_of-self-2 c =
@@ -10,4 +15,5 @@ invariant_of-self-2 c =
       order_more (record { size = c.self.inside.size; queues = c.self.inside.queues.items; orders = c.self.inside.orders.items }) (c.args.core, c.args.order) c.self.invariant.0 (rw (← c.self.view_is) at c.requires.told) (rw (← c.self.view_is) at c.requires.room),
       ap (λ n. n + c.args.polls) c.self.invariant.1 ∙ ap (λ n. polls_in c.self.inside.orders.items + n) c.requires.polls ∙ sym more,
       rw c.self.invariant.1 (rw (← c.self.view_is) at c.requires.few),
+      sent_counted _ _ (c.args.core, c.args.order) _ _ _ c.self.invariant.3 c.add.ensures,
     )
