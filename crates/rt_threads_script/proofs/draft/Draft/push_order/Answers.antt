@@ -3,8 +3,8 @@ use Rattle.rt_threads_script.specs.Drafts.{polls_in}
 use Rattle.rt_threads_script.proofs.LimitLemmas.{order_more, polls_more, sent_counted, few_sent}
 use Rattle.rt_threads_script.proofs.draft.Draft.push_order.Goals as goal
 
-pub requires-add : goal.requires-add
-requires-add c =
+pub add-requires : goal.add-requires
+add-requires c =
     rw c.self.invariant.3.sent_are c.args.core
     (few_sent c.self.inside.size _ c.self.invariant.0.sized (rw (← c.self.view_is) at c.requires.room))
 
