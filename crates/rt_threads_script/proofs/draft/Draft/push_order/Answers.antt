@@ -1,12 +1,13 @@
-use Rattle.std.proofs.Common.{◌+◌, ap, sym, ◌∙◌}
-use Rattle.rt_threads_script.specs.Drafts.{polls_in}
+use Rattle.std.proofs.Common.{◌+◌, ◌<◌, ap, sym, ◌∙◌}
+use Rattle.rt_threads_script.specs.Drafts.{polls_in, orders_to, cap_of}
 use Rattle.rt_threads_script.proofs.LimitLemmas.{order_more, polls_more, sent_counted, few_sent}
 use Rattle.rt_threads_script.proofs.draft.Draft.push_order.Goals as goal
 
 pub add-requires : goal.add-requires
 add-requires c =
-    rw c.self.invariant.3.sent_are c.args.core
-    (few_sent c.self.inside.size _ c.self.invariant.0.sized (rw (← c.self.view_is) at c.requires.room))
+    let room : orders_to c.args.core c.self.inside.orders.items + 1 < cap_of c.self.inside.size = rw (← c.self.view_is) at c.requires.room in
+    let few : orders_to c.args.core c.self.inside.orders.items < 65535 = few_sent c.self.inside.size _ c.self.invariant.0.sized room in
+    rw (c.self.invariant.3.sent_are c.args.core) few
 
 pub invariant_of-self-2 : goal.invariant_of-self-2
 invariant_of-self-2 c =
