@@ -15,4 +15,4 @@ returns-in-Some g c = (
 pub end-requires : goal.end-requires
 end-requires g c =
     subst (λ (view : RuntimeView _ _). IsFirstOpenOf view.closing None) c.self.view_is
-      (subst (λ closing. IsFirstOpenOf closing None) c.deref.ensures.value c.in-None.ensures)
+    (subst (λ closing. IsFirstOpenOf closing None) c.deref.ensures.value c.in-None.ensures)
