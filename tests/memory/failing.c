@@ -1,5 +1,6 @@
 // Lets one call for memory fail. Preloaded into a program, it counts the program's calls of malloc and realloc, and answers that there is
 // no memory at the call whose number stands in FAILING_CALL. At the end it writes how many calls there were into the file FAILING_COUNT.
+// A program with threads ends by `_exit`, and any other by its return.
 #define _GNU_SOURCE
 #include <dlfcn.h>
 #include <fcntl.h>
@@ -7,6 +8,7 @@
 #include <stddef.h>
 #include <stdio.h>
 #include <stdlib.h>
+#include <sys/syscall.h>
 #include <unistd.h>
 
 static void *(*next_malloc)(size_t);
@@ -34,12 +36,22 @@ void *realloc(void *place, size_t size) {
     return fails() ? NULL : next_realloc(place, size);
 }
 
+__attribute__((noreturn)) static void leave(int status) {
+    syscall(SYS_exit_group, status);
+    __builtin_unreachable();
+}
+
 __attribute__((destructor)) static void end(void) {
     const char *name = getenv("FAILING_COUNT");
     int file = name ? open(name, O_WRONLY | O_CREAT | O_TRUNC, 0666) : -1;
     if (file < 0) return;
     char text[32];
     int length = snprintf(text, sizeof text, "%lu\n", atomic_load(&calls));
-    if (write(file, text, (size_t)length) != length) _exit(9);
+    if (write(file, text, (size_t)length) != length) leave(9);
     close(file);
+}
+
+void _exit(int status) {
+    end();
+    leave(status);
 }
