@@ -1,0 +1,44 @@
+-- A worker, and what it gives back, may go to another thread.
+use Prim.Native.Nat.{ℕ}
+use denote.RattleType.{RattleType}
+use denote.Param.{param}
+use denote.Param.Send.{IsSend, sendable}
+use denote.Struct.Field.{u64-field}
+use Rattle.rt_jobs.specs.declared.job.Task.{Ghosts}
+use Rattle.std.proofs.Crossing.{crosses}
+use Rattle.std.specs.contracts.alloc.Global.{the_row as global}
+use Rattle.std.specs.contracts.impls.GlobalAllocator.TheImpl.{ghosts as its_alloc}
+use Rattle.std.below.core.specs.contracts.clone.Clone+copy.TheImpl.{ghosts as copied}
+use Rattle.rt_timeline.proofs.tree.Tree.TheLaws.TheKnot as tree
+use Rattle.rt_desk.proofs.trie.Trie.TheLaws.TheKnot as trie
+use Rattle.rt_desk.specs.contracts.lane.Lane.{the_row as lane}
+use Rattle.rt_notes.proofs.journal.Journal.TheSendSync as journal
+use Rattle.rt_grid.proofs.ends.Ends.TheSendSync as ends
+use Rattle.rt_core.specs.contracts.one_core.Core.{the_row as core}
+use Rattle.rt_journal.specs.contracts.desk.RecordedDesk.{the_row as desk}
+use Rattle.rt_journal.specs.contracts.recorded.Recorded.{the_row as recorded}
+use Rattle.rt_worker.specs.contracts.linked.Linked.{the_row as linked}
+use Rattle.rt_worker.specs.contracts.ended.Ended.{the_row as ended}
+use Rattle.rt_worker.specs.contracts.worker.Worker.{the_row as worker}
+
+module _ (T : RattleType) (t : Ghosts (param 0 T).Denot ℕ) (j : IsSend (param 0 T)) where
+  core_send : IsSend (core (param 0 T) global u64-field.row t its_alloc (copied global))
+  core_send = search (crosses, tree.crosses, sendable) depth 60 fits 20000
+
+  lane_send : IsSend (lane (param 0 T) u64-field.row t)
+  lane_send = search (crosses, trie.crosses, sendable) depth 60 fits 20000
+
+  desk_send : IsSend (desk (param 0 T) t)
+  desk_send = search (lane_send, journal.the_send, crosses, sendable) depth 60 fits 20000
+
+  recorded_send : IsSend (recorded (param 0 T) global t its_alloc (copied global))
+  recorded_send = search (core_send, desk_send, crosses, sendable) depth 60 fits 20000
+
+  linked_send : IsSend (linked (param 0 T) t)
+  linked_send = search (recorded_send, ends.the_send, crosses, sendable) depth 60 fits 20000
+
+  pub ended_send : IsSend (ended (param 0 T) t)
+  ended_send = search (linked_send, crosses, sendable) depth 60 fits 20000
+
+  pub worker_send : (C G : RattleType) → IsSend (param 1 C) → IsSend (param 2 G) → IsSend (worker (param 0 T) (param 1 C) (param 2 G) t)
+  worker_send C G c g = search (linked_send, crosses, sendable) depth 60 fits 20000

@@ -1,0 +1,135 @@
+-- A house that was just opened, and a runtime over it.
+use Rattle.std.proofs.Common.{◌≡◌, ℕ, ◌+◌, ◌<◌, ◌≤◌, List, [], ◌∷◌, ◌++◌, length, map, replicate, get_or, refl, sym, ◌∙◌, ap, subst, arith, length-append}
+use Rattle.std.specs.Prelude.{All, Bool, false, sum_by}
+use Rattle.std.proofs.lemmas.List.Folds.{sum_by-replicate}
+use Rattle.std.proofs.lemmas.List.{get_or_append_left, get_or_default, length-replicate}
+use Rattle.std.proofs.Math.Seq.{get_or-append_seam}
+use Rattle.rt_ids.specs.Spelled.{IsWithinLimits}
+use Rattle.rt_link.specs.Whole.{fresh, out_of}
+use Rattle.rt_settings.specs.Configs.{Entry, IsGood}
+use Rattle.rt_workers.specs.Works.{Together}
+use Rattle.rt_workers.proofs.Lists.{together_length}
+use Rattle.rt_journal.specs.Submissions.{DeskView, IsWritten, opened_desk, terms_of_desk}
+use Rattle.rt_journal.specs.Ends.{IsOutOf}
+use Rattle.rt_ids.specs.declared.order.Order.{Order}
+use Rattle.rt_ids.specs.declared.order.Outcome.{Outcome}
+use Rattle.rt_ring.specs.declared.ring_out.Sending.{Sending}
+use Rattle.rt_desk.specs.Lanes.{IsUnused, fresh_lane}
+use Rattle.rt_journal.specs.Spending.{booked, due_of}
+use Rattle.rt_desk.proofs.Cores.{IsUnused-fresh}
+use Rattle.rt_journal.specs.Tickets.{HasLane}
+use Rattle.rt_journal.proofs.LaneEnds.{fresh_has_lane}
+use Rattle.rt_grid.specs.Ends.{EndsView, AreFresh, out_at}
+use Rattle.rt_grid.specs.Grid.{IsGrid, AreAllFresh, ends_at, no_ends}
+use Rattle.rt_grid.proofs.Parts.{at_end}
+use Rattle.rt_worker.specs.Linked.{LinkedView}
+use Rattle.rt_worker.specs.Opening.{IsWorkerOf, IsOpenedOver}
+use Rattle.rt_worker.specs.Together.{IsOutside, no_linked, worker_at}
+use Rattle.rt_worker.proofs.Opened.{fresh_out}
+use Rattle.rt_runtime.specs.State.{IsRuntime}
+use Rattle.rt_runtime.specs.Starting.{AreOpening, IsHouse}
+use Rattle.rt_runtime.proofs.Finished.{together_at}
+
+all_from : {A : Type 0} (P : A → Type 0) (xs : List A) (d : A) → ((i : ℕ) → i < length xs → P (get_or xs i d)) → All P xs
+all_from P xs d each place other low = subst P (sym (get_or_default xs place other d low)) (each place low)
+
+module _ {J T : Type 0} (cores cap room : ℕ) where
+  -- the workers have the ends over which they were opened
+  over_same : (front : List (EndsView J T)) (workers : List (LinkedView J T)) → Together (IsOpenedOver cores cap room) front workers → map (λ worker. worker.ends) workers ≡ front
+  over_same [] [] both = refl
+  over_same [] (worker ∷ workers) both = absurd both
+  over_same (ends ∷ front) [] both = absurd both
+  over_same (ends ∷ front) (worker ∷ workers) both = ap (λ ends. ends ∷ map (λ (worker : LinkedView J T). worker.ends) workers) both.0.ends_are ∙ ap (λ front. ends ∷ front) (over_same front workers both.1)
+
+  module _ (all front : List (EndsView J T)) (outside : EndsView J T) (is : all ≡ front ++ outside ∷ []) (grid : IsGrid cores all) (are_fresh : AreAllFresh cores cap all) where
+    front_count : length front ≡ cores
+    front_count = let longer : length all ≡ length front + 1 = ap length is ∙ length-append front (outside ∷ []) in omega (arith, longer, grid.count)
+
+    at_front : (core : ℕ) → core < length front → ends_at core all ≡ get_or front core no_ends
+    at_front core low = ap (λ all. ends_at core all) is ∙ get_or_append_left front (outside ∷ []) no_ends core low
+
+    at_outside : ends_at cores all ≡ outside
+    at_outside = ap (λ all. ends_at cores all) is ∙ at_end front outside no_ends cores front_count
+
+    fresh_front : (core : ℕ) → core < length front → AreFresh cap core (get_or front core no_ends)
+    fresh_front core low = subst (AreFresh cap core) (at_front core low) (are_fresh core (omega (arith, low, front_count)))
+
+    -- each of the first ends may be opened
+    pub may_open : (queues : List Entry) (clocks gates : ℕ) → IsGood cores cap room queues clocks gates → All (AreOpening cores cap room queues) front
+    may_open queues clocks gates good = all_from (AreOpening cores cap room queues) front no_ends (λ core low.
+        let there : core < cores = omega (arith, low, front_count) in
+        let fresh = fresh_front core low in
+        record {
+          ends_of = record {
+            core = omega (arith, fresh.number_is, there);
+            outs = subst (λ ends. length ends.outs ≡ cores) (at_front core low) (grid.outs core (omega (arith, there)));
+            ins = subst (λ ends. length ends.ins ≡ cores + 1) (at_front core low) (grid.ins core there);
+            fresh = subst (λ number. AreFresh cap number (get_or front core no_ends)) (sym fresh.number_is) fresh;
+          };
+          enough = (good.each (get_or front core no_ends).number (omega (arith, fresh.number_is, there))).room_least;
+        })
+
+    pub opened_house : (workers : List (LinkedView J T)) → Together (IsOpenedOver cores cap room) front workers → IsHouse cores cap room workers outside
+    opened_house workers both = record {
+      count = sym (together_length (IsOpenedOver cores cap room) front workers both) ∙ front_count;
+      each = λ core low.
+          let there : core < length front = omega (arith, low, front_count) in
+          let opened = together_at (IsOpenedOver cores cap room) front workers no_ends no_linked core both there in
+          subst (λ number. IsWorkerOf number cores cap room (worker_at core workers)) (fresh_front core there).number_is opened.of;
+      grid = subst (IsGrid cores) (is ∙ ap (λ front. front ++ outside ∷ []) (sym (over_same front workers both))) grid;
+      outs = subst (λ ends. length ends.outs ≡ cores) at_outside (grid.outs cores (omega arith));
+      fresh = subst (AreFresh cap cores) at_outside (are_fresh cores (omega arith));
+    }
+
+  -- no order was submitted
+  pub none_submitted : (workers : List (LinkedView J T)) (ends : EndsView J T) → IsHouse cores cap room workers ends → (core : ℕ) → core < cores → (out_at core ends).out.sent ≡ []
+  none_submitted workers ends house core low = ap (λ out. out.sent) (house.fresh.outs core (omega (arith, low, house.outs))).out
+
+  -- a runtime in which nothing has happened
+  module _ (workers : List (LinkedView J T)) (ends : EndsView J T) (desk : DeskView J T) (closing : List Bool) (house : IsHouse cores cap room workers ends) (opened : desk ≡ opened_desk cores cores cap room)
+      (written : IsWritten (terms_of_desk desk) desk.journal.notes) (none : closing ≡ replicate cores false) (limits : IsWithinLimits cores cap) where
+    outs_opened : (core : ℕ) → core < cores → IsOutOf core (opened_desk cores cores cap room) (out_at core ends).out (out_at core ends).credited
+    outs_opened core low =
+        let is = house.fresh.outs core (omega (arith, low, house.outs)) in
+        subst (λ out. IsOutOf core (opened_desk cores cores cap room) out (out_at core ends).credited) (sym is.out)
+        (subst (IsOutOf core (opened_desk cores cores cap room) (out_of (fresh cores core cap 0))) (sym is.credited) (fresh_out cores core cores cap room low))
+
+    outside_opened : IsOutside {J = J} {T = T} (record { desk = desk; ends = ends })
+    outside_opened = record {
+      outs_are = house.outs ∙ ap (λ desk. desk.cores) (sym opened);
+      written = written;
+      outs = subst (λ desk. (core : ℕ) → core < desk.cores → IsOutOf core desk (out_at core ends).out (out_at core ends).credited) (sym opened) outs_opened;
+    }
+
+    lanes_opened : (fits : Order J → Outcome J T → Type 0) (core : ℕ) → core < cores → HasLane fits core (opened_desk cores cores cap room) (out_at core ends).out (out_at core ends).credited
+    lanes_opened fits core low =
+        let is = house.fresh.outs core (omega (arith, low, house.outs)) in
+        subst (λ credited. HasLane fits core (opened_desk cores cores cap room) (out_at core ends).out credited) (sym is.credited)
+        (fresh_has_lane fits core cores cores cap room (out_at core ends).out low
+        (subst (λ credited. IsUnused cap (out_at core ends).out credited) is.credited
+        (IsUnused-fresh (λ (end : Sending J T). end.out) (λ (end : Sending J T). end.credited) cores core cap 0 (out_at core ends) (omega arith) is.out is.credited)))
+
+    none_due : sum_by due_of (replicate cores (fresh_lane {J = J} {T = T} cap)) ≡ 0
+    none_due = sum_by-replicate due_of cores (fresh_lane cap) ∙ omega arith
+
+    pub started : (fits : Order J → Outcome J T → Type 0) → IsRuntime fits (record { desk = desk; ends = ends; closing = closing; workers = workers; room = room })
+    started fits = record {
+      lanes = subst (λ (desk : DeskView J T). (core : ℕ) → core < desk.cores → HasLane fits core desk (out_at core ends).out (out_at core ends).credited) (sym opened) (lanes_opened fits);
+      count = house.count ∙ ap (λ desk. desk.cores) (sym opened);
+      each = subst (λ (desk : DeskView J T). (core : ℕ) → core < desk.cores → IsWorkerOf core desk.cores desk.cap room (worker_at core workers)) (sym opened) house.each;
+      actor = ap (λ desk. desk.actor) opened ∙ ap (λ desk. desk.cores) (sym opened);
+      outside = outside_opened;
+      grid = subst (λ (desk : DeskView J T). IsGrid desk.cores (map (λ worker. worker.ends) workers ++ ends ∷ [])) (sym opened) house.grid;
+      closings = ap length none ∙ (length-replicate cores false ∙ ap (λ desk. desk.cores) (sym opened));
+      lanes_are = ap (λ desk. length desk.lanes) opened ∙ (length-replicate cores (fresh_lane cap) ∙ ap (λ desk. desk.cores) (sym opened));
+      room_is = subst (λ (desk : DeskView J T). booked desk ≤ desk.journal.room) (sym opened) (omega (arith, none_due));
+      limits = subst (λ (desk : DeskView J T). IsWithinLimits desk.cores desk.cap) (sym opened) limits;
+    }
+
+-- what holds of all holds of the next one
+pub holds_next : {A : Type 0} (P : A → Type 0) (all done rest rest' : List A) (x : A) → All P all → all ≡ done ++ rest → rest ≡ x ∷ rest' → P x
+holds_next P all done rest rest' x each split is =
+    let here : all ≡ done ++ x ∷ rest' = split ∙ ap (λ rest. done ++ rest) is in
+    let at : get_or all (length done) x ≡ x = ap (λ all. get_or all (length done) x) here ∙ get_or-append_seam done x rest' x in
+    let low : length done < length all = omega (arith, ap length here, length-append done (x ∷ rest')) in
+    subst P at (each (length done) x low)

@@ -1,0 +1,54 @@
+use Rattle.std.proofs.Common.{rules, refl, ap, sym, subst, arith}
+use denote.Param.{param}
+use denote.Param.Send.{IsSend, arg_send, param_send}
+use denote.Exit.{no}
+use Rattle.rt_runtime.proofs.Crosses.{worker_send, ended_send}
+use Rattle.rt_link.specs.Fits.{Fits}
+use Rattle.rt_runtime.specs.Starting.{IsHouse}
+use Rattle.rt_runtime.proofs.Started.{none_submitted, started}
+use Rattle.rt_runtime.proofs.runtime.Runtime.begin.Goals as goal
+
+pub start-requires-send-W : goal.start-requires-send-W
+start-requires-send-W g c κs within =
+    let j : IsSend (param 0 g.row.J) = search rules parts 8 in
+    let k : IsSend (param 1 g.row.C) = search rules parts 8 in
+    let l : IsSend (param 2 g.row.G) = search rules parts 8 in
+    param_send 0 _ (arg_send _ no _ (worker_send g.row.J g.J.Task j g.row.C g.row.G k l))
+
+pub start-requires-send-W-Ended : goal.start-requires-send-W-Ended
+start-requires-send-W-Ended g c κs within =
+    let j : IsSend (param 0 g.row.J) = search rules parts 8 in
+    param_send 1 _ (arg_send _ no _ (ended_send g.row.J g.J.Task j))
+
+pub invariant_of-result : goal.invariant_of-result
+invariant_of-result g c =
+    let desk = c.in-Ok-open_outside.ensures.desk in
+    let numbers = c.requires.numbers in (
+      started c.args.config.now.cores c.args.config.now.cap c.args.config.now.room c.in-Ok-start.team c.in-Ok.ends c.in-Ok-open_outside.desk c.in-Ok-open_outside.closing.items
+          (subst (λ workers. IsHouse c.args.config.now.cores c.args.config.now.cap c.args.config.now.room workers c.in-Ok.ends) (sym c.in-Ok-start.ensures.ok) c.in-Ok.ensures.house) desk
+          c.in-Ok-open_outside.ensures.written c.in-Ok-open_outside.ensures.closing
+          (record {
+            some_core = omega (arith, numbers.some_core);
+            few_cores = numbers.cores_most;
+            some_place = omega (arith, numbers.some_place);
+            few_places = numbers.places_most;
+          })
+          (Fits g.J.Task.SameTask g.J.Task.Answers),
+      (record {
+        cores_are = sym (ap (λ desk. desk.cores) desk);
+        cap_is = sym (ap (λ desk. desk.cap) desk);
+        bells_are = c.in-Ok.ensures.bells;
+        room_ends = omega (arith, c.in-Ok-with_capacity.ensures.capacity);
+        room_journals = omega (arith, c.in-Ok-with_capacity-2.ensures.capacity);
+      }),
+      c.in-Ok-with_capacity.ensures.items,
+      c.in-Ok-with_capacity-2.ensures.items,
+    )
+
+pub returns-in-Ok-start : goal.returns-in-Ok-start
+returns-in-Ok-start g c = record {
+  desk = c.in-Ok-open_outside.ensures.desk;
+  closing = c.in-Ok-open_outside.ensures.closing;
+  room_is = refl;
+  none = none_submitted c.args.config.now.cores c.args.config.now.cap c.args.config.now.room c.in-Ok.workers.items c.in-Ok.ends c.in-Ok.ensures.house;
+}

@@ -1,0 +1,14 @@
+use Rattle.std.proofs.Common.{◌≡◌, ◌+◌, ◌*◌, ◌≤◌, ◌∙◌, ap, subst, arith}
+use Rattle.std.proofs.lemmas.Bool.{ltb-false}
+use Rattle.rt_notes.specs.Journals.{free_notes}
+use Rattle.rt_journal.specs.Spending.{booked}
+use Rattle.rt_runtime.specs.Sends.{outstanding_upto, room_left}
+use Rattle.rt_runtime.proofs.Booked.{room_to_send}
+use Rattle.rt_runtime.proofs.runtime.Runtime.is_full.Goals as goal
+
+pub returns-clause-room : goal.returns-clause-room
+returns-clause-room g c enough =
+    let free = c.free.ensures.value ∙ ap free_notes (c.journal.ensures ∙ ap (λ view. view.desk.journal) c.self.view_is) in
+    let cores = ap (λ number. c.args.each * number) (c.self.invariant.1.cores_are ∙ ap (λ view. view.desk.cores) c.self.view_is) in
+    let least : room_left c.args.each c.args.self.now ≤ free_notes c.args.self.now.desk.journal = omega (arith, ltb-false _ _ enough, free, cores, c.outstanding.ensures.value) in
+    subst (λ view. room_left c.args.each view ≤ free_notes view.desk.journal → booked view.desk + 3 ≤ view.desk.journal.room) c.self.view_is (room_to_send _ c.self.invariant.0 c.args.each) least

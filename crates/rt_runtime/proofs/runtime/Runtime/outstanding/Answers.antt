@@ -1,0 +1,11 @@
+use Rattle.std.proofs.Common.{ap, ◌∙◌, arith}
+use Rattle.rt_ids.specs.Outstanding.{outstanding_count}
+use Rattle.rt_runtime.proofs.Sent.{one_more_core}
+use Rattle.rt_runtime.proofs.runtime.Runtime.outstanding.Goals as goal
+
+pub loop-core-preserved : goal.loop-core-preserved
+loop-core-preserved g c = record {
+  counted = one_more_core c.args.self.now.desk.journal.notes c.loop-core.core c.loop-core.count c.outstanding_at.result c.loop-core.invariant.counted
+      (c.outstanding_at.ensures ∙ ap (λ view. outstanding_count c.loop-core.core view.desk.journal.notes) c.self.view_is);
+  few = omega (arith, c.loop-core.invariant.few, c.outstanding_at.type_inv);
+}

@@ -1,0 +1,62 @@
+-- How a runtime starts and finishes.
+use Rattle.std.specs.Prelude.{◌≡◌, ℕ, ◌<◌, true, false, List, [], replicate, Result, Ok, Err}
+use Rattle.rt_ids.specs.Assembly.{Assembly, journal_of}
+use Rattle.rt_ids.specs.Closing.{IsDrained}
+use Rattle.rt_ids.specs.Journal.{EachNote}
+use Rattle.rt_ids.specs.Joining.{AreJoined}
+use Rattle.rt_ids.specs.Sound.{IsSound}
+use Rattle.rt_ids.specs.Spelled.{IsSpelled}
+use Rattle.rt_journal.specs.Submissions.{opened_desk}
+use Rattle.rt_worker.specs.Rooms.{ClosesRightly, least_free}
+use Rattle.rt_runtime.specs.declared.error.FinishError.{FinishError}
+use Rattle.rt_runtime.specs.declared.error.FinishError.TheVariants.{NotClosed}
+use Rattle.rt_runtime.specs.declared.error.StartError.{StartError}
+use Rattle.rt_runtime.specs.declared.error.StartError.TheVariants.{BadConfig, Memory, Thread}
+use Rattle.rt_settings.specs.Configs.{Entry, IsGood}
+use Rattle.rt_runtime.specs.State.{RuntimeView, closing_at, submitted}
+
+module _ {J T : Type 0} where
+  -- a runtime that was just started
+  pub record IsStarted (cores cap room : ℕ) (view : RuntimeView J T) : Type 0 where
+    pub desk : view.desk ≡ opened_desk cores cores cap room
+    pub closing : view.closing ≡ replicate cores false
+    pub room_is : view.room ≡ room
+    pub none : (core : ℕ) → core < cores → submitted core view ≡ []
+
+  -- this is the first core that the caller didn't close
+  pub record IsFirstOpen (core : ℕ) (view : RuntimeView J T) : Type 0 where
+    pub known : core < view.desk.cores
+    pub not_closed : closing_at core view ≡ false
+    pub before : (other : ℕ) → other < core → closing_at other view ≡ true
+
+  -- a start with a good configuration
+  abbrev pub Begins : ℕ → ℕ → ℕ → Result (RuntimeView J T) StartError → Type 0
+  Begins cores cap room (Ok view) = IsStarted cores cap room view
+  Begins cores cap room (Err BadConfig) = ⊥
+  Begins cores cap room (Err _) = Unit {0}
+
+  -- a start: the configuration is not good, or there was no memory or no thread, or nothing has happened yet
+  abbrev pub Starts : ℕ → ℕ → ℕ → List Entry → ℕ → ℕ → Result (RuntimeView J T) StartError → Type 0
+  Starts cores cap room queues clocks gates (Ok view) = IsGood cores cap room queues clocks gates × IsStarted cores cap room view
+  Starts cores cap room queues clocks gates (Err BadConfig) = IsGood cores cap room queues clocks gates → ⊥
+  Starts cores cap room queues clocks gates (Err Memory) = IsGood cores cap room queues clocks gates
+  Starts cores cap room queues clocks gates (Err Thread) = IsGood cores cap room queues clocks gates
+
+module _ {J : Type 0} where
+  -- The journals are joined, so they are sound, and they have a text. The outside journal is that of the caller's calls. Each core is drained,
+  -- and closed by itself only where its journal was short.
+  pub record HasFinished (view : RuntimeView J ℕ) (assembly : Assembly ℕ) : Type 0 where
+    pub closed : (core : ℕ) → core < view.desk.cores → closing_at core view ≡ true
+    pub cores : assembly.cores ≡ view.desk.cores
+    pub cap : assembly.cap ≡ view.desk.cap
+    pub joined : AreJoined assembly
+    pub sound : IsSound assembly
+    pub spelled : IsSpelled assembly
+    pub outside : journal_of view.desk.cores assembly ≡ view.desk.journal.notes
+    pub drained : (core : ℕ) → core < view.desk.cores → IsDrained view.desk.cores (journal_of core assembly)
+    pub closes : (core : ℕ) → core < view.desk.cores → EachNote (ClosesRightly (least_free view.desk.cores view.desk.cap) view.room) (journal_of core assembly)
+
+  -- a finish: a core is still open and the runtime comes back, or all workers have ended
+  abbrev pub Finishes : RuntimeView J ℕ → Result (Assembly ℕ) (FinishError (RuntimeView J ℕ)) → Type 0
+  Finishes view (Ok assembly) = HasFinished view assembly
+  Finishes view (Err (NotClosed core same)) = IsFirstOpen core view × (same ≡ view)

@@ -1,0 +1,6 @@
+pub mod State
+pub mod Starting
+pub mod Sends
+pub mod Tickets
+pub mod Calls
+pub mod Finishing

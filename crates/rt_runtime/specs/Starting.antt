@@ -1,0 +1,26 @@
+-- What is opened when a runtime is started.
+use Rattle.std.specs.Prelude.{◌≡◌, ℕ, ◌+◌, ◌<◌, ◌≤◌, List, [], ◌∷◌, ◌++◌, length, map}
+use Rattle.rt_settings.specs.Configs.{Entry, least_room, queues_of}
+use Rattle.rt_grid.specs.Ends.{EndsView, AreFresh}
+use Rattle.rt_grid.specs.Grid.{IsGrid}
+use Rattle.rt_worker.specs.Linked.{LinkedView}
+use Rattle.rt_worker.specs.Opening.{AreEndsOf, IsWorkerOf}
+use Rattle.rt_worker.specs.Together.{worker_at}
+
+-- a journal has room for the queues that a core is to have, and for what a worker needs
+abbrev pub IsRoomFor : ℕ → ℕ → ℕ → List Entry → ℕ → Type 0
+IsRoomFor cores cap room queues core = least_room cores cap + queues_of core queues ≤ room
+
+module _ {J T : Type 0} where
+  -- fresh ends of a core, for whose journal there is room
+  pub record AreOpening (cores cap room : ℕ) (queues : List Entry) (ends : EndsView J T) : Type 0 where
+    pub ends_of : AreEndsOf cores cap ends
+    pub enough : IsRoomFor cores cap room queues ends.number
+
+  -- the workers of a house that was just opened, one for each core, and the outside actor's ends
+  pub record IsHouse (cores cap room : ℕ) (workers : List (LinkedView J T)) (outside : EndsView J T) : Type 0 where
+    pub count : length workers ≡ cores
+    pub each : (core : ℕ) → core < cores → IsWorkerOf core cores cap room (worker_at core workers)
+    pub grid : IsGrid cores (map (λ worker. worker.ends) workers ++ outside ∷ [])
+    pub outs : length outside.outs ≡ cores
+    pub fresh : AreFresh cap cores outside

@@ -1,0 +1,75 @@
+-- What a caller sees of a runtime, and what is true of it at any time.
+use Rattle.std.specs.Prelude.{◌≡◌, ℕ, ◌+◌, ◌-◌, ◌<◌, ◌≤◌, Bool, false, List, length, Option, slice_get, slice_index_or}
+use Rattle.rt_ids.specs.declared.names.JobId.{JobId}
+use Rattle.rt_ids.specs.declared.order.Order.{Order}
+use Rattle.rt_ids.specs.declared.order.Outcome.{Outcome}
+use Rattle.rt_ids.specs.Spelled.{IsWithinLimits}
+use Rattle.rt_journal.specs.Submissions.{DeskView}
+use Rattle.rt_journal.specs.Spending.{booked}
+use Rattle.rt_journal.specs.Tickets.{HasLane}
+use Rattle.rt_grid.specs.Ends.{EndsView, out_at}
+use Rattle.rt_grid.specs.Grid.{IsGrid}
+use Rattle.rt_worker.specs.Linked.{LinkedView}
+use Rattle.rt_worker.specs.Opening.{IsWorkerOf}
+use Rattle.rt_worker.specs.Together.{OutsideView, IsOutside, worker_at, all_ends}
+
+-- The outside actor's journal and ends, and for each core whether the caller closed it: an order to close it was accepted, or a send to it was
+-- answered `Closed`. The workers are as they began, with room for so many notes each.
+pub record RuntimeView (J T : Type 0) : Type 0 where
+  pub desk : DeskView J T
+  pub ends : EndsView J T
+  pub closing : List Bool
+  pub workers : List (LinkedView J T)
+  pub room : ℕ
+
+module _ {J T : Type 0} where
+  -- the outside actor
+  abbrev pub outside_of : RuntimeView J T → OutsideView J T
+  outside_of view = record { desk = view.desk; ends = view.ends }
+
+  -- whether the caller closed this core
+  abbrev pub closing_at : ℕ → RuntimeView J T → Bool
+  closing_at core view = slice_index_or view.closing core false
+
+  -- the orders that were submitted to a core, the first one first
+  abbrev pub submitted : ℕ → RuntimeView J T → List (Order J)
+  submitted core view = (out_at core view.ends).out.sent
+
+  -- the order that was submitted under a name
+  abbrev pub submitted_under : JobId → RuntimeView J T → Option (Order J)
+  submitted_under name view = slice_get (submitted name.to view) (name.number - 1)
+
+  -- what no call changes: the outside actor, how much room there is, and the workers
+  pub record StaysRunning (old new : RuntimeView J T) : Type 0 where
+    pub desk : new.desk ≡ record old.desk { journal = record old.desk.journal { notes = new.desk.journal.notes }; lanes = new.desk.lanes }
+    pub workers : new.workers ≡ old.workers
+    pub room : new.room ≡ old.room
+
+  -- nothing was submitted
+  pub record SubmitsNothing (old new : RuntimeView J T) : Type 0 where
+    pub orders : (core : ℕ) → submitted core new ≡ submitted core old
+    pub closing : new.closing ≡ old.closing
+    pub stays : StaysRunning old new
+
+module _ {J T : Type 0} (fits : Order J → Outcome J T → Type 0) where
+  -- Each core has its worker, all links of the house are there, and the outside actor's journal is written by the rules and beside its ends.
+  -- It has room for each note that is due of its submissions.
+  pub record IsRuntime (view : RuntimeView J T) : Type 0 where
+    pub count : length view.workers ≡ view.desk.cores
+    pub each : (core : ℕ) → core < view.desk.cores → IsWorkerOf core view.desk.cores view.desk.cap view.room (worker_at core view.workers)
+    pub actor : view.desk.actor ≡ view.desk.cores
+    pub outside : IsOutside (outside_of view)
+    pub grid : IsGrid view.desk.cores (all_ends view.workers (outside_of view))
+    pub closings : length view.closing ≡ view.desk.cores
+    pub lanes : (core : ℕ) → core < view.desk.cores → HasLane fits core view.desk (out_at core view.ends).out (out_at core view.ends).credited
+    pub lanes_are : length view.desk.lanes ≡ view.desk.cores
+    pub room_is : booked view.desk ≤ view.desk.journal.room
+    pub limits : IsWithinLimits view.desk.cores view.desk.cap
+
+-- what stands in a runtime beside what a caller sees: its numbers, a bell for each worker, and room for what the workers give back
+pub record IsStored {J T : Type 0} (view : RuntimeView J T) (cores cap bells ends journals : ℕ) : Type 0 where
+  pub cores_are : cores ≡ view.desk.cores
+  pub cap_is : cap ≡ view.desk.cap
+  pub bells_are : bells ≡ cores
+  pub room_ends : cores + 1 ≤ ends
+  pub room_journals : cores + 1 ≤ journals

@@ -1,0 +1,163 @@
+//! The outside actor's calls.
+
+ghost use Rattle.std.specs.Prelude.{◌≡◌, ◌+◌, ◌-◌, ◌<◌, ◌≤◌, ◌^◌, ◌↔◌, ◌++◌, IfOk, IsTrue, Some, length, false, slice_get, slice_index_or, slice_set, ◌||◌};
+ghost use Rattle.rt_notes.specs.Journals.{free_notes};
+ghost use Rattle.rt_jobs.specs.Ready.{HasReadyJob};
+ghost use Rattle.rt_ids.specs.declared.order.Order.TheVariants.{CloseCore};
+ghost use Rattle.rt_ids.specs.Outstanding.{outstanding_count};
+ghost use Rattle.rt_link.specs.Fits.{Fits};
+ghost use Rattle.rt_journal.specs.Ends.{IsOutOf};
+ghost use Rattle.rt_journal.specs.Submissions.{Submits};
+ghost use Rattle.rt_journal.specs.Tickets.{HasLane, StaysBeside};
+ghost use Rattle.rt_journal.specs.Spending.{Spends, booked};
+ghost use Rattle.rt_grid.specs.Ends.{out_at};
+ghost use Rattle.rt_runtime.specs.Sends.{Sends, SubmitsTo, accepted, is_closing, outstanding_upto, room_left, tells_closing};
+
+use crate::error::SubmitError;
+use crate::runtime::Runtime;
+use rt_grid::Ends;
+use rt_ids::{CoreNo, Mode, Order, SendError, Ticket};
+use rt_jobs::Task;
+use rt_journal::RecordedDesk;
+use rt_link::OutEnd;
+use rt_worker::ring;
+
+/// Whether the order closes the core.
+fn closes<J>(order: &Order<J>) -> bool
+    ensures { result ≡ is_closing order.now }
+{
+    match order {
+        Order::CloseCore(_) => true,
+        _ => false,
+    }
+}
+
+/// Whether a send with this answer tells that the core is closed, or closes it.
+fn tells<J>(closing: bool, answer: &Result<Ticket, SendError<J>>) -> bool
+    ensures { result ≡ tells_closing closing answer.now }
+{
+    match answer {
+        Ok(_) => closing,
+        Err(SendError::Closed(_, _)) => true,
+        Err(_) => false,
+    }
+}
+
+/// Keeps in mind that a core is closed, if it was told so.
+fn mark(closing: &mut Vec<bool>, core: usize, told: bool)
+    requires { core < length closing.old.items }
+    ensures { closing.new.items ≡ slice_set closing.old.items core (slice_index_or closing.old.items core false || told) }
+{
+    let was = closing[core];
+    closing[core] = was || told;
+}
+
+/// Sends an order on the end to its core.
+fn send_on<J: Task<Out = u64>>(
+    desk: &mut RecordedDesk<J>,
+    ends: &mut Ends<J>,
+    to: CoreNo,
+    order: Order<J>,
+) -> Result<Ticket, SendError<J>>
+    requires there { to < length ends.old.outs }
+    requires beside { IsOutOf to desk.old (out_at to ends.old).out (out_at to ends.old).credited }
+    requires lane { HasLane (Fits J.SameTask J.Answers) to desk.old (out_at to ends.old).out (out_at to ends.old).credited }
+    requires room { length desk.old.journal.notes < desk.old.journal.room }
+    requires ready { HasReadyJob J.done J.CanPoll order }
+    ensures submits { Submits to order desk.old result desk.new }
+    ensures orders { (out_at to ends.new).out.sent ≡ (out_at to ends.old).out.sent ++ accepted order result }
+    ensures named { IfOk result (λ name. slice_get (out_at to ends.new).out.sent (name.number - 1) ≡ Some order) }
+    ensures spends { IfOk result (λ _. Spends to 3 desk.old desk.new) }
+    ensures stays { StaysBeside (Fits J.SameTask J.Answers) to desk.old desk.new (out_at to ends.new).out (out_at to ends.new).credited }
+    ensures ends { ends.new ≡ record ends.old { outs = slice_set ends.old.outs to (out_at to ends.new) } }
+    ensures link { (out_at to ends.new).link ≡ (out_at to ends.old).link }
+{
+    desk.submit(&mut ends.outs[to.0 as usize], to, order)
+}
+
+/// How many submissions to one core are outstanding.
+fn outstanding_at<J: Task<Out = u64>>(desk: &RecordedDesk<J>, ends: &Ends<J>, core: u8) -> u64
+    requires there { core < length ends.now.outs }
+    requires beside { IsOutOf core desk.now (out_at core ends.now).out (out_at core ends.now).credited }
+    ensures { result ≡ outstanding_count core desk.now.journal.notes }
+{
+    desk.outstanding(&ends.outs[core as usize], CoreNo(core))
+}
+
+impl<J: Task<Out = u64>, C: Drop, G: Drop> Runtime<J, C, G> {
+    /// How many submissions are outstanding on all links.
+    fn outstanding(&self) -> u128
+        ensures value { result ≡ outstanding_upto self.now.desk.journal.notes self.now.desk.cores }
+        ensures few { result < 2 ^ 72 }
+    {
+        let mut count: u128 = 0;
+        for core in 0..self.cores {
+            count += outstanding_at(&self.desk, &self.ends, core) as u128;
+        }
+        count
+    }
+
+    /// Whether the journal has too few notes free for a send: three for each submission that is outstanding, this one among them, and so
+    /// many for each core.
+    fn is_full(&self, each: u8) -> bool
+        ensures full { IsTrue result ↔ (free_notes self.now.desk.journal < room_left each self.now) }
+        ensures room { result ≡ false → booked self.now.desk + 3 ≤ self.now.desk.journal.room }
+    {
+        let places = 3 * (self.outstanding() + 1) + each as u128 * self.cores as u128;
+        (self.desk.journal().free() as u128) < places
+    }
+
+    /// Sends an order to a core.
+    fn send(&mut self, to: CoreNo, order: Order<J>) -> Result<Ticket, SendError<J>>
+        requires ready { HasReadyJob J.done J.CanPoll order }
+        requires room { booked self.old.desk + 3 ≤ self.old.desk.journal.room }
+        ensures { Sends to order self.old result self.new }
+    {
+        if to.0 >= self.cores {
+            return Err(SendError::NoCore(order));
+        }
+        let core = to.0 as usize;
+        let closing = closes(&order);
+        let answer = send_on(&mut self.desk, &mut self.ends, to, order);
+        mark(&mut self.closing, core, tells(closing, &answer));
+        ring(&self.bells[core]);
+        answer
+    }
+
+    /// Sends an order to a core, and leaves room for what the submissions may still need.
+    ///
+    /// # Errors
+    ///
+    /// Tried in this order, and the order comes back: `JournalFull` where the outside journal has too few notes free; `Send` where there is
+    /// no such core, and where its link refuses.
+    pub fn submit(&mut self, to: CoreNo, order: Order<J>) -> Result<Ticket, SubmitError<J>>
+        requires ready { HasReadyJob J.done J.CanPoll order }
+        ensures { SubmitsTo 3 to order self.old result self.new }
+    {
+        if self.is_full(3) {
+            return Err(SubmitError::JournalFull(order));
+        }
+        match self.send(to, order) {
+            Ok(ticket) => Ok(ticket),
+            Err(error) => Err(SubmitError::Send(error)),
+        }
+    }
+
+    /// Sends an order to close a core. It may take the notes that `submit` leaves for it.
+    ///
+    /// # Errors
+    ///
+    /// As `submit`.
+    pub fn close_core(&mut self, core: CoreNo, mode: Mode) -> Result<Ticket, SubmitError<J>>
+        ensures { SubmitsTo 0 core (CloseCore mode) self.old result self.new }
+    {
+        let order = Order::CloseCore(mode);
+        if self.is_full(0) {
+            return Err(SubmitError::JournalFull(order));
+        }
+        match self.send(core, order) {
+            Ok(ticket) => Ok(ticket),
+            Err(error) => Err(SubmitError::Send(error)),
+        }
+    }
+}

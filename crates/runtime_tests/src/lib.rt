@@ -1,0 +1,13 @@
+//! Tests of the runtime on threads, over its public calls.
+#![tactic(auto)]
+
+#[cfg(test)]
+mod boxed;
+#[cfg(test)]
+mod calls;
+#[cfg(test)]
+mod closing;
+#[cfg(test)]
+mod house;
+#[cfg(test)]
+mod meeting;
