@@ -1,5 +1,8 @@
 //! The calls of a runtime: what becomes of orders, and how it starts and finishes.
 
+ghost use Rattle.std.specs.Prelude.{◌≡◌, false};
+ghost use Rattle.rt_jobs.specs.Example.{is_ended};
+
 use crate::house::{House, begin, collects, named, new_mark, plain, says, with_queue};
 use rt_ids::{
     ActorNo, Answer, CoreNo, Mode, Note, Order, Outcome, QueueNo, Reason, Ticket, TicketError,
@@ -14,7 +17,9 @@ use std::test::Fail;
 use std::thread::Threads;
 
 /// Submits a job to a core. Whether it was accepted.
-fn submits(house: &mut House<Work>, core: u8, queue: u8, job: Work) -> bool {
+fn submits(house: &mut House<Work>, core: u8, queue: u8, job: Work) -> bool
+    requires { is_ended job ≡ false }
+{
     house
         .submit(CoreNo(core), Order::Job(QueueNo(queue), job))
         .is_ok()
@@ -122,18 +127,14 @@ fn are_unknown(house: &mut House<Work>) -> bool {
         named(1, 0, u64::MAX),
         named(255, 255, u64::MAX),
     ];
-    let mut unknown = 0;
     for name in names.iter() {
         let ticket = Ticket::named(*name);
-        let redeemed = house.redeem(ticket);
-        let detached = house.detach(ticket);
-        if matches!(redeemed, Err(TicketError::Unknown))
-            && matches!(detached, Err(TicketError::Unknown))
-        {
-            unknown += 1;
+        let redeemed = matches!(house.redeem(ticket), Err(TicketError::Unknown));
+        if !redeemed || !matches!(house.detach(ticket), Err(TicketError::Unknown)) {
+            return false;
         }
     }
-    unknown == 5
+    true
 }
 
 #[test]
@@ -164,18 +165,23 @@ fn change_shares(house: &mut House<Work>, shares: Shares) -> Option<Ticket> {
     }
 }
 
-/// Fills a journal with 31 orders that are redeemed. Whether each ticket is gone then, and the next order finds no room.
+/// Whether the shares of a queue that there isn't are changed, and the ticket is gone then.
+fn is_changed(house: &mut House<Work>, shares: Shares) -> bool {
+    match change_shares(house, shares) {
+        Some(ticket) => matches!(house.redeem(ticket), Err(TicketError::Gone)),
+        None => false,
+    }
+}
+
+/// Fills a journal with 31 orders that are redeemed. Whether the next order finds no room.
 fn fill(house: &mut House<Work>, shares: Shares) -> bool {
-    let mut gone = 0;
     for _ in 0..31 {
-        if let Some(ticket) = change_shares(house, shares) {
-            if matches!(house.redeem(ticket), Err(TicketError::Gone)) {
-                gone += 1;
-            }
+        if !is_changed(house, shares) {
+            return false;
         }
     }
     let next = house.submit(CoreNo(0), Order::SetShares(QueueNo(9), shares));
-    gone == 31 && matches!(next, Err(SubmitError::JournalFull(_))) && house.journal().free() == 3
+    matches!(next, Err(SubmitError::JournalFull(_))) && house.journal().free() == 3
 }
 
 #[test]
