@@ -100,6 +100,16 @@ fn bad_numbers_are_refused(rt: HostRuntime) -> Result<(), Fail> {
     Ok(())
 }
 
+/// Whether core 0 is told as the first that is open, and the house finishes once it is closed.
+fn is_told_open<R: Threads + Wait>(rt: &R, house: House<Work>) -> bool {
+    let Err(error) = house.finish(rt) else {
+        return false;
+    };
+    let FinishError::NotClosed(core, back) = error;
+    let mut house = back;
+    core == CoreNo(0) && house.close_core(core, Mode::Return).is_ok() && house.finish(rt).is_ok()
+}
+
 #[test]
 fn a_core_that_is_open_is_told(rt: HostRuntime) -> Result<(), Fail> {
     let asked = new_mark(rt.alloc())?;
@@ -108,13 +118,7 @@ fn a_core_that_is_open_is_told(rt: HostRuntime) -> Result<(), Fail> {
         assert!(rt; false, "no house");
         return Ok(());
     };
-    let Err(FinishError::NotClosed(core, back)) = house.finish(&rt) else {
-        assert!(rt; false, "it finished");
-        return Ok(());
-    };
-    let mut house = back;
-    assert!(rt; core == CoreNo(0) && house.close_core(core, Mode::Return).is_ok());
-    assert!(rt; house.finish(&rt).is_ok());
+    assert!(rt; is_told_open(&rt, house));
     Ok(())
 }
 

@@ -6,7 +6,7 @@ use Rattle.runtime_tests.proofs.closing.CloserJob.poll.Goals as goal
 
 pub returns-clause-owed : goal.returns-clause-owed
 returns-clause-owed g c = record {
-  calls = Submit c.self.inside.other (CloseCore Finish) c.submit.result ∷ [];
+  calls = Submit c.args.self.now.other (CloseCore Finish) c.submit.result ∷ [];
   owed = tt;
   makes = (c.submit.new.self, c.submit.ensures.does, refl);
 }
