@@ -191,9 +191,37 @@ fn serve(heap: &LocalHeap) -> Option<bool> {
     )
 }
 
+/// Creations succeed until one is refused for want of memory: how many queues there are then, if it added none.
+fn creates_until_refused(queues: &mut Lines<'_>) -> Option<u16> {
+    for _ in 0..256 {
+        let count = queues.queue_count();
+        if queues.try_create(shares(1000)) == Err(CreateError::Memory) {
+            return if queues.queue_count() == count {
+                Some(count)
+            } else {
+                None
+            };
+        }
+    }
+    None
+}
+
+/// After a creation that was refused, the job that waits is still there, and a creation succeeds once there is memory for it.
+fn a_refused_creation_comes_later(heap: &LocalHeap) -> Option<bool> {
+    let spare: Vec<u64, &LocalHeap> = Vec::with_capacity(heap, 32).ok()?;
+    let mut queues = Lines::open(heap, 6).ok()?;
+    let came = joins(&mut queues, FIRST, 1);
+    let count = creates_until_refused(&mut queues)?;
+    drop(spare);
+    let more = queues.try_create(shares(1000)).is_ok() && queues.queue_count() > count;
+    Some(came && more && gives(&mut queues, FIRST, 1, false))
+}
+
 #[test]
 fn lines_serve_and_give_their_memory_back(rt: HostRuntime) -> Result<(), Fail> {
     let heap = LocalHeap::new(rt.alloc(), 1 << 17)?;
     assert!(rt; serve(&heap) == Some(true) && heap.used() == 0);
+    let small = LocalHeap::new(rt.alloc(), 1 << 14)?;
+    assert!(rt; a_refused_creation_comes_later(&small) == Some(true) && small.used() == 0);
     Ok(())
 }

@@ -2,8 +2,9 @@
 
 use crate::one_core::{FIRST, OneCore, SECOND, THIRD, answers, creates, picks, shares, takes};
 use linked_list_allocator::LocalHeap;
-use rt_ids::{Answer, CoreNo, Order, QueueNo};
+use rt_ids::{Answer, CoreNo, Note, Order, QueueNo};
 use rt_taskqueue::CreateError;
+use std::alloc::{AllocError, Global};
 use std::test::Fail;
 
 /// A third creation is refused, also as an order.
@@ -21,35 +22,58 @@ fn each_serves(core: &mut OneCore<'_>) -> bool {
         && picks(core, &[(FIRST, 5), (SECOND, 5), (THIRD, 5)])
 }
 
-/// None if the core and two more queues don't fit in this heap. If they do: whether it serves, needs no more memory, and takes one more
-/// queue once there is memory for it.
-fn serves_in(heap: &LocalHeap) -> Option<bool> {
-    let spare: Vec<u64, &LocalHeap> = Vec::with_capacity(heap, 32).ok()?;
-    let mut core = OneCore::open(heap, CoreNo(0), 1, 4).ok()?;
+/// A core in this heap, opened as if so many turns had been made, or by the plain opening if none were.
+fn opens(heap: &LocalHeap, turns: u64) -> Option<OneCore<'_>> {
+    if turns == 0 {
+        OneCore::open(heap, CoreNo(0), 1, 4).ok()
+    } else {
+        OneCore::open_at_turn(heap, CoreNo(0), 1, 4, turns).ok()
+    }
+}
+
+/// What was refused succeeds: a creation, and an order of one.
+fn two_queues_come(core: &mut OneCore<'_>) -> bool {
+    let made = Note::Created(QueueNo(4), shares(1000));
+    let order = Order::Create(shares(1000));
+    creates(core, 1000, Ok(QueueNo(3)))
+        && answers(core, 5, order, Answer::Created(QueueNo(4)), Some(made))
+}
+
+/// None if the core and two more queues don't fit in this heap. If they do: whether it serves, needs no more memory, and takes two more
+/// queues once there is memory for them.
+fn serves_in(heap: &LocalHeap, turns: u64) -> Option<bool> {
+    let spare: Vec<u64, &LocalHeap> = Vec::with_capacity(heap, 64).ok()?;
+    let mut core = opens(heap, turns)?;
     let made = creates(&mut core, 1000, Ok(SECOND)) && creates(&mut core, 1000, Ok(THIRD));
     let used = heap.used();
     if made {
         let goes_on = no_queue_fits(&mut core) && each_serves(&mut core) && heap.used() == used;
         drop(spare);
-        Some(goes_on && creates(&mut core, 1000, Ok(QueueNo(3))))
+        Some(goes_on && two_queues_come(&mut core))
     } else {
         None
     }
 }
 
-/// In heaps that grow by 16 bytes, each growth of the opening and of two creations is the one that is refused, in turn.
+/// In heaps that grow by 16 bytes, each growth of the opening and of two creations is the one that is refused, in turn, and all memory
+/// comes back. Whether the core serves in the first heap that it fits in.
+fn serves_in_the_first_that_fits(alloc: Global, turns: u64) -> Result<bool, AllocError> {
+    let mut clean = true;
+    for step in 0..4096 {
+        let heap = LocalHeap::new(alloc, 16 * step)?;
+        let served = serves_in(&heap, turns);
+        clean = heap.used() == 0 && clean;
+        if let Some(serves) = served {
+            return Ok(serves && clean && step > 0);
+        }
+    }
+    Ok(false)
+}
+
 #[test]
 fn a_core_without_memory_goes_on(rt: HostRuntime) -> Result<(), Fail> {
-    let mut refused = false;
-    for step in 0..4096 {
-        let heap = LocalHeap::new(rt.alloc(), 16 * step)?;
-        let served = serves_in(&heap);
-        assert!(rt; heap.used() == 0);
-        if let Some(serves) = served {
-            assert!(rt; serves && refused);
-            return Ok(());
-        }
-        refused = true;
-    }
-    panic!(rt; "no heap was large enough");
+    let opened = serves_in_the_first_that_fits(rt.alloc(), 0)?;
+    let at_turn = serves_in_the_first_that_fits(rt.alloc(), 7)?;
+    assert!(rt; opened && at_turn);
+    Ok(())
 }

@@ -77,3 +77,7 @@ slip_out queues slips key later exists kept = kept.at key.queue exists ∙ ap (�
 -- the slip of a queue that is listed again never comes back to its queue
 pub slip_stays : (slips : List Bool) (queue : ℕ) → get_or slips queue false ≡ false → set (set slips queue true) queue false ≡ slips
 slip_stays slips queue out = set-set slips queue true false ∙ ap (set slips queue) (sym out) ∙ set-get_or slips queue false
+
+-- a slip that is taken from its queue and comes back was there
+pub slip_again : (slips : List Bool) (queue : ℕ) → get_or slips queue false ≡ true → set (set slips queue false) queue true ≡ slips
+slip_again slips queue there = set-set slips queue false true ∙ ap (set slips queue) (sym there) ∙ set-get_or slips queue false

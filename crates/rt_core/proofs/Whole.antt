@@ -1,8 +1,7 @@
 -- What holds inside a core as its next job goes out and comes back, from one view to the next.
 use Rattle.std.proofs.Common.{◌≡◌, ℕ, ◌+◌, ◌*◌, ◌^◌, ◌<◌, ◌≤◌, Bool, true, false, List, [], ◌∷◌, ◌++◌, length, max, Option, Some, None, refl, sym, ap, ◌∙◌, subst, arith, length-set}
-use Rattle.std.specs.Prelude.{◌-◌, All, is_some, slice_set, slice_index_or}
+use Rattle.std.specs.Prelude.{◌-◌, All, is_some, slice_set}
 use Rattle.std.proofs.lemmas.Bool.{true≢false}
-use Rattle.std.proofs.lemmas.List.{set-set, set-get_or, get_or-set_same}
 use Rattle.std.proofs.lemmas.List.Elements.{All-head, All-tail}
 use Rattle.rt_ids.specs.declared.names.JobId.{JobId}
 use Rattle.rt_ids.specs.declared.names.Key.{Key}
@@ -15,12 +14,11 @@ use Rattle.rt_timeline.specs.Rising.{LacksQueue, inserted}
 use Rattle.rt_taskqueue.specs.Queues.{QueuesView, queue_count, waiting_of, shares_of, ChangesLine, IsWithinLimits}
 use Rattle.rt_taskqueue.specs.Fronts.{IsFrontReady, JoinsAgain}
 use Rattle.rt_core.specs.declared.tally.Tally.{Tally}
-use Rattle.rt_core.specs.State.{CoreView, JobOut, no_tally, tally_of, runtime_of, is_any}
+use Rattle.rt_core.specs.State.{CoreView, JobOut, tally_of, runtime_of, is_any}
 use Rattle.rt_core.specs.Turns.{TakesOut, settled_view}
 use Rattle.rt_core.specs.Relisted.{keys_after, slips_after}
 use Rattle.rt_core.specs.Whole.{SettlesStep}
 use Rattle.rt_core.specs.Inside.{IsCore, KeepsSlips, unsettled_count, FitsTurns}
-use Rattle.rt_core.proofs.Charging.{after_poll}
 use Rattle.rt_core.proofs.Counting.{IsCounted-picks, IsCounted-yields, IsCounted-finishes, some_inside}
 use Rattle.rt_core.proofs.Entries.{is_any-push}
 use Rattle.rt_core.proofs.Fits.{picked_fits, tally_fits}

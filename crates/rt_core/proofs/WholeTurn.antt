@@ -1,7 +1,7 @@
 -- A whole turn, from what is known inside: the head of the first queue goes out, is polled, and its poll is settled.
 use Rattle.std.proofs.Common.{◌≡◌, ℕ, ◌+◌, ◌<◌, Bool, true, List, ◌∷◌, length, max, Option, Some, None, refl, sym, ap, ◌∙◌, subst, arith}
-use Rattle.std.specs.Prelude.{◌-◌, is_some, unwrap_or, slice_index_or, slice_set}
-use Rattle.std.proofs.lemmas.List.{set-set, set-get_or, get_or-set_same}
+use Rattle.std.specs.Prelude.{◌-◌, is_some, unwrap_or, slice_set}
+use Rattle.std.proofs.lemmas.List.{set-set, get_or-set_same}
 use Rattle.rt_ids.specs.declared.names.Key.{Key}
 use Rattle.rt_ids.specs.Work.{number_if}
 use Rattle.rt_jobs.specs.Calls.{Call}
@@ -13,7 +13,7 @@ use Rattle.rt_taskqueue.specs.Fronts.{TurnsFront}
 use Rattle.rt_core.specs.declared.tally.Tally.{Tally}
 use Rattle.rt_core.specs.State.{CoreView, JobOut, no_tally, tally_of, runtime_of, is_any, IsBounded}
 use Rattle.rt_core.specs.Inside.{IsCore, IsListed, unsettled_count, FitsTurns}
-use Rattle.rt_core.specs.Turns.{TakesOut, settled_view}
+use Rattle.rt_core.specs.Turns.{TakesOut}
 use Rattle.rt_core.specs.Relisted.{keys_after, slips_after}
 use Rattle.rt_core.specs.Whole.{TurnsFirst}
 use Rattle.rt_core.proofs.Charging.{after_poll}

@@ -1,4 +1,4 @@
--- Where the slip of a queue goes after its turn.
+-- The slip of a queue after its turn: in the timeline if a job waits in the queue, else with the queue.
 use Rattle.std.specs.Prelude.{ℕ, Bool, true, false, List, slice_set}
 use Rattle.rt_ids.specs.declared.names.Key.{Key}
 use Rattle.rt_timeline.specs.Rising.{inserted}

@@ -19,6 +19,7 @@ use crate::turn::{PickError, Settled, Turn};
 use arrayvec::ArrayVec;
 use rt_ids::{CoreNo, CoreStats, Envelope, JobId, Mode, Note, Order, QueueNo, QueueStats};
 use rt_jobs::{Ran, Step, Task};
+use rt_sealed::SealedVec;
 use rt_shares::Shares;
 use rt_taskqueue::{CreateError, Queues};
 use rt_timeline::Timeline;
@@ -41,7 +42,7 @@ pub struct Core<J: Task, A: Allocator + Clone = Global> {
     // The queues in which a job waits, except that of the job that is out. A queue's slip is here while it is among them. At all other
     // times it is with its queue.
     ready: Timeline<A>,
-    tallies: Vec<Tally, A>,
+    tallies: SealedVec<Tally, A>,
     senders: Senders<A>,
     floor: u128,
     turns: u64,
@@ -58,13 +59,12 @@ impl<J: Task, A: Allocator + Clone> Model for Core<J, A> {
 
     ghost Value = { CoreView J };
 
-    ghost use Rattle.std.specs.Prelude.{vec_capacity};
     ghost use Rattle.rt_taskqueue.specs.Slips.{queues_alone};
     ghost use Rattle.rt_core.specs.Inside.{job_out, core_view, IsCore};
 
     ghost view = { λ c. core_view c.core c.cores (queues_alone c.queues) c.tallies.items c.floor c.turns (job_out c.out) c.senders c.mode };
 
-    ghost invariant = { λ c. IsCore J.done J.CanPoll (core_view c.core c.cores (queues_alone c.queues) c.tallies.items c.floor c.turns (job_out c.out) c.senders c.mode) c.queues.slips c.ready.keys c.inside c.room (vec_capacity c.tallies) };
+    ghost invariant = { λ c. IsCore J.done J.CanPoll (core_view c.core c.cores (queues_alone c.queues) c.tallies.items c.floor c.turns (job_out c.out) c.senders c.mode) c.queues.slips c.ready.keys c.inside c.room c.tallies.cap };
 }
 
 impl<J: Task, A: Allocator + Clone> Core<J, A> {
@@ -96,7 +96,7 @@ impl<J: Task, A: Allocator + Clone> Core<J, A> {
             cores,
             queues: Queues::open(alloc, room)?,
             ready: Timeline::new(),
-            tallies,
+            tallies: SealedVec::sealed(tallies),
             senders,
             floor: 0,
             turns,

@@ -29,8 +29,8 @@ pub(crate) fn enter<J: Drop, A: Allocator + Clone>(
     ready.insert(slip, vr);
 }
 
-/// Where the slip of a queue goes whose head had its turn: into the timeline at this virtual runtime, if a job waits in the queue, else to
-/// the queue. Takes no memory.
+/// Puts the slip of a queue into the timeline at this virtual runtime if a job waits in the queue, else back to the queue. The head of
+/// the queue has had its turn. Takes no memory.
 pub(crate) fn relist<J: Drop, A: Allocator + Clone>(
     queues: &mut Queues<J, A>,
     ready: &mut Timeline<A>,

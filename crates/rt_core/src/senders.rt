@@ -2,6 +2,7 @@
 ghost use Rattle.std.specs.Prelude.{◌≡◌, ◌↔◌, ◌<◌, IsTrue, IfOk, Some, None, length, replicate, slice_index_or, slice_set};
 ghost use Rattle.rt_core.specs.Senders.{is_awaited, AreThrough};
 
+use rt_sealed::SealedVec;
 use std::alloc::{AllocError, Allocator};
 use std::marker::Model;
 
@@ -29,7 +30,7 @@ impl Sender {
 /// The senders of a core, by number. Only `open` takes memory.
 #[derive(Drop)]
 pub struct Senders<A: Allocator> {
-    senders: Vec<Sender, A>,
+    senders: SealedVec<Sender, A>,
     // How many have an open gate, or are to deliver more.
     awaited: usize,
 }
@@ -57,7 +58,7 @@ impl<A: Allocator> Senders<A> {
             gate: None,
         };
         Ok(Senders {
-            senders: Vec::from_elem(alloc, none, count)?,
+            senders: SealedVec::sealed(Vec::from_elem(alloc, none, count)?),
             awaited: count,
         })
     }
@@ -116,6 +117,8 @@ impl<A: Allocator> Senders<A> {
         requires { sender < length self.old.delivered }
         ensures { self.new ≡ record { delivered = slice_set self.old.delivered sender is.delivered; gates = slice_set self.old.gates sender is.gate } }
     {
+        // That the count below fits is known of a vector whose length was asked for.
+        let _count = self.senders.len();
         let before = self.senders[sender].awaited();
         let after = is.awaited();
         self.senders[sender] = is;

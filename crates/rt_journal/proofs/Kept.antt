@@ -30,6 +30,8 @@ use Rattle.rt_core.specs.State.{CoreView, JobOut, is_working, is_any, runtime_of
 use Rattle.rt_core.specs.State as state
 pub use Rattle.rt_journal.specs.Agreement.{IsKept}
 use Rattle.rt_journal.specs.Agreement.{Agrees, AgreesOnClosing, IsJobOut, AreMarked, names_of}
+use Rattle.rt_journal.specs.Figures.{no_figures, figures_of, figures_told, figures_noted}
+use Rattle.rt_journal.proofs.FigureSteps.{figures-stays}
 
 -- a note that takes no turn and is no effect may stand where nothing is awaited
 pub plainly_stands : {T : Type 0} (terms : Terms) (note : Note T) (before : Journal T) → MayWrite terms note → MayFollow terms note before →
@@ -72,6 +74,7 @@ pub record IsCalm {T : Type 0} (note : Note T) (before : Journal T) : Type 0 whe
   pub picks : runtime_picked note ≡ 0
   pub no_turn : pick_count note ≡ 0
   pub starts : name_started note ≡ None
+  pub counts : (queue : ℕ) → figures_noted queue note before ≡ no_figures
 
 -- what a calm note leaves as it was
 pub record StaysCalm {J T : Type 0} (core : CoreView J) (journal : Journal T) : Type 0 where
@@ -81,6 +84,7 @@ pub record StaysCalm {J T : Type 0} (core : CoreView J) (journal : Journal T) : 
   pub the_floor : core.floor ≡ floor journal
   pub turns_made : core.turns ≡ turns journal
   pub out : IsJobOut core.out journal
+  pub figures : (queue : ℕ) → figures_of queue core ≡ figures_told queue journal
 
 -- the core tells the same of its jobs as before
 pub record SameJobs {J : Type 0} (old new : CoreView J) : Type 0 where
@@ -89,6 +93,7 @@ pub record SameJobs {J : Type 0} (old new : CoreView J) : Type 0 where
   pub the_floor : new.floor ≡ old.floor
   pub turns_made : new.turns ≡ old.turns
   pub out : new.out ≡ old.out
+  pub figures : (queue : ℕ) → figures_of queue new ≡ figures_of queue old
 
 -- what is no pick makes no turn
 pub turns-stays : {T : Type 0} (note : Note T) (before : Journal T) → pick_count note ≡ 0 → turns (note ∷ before) ≡ turns before
@@ -112,48 +117,49 @@ module _ {J T : Type 0} (note : Note T) (before : Journal T) (calm : IsCalm note
     the_floor = same.the_floor ∙ agrees.the_floor ∙ sym (floor-stays note before calm.picks);
     turns_made = same.turns_made ∙ (agrees.turns ∙ sym (turns-stays note before calm.no_turn));
     out = subst (λ out. IsJobOut out (note ∷ before)) (sym same.out) (out-calm old.out agrees.out);
+    figures = λ queue. same.figures queue ∙ (agrees.figures queue ∙ sym (figures-stays queue note before (calm.counts queue)));
   }
 
 -- a note that reads so is calm
 calm_of : {T : Type 0} (note : Note T) (before : Journal T) → ((queue : ℕ) → name_joining queue note before ≡ None) → name_leaving note ≡ None → name_polled note ≡ None → name_settled note ≡ None →
     queue_joined note ≡ None → ((name : JobId) → queue_entered name note ≡ None) → ((queue : ℕ) → charge_noted queue note before ≡ 0) → runtime_picked note ≡ 0 → pick_count note ≡ 0 → name_started note ≡ None →
-    IsCalm note before
-calm_of note before joins leaves polls settles enters takes costs picks no_turn starts =
-    record { joins = joins; leaves = leaves; polls = polls; settles = settles; enters = enters; takes = takes; costs = costs; picks = picks; no_turn = no_turn; starts = starts }
+    ((queue : ℕ) → figures_noted queue note before ≡ no_figures) → IsCalm note before
+calm_of note before joins leaves polls settles enters takes costs picks no_turn starts counts =
+    record { joins = joins; leaves = leaves; polls = polls; settles = settles; enters = enters; takes = takes; costs = costs; picks = picks; no_turn = no_turn; starts = starts; counts = counts }
 
 module _ {T : Type 0} (before : Journal T) where
   pub calm_sent : (name : JobId) (order : Order (Unit {0})) → IsCalm (writes.Sent name order) before
-  calm_sent name order = calm_of (writes.Sent name order) before (λ queue. refl) refl refl refl refl (λ which. refl) (λ queue. refl) refl refl refl
+  calm_sent name order = calm_of (writes.Sent name order) before (λ queue. refl) refl refl refl refl (λ which. refl) (λ queue. refl) refl refl refl (λ queue. refl)
 
   pub calm_collected : (name : JobId) (outcome : OutcomeNote T) → IsCalm (writes.Collected name outcome) before
-  calm_collected name outcome = calm_of (writes.Collected name outcome) before (λ queue. refl) refl refl refl refl (λ which. refl) (λ queue. refl) refl refl refl
+  calm_collected name outcome = calm_of (writes.Collected name outcome) before (λ queue. refl) refl refl refl refl (λ which. refl) (λ queue. refl) refl refl refl (λ queue. refl)
 
   pub calm_redeemed : (name : JobId) (outcome : OutcomeNote T) → IsCalm (writes.Redeemed name outcome) before
-  calm_redeemed name outcome = calm_of (writes.Redeemed name outcome) before (λ queue. refl) refl refl refl refl (λ which. refl) (λ queue. refl) refl refl refl
+  calm_redeemed name outcome = calm_of (writes.Redeemed name outcome) before (λ queue. refl) refl refl refl refl (λ which. refl) (λ queue. refl) refl refl refl (λ queue. refl)
 
   pub calm_detached : (name : JobId) → IsCalm (writes.Detached name) before
-  calm_detached name = calm_of (writes.Detached name) before (λ queue. refl) refl refl refl refl (λ which. refl) (λ queue. refl) refl refl refl
+  calm_detached name = calm_of (writes.Detached name) before (λ queue. refl) refl refl refl refl (λ which. refl) (λ queue. refl) refl refl refl (λ queue. refl)
 
   pub calm_back : (name : JobId) (reason : Reason) → IsCalm (writes.Back name reason) before
-  calm_back name reason = calm_of (writes.Back name reason) before (λ queue. refl) refl refl refl refl (λ which. refl) (λ queue. refl) refl refl refl
+  calm_back name reason = calm_of (writes.Back name reason) before (λ queue. refl) refl refl refl refl (λ which. refl) (λ queue. refl) refl refl refl (λ queue. refl)
 
   pub calm_answered : (name : JobId) (answer : Answer) → IsCalm (writes.Answered name answer) before
-  calm_answered name answer = calm_of (writes.Answered name answer) before (λ queue. refl) refl refl refl refl (λ which. refl) (λ queue. refl) refl refl refl
+  calm_answered name answer = calm_of (writes.Answered name answer) before (λ queue. refl) refl refl refl refl (λ which. refl) (λ queue. refl) refl refl refl (λ queue. refl)
 
   pub calm_created : (queue weight : ℕ) → IsCalm (writes.Created queue weight) before
-  calm_created queue weight = calm_of (writes.Created queue weight) before (λ queue. refl) refl refl refl refl (λ which. refl) (λ queue. refl) refl refl refl
+  calm_created queue weight = calm_of (writes.Created queue weight) before (λ queue. refl) refl refl refl refl (λ which. refl) (λ queue. refl) refl refl refl (λ queue. refl)
 
   pub calm_weighed : (queue weight : ℕ) → IsCalm (writes.SharesSet queue weight) before
-  calm_weighed queue weight = calm_of (writes.SharesSet queue weight) before (λ queue. refl) refl refl refl refl (λ which. refl) (λ queue. refl) refl refl refl
+  calm_weighed queue weight = calm_of (writes.SharesSet queue weight) before (λ queue. refl) refl refl refl refl (λ which. refl) (λ queue. refl) refl refl refl (λ queue. refl)
 
   pub calm_core_closed : (mode : Mode) → IsCalm (writes.CoreClosed mode) before
-  calm_core_closed mode = calm_of (writes.CoreClosed mode) before (λ queue. refl) refl refl refl refl (λ which. refl) (λ queue. refl) refl refl refl
+  calm_core_closed mode = calm_of (writes.CoreClosed mode) before (λ queue. refl) refl refl refl refl (λ which. refl) (λ queue. refl) refl refl refl (λ queue. refl)
 
   pub calm_queue_closed : (queue : ℕ) (mode : Mode) → IsCalm (writes.QueueClosed queue mode) before
-  calm_queue_closed queue mode = calm_of (writes.QueueClosed queue mode) before (λ queue. refl) refl refl refl refl (λ which. refl) (λ queue. refl) refl refl refl
+  calm_queue_closed queue mode = calm_of (writes.QueueClosed queue mode) before (λ queue. refl) refl refl refl refl (λ which. refl) (λ queue. refl) refl refl refl (λ queue. refl)
 
   pub calm_shut : (from count : ℕ) → IsCalm (writes.Shut from count) before
-  calm_shut from count = calm_of (writes.Shut from count) before (λ queue. refl) refl refl refl refl (λ which. refl) (λ queue. refl) refl refl refl
+  calm_shut from count = calm_of (writes.Shut from count) before (λ queue. refl) refl refl refl refl (λ which. refl) (λ queue. refl) refl refl refl (λ queue. refl)
 
 -- a core that has only counted a delivery, shut a gate or closed agrees with a calm note that creates nothing and sets no shares
 pub agrees_unmoved : {J T : Type 0} (old : CoreView J) (journal : Journal T) (note : Note T) → Agrees old journal → IsCalm note journal →
@@ -163,7 +169,7 @@ pub agrees_unmoved : {J T : Type 0} (old : CoreView J) (journal : Journal T) (no
     Agrees (record old { delivered = delivered; gates = gates; mode = mode }) (note ∷ journal)
 agrees_unmoved old journal note agrees is_calm creates weighs delivered senders counted gates mode closing =
     let calm = stays_calm note journal is_calm old (record old { delivered = delivered; gates = gates; mode = mode })
-    (record { lines = λ queue. refl; runtimes = λ queue. refl; the_floor = refl; turns_made = refl; out = refl }) agrees in
+    (record { lines = λ queue. refl; runtimes = λ queue. refl; the_floor = refl; turns_made = refl; out = refl; figures = λ queue. refl }) agrees in
     record {
       tallied = agrees.tallied;
       senders = senders;
@@ -177,5 +183,6 @@ agrees_unmoved old journal note agrees is_calm creates weighs delivered senders 
       out = calm.out;
       out_exists = agrees.out_exists;
       delivered = counted;
+      figures = calm.figures;
       closing = closing;
     }

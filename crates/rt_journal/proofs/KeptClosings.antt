@@ -12,6 +12,7 @@ use Rattle.rt_taskqueue.specs.Queues.{mode_of}
 use Rattle.rt_core.specs.State.{CoreView, runtime_of, gate_of}
 use Rattle.rt_core.specs.Closing.{HasClosed}
 use Rattle.rt_journal.specs.Agreement.{Agrees}
+use Rattle.rt_journal.specs.Figures.{figures_of}
 use Rattle.rt_journal.proofs.Kept.{IsKept, StaysCalm, stays_calm, agrees_unmoved, calm_core_closed, calm_queue_closed, calm_shut, plainly_stands}
 
 module _ {J T : Type 0} (old new : CoreView J) (journal : Journal T) (agrees : Agrees old journal) where
@@ -55,6 +56,7 @@ module _ {J T : Type 0} (old new : CoreView J) (journal : Journal T) (agrees : A
     turns = calm.turns_made;
     out = calm.out;
     out_exists = λ out at. rw has.closed.same_count (agrees.out_exists out (sym (ap (λ core. core.out) has.rest) ∙ at));
+    figures = calm.figures;
     delivered = λ sender known. ap (λ core. get_or core.delivered sender 0) has.rest ∙ agrees.delivered sender (rw (← ap (λ core. core.cores) has.rest) known);
     closing = record {
       modes = λ other. mode_now other (other == queue) refl;
@@ -71,6 +73,7 @@ module _ {J T : Type 0} (old new : CoreView J) (journal : Journal T) (agrees : A
         the_floor = ap (λ core. core.floor) has.rest;
         turns_made = ap (λ core. core.turns) has.rest;
         out = ap (λ core. core.out) has.rest;
+        figures = λ other. ap (λ core. figures_of other core) has.rest;
       }) agrees
 
       mode_now : (other : ℕ) (test : Bool) → (other == queue) ≡ test → mode_of other new.queues ≡ or_else (cond test (Some mode) None) (queue_mode other journal)

@@ -20,6 +20,7 @@ use Rattle.rt_taskqueue.specs.Queues.{queue_count, shares_of}
 use Rattle.rt_core.specs.State.{CoreView, no_tally, runtime_of}
 use Rattle.rt_core.specs.Deliveries.{Creates, Weighs, counted}
 use Rattle.rt_journal.specs.Agreement.{Agrees}
+use Rattle.rt_journal.specs.Figures.{figures_in, figures_of}
 use Rattle.rt_journal.proofs.Kept.{IsKept, stays_calm, SameJobs, calm_created, calm_weighed}
 use Rattle.rt_journal.proofs.KeptModes.{closing-stays}
 use Rattle.rt_journal.proofs.KeptAnswers.{agrees-answered, answered_stands}
@@ -47,6 +48,7 @@ module _ {J T : Type 0} (old new : CoreView J) (queue weight : ℕ) (journal : J
         the_floor = calm.the_floor;
         turns = calm.turns_made;
         out = calm.out;
+        figures = calm.figures;
         weights = weights;
         out_exists = λ out at. omega (arith, creates.added.count, agrees.out_exists out (sym (ap (λ core. core.out) creates.rest) ∙ at));
         delivered = λ sender known. ap (λ list. get_or list sender 0) same ∙ agrees.delivered sender (rw (← ap (λ core. core.cores) creates.rest) known);
@@ -60,6 +62,7 @@ module _ {J T : Type 0} (old new : CoreView J) (queue weight : ℕ) (journal : J
         the_floor = ap (λ core. core.floor) creates.rest;
         turns_made = ap (λ core. core.turns) creates.rest;
         out = ap (λ core. core.out) creates.rest;
+        figures = λ other. ap (λ core. figures_of other core) creates.rest ∙ ap figures_in (get_or-append_default old.tallies no_tally other);
       }
 
       weights : (other : ℕ) → other < queue_count new.queues → shares_of other new.queues ≡ shares other (writes.Created queue weight ∷ journal)
@@ -89,6 +92,7 @@ module _ {J T : Type 0} (old new : CoreView J) (queue weight : ℕ) (journal : J
         the_floor = calm.the_floor;
         turns = calm.turns_made;
         out = calm.out;
+        figures = calm.figures;
         weights = weights;
         out_exists = λ out at. rw weighs.shares.same_count (agrees.out_exists out (sym (ap (λ core. core.out) weighs.rest) ∙ at));
         delivered = λ sender known. ap (λ list. get_or list sender 0) same ∙ agrees.delivered sender (rw (← ap (λ core. core.cores) weighs.rest) known);
@@ -102,6 +106,7 @@ module _ {J T : Type 0} (old new : CoreView J) (queue weight : ℕ) (journal : J
         the_floor = ap (λ core. core.floor) weighs.rest;
         turns_made = ap (λ core. core.turns) weighs.rest;
         out = ap (λ core. core.out) weighs.rest;
+        figures = λ other. ap (λ core. figures_of other core) weighs.rest;
       }
 
       weights : (other : ℕ) → other < queue_count new.queues → shares_of other new.queues ≡ shares other (writes.SharesSet queue weight ∷ journal)

@@ -26,6 +26,8 @@ use Rattle.rt_taskqueue.specs.Queues.{waiting_of}
 use Rattle.rt_core.specs.State.{CoreView, JobOut, no_tally, tally_of, runtime_of, delivered_of, is_working, entry_runtime}
 use Rattle.rt_core.specs.Deliveries.{Enters, counted}
 use Rattle.rt_journal.specs.Agreement.{Agrees, IsJobOut, AreMarked, names_of}
+use Rattle.rt_journal.specs.Figures.{figures_of, figures_told}
+use Rattle.rt_journal.proofs.FigureSteps.{figures-same, figures-stays}
 use Rattle.rt_journal.proofs.Kept.{IsKept, plainly_stands, turns-stays, working}
 use Rattle.rt_journal.proofs.KeptModes.{SameModes, closing-stays}
 
@@ -164,6 +166,11 @@ module _ {J T : Type 0} (terms : Terms) (old new : CoreView J) (name : JobId) (q
   took_out None nobody = nobody
   took_out (Some job) alone = (alone.0, rw (not_entered terms journal kept.notes name job.name next (rw alone.1 refl)) alone.1)
 
+  took_figures : (other : ℕ) → figures_of other new ≡ figures_told other (writes.Took name queue ∷ journal)
+  took_figures other =
+      figures-same old new queue (record (tally_of queue old) { runtime = entry_runtime queue old }) tallied (ap (λ core. core.tallies) enters.rest) refl other
+      ∙ (kept.agrees.figures other ∙ sym (figures-stays other (writes.Took name queue) journal refl))
+
   took_follows : MayFollow terms (writes.Took name queue) journal
   took_follows = (next, accepted)
 
@@ -183,6 +190,7 @@ module _ {J T : Type 0} (terms : Terms) (old new : CoreView J) (name : JobId) (q
       out = subst (λ out. IsJobOut out (writes.Took name queue ∷ journal)) (sym (ap (λ core. core.out) enters.rest)) (took_out old.out kept.agrees.out);
       out_exists = λ out at. rw enters.line.same_count (kept.agrees.out_exists out (sym (ap (λ core. core.out) enters.rest) ∙ at));
       delivered = delivered_counted terms old new name journal took_counted kept.agrees;
+      figures = took_figures;
       closing = closing-stays old new (writes.Took name queue) journal modes_stay (record { queues = λ queue. refl; core = refl; gates = λ sender. refl }) kept.agrees.closing;
     };
     notes = (plainly_stands terms (writes.Took name queue) journal kept.is_core took_follows kept.no_pick kept.no_answer refl tt, kept.notes);

@@ -31,6 +31,8 @@ use Rattle.rt_core.specs.State.{CoreView, JobOut, no_tally, tally_of, runtime_of
 use Rattle.rt_core.specs.Closing as core
 use Rattle.rt_core.specs.Turns.{TakesOut}
 use Rattle.rt_journal.specs.Agreement.{AgreesOnClosing, IsJobOut, AreMarked, names_of}
+use Rattle.rt_journal.specs.Figures.{figures_of, figures_told}
+use Rattle.rt_journal.proofs.FigureSteps.{figures-grow, figures-stays, one_pick, counts-pick, told-picked}
 use Rattle.rt_journal.proofs.KeptModes.{SameModes, same_modes, closing-stays, return_reason-agrees}
 use Rattle.rt_journal.proofs.Kept.{IsKept, plainly_stands, turns-stays}
 use Rattle.rt_journal.specs.Polls.{poll_note}
@@ -90,7 +92,7 @@ module _ {J T : Type 0} (terms : Terms) (old new : CoreView J) (name : JobId) (q
   poll_stands keeps false told = record { may_follow = (queue, turn, keeps, told); turn = refl; effect = tt; writer = kept.is_core }
   poll_stands keeps true told = record { may_follow = (queue, turn, keeps, told); turn = refl; effect = tt; writer = kept.is_core }
 
-  its_queue : queue_of name journal ≡ Some queue
+  pub its_queue : queue_of name journal ≡ Some queue
   its_queue = (known_of terms journal kept.notes).line_queue queue name (rw (first_in_line, same_as_itself name))
 
   pub exists : queue < queue_count old.queues
@@ -196,6 +198,18 @@ module _ {J T : Type 0} (terms : Terms) (old new : CoreView J) (name : JobId) (q
   delivered_now false sender known = ap (λ core. delivered_of sender core) takes.rest ∙ kept.agrees.delivered sender (rw (← ap (λ core. core.cores) takes.rest) known)
   delivered_now true sender known = ap (λ core. delivered_of sender core) takes.rest ∙ kept.agrees.delivered sender (rw (← ap (λ core. core.cores) takes.rest) known)
 
+  figures_now : (before : Bool) → (other : ℕ) → figures_of other new ≡ figures_told other (poll_note name before ∷ picked)
+  figures_now before other = figures_picked other ∙ sym (by_note before)
+    where
+      figures_picked : (other : ℕ) → figures_of other new ≡ figures_told other picked
+      figures_picked =
+          figures-grow old new queue (record (tally_of queue old) { selected = (tally_of queue old).selected + 1 }) (omega (arith, exists, kept.agrees.tallied))
+          (ap (λ core. core.tallies) takes.rest) journal picked one_pick (counts-pick (tally_of queue old)) kept.agrees.figures (λ other. told-picked other queue journal runtime)
+
+      by_note : (before : Bool) → figures_told other (poll_note name before ∷ picked) ≡ figures_told other picked
+      by_note false = figures-stays other (writes.Start name) picked refl
+      by_note true = figures-stays other (writes.Resume name) picked refl
+
   closing_now : (before : Bool) → AgreesOnClosing new (poll_note name before ∷ picked)
   closing_now before = by_note before
     where
@@ -246,6 +260,7 @@ module _ {J T : Type 0} (terms : Terms) (old new : CoreView J) (name : JobId) (q
       out = out_now was_started;
       out_exists = one_out;
       delivered = delivered_now was_started;
+      figures = figures_now was_started;
       closing = closing_now was_started;
     };
     notes = (poll_stands (not_returning keeps) was_started (sym start_told), (pick_stands left, kept.notes));

@@ -19,6 +19,8 @@ use Rattle.rt_core.specs.State.{CoreView, no_tally, tally_of, runtime_of, delive
 use Rattle.rt_core.specs.Closing as core
 use Rattle.rt_core.specs.Turns.{TakesOut, HandsBack}
 use Rattle.rt_journal.specs.Agreement.{Agrees, AgreesOnClosing, IsJobOut, names_of}
+use Rattle.rt_journal.specs.Figures.{figures_of, figures_told}
+use Rattle.rt_journal.proofs.FigureSteps.{figures-grow, one_return, counts-return, told-returned}
 use Rattle.rt_journal.proofs.Kept.{IsKept, plainly_stands, turns-stays}
 use Rattle.rt_journal.proofs.KeptModes.{SameModes, same_modes, closing-stays, return_reason-agrees}
 use Rattle.rt_journal.proofs.KeptPicks as kept_picks
@@ -94,6 +96,12 @@ module _ {J T : Type 0} (terms : Terms) (old new : CoreView J) (name : JobId) (q
       closing-stays new new (writes.Returned name reason) picked (same_modes new) (record { queues = λ queue. refl; core = refl; gates = λ sender. refl })
       (closing-stays old new (writes.Pick queue runtime) journal modes_stay (record { queues = λ queue. refl; core = refl; gates = λ sender. refl }) kept.agrees.closing)
 
+  figures_now : (other : ℕ) → figures_of other new ≡ figures_told other longer
+  figures_now =
+      figures-grow old new queue (record (tally_of queue old) { selected = (tally_of queue old).selected + 1; returned = (tally_of queue old).returned + 1 }) exists
+      (ap (λ core. core.tallies) hands.rest) journal longer one_return (counts-return (tally_of queue old)) kept.agrees.figures
+      (λ other. told-returned other queue journal name (kept_picks.its_queue terms old middle name queue hands.was_started job journal kept takes) runtime reason)
+
   agrees-returned : Agrees new longer
   agrees-returned = record {
     tallied = ap (λ core. length core.tallies) hands.rest ∙ (length-set old.tallies queue _ ∙ (kept.agrees.tallied ∙ sym hands.line.same_count));
@@ -110,6 +118,7 @@ module _ {J T : Type 0} (terms : Terms) (old new : CoreView J) (name : JobId) (q
     turns = ap (λ core. core.turns) hands.rest ∙ (ap (λ count. count + 1) kept.agrees.turns ∙ sym (turns-stays (writes.Returned name reason) picked refl));
     out = subst (λ out. IsJobOut out longer) (sym nobody_out) (kept_picks.nobody terms old middle name queue hands.was_started job journal kept takes);
     out_exists = λ out at. absurd (none≢some out (sym nobody_out ∙ at));
+    figures = figures_now;
     delivered = λ sender known. ap (λ core. delivered_of sender core) hands.rest ∙ kept.agrees.delivered sender (rw (← ap (λ core. core.cores) hands.rest) known);
     closing = closing_now;
   }

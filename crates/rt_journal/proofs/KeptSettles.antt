@@ -4,7 +4,7 @@ use Rattle.std.specs.Prelude.{◌==◌, Some, None}
 use Rattle.std.proofs.lemmas.Bool.{eqb-true, eqb-false}
 use Rattle.std.proofs.lemmas.List.{map-append}
 use Rattle.std.proofs.lemmas.List.Elements.{All-append, All-cons, All-nil}
-use Rattle.rt_shares.specs.Charge.{charge}
+use Rattle.rt_shares.specs.Charge.{charge, clamped}
 use Rattle.rt_ids.specs.Terms.{Terms}
 use Rattle.rt_ids.specs.declared.names.JobId.{JobId}
 use Rattle.rt_ids.specs.declared.note.Note.TheVariants as writes
@@ -18,9 +18,12 @@ use Rattle.rt_ids.proofs.LineSteps.{line-yield, line-yield_elsewhere, line-done}
 use Rattle.rt_ids.proofs.Starts.{is_told-alone}
 use Rattle.rt_ids.proofs.RuntimeSteps.{virtual_runtime-yield, virtual_runtime-yield_elsewhere, virtual_runtime-done, virtual_runtime-done_elsewhere, floor-stays}
 use Rattle.rt_taskqueue.specs.Queues.{QueuesView, queue_count, waiting_of, shares_of, mode_of, ChangesLine}
-use Rattle.rt_core.specs.State.{CoreView, JobOut, no_tally, runtime_of}
+use Rattle.rt_core.specs.declared.tally.Tally.{Tally}
+use Rattle.rt_core.specs.State.{CoreView, JobOut, no_tally, tally_of, runtime_of}
 use Rattle.rt_core.specs.Turns.{settled_view}
 use Rattle.rt_journal.specs.Agreement.{IsJobOut, AreMarked, names_of}
+use Rattle.rt_journal.specs.Figures.{figures_of, figures_told}
+use Rattle.rt_journal.proofs.FigureSteps.{figures-grow, one_yield, one_done, counts-yield, counts-done, told-yield, told-done}
 use Rattle.rt_journal.proofs.KeptModes.{closing-stays}
 use Rattle.rt_journal.proofs.Kept.{IsKept, plainly_stands, turns-stays}
 
@@ -37,6 +40,16 @@ module _ {J T : Type 0} (terms : Terms) (old : CoreView J) (job : JobOut J) (tim
 
   exists : job.queue < queue_count old.queues
   exists = kept.agrees.out_exists job at
+
+  within : job.queue < length old.tallies
+  within = omega (arith, exists, kept.agrees.tallied)
+
+  abbrev settled_tally : Tally
+  settled_tally = record (tally_of job.queue old) {
+    runtime = (tally_of job.queue old).runtime + charge time (shares_of job.queue old.queues);
+    time = (tally_of job.queue old).time + clamped time;
+    finished = (tally_of job.queue old).finished + done;
+  }
 
   -- the queue of the job is charged, and no other
   runtime_charged : runtime_of job.queue new ≡ virtual_runtime job.queue journal + charge time (shares job.queue journal)
@@ -58,8 +71,8 @@ module _ {J T : Type 0} (terms : Terms) (old : CoreView J) (job : JobOut J) (tim
   abbrev is_marked : JobId × Bool × J → Type 0
   is_marked entry = entry.1 ≡ is_told name_started entry.0 journal
 
-  pub kept-yield : (back : J) → ChangesLine old.queues queues job.queue (waiting_of job.queue old.queues ++ (job.name, true, back) ∷ []) → IsKept terms new yielded
-  kept-yield back changes = record {
+  pub kept-yield : done ≡ 0 → (back : J) → ChangesLine old.queues queues job.queue (waiting_of job.queue old.queues ++ (job.name, true, back) ∷ []) → IsKept terms new yielded
+  kept-yield none back changes = record {
     is_core = kept.is_core;
     agrees = record {
       tallied = tallied_now changes.same_count;
@@ -74,6 +87,7 @@ module _ {J T : Type 0} (terms : Terms) (old : CoreView J) (job : JobOut J) (tim
       out = jobs_out-yield job.name time journal is_out.0;
       out_exists = λ out none. absurd (none≢some out none);
       delivered = kept.agrees.delivered;
+      figures = figures_now;
       closing = closing-stays old new (writes.Yield job.name time) journal (record { modes = changes.same_modes; mode = refl; gates = refl; cores = refl }) (record { queues = λ queue. refl; core = refl; gates = λ sender. refl }) kept.agrees.closing;
     };
     notes = (plainly_stands terms (writes.Yield job.name time) journal kept.is_core is_out.0 kept.no_pick kept.no_answer refl tt, kept.notes);
@@ -81,6 +95,11 @@ module _ {J T : Type 0} (terms : Terms) (old : CoreView J) (job : JobOut J) (tim
     no_answer = refl;
   }
     where
+      figures_now : (other : ℕ) → figures_of other new ≡ figures_told other yielded
+      figures_now =
+          figures-grow old new job.queue settled_tally within refl journal yielded (one_yield time) (counts-yield (tally_of job.queue old) settled_tally.runtime time done none) kept.agrees.figures
+          (λ other. told-yield other job.queue journal job.name is_out.1 time)
+
       lines : (other : ℕ) → names_of (waiting_of other queues) ≡ line other yielded
       lines other = by_test (other == job.queue) refl
         where
@@ -125,8 +144,8 @@ module _ {J T : Type 0} (terms : Terms) (old : CoreView J) (job : JobOut J) (tim
   abbrev finished : T → Journal T
   finished value = writes.Done job.name time value ∷ journal
 
-  pub kept-done : (value : T) → queues ≡ old.queues → IsKept terms new (finished value)
-  kept-done value same = record {
+  pub kept-done : done ≡ 1 → (value : T) → queues ≡ old.queues → IsKept terms new (finished value)
+  kept-done one value same = record {
     is_core = kept.is_core;
     agrees = record {
       tallied = tallied_now (ap queue_count same);
@@ -141,6 +160,7 @@ module _ {J T : Type 0} (terms : Terms) (old : CoreView J) (job : JobOut J) (tim
       out = jobs_out-done job.name time value journal is_out.0;
       out_exists = λ out none. absurd (none≢some out none);
       delivered = kept.agrees.delivered;
+      figures = figures_now;
       closing = closing-stays old new (writes.Done job.name time value) journal (record { modes = λ other. ap (λ view. mode_of other view) same; mode = refl; gates = refl; cores = refl }) (record { queues = λ queue. refl; core = refl; gates = λ sender. refl }) kept.agrees.closing;
     };
     notes = (plainly_stands terms (writes.Done job.name time value) journal kept.is_core is_out.0 kept.no_pick kept.no_answer refl tt, kept.notes);
@@ -148,6 +168,11 @@ module _ {J T : Type 0} (terms : Terms) (old : CoreView J) (job : JobOut J) (tim
     no_answer = refl;
   }
     where
+      figures_now : (other : ℕ) → figures_of other new ≡ figures_told other (finished value)
+      figures_now =
+          figures-grow old new job.queue settled_tally within refl journal (finished value) (one_done time) (counts-done (tally_of job.queue old) settled_tally.runtime time done one) kept.agrees.figures
+          (λ other. told-done other job.queue journal job.name is_out.1 time value)
+
       runtimes : (other : ℕ) → runtime_of other new ≡ virtual_runtime other (finished value)
       runtimes other = by_test (other == job.queue) refl
         where

@@ -1,5 +1,6 @@
 pub mod Sums
 pub mod NumberedOrders
+pub mod FigureSteps
 pub mod Kept
 pub mod KeptModes
 pub mod KeptDeliveries

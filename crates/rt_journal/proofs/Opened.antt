@@ -7,6 +7,7 @@ use Rattle.rt_jobs.specs.Steps.{Owed}
 use Rattle.rt_taskqueue.specs.Queues.{waiting_of, shares_of, mode_of}
 use Rattle.rt_core.specs.State.{CoreView, runtime_of, opened}
 use Rattle.rt_journal.specs.Agreement.{Agrees, AreMarked, names_of}
+use Rattle.rt_journal.specs.Figures.{no_figures, figures_of}
 use Rattle.rt_journal.specs.Recorded.{IsRecorded, HasTask, sum_upto, given_count}
 use Rattle.rt_journal.specs.Steps.{opened_beside}
 use Rattle.rt_link.specs.declared.ends.Outward.{Outward}
@@ -47,6 +48,11 @@ module _ (J : Type 0) (core cores cap : ℕ) where
   no_mode (suc zero) = refl
   no_mode (suc (suc queue)) = refl
 
+  no_figure : (queue : ℕ) → figures_of queue new_core ≡ no_figures
+  no_figure zero = refl
+  no_figure (suc zero) = refl
+  no_figure (suc (suc queue)) = refl
+
   -- it agrees with a journal without a note
   pub agrees-opened : (T : Type 0) → Agrees {J = J} {T = T} new_core []
   agrees-opened T = record {
@@ -62,6 +68,7 @@ module _ (J : Type 0) (core cores cap : ℕ) where
     out = refl;
     out_exists = λ out none. absurd (none≢some out none);
     delivered = λ sender known. get_or-replicate (cores + 1) sender 0 0 (omega (arith, known));
+    figures = no_figure;
     closing = record { modes = no_mode; mode = refl; gate_places = length-replicate (cores + 1) None; gates = λ sender. none_at (cores + 1) sender };
   }
 

@@ -175,7 +175,7 @@ module _ {J T : Type 0} {same : J → J → Type 0} {made : J → ℕ} {polls : 
     yielded = record {
       kept = subst (λ step. IsKept (terms_at old) core (settle_note out.name time step ∷ old.journal.notes)) (sym yields)
           (subst (λ core_now. IsKept (terms_at old) core_now (writes.Yield out.name time ∷ old.journal.notes)) (sym is)
-          (kept-yield (terms_at old) old.core out time 0 core.queues old.journal.notes recorded.kept was_out ran.job changes));
+          (kept-yield (terms_at old) old.core out time 0 core.queues old.journal.notes recorded.kept was_out refl ran.job changes));
       number = ap (λ core. core.core) is;
       cores = ap (λ core. core.cores) is;
       room = changes.same_room;
@@ -202,7 +202,7 @@ module _ {J T : Type 0} {same : J → J → Type 0} {made : J → ℕ} {polls : 
     ended = record {
       kept = subst (λ step. IsKept (terms_at old) core (settle_note out.name time step ∷ old.journal.notes)) (sym ends)
           (subst (λ core_now. IsKept (terms_at old) core_now (writes.Done out.name time answer ∷ old.journal.notes)) (sym is)
-          (kept-done (terms_at old) old.core out time 1 old.core.queues old.journal.notes recorded.kept was_out answer refl));
+          (kept-done (terms_at old) old.core out time 1 old.core.queues old.journal.notes recorded.kept was_out refl answer refl));
       number = ap (λ core. core.core) is;
       cores = ap (λ core. core.cores) is;
       room = ap (λ core. core.queues.room) is;

@@ -14,6 +14,7 @@ use Rattle.rt_ids.specs.Lawful.{MayStand}
 use Rattle.rt_ids.specs.Picks.{turns}
 use Rattle.rt_taskqueue.specs.Queues.{queue_count, shares_of, mode_of, waiting_of}
 use Rattle.rt_core.specs.State.{CoreView, JobOut, runtime_of, delivered_of, gate_of}
+use Rattle.rt_journal.specs.Figures.{figures_of, figures_told}
 
 module _ {J : Type 0} where
   abbrev pub names_of : List (JobId × Bool × J) → List JobId
@@ -49,6 +50,7 @@ module _ {J T : Type 0} where
     pub out : IsJobOut core.out journal
     pub out_exists : (job : JobOut J) → core.out ≡ Some job → job.queue < queue_count core.queues
     pub delivered : (sender : ℕ) → sender ≤ core.cores → delivered_of sender core ≡ length (delivered_names sender journal)
+    pub figures : (queue : ℕ) → figures_of queue core ≡ figures_told queue journal
     pub closing : AgreesOnClosing core journal
 
 -- the journal is one of notes that may stand where they stand, with no step half done except a poll, and the core agrees with it

@@ -1,14 +1,17 @@
 pub mod Orders
 pub mod Polls
 pub mod Deliveries
+pub mod Figures
 pub mod Agreement
 pub mod Submissions
 pub mod Recorded
 pub mod Lists
 pub mod Ends
 pub mod Steps
+pub mod Settling
 pub mod Turns
 pub mod Owed
+pub mod KnownLanes
 pub mod Tickets
 pub mod Spending
 pub mod Posts

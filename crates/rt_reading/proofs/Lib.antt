@@ -7,3 +7,4 @@ pub mod OnlyTexts
 pub mod Raising
 pub mod HeadLines
 pub mod ReadBack
+pub mod TakingLemmas

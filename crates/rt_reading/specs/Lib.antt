@@ -5,3 +5,4 @@ pub mod Feeds
 pub mod JournalTexts
 pub mod Telling
 pub mod Laws
+pub mod Taking

@@ -5,6 +5,7 @@ ghost use Rattle.rt_reading.specs.JournalTexts as spec;
 ghost use Rattle.rt_reading.specs.Faults.{IfFaulty};
 ghost use Rattle.rt_reading.specs.Feeds.{HasNoFeed};
 ghost use Rattle.rt_reading.specs.Drafts.{Drafted, judged, too_long, assembly_of, lines_left};
+ghost use Rattle.rt_reading.specs.Taking.{TakesByte, TakesAll};
 
 use crate::draft::{Draft, Part};
 use crate::fault::{JournalCause, ReadError};
@@ -59,6 +60,7 @@ impl JournalReader {
             spec.journals_from self.old (bytes.now ++ rest) ≡ spec.journals_from self.new rest) }
         ensures faulty { IfErr result (IfFaulty (λ fault. (rest : List ℕ) →
             spec.journals_from self.old (bytes.now ++ rest) ≡ Err fault)) }
+        ensures taken { OnOk result (TakesAll bytes.now self.old self.new) }
         ensures room { OnOk result (spec.room_left self.new + length bytes.now ≤ spec.room_left self.old) }
     {
         for byte in bytes {
@@ -73,6 +75,7 @@ impl JournalReader {
             spec.journals_from self.old (byte ∷ rest) ≡ spec.journals_from self.new rest) }
         ensures faulty { IfErr result (IfFaulty (λ fault. (rest : List ℕ) →
             spec.journals_from self.old (byte ∷ rest) ≡ Err fault)) }
+        ensures taken { OnOk result (TakesByte byte self.old self.new) }
         ensures room { OnOk result (spec.room_left self.new + 1 ≤ spec.room_left self.old) }
     {
         if byte == LINE_FEED {

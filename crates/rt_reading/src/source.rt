@@ -6,6 +6,7 @@ ghost use Rattle.rt_reading.specs.Drafts.{Drafted, assembly_of};
 ghost use Rattle.rt_ids.specs.Spelled.{IsSpelled};
 ghost use Rattle.rt_spelling.specs.Texts.{journal_text};
 ghost use Rattle.rt_reading.specs.Faults.{IfText};
+ghost use Rattle.rt_reading.specs.Taking.{IsPrompt};
 
 use crate::fault::ReadError;
 use crate::reader::JournalReader;
@@ -25,6 +26,7 @@ pub fn read_journal<R: Read>(alloc: Global, source: &mut R) -> Result<Assembly, 
         IfSome (R.remaining source.old) (λ text. journals_of text ≡ Err fault))) }
     ensures same_text { IfOk result (λ assembly. IfSome (R.remaining source.old) (λ text.
         IsSpelled assembly × (text ≡ journal_text assembly))) }
+    ensures prompt { IfErr result (IsPrompt (R.remaining source.old) (R.remaining source.new)) }
 {
     read_all(alloc, source)
 }
@@ -35,6 +37,7 @@ fn read_all<R: Read>(alloc: Global, source: &mut R) -> Result<Assembly, ReadErro
         (draft : Drafted) × (journals_of text ≡ Ok draft) × (assembly ≡ assembly_of draft))) }
     ensures faulty { IfErr result (IfText (λ fault.
         IfSome (R.remaining source.old) (λ text. journals_of text ≡ Err fault))) }
+    ensures prompt { IfErr result (IsPrompt (R.remaining source.old) (R.remaining source.new)) }
 {
     let mut chunk = [0u8; CHUNK];
     let mut reader = JournalReader::new(alloc);

@@ -12,8 +12,10 @@ use Rattle.rt_reading.specs.declared.fault.JournalCause.{JournalCause}
 use Rattle.rt_reading.specs.declared.fault.ReadError.{ReadError}
 use Rattle.rt_reading.specs.declared.fault.ReadError.TheVariants as read
 use Rattle.rt_reading.specs.Faults.{IfText as IfTextRead}
+use Rattle.rt_reading.specs.Taking.{IsPrompt as IsPromptRead}
 use Rattle.rt_report.specs.Audits.{JudgesText, TellsSound}
 use Rattle.rt_report.specs.Faults.{IfText}
+use Rattle.rt_report.specs.Prompt.{IsPrompt}
 use Rattle.rt_report.specs.Reasons.{fault_of}
 use Rattle.rt_spelling.specs.Pages.{AppendsFront}
 use Rattle.rt_report.specs.VerdictTexts.{is_sound}
@@ -33,6 +35,12 @@ pub told_of : (fact : ℕ × JournalCause → Type 0) (error : ReadError) → If
 told_of fact (read.Text line cause) known = known
 told_of fact read.Read known = tt
 told_of fact read.Memory known = tt
+
+-- told as soon as its reader could
+pub prompt_of : (old new : Option (List ℕ)) (error : ReadError) → IsPromptRead old new error → IsPrompt old new (fault_of error)
+prompt_of old new (read.Text line cause) prompt = prompt
+prompt_of old new read.Read prompt = prompt
+prompt_of old new read.Memory prompt = tt
 
 sound_only : (verdict : Verdict) → is_sound verdict ≡ true → verdict ≡ Sound
 sound_only Sound is = refl

@@ -4,3 +4,4 @@ pub mod VerdictTexts
 pub mod Faults
 pub mod Audits
 pub mod Reasons
+pub mod Prompt

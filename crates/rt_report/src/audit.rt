@@ -5,6 +5,7 @@ ghost use Rattle.std.specs.Io.KnownBytes.{Keeps, Appends};
 ghost use Rattle.rt_reading.specs.JournalTexts.{journals_of};
 ghost use Rattle.rt_report.specs.Audits.{IsAudited, IsCutShort, TellsSound};
 ghost use Rattle.rt_report.specs.Faults.{IfText, IfUnjudged, IfUnwritten};
+ghost use Rattle.rt_report.specs.Prompt.{IsPrompt};
 ghost use Rattle.rt_report.specs.VerdictTexts.{verdict_text};
 ghost use Rattle.rt_spelling.specs.Pages.{AppendsFront};
 
@@ -38,6 +39,7 @@ pub fn audit_text<R: Read, W: Write>(
     ensures sound { result ≡ Ok true → TellsSound (R.remaining source.old) }
     ensures faulty { IfErr result (IfText (λ fault.
         IfSome (R.remaining source.old) (λ text. journals_of text ≡ Err fault))) }
+    ensures prompt { IfErr result (IsPrompt (R.remaining source.old) (R.remaining source.new)) }
     ensures silent { IfErr result (IfUnjudged (Keeps (W.contents sink.old) (W.contents sink.new))) }
     ensures unwritten { IfErr result (IfUnwritten (IsCutShort (R.remaining source.old) (W.contents sink.old) (W.contents sink.new))) }
 {

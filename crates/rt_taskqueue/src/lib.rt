@@ -8,6 +8,8 @@ pub mod line;
 mod meter;
 mod queues;
 #[doc(hidden)]
+pub mod slips;
+#[doc(hidden)]
 pub mod waiting;
 
 pub use closing::closes;

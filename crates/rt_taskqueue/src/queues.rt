@@ -5,8 +5,10 @@ ghost use Rattle.rt_ids.specs.Closing as spec;
 
 use crate::closing::closes;
 use crate::line::Line;
+use crate::slips::Slips;
 use crate::waiting::{Waiting, append};
 use rt_ids::{JobId, Mode, QueueNo};
+use rt_sealed::{SealedSlab, SealedVec};
 use rt_shares::Shares;
 use rt_timeline::Slip;
 use slab::Slab;
@@ -32,16 +34,14 @@ pub enum CreateError {
 /// The task queues of a core, numbered from 0, with room for so many jobs in all of them together.
 ///
 /// A queue's slip is the node by which it stands in a timeline. It is made with the queue, and is with it while it stands in none.
-/// Only `open` and `try_create` take memory.
+/// Only `open` and `try_create` take memory: no other call has an allocator in reach.
 #[derive(Drop)]
 pub struct Queues<J, A: Allocator> {
     // The jobs of all queues, each with the key of the next in its line. A key names nothing outside this crate.
-    jobs: Slab<Waiting<J>, A>,
-    lines: Vec<Line, A>,
-    slips: Vec<Option<Slip<A>>, A>,
+    jobs: SealedSlab<Waiting<J>, A>,
+    lines: SealedVec<Line, A>,
+    slips: Slips<A>,
     room: usize,
-    // What the slip of a new queue is taken from.
-    alloc: A,
 }
 
 impl<J, A: Allocator> Model for Queues<J, A> {
@@ -49,14 +49,14 @@ impl<J, A: Allocator> Model for Queues<J, A> {
 
     ghost Value = { SlippedView J };
 
-    ghost use Rattle.std.specs.Prelude.{length, vec_capacity};
+    ghost use Rattle.std.specs.Prelude.{length};
     ghost use Rattle.rt_taskqueue.specs.Linked.{linked_view, IsKept, HasOwnSlips};
 
-    ghost view = { λ q. linked_view q.room q.jobs q.lines.items q.slips.items };
+    ghost view = { λ q. linked_view q.room q.jobs q.lines.items q.slips.at.items };
 
     ghost invariant = { λ q.
-        IsKept q.room (vec_capacity q.lines) q.jobs q.lines.items
-        × HasOwnSlips (length q.lines.items) (vec_capacity q.slips) q.slips.items };
+        IsKept q.room q.lines.cap q.jobs q.lines.items
+        × HasOwnSlips (length q.lines.items) q.slips.at.cap q.slips.at.items };
 }
 
 impl<J: Drop, A: Allocator + Clone> Queues<J, A> {
@@ -65,16 +65,15 @@ impl<J: Drop, A: Allocator + Clone> Queues<J, A> {
         ensures opened { IfOk result (λ queues. queues ≡ first_queue room) }
     {
         let mut lines = Vec::with_capacity(alloc.clone()?, MOST_QUEUES)?;
-        let mut slips = Vec::with_capacity(alloc.clone()?, MOST_QUEUES)?;
-        let jobs = Slab::with_capacity(alloc.clone()?, room)?;
         lines.push_reserved(Line::empty(Shares::default()));
-        slips.push_reserved(Some(new_slip(&alloc, QueueNo(0))?));
+        let jobs = Slab::with_capacity(alloc.clone()?, room)?;
+        let mut slips = Slips::open(alloc, MOST_QUEUES)?;
+        slips.add(QueueNo(0))?;
         Ok(Queues {
-            jobs,
-            lines,
+            jobs: SealedSlab::sealed(jobs),
+            lines: SealedVec::sealed(lines),
             slips,
             room,
-            alloc,
         })
     }
 
@@ -90,12 +89,13 @@ impl<J: Drop, A: Allocator + Clone> Queues<J, A> {
             return Err(CreateError::TooMany);
         }
         let queue = QueueNo(count as u8);
-        let Ok(slip) = new_slip(&self.alloc, queue) else {
-            return Err(CreateError::Memory);
-        };
-        self.lines.push_reserved(Line::empty(shares));
-        self.slips.push_reserved(Some(slip));
-        Ok(queue)
+        match self.slips.add(queue) {
+            Ok(()) => {
+                self.lines.push_reserved(Line::empty(shares));
+                Ok(queue)
+            }
+            Err(_) => Err(CreateError::Memory),
+        }
     }
 
     /// How many queues there are.
@@ -231,7 +231,7 @@ impl<J: Drop, A: Allocator + Clone> Queues<J, A> {
         ensures given { self.new ≡ without_slip queue self.old }
         ensures out { has_slip queue self.new ≡ false }
     {
-        self.slips[queue.0 as usize].take()
+        self.slips.at[queue.0 as usize].take()
     }
 
     /// Takes the slip of its queue back. Takes no memory.
@@ -241,7 +241,7 @@ impl<J: Drop, A: Allocator + Clone> Queues<J, A> {
         ensures { self.new ≡ with_slip slip self.old }
     {
         let place = slip.queue().0 as usize;
-        self.slips[place] = Some(slip);
+        self.slips.at[place] = Some(slip);
     }
 }
 
@@ -264,11 +264,4 @@ impl<J: Drop, A: Allocator + Clone> Queues<J, A> {
         };
         self.lines[place] = append(&mut self.jobs, line, last);
     }
-}
-
-/// A slip from this allocator.
-fn new_slip<A: Allocator + Clone>(alloc: &A, queue: QueueNo) -> Result<Slip<A>, AllocError>
-    ensures { IfOk result (λ slip. slip ≡ queue) }
-{
-    Slip::try_new(alloc.clone()?, queue)
 }

@@ -9,7 +9,7 @@ use crate::line::Line;
 use crate::meter::Meter;
 use rt_ids::JobId;
 use rt_jobs::{Job, Post, Step};
-use slab::Slab;
+use rt_sealed::SealedSlab;
 use std::alloc::Allocator;
 
 /// A job in the line of a queue.
@@ -26,7 +26,7 @@ pub struct Waiting<J> {
 }
 
 /// Tells the entry at the tail of a line the key of the one that comes behind it.
-pub fn link<J, A: Allocator>(jobs: &mut Slab<Waiting<J>, A>, tail: usize, next: usize)
+pub fn link<J, A: Allocator>(jobs: &mut SealedSlab<Waiting<J>, A>, tail: usize, next: usize)
     requires { ContainsKey jobs.old tail }
     ensures { Relinks jobs.old tail next jobs.new }
 {
@@ -34,7 +34,11 @@ pub fn link<J, A: Allocator>(jobs: &mut Slab<Waiting<J>, A>, tail: usize, next: 
 }
 
 /// A job comes behind the tail of a line. The answer: the line with it.
-pub fn append<J, A: Allocator>(jobs: &mut Slab<Waiting<J>, A>, line: Line, last: Waiting<J>) -> Line
+pub fn append<J, A: Allocator>(
+    jobs: &mut SealedSlab<Waiting<J>, A>,
+    line: Line,
+    last: Waiting<J>,
+) -> Line
     requires room { HasRoomFor jobs.old 1 }
     requires tail { 0 < line.count → ContainsKey jobs.old line.tail }
     requires short { line.count + 1 < 2 ^ 64 }
@@ -53,7 +57,7 @@ pub fn append<J, A: Allocator>(jobs: &mut Slab<Waiting<J>, A>, line: Line, last:
 }
 
 /// Marks the entry at the head of a line as started. The answer: the key of the next one.
-pub fn start<J, A: Allocator>(jobs: &mut Slab<Waiting<J>, A>, head: usize) -> usize
+pub fn start<J, A: Allocator>(jobs: &mut SealedSlab<Waiting<J>, A>, head: usize) -> usize
     requires { ContainsKey jobs.old head }
     ensures { StartsAt jobs.old head jobs.new result }
 {
@@ -63,7 +67,7 @@ pub fn start<J, A: Allocator>(jobs: &mut Slab<Waiting<J>, A>, head: usize) -> us
 }
 
 /// The head of a line goes behind its tail, as started. The answer: the line with it there. Only keys are written.
-pub fn requeue<J, A: Allocator>(jobs: &mut Slab<Waiting<J>, A>, line: Line) -> Line
+pub fn requeue<J, A: Allocator>(jobs: &mut SealedSlab<Waiting<J>, A>, line: Line) -> Line
     requires head { ContainsKey jobs.old line.head }
     requires tail { ContainsKey jobs.old line.tail }
     ensures { Requeues jobs.old line jobs.new result }
@@ -82,7 +86,7 @@ pub fn requeue<J, A: Allocator>(jobs: &mut Slab<Waiting<J>, A>, line: Line) -> L
 /// Polls the job of an entry where it stands. The answer: what the poll came to, the time that the job told, and the time that the
 /// meter told.
 pub fn poll_at<J: Job, A: Allocator, P: Post<J, J::Out>, M: Meter>(
-    jobs: &mut Slab<Waiting<J>, A>,
+    jobs: &mut SealedSlab<Waiting<J>, A>,
     key: usize,
     post: &mut P,
     meter: &mut M,

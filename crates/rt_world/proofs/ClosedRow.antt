@@ -22,7 +22,7 @@ use Rattle.rt_world.specs.Rows.{name}
 use Rattle.rt_world.specs.WorkedRows.{short_job}
 use Rattle.rt_world.specs.ClosedRow.{CoreCloses}
 use Rattle.rt_world.proofs.RowPicks.{right_of_one, few_turns, few_names, some_room}
-use Rattle.rt_world.proofs.RowRuns.{runs_just}
+use Rattle.rt_world.proofs.RowRuns.{runs_just, and_then, no_more}
 use Rattle.rt_world.proofs.UnbegunCreations.{first_world}
 
 -- one event
@@ -34,10 +34,7 @@ abbrev before : Journal ℕ
 before = writes.Shut 1 2 ∷ writes.CoreClosed Return ∷ writes.Answered (name 1 0 2) answers.Closed ∷ writes.Took (name 1 0 1) 0 ∷ []
 
 pick : IsRightPick 0 0 before
-pick = right_of_one before 0 0 refl refl refl (λ work. inr (refl, omega arith)) none
-  where
-    none : (other : ℕ) → (other == 0) ≡ false → has_work other before ≡ false
-    none other zero = rw zero
+pick = right_of_one before 0 0 refl refl refl (λ work. inr (refl, omega arith)) (λ other zero. rw zero)
 
 module _ (room : ℕ) (enough : 100 ≤ room) where
   abbrev start : WorldView Script ℕ
@@ -104,69 +101,16 @@ core_closes =
     runs_just 1 4 [] _ _ _ (tt, (tt, (tt, (tt, (tt, (tt, (tt, (tt, (tt, (tt, tt)))))))))) refl
     (λ room enough. record {
       end = shut_9 room enough;
-      run = (
-        sent_1 room enough,
-        reply.Sent (name 1 0 1),
-        _,
-        sends_1 room enough,
-        (
-          sent_2 room enough,
-          reply.Sent (name 1 0 2),
-          _,
-          sends_2 room enough,
-          (
-            sent_2 room enough,
-            reply.NotClosed,
-            _,
-            open_3 room enough,
-            (
-              taken_4 room enough,
-              reply.Noted,
-              _,
-              delivers_4 room enough,
-              (
-                closed_5 room enough,
-                reply.Noted,
-                _,
-                delivers_5 room enough,
-                (
-                  shut_6 room enough,
-                  reply.Noted,
-                  _,
-                  shuts_6 room enough,
-                  (
-                    shut_6 room enough,
-                    reply.NotSent (Closed (Job 0 (short_job 8)) 2),
-                    _,
-                    refused_7 room enough,
-                    (
-                      returned_8 room enough,
-                      reply.Noted,
-                      _,
-                      turns_8 room enough,
-                      (
-                        shut_9 room enough,
-                        reply.Noted,
-                        _,
-                        shuts_9 room enough,
-                        (shut_9 room enough, reply.AlreadyShut, [], again_10 room enough, (refl, refl), refl),
-                        refl,
-                      ),
-                      refl,
-                    ),
-                    refl,
-                  ),
-                  refl,
-                ),
-                refl,
-              ),
-              refl,
-            ),
-            refl,
-          ),
-          refl,
-        ),
-        refl,
-      );
+      run =
+          and_then (sent_1 room enough) (sends_1 room enough) (
+          and_then (sent_2 room enough) (sends_2 room enough) (
+          and_then (sent_2 room enough) (open_3 room enough) (
+          and_then (taken_4 room enough) (delivers_4 room enough) (
+          and_then (closed_5 room enough) (delivers_5 room enough) (
+          and_then (shut_6 room enough) (shuts_6 room enough) (
+          and_then (shut_6 room enough) (refused_7 room enough) (
+          and_then (returned_8 room enough) (turns_8 room enough) (
+          and_then (shut_9 room enough) (shuts_9 room enough) (
+          and_then (shut_9 room enough) (again_10 room enough) no_more)))))))));
       ends = refl;
     })

@@ -12,6 +12,7 @@ pub mod CoreSteps
 pub mod SentLinks
 pub mod Sending
 pub mod CoreSending
+pub mod JobsHeld
 pub mod StatsTold
 pub mod Collecting
 pub mod Ticketing

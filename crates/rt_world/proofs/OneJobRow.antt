@@ -17,7 +17,7 @@ use Rattle.rt_world.specs.ScriptRuns.{ScriptSame, script_made, ScriptPolls, Scri
 use Rattle.rt_world.specs.Rows.{name, job_of}
 use Rattle.rt_world.specs.WorkedRows.{OneJob}
 use Rattle.rt_world.proofs.RowPicks.{right_of_one, few_turns, few_names, some_room}
-use Rattle.rt_world.proofs.RowRuns.{runs_just}
+use Rattle.rt_world.proofs.RowRuns.{runs_just, and_then, no_more}
 use Rattle.rt_world.proofs.UnbegunCreations.{first_world}
 
 abbrev job : Script
@@ -28,10 +28,7 @@ abbrev taken : Journal ℕ
 taken = Took (name 0 0 1) 0 ∷ Sent (name 0 0 1) (Job 0 tt) ∷ []
 
 first_pick : IsRightPick 0 0 taken
-first_pick = right_of_one taken 0 0 refl refl refl (λ work. inr (refl, omega arith)) none
-  where
-    none : (other : ℕ) → (other == 0) ≡ false → has_work other taken ≡ false
-    none other same = rw same
+first_pick = right_of_one taken 0 0 refl refl refl (λ work. inr (refl, omega arith)) (λ other same. rw same)
 
 module _ (room : ℕ) (enough : 100 ≤ room) where
   abbrev world : WorldView Script ℕ
@@ -90,7 +87,10 @@ one_job =
     λ room enough.
     record {
       end = turned room enough;
-      run = (sent room enough, reply.Sent (name 0 0 1), _, sends room enough, (delivered room enough, reply.Noted, _, delivers room enough, (turned room enough, reply.Noted, [], turns room enough, (refl, refl), refl), refl), refl);
+      run =
+          and_then (sent room enough) (sends room enough) (
+          and_then (delivered room enough) (delivers room enough) (
+          and_then (turned room enough) (turns room enough) no_more));
       ends = refl;
     }
     )

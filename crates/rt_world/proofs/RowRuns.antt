@@ -1,5 +1,5 @@
 -- A run that is written down is the only one of its events.
-use Rattle.std.proofs.Common.{◌≡◌, ℕ, ◌≤◌, Bool, true, false, List, [], ◌∷◌, inl, inr, sym, ◌∙◌, ap, subst}
+use Rattle.std.proofs.Common.{◌≡◌, ℕ, ◌≤◌, Bool, true, false, List, [], ◌∷◌, inl, inr, refl, sym, ◌∙◌, ap, subst}
 use Rattle.std.specs.Prelude.{◌&&◌}
 use Rattle.std.proofs.lemmas.Bool.{true≢false, and_parts}
 use Rattle.rt_ids.specs.Journal.{Journal}
@@ -8,6 +8,7 @@ use Rattle.rt_world.specs.declared.event.Event.{Event}
 use Rattle.rt_world.specs.declared.event.Reply.{Reply}
 use Rattle.rt_world.specs.declared.event.Reply.TheVariants as reply
 use Rattle.rt_world.specs.State.{WorldView}
+use Rattle.rt_world.specs.Runs.{Happens}
 use Rattle.rt_world.specs.Creations.{OrderNoQueues, with_creations}
 use Rattle.rt_world.specs.ScriptRuns.{ScriptSame, script_made, ScriptPolls, ScriptAnswers, IsScriptRun}
 use Rattle.rt_world.specs.Determined.{AreAlike, AreAllAlike}
@@ -38,10 +39,22 @@ module _ {J : Type 0} (same : J → J → Type 0) (answers : J → ℕ → Type 
       let parts = and_parts (is_plain_reply answer) (are_plain replies) plain in
       (λ i. same_reply answer alike.0 parts.0 alike.3 i ∷ same_replies replies alike.1 parts.1 alike.4 i) ∙ sym alike.2
 
+-- a run of script jobs, put together event by event
+pub record Run (events : List (Event Script)) (start end : WorldView Script ℕ) (replies : List (Reply Script)) : Type 0 where
+  pub told : IsScriptRun events start end replies
+
+-- one event, and then the others
+pub and_then : {event : Event Script} {events : List (Event Script)} {start end : WorldView Script ℕ} {answer : Reply Script} {replies : List (Reply Script)} (between : WorldView Script ℕ) →
+    Happens ScriptSame script_made ScriptPolls ScriptAnswers event start between answer → Run events between end replies → Run (event ∷ events) start end (answer ∷ replies)
+and_then {answer = answer} {replies = replies} between did later = record { told = (between, answer, replies, did, later.told, refl) }
+
+pub no_more : {world : WorldView Script ℕ} → Run [] world world []
+no_more = record { told = (refl, refl) }
+
 -- a run with these replies, which ends with these journals
 pub record IsRow (start : WorldView Script ℕ) (events : List (Event Script)) (journals : List (Journal ℕ)) (replies : List (Reply Script)) : Type 0 where
   pub end : WorldView Script ℕ
-  pub run : IsScriptRun events start end replies
+  pub run : Run events start end replies
   pub ends : end.journals ≡ journals
 
 module _ (cores cap : ℕ) (queues : List (ℕ × ℕ)) (events : List (Event Script)) (journals : List (Journal ℕ)) (replies : List (Reply Script)) (none : OrderNoQueues events) (plain : are_plain replies ≡ true)
@@ -51,7 +64,7 @@ module _ (cores cap : ℕ) (queues : List (ℕ × ℕ)) (events : List (Event Sc
       let same : empty ≡ first_world Script ℕ cores cap room = fresh_once cores cap room empty (first_world Script ℕ cores cap room) fresh (fresh_first Script ℕ cores cap room) in
       let found = row room enough in
       let run : IsScriptRun events (with_creations queues empty) found.end replies =
-      subst (λ world. IsScriptRun events (with_creations queues world) found.end replies) (sym same) found.run in
+      subst (λ world. IsScriptRun events (with_creations queues world) found.end replies) (sym same) found.run.told in
       record {
         end = found.end;
         run = run;

@@ -20,7 +20,7 @@ use Rattle.rt_world.specs.ScriptRuns.{ScriptSame, script_made, ScriptPolls, Scri
 use Rattle.rt_world.specs.Rows.{name}
 use Rattle.rt_world.specs.WorkedRows.{three_polls, TwoQueues}
 use Rattle.rt_world.proofs.RowPicks.{right_of_two, few_turns, few_names, some_room}
-use Rattle.rt_world.proofs.RowRuns.{runs_just}
+use Rattle.rt_world.proofs.RowRuns.{runs_just, and_then, no_more}
 use Rattle.rt_world.proofs.UnbegunCreations.{first_world}
 
 -- one event
@@ -48,45 +48,27 @@ before_6 = Yield (name 0 0 2) 30 ∷ Resume (name 0 0 2) ∷ Pick 1 60 ∷ befor
 
 -- both queues stand at nothing, and the lower number is picked
 pick_1 : IsRightPick 0 0 before_1
-pick_1 = right_of_two before_1 0 0 refl refl refl (λ work. inr (refl, omega arith)) (λ work. inr (refl, omega arith)) none
-  where
-    none : (other : ℕ) → (other == 0) ≡ false → (other == 1) ≡ false → has_work other before_1 ≡ false
-    none other zero one = rw (zero, one)
+pick_1 = right_of_two before_1 0 0 refl refl refl (λ work. inr (refl, omega arith)) (λ work. inr (refl, omega arith)) (λ other zero one. rw (zero, one))
 
 -- queue 0 paid 30
 pick_2 : IsRightPick 1 0 before_2
-pick_2 = right_of_two before_2 1 0 refl refl refl (λ work. let less : 0 < 30 = omega arith in inl less) (λ work. inr (refl, omega arith)) none
-  where
-    none : (other : ℕ) → (other == 0) ≡ false → (other == 1) ≡ false → has_work other before_2 ≡ false
-    none other zero one = rw (zero, one)
+pick_2 = right_of_two before_2 1 0 refl refl refl (λ work. let less : 0 < 30 = omega arith in inl less) (λ work. inr (refl, omega arith)) (λ other zero one. rw (zero, one))
 
 -- queue 1 paid 60
 pick_3 : IsRightPick 0 30 before_3
-pick_3 = right_of_two before_3 0 30 refl refl refl (λ work. inr (refl, omega arith)) (λ work. let less : 30 < 60 = omega arith in inl less) none
-  where
-    none : (other : ℕ) → (other == 0) ≡ false → (other == 1) ≡ false → has_work other before_3 ≡ false
-    none other zero one = rw (zero, one)
+pick_3 = right_of_two before_3 0 30 refl refl refl (λ work. inr (refl, omega arith)) (λ work. let less : 30 < 60 = omega arith in inl less) (λ other zero one. rw (zero, one))
 
 -- both queues stand at 60
 pick_4 : IsRightPick 0 60 before_4
-pick_4 = right_of_two before_4 0 60 refl refl refl (λ work. inr (refl, omega arith)) (λ work. inr (refl, omega arith)) none
-  where
-    none : (other : ℕ) → (other == 0) ≡ false → (other == 1) ≡ false → has_work other before_4 ≡ false
-    none other zero one = rw (zero, one)
+pick_4 = right_of_two before_4 0 60 refl refl refl (λ work. inr (refl, omega arith)) (λ work. inr (refl, omega arith)) (λ other zero one. rw (zero, one))
 
 -- queue 0 has no work any more
 pick_5 : IsRightPick 1 60 before_5
-pick_5 = right_of_two before_5 1 60 refl refl refl (λ work. absurd (true≢false (sym work))) (λ work. inr (refl, omega arith)) none
-  where
-    none : (other : ℕ) → (other == 0) ≡ false → (other == 1) ≡ false → has_work other before_5 ≡ false
-    none other zero one = rw (zero, one)
+pick_5 = right_of_two before_5 1 60 refl refl refl (λ work. absurd (true≢false (sym work))) (λ work. inr (refl, omega arith)) (λ other zero one. rw (zero, one))
 
 -- nor has it then
 pick_6 : IsRightPick 1 120 before_6
-pick_6 = right_of_two before_6 1 120 refl refl refl (λ work. absurd (true≢false (sym work))) (λ work. inr (refl, omega arith)) none
-  where
-    none : (other : ℕ) → (other == 0) ≡ false → (other == 1) ≡ false → has_work other before_6 ≡ false
-    none other zero one = rw (zero, one)
+pick_6 = right_of_two before_6 1 120 refl refl refl (λ work. absurd (true≢false (sym work))) (λ work. inr (refl, omega arith)) (λ other zero one. rw (zero, one))
 
 module _ (room : ℕ) (enough : 100 ≤ room) where
   abbrev start : WorldView Script ℕ
@@ -158,76 +140,16 @@ two_queues =
     runs_just 1 4 ((0, 500) ∷ []) _ _ _ (tt, (tt, (tt, (tt, (tt, (tt, (tt, (tt, (tt, (tt, tt)))))))))) refl
     (λ room enough. record {
       end = turned_10 room enough;
-      run = (
-        sent_1 room enough,
-        (reply.Sent (name 0 0 1)),
-        _,
-        sends_1 room enough,
-        (
-          sent_2 room enough,
-          (reply.Sent (name 0 0 2)),
-          _,
-          sends_2 room enough,
-          (
-            taken_3 room enough,
-            reply.Noted,
-            _,
-            delivers_3 room enough,
-            (
-              taken_4 room enough,
-              reply.Noted,
-              _,
-              delivers_4 room enough,
-              (
-                turned_5 room enough,
-                reply.Noted,
-                _,
-                turns_5 room enough,
-                (
-                  turned_6 room enough,
-                  reply.Noted,
-                  _,
-                  turns_6 room enough,
-                  (
-                    turned_7 room enough,
-                    reply.Noted,
-                    _,
-                    turns_7 room enough,
-                    (
-                      turned_8 room enough,
-                      reply.Noted,
-                      _,
-                      turns_8 room enough,
-                      (
-                        turned_9 room enough,
-                        reply.Noted,
-                        _,
-                        turns_9 room enough,
-                        (
-                          turned_10 room enough,
-                          reply.Noted,
-                          _,
-                          turns_10 room enough,
-                          (refl, refl),
-                          refl,
-                        ),
-                        refl,
-                      ),
-                      refl,
-                    ),
-                    refl,
-                  ),
-                  refl,
-                ),
-                refl,
-              ),
-              refl,
-            ),
-            refl,
-          ),
-          refl,
-        ),
-        refl,
-      );
+      run =
+          and_then (sent_1 room enough) (sends_1 room enough) (
+          and_then (sent_2 room enough) (sends_2 room enough) (
+          and_then (taken_3 room enough) (delivers_3 room enough) (
+          and_then (taken_4 room enough) (delivers_4 room enough) (
+          and_then (turned_5 room enough) (turns_5 room enough) (
+          and_then (turned_6 room enough) (turns_6 room enough) (
+          and_then (turned_7 room enough) (turns_7 room enough) (
+          and_then (turned_8 room enough) (turns_8 room enough) (
+          and_then (turned_9 room enough) (turns_9 room enough) (
+          and_then (turned_10 room enough) (turns_10 room enough) no_more)))))))));
       ends = refl;
     })

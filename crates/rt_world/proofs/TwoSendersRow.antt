@@ -19,7 +19,7 @@ use Rattle.rt_world.specs.ScriptRuns.{ScriptSame, script_made, ScriptPolls, Scri
 use Rattle.rt_world.specs.Rows.{name}
 use Rattle.rt_world.specs.WorkedRows.{short_job, TwoSenders}
 use Rattle.rt_world.proofs.RowPicks.{right_of_one, few_turns, few_names, some_room}
-use Rattle.rt_world.proofs.RowRuns.{runs_just}
+use Rattle.rt_world.proofs.RowRuns.{runs_just, and_then, no_more}
 use Rattle.rt_world.proofs.UnbegunCreations.{first_world}
 
 -- one event
@@ -38,24 +38,15 @@ before_3 = Done (name 1 0 1) 5 2 ∷ Start (name 1 0 1) ∷ Pick 0 5 ∷ before_
 
 -- queue 0 alone has work
 pick_1 : IsRightPick 0 0 before_1
-pick_1 = right_of_one before_1 0 0 refl refl refl (λ work. inr (refl, omega arith)) none
-  where
-    none : (other : ℕ) → (other == 0) ≡ false → has_work other before_1 ≡ false
-    none other zero = rw zero
+pick_1 = right_of_one before_1 0 0 refl refl refl (λ work. inr (refl, omega arith)) (λ other zero. rw zero)
 
 -- it paid 5
 pick_2 : IsRightPick 0 5 before_2
-pick_2 = right_of_one before_2 0 5 refl refl refl (λ work. inr (refl, omega arith)) none
-  where
-    none : (other : ℕ) → (other == 0) ≡ false → has_work other before_2 ≡ false
-    none other zero = rw zero
+pick_2 = right_of_one before_2 0 5 refl refl refl (λ work. inr (refl, omega arith)) (λ other zero. rw zero)
 
 -- and 5 more
 pick_3 : IsRightPick 0 10 before_3
-pick_3 = right_of_one before_3 0 10 refl refl refl (λ work. inr (refl, omega arith)) none
-  where
-    none : (other : ℕ) → (other == 0) ≡ false → has_work other before_3 ≡ false
-    none other zero = rw zero
+pick_3 = right_of_one before_3 0 10 refl refl refl (λ work. inr (refl, omega arith)) (λ other zero. rw zero)
 
 module _ (room : ℕ) (enough : 100 ≤ room) where
   abbrev start : WorldView Script ℕ
@@ -130,90 +121,18 @@ two_senders =
     runs_just 2 2 [] _ _ _ (tt, (tt, (tt, (tt, (tt, (tt, (tt, (tt, (tt, (tt, (tt, (tt, tt)))))))))))) refl
     (λ room enough. record {
       end = turned_10 room enough;
-      run = (
-        sent_1 room enough,
-        (reply.Sent (name 2 0 1)),
-        _,
-        sends_1 room enough,
-        (
-          sent_2 room enough,
-          (reply.Sent (name 1 0 1)),
-          _,
-          sends_2 room enough,
-          (
-            sent_3 room enough,
-            (reply.Sent (name 2 0 2)),
-            _,
-            sends_3 room enough,
-            (
-              sent_3 room enough,
-              (reply.NotSent (Full (Job 0 (short_job 4)))),
-              _,
-              full_4 room enough,
-              (
-                taken_5 room enough,
-                reply.Noted,
-                _,
-                delivers_5 room enough,
-                (
-                  taken_6 room enough,
-                  reply.Noted,
-                  _,
-                  delivers_6 room enough,
-                  (
-                    taken_7 room enough,
-                    reply.Noted,
-                    _,
-                    delivers_7 room enough,
-                    (
-                      turned_8 room enough,
-                      reply.Noted,
-                      _,
-                      turns_8 room enough,
-                      (
-                        turned_9 room enough,
-                        reply.Noted,
-                        _,
-                        turns_9 room enough,
-                        (
-                          turned_10 room enough,
-                          reply.Noted,
-                          _,
-                          turns_10 room enough,
-                          (
-                            turned_10 room enough,
-                            reply.Empty,
-                            _,
-                            empty_11 room enough,
-                            (
-                              turned_10 room enough,
-                              reply.Idle,
-                              _,
-                              idle_12 room enough,
-                              (refl, refl),
-                              refl,
-                            ),
-                            refl,
-                          ),
-                          refl,
-                        ),
-                        refl,
-                      ),
-                      refl,
-                    ),
-                    refl,
-                  ),
-                  refl,
-                ),
-                refl,
-              ),
-              refl,
-            ),
-            refl,
-          ),
-          refl,
-        ),
-        refl,
-      );
+      run =
+          and_then (sent_1 room enough) (sends_1 room enough) (
+          and_then (sent_2 room enough) (sends_2 room enough) (
+          and_then (sent_3 room enough) (sends_3 room enough) (
+          and_then (sent_3 room enough) (full_4 room enough) (
+          and_then (taken_5 room enough) (delivers_5 room enough) (
+          and_then (taken_6 room enough) (delivers_6 room enough) (
+          and_then (taken_7 room enough) (delivers_7 room enough) (
+          and_then (turned_8 room enough) (turns_8 room enough) (
+          and_then (turned_9 room enough) (turns_9 room enough) (
+          and_then (turned_10 room enough) (turns_10 room enough) (
+          and_then (turned_10 room enough) (empty_11 room enough) (
+          and_then (turned_10 room enough) (idle_12 room enough) no_more)))))))))));
       ends = refl;
     })

@@ -5,6 +5,7 @@ pub mod Stats
 pub mod Sends
 pub mod Deliveries
 pub mod Calls
+pub mod Beside
 pub mod OneTurn
 pub mod Turns
 pub mod PickedJobs

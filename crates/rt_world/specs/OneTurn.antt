@@ -1,60 +1,25 @@
 -- What a turn is to its core and the journal beside it.
-use Rattle.std.specs.Prelude.{◌≡◌, ◌⊎◌, ℕ, ◌-◌, ◌^◌, ◌<◌, ◌≤◌, Option, None, Bool, true, false, List, length, slice_set}
+use Rattle.std.specs.Prelude.{◌≡◌, ◌⊎◌, ℕ, ◌-◌, ◌^◌, ◌<◌, Bool, true, false, List, length, slice_set}
 use Rattle.rt_ids.specs.declared.names.JobId.{JobId}
-use Rattle.rt_ids.specs.declared.note.OutcomeNote.{OutcomeNote}
 use Rattle.rt_ids.specs.declared.order.Order.{Order}
-use Rattle.rt_ids.specs.declared.order.Outcome.{Outcome}
 use Rattle.rt_ids.specs.declared.order.Reason.{Reason}
 use Rattle.rt_ids.specs.Work.{has_work}
 use Rattle.rt_ids.specs.Picks.{turns}
 use Rattle.rt_jobs.specs.Steps.{AfterPoll, Owed, OwesAt}
 use Rattle.rt_core.specs.declared.turn.Settled.{Settled}
 use Rattle.rt_journal.specs.Calls.{Does}
-use Rattle.rt_journal.specs.Posts.{AreOutsOf, HasPosted}
-use Rattle.rt_journal.specs.Recorded.{RecordedView, IsRecorded, desk_of}
+use Rattle.rt_journal.specs.Posts.{HasPosted}
+use Rattle.rt_journal.specs.Recorded.{RecordedView, IsRecorded}
 use Rattle.rt_journal.specs.Turns.{IsPick, IsHandBack, IsPolled, Settles}
 use Rattle.rt_journal.specs.Whole.{post_of}
-use Rattle.rt_journal.specs.Ends.{IsInOwing, LeavesOwed, KeepsOuts, IsSameSeat}
+use Rattle.rt_journal.specs.Ends.{IsSameSeat}
 use Rattle.rt_link.specs.declared.plain.Whole.{Whole}
 use Rattle.rt_link.specs.Fits.{Fits}
-use Rattle.rt_link.specs.Whole.{out_of, inward_of, kept_by_sender}
-use Rattle.rt_world.specs.Links.{row_of, link_at, GivesOnOne}
+use Rattle.rt_link.specs.Whole.{out_of, kept_by_sender}
 use Rattle.rt_world.specs.declared.event.Reply.{Reply}
 use Rattle.rt_world.specs.declared.event.Reply.TheVariants as reply
-
--- no outcome is owed to any sender
-abbrev pub none_owed : {T : Type 0} → ℕ → Option (JobId × OutcomeNote T)
-none_owed sender = None
-
-module _ {J T : Type 0} where
-  -- there is a link from each sender to this core, and each end is beside the core, where these outcomes are owed
-  pub record IsBesideAll (number : ℕ) (owed : ℕ → Option (JobId × OutcomeNote T)) (view : RecordedView J T) (links : List (List (Whole J T))) : Type 0 where
-    pub rows : (sender : ℕ) → sender ≤ view.core.cores → sender < length links
-    pub cores : (sender : ℕ) → sender ≤ view.core.cores → number < length (row_of sender links)
-    pub ins : (sender : ℕ) → sender ≤ view.core.cores → IsInOwing sender (owed sender) view (inward_of (link_at sender number links))
-
--- there is a link from this core to each core, beside its desk
-abbrev pub HasOuts : {J T : Type 0} → (Order J → Outcome J T → Type 0) → ℕ → RecordedView J T → List (List (Whole J T)) → Type 0
-HasOuts fits number view links = AreOutsOf fits out_of (λ link. link.credited) (desk_of view) (row_of number links)
-
-module _ {J T : Type 0} (same : J → J → Type 0) (made : J → ℕ) (polls : Owed J T) where
-  -- a call of a core that sends nothing: it is recorded at the same seat, and the ends are beside it, except for these outcomes, which are owed then
-  pub record IsKeptBeside (owed : ℕ → Option (JobId × OutcomeNote T)) (old new : RecordedView J T) : Type 0 where
-    pub sound : IsRecorded same made polls new
-    pub seat : IsSameSeat old new
-    pub ins : (sender : ℕ) → LeavesOwed sender (owed sender) old new
-    pub outs : KeepsOuts (desk_of old) (desk_of new)
-    pub lanes : new.lanes ≡ old.lanes
-
-  -- the core is recorded and has no job out, its seat is the same, and the ends of its links are beside it: the outcome of the turn, if there is one, was given
-  pub record StaysBeside (number : ℕ) (old new : RecordedView J T) (before after : List (List (Whole J T))) : Type 0 where
-    pub recorded : IsRecorded same made polls new
-    pub at_rest : new.core.out ≡ None
-    pub seat : IsSameSeat old new
-    pub outs : KeepsOuts (desk_of old) (desk_of new)
-    pub lanes : new.lanes ≡ old.lanes
-    pub links : GivesOnOne number before after
-    pub ins : IsBesideAll number none_owed new after
+use Rattle.rt_world.specs.Links.{row_of}
+pub use Rattle.rt_world.specs.Beside.{none_owed, IsBesideAll, HasOuts, IsKeptBeside, StaysBeside}
 
 module _ {J T : Type 0} (same : J → J → Type 0) where
   -- the first job of the line of the right pick is handed back

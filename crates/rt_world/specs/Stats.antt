@@ -1,4 +1,4 @@
--- The numbers of a core, as its journal tells them. How often a queue was picked, its time, and how its jobs ended are numbers of the core that no clause here names.
+-- The numbers of a core and of its queues: the sums over the core's journal.
 use Rattle.std.specs.Prelude.{◌≡◌, ◌↔◌, ℕ, ◌+◌, ◌≤◌, List, length, Some, slice_get, IsTrue}
 use Rattle.rt_ids.specs.declared.stats.CoreStats.{CoreStats}
 use Rattle.rt_ids.specs.declared.stats.QueueStats.{QueueStats}
@@ -6,19 +6,18 @@ use Rattle.rt_ids.specs.Closing.{IsDrained}
 use Rattle.rt_ids.specs.Commands.{created_count}
 use Rattle.rt_ids.specs.Journal.{Journal}
 use Rattle.rt_ids.specs.Lines.{line}
-use Rattle.rt_ids.specs.Picks.{turns}
-use Rattle.rt_ids.specs.Runtimes.{shares, floor, virtual_runtime}
+use Rattle.rt_ids.specs.Runtimes.{virtual_runtime}
+use Rattle.rt_stats.specs.Stats.{core_stats, stats_of}
 
 module _ {T : Type 0} where
-  -- of a core: its turns, its floor, and whether it is drained
+  -- of a core: its turns, its floor and the jobs inside, and whether it is drained
   pub record TellsCore (cores : ℕ) (journal : Journal T) (told : CoreStats) : Type 0 where
-    pub turns_are : told.turns ≡ turns journal
-    pub floor_is : told.floor ≡ floor journal
+    pub sums : told ≡ core_stats told.drained journal
     pub drained : IsTrue told.drained ↔ IsDrained cores journal
 
-  -- of a queue: its shares, its virtual runtime, and how many jobs wait in its line
+  -- of a queue: all its statistics; its virtual runtime is never cut, and the jobs that wait are those of its line
   pub record TellsQueue (queue : ℕ) (journal : Journal T) (told : QueueStats) : Type 0 where
-    pub shares_are : told.shares ≡ shares queue journal
+    pub sums : told ≡ stats_of queue journal
     pub runtime_is : told.virtual_runtime ≡ virtual_runtime queue journal
     pub waiting_are : told.waiting ≡ length (line queue journal)
 

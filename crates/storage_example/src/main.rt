@@ -31,7 +31,7 @@ const COMPACTION: QueueNo = QueueNo(2);
 /// A core reads the system's clock round each poll, and asks nobody before it.
 type Node<R> = Runtime<Work, SystemClock<R>, NoGate>;
 
-/// Reads weigh nine times as much as compaction, where both have work.
+/// Reads weigh nine times as much as compaction, if both have work.
 fn config(alloc: Global) -> Result<Config, AllocError> {
     let mut queues = Vec::new(alloc);
     for core in 0..CORES {
@@ -49,7 +49,7 @@ fn config(alloc: Global) -> Result<Config, AllocError> {
     })
 }
 
-/// Starts the threads. None where memory or a thread is wanting.
+/// Starts the threads. None if memory or a thread is wanting.
 fn start<R>(rt: R, alloc: Global) -> Option<Node<R>>
 where
     R: Threads + Wait + Clock + Copy + Drop + Send + 'static,
@@ -78,7 +78,7 @@ fn compact<R: Drop>(node: &mut Node<R>, core: CoreNo, blocks: u32) -> bool {
     }
 }
 
-/// Waits for an outcome. None where the ticket is refused.
+/// Waits for an outcome. None if the ticket is refused.
 fn outcome<R: Wait + Drop>(
     rt: &R,
     node: &mut Node<R>,

@@ -9,7 +9,7 @@ ghost use Rattle.rt_core.specs.Steps.{IsOut, IsOutOf, LeavesOut, YieldsOut, Retu
 
 use super::Core;
 use crate::out::Out;
-use crate::ready::enter;
+use crate::ready::{enter, relist};
 use crate::tally::{Tally, place};
 use rt_ids::{JobId, Key, QueueNo};
 use rt_jobs::Task;
@@ -114,9 +114,9 @@ impl<J: Task, A: Allocator + Clone> Core<J, A> {
         self.out = None;
         self.tallies[place(queue)] = tally;
         self.inside -= 1;
-        if self.queues.is_empty(queue) {
-            return;
-        }
-        enter(&mut self.queues, &mut self.ready, queue, tally.runtime);
+        let Some(slip) = self.queues.take_slip(queue) else {
+            unreachable!()
+        };
+        relist(&mut self.queues, &mut self.ready, slip, tally.runtime);
     }
 }

@@ -101,8 +101,8 @@ impl<J: Job, A: Allocator + Clone> Core<J, A> {
         self.turn_metered(next, post, &mut known)
     }
 
-    /// Makes that turn. If the job told no time of its own, the one that the meter tells counts: it is told that the poll begins right
-    /// before it, and asked right behind it.
+    /// Makes that turn. The meter is started right before the poll, and asked right behind the poll. The meter's time counts if the job
+    /// told none.
     pub fn turn_metered<P: Post<J, J::Out>, M: Meter>(
         &mut self,
         next: &Next,

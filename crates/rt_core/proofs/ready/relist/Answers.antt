@@ -1,7 +1,6 @@
 use Rattle.std.proofs.Common.{◌≡◌, Bool, true, List, [], ap, sym, ◌∙◌}
 use Rattle.rt_taskqueue.specs.Queues.{waiting_of}
 use Rattle.rt_taskqueue.specs.Slips.{queues_alone}
-use Rattle.rt_core.specs.State.{is_any}
 use Rattle.rt_core.specs.Relisted.{relisted}
 use Rattle.rt_core.proofs.Entries.{is_any-from_some}
 use Rattle.rt_core.proofs.SlipsKept.{slip_stays}

@@ -1,18 +1,16 @@
-use Rattle.std.proofs.Common.{◌≡◌, ◌+◌, ◌-◌, ◌^◌, ◌<◌, Bool, false, List, length, max, None, sym, ◌∙◌, ap, subst, arith}
-use Rattle.std.specs.Prelude.{slice_index_or, slice_set}
-use Rattle.rt_ids.specs.Work.{number_if}
+use Rattle.std.proofs.Common.{◌≡◌, ◌+◌, ◌-◌, ◌^◌, ◌<◌, Bool, false, List, length, None, sym, ◌∙◌, ap, subst, arith}
+use Rattle.std.specs.Prelude.{slice_index_or}
 use Rattle.rt_jobs.specs.Steps.{is_done_step}
 use Rattle.rt_taskqueue.specs.Queues.{waiting_of}
 use Rattle.rt_taskqueue.specs.Slips.{queues_alone}
 use Rattle.rt_core.specs.declared.tally.Tally.{Tally}
-use Rattle.rt_core.specs.State.{CoreView, is_any}
-use Rattle.rt_core.specs.Inside.{core_view, job_out, KeepsSlips, FitsTurns, IsCore}
-use Rattle.rt_core.specs.Relisted.{keys_after, slips_after}
+use Rattle.rt_core.specs.State.{CoreView}
+use Rattle.rt_core.specs.Inside.{core_view, job_out, KeepsSlips, FitsTurns}
 use Rattle.rt_core.proofs.Charging.{after_poll, tally_read}
 use Rattle.rt_core.proofs.Picking.{first_waits}
 use Rattle.rt_core.proofs.SlipsKept.{slip_out}
 use Rattle.rt_core.proofs.Whole.{front_ready, one_at_most, turned_count}
-use Rattle.rt_core.proofs.WholeTurn.{first_exists, first_fits, after_turn, HasTurned, IsCore-turned, IsBounded-turned, TurnsFirst-turned}
+use Rattle.rt_core.proofs.WholeTurn.{first_exists, first_fits, HasTurned, IsCore-turned, IsBounded-turned, TurnsFirst-turned}
 use Rattle.rt_core.proofs.one_core.Core.turn_first.Given.{Over}
 use Rattle.rt_core.proofs.one_core.Core.turn_first.Goals as goal
 use Rattle.rt_core.proofs.one_core.Core.turn_first.Goals.{After-relist}

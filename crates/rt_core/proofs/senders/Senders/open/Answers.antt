@@ -7,5 +7,5 @@ use Rattle.rt_core.proofs.senders.Senders.open.Goals as goal
 pub returns : goal.returns
 returns g c =
     let none : Sender = record { delivered = 0; gate = None } in
-    ap senders_view (c.in_ok-from_elem.ensures.items_if_clones_equal (λ y same. same))
+    ap senders_view (c.sealed.ensures.items ∙ c.in_ok-from_elem.ensures.items_if_clones_equal (λ y same. same))
     ∙ (λ i. record { delivered = map-replicate (λ (s : Sender). s.delivered) c.args.count none i; gates = map-replicate (λ (s : Sender). s.gate) c.args.count none i })

@@ -14,7 +14,7 @@ overflow_add-self g c =
     let counted = sum_by-set is_awaited senders c.args.sender c.args.is was within in
     let here = ap is_awaited c.index.ensures in
     let few = awaited-few (set senders c.args.sender c.args.is) in
-    omega (arith, counted, here, few, c.self.invariant, c.awaited-before.ensures, c.awaited-after.ensures, length-set senders c.args.sender c.args.is, c.self.inside.senders.ok.0)
+    omega (arith, counted, here, few, c.self.invariant, c.awaited-before.ensures, c.awaited-after.ensures, length-set senders c.args.sender c.args.is, c.len-count.ensures, c.len-count.type_inv)
 
 pub returns : goal.returns
 returns g c =

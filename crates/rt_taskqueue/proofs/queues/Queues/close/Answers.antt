@@ -11,7 +11,7 @@ pub index_mut-requires : goal.index_mut-requires
 index_mut-requires g c =
     let inside = c.self.inside in
     let exists = exists-view inside.room inside.jobs inside.lines.items (ap queues_alone c.self.view_is) c.requires.exists in
-    omega (arith, exists, c.queue.view_is, inside.lines.ok.0)
+    omega (arith, exists, c.queue.view_is)
 
 pub invariant_of-self : goal.invariant_of-self
 invariant_of-self g c =
@@ -26,7 +26,7 @@ invariant_of-self g c =
     let count = ap (λ (l : Line). l.count) (sym here) in
     rw c.queue.view_is (
       IsKept-weighed c.args.queue line c.self.invariant.0 exists head tail count,
-      subst (λ places. HasOwnSlips places inside.slips.cap inside.slips.items) (sym (length-set lines c.args.queue line)) c.self.invariant.1,
+      subst (λ places. HasOwnSlips places inside.slips.at.cap inside.slips.at.items) (sym (length-set lines c.args.queue line)) c.self.invariant.1,
     )
 
 pub returns-then-does-clause-closed : goal.returns-then-does-clause-closed

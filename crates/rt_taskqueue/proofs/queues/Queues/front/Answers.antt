@@ -12,7 +12,7 @@ some-count n none = omega arith
 pub index-line-requires : goal.index-line-requires
 index-line-requires g c =
     let exists = exists-view c.self.inside.room c.self.inside.jobs c.self.inside.lines.items (ap queues_alone c.self.view_is) c.requires.exists in
-    omega (arith, exists, c.queue.view_is, c.self.inside.lines.ok.0)
+    omega (arith, exists, c.queue.view_is)
 
 pub index-front-requires : goal.index-front-requires
 index-front-requires g c =

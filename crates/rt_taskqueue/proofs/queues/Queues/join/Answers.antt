@@ -34,7 +34,7 @@ invariant_of-self g c =
     let appends = subst (λ (l : Line). Appends inside.jobs l last c.append.new.jobs c.append.result) (sym here) c.append.ensures in
     rw c.queue.view_is (
       IsKept-joined c.args.queue last c.append.result c.self.invariant.0 appends exists fits,
-      subst (λ count. HasOwnSlips count inside.slips.cap inside.slips.items) (sym (length-set lines c.args.queue c.append.result)) c.self.invariant.1,
+      subst (λ count. HasOwnSlips count inside.slips.at.cap inside.slips.at.items) (sym (length-set lines c.args.queue c.append.result)) c.self.invariant.1,
     )
 
 pub returns : goal.returns
@@ -56,9 +56,9 @@ returns g c =
 pub index-line-requires : goal.index-line-requires
 index-line-requires g c =
     let exists = exists-view c.self.inside.room c.self.inside.jobs c.self.inside.lines.items (ap queues_alone c.self.view_is) c.requires.exists in
-    omega (arith, exists, c.queue.view_is, c.self.inside.lines.ok.0)
+    omega (arith, exists, c.queue.view_is)
 
 pub index_mut-requires : goal.index_mut-requires
 index_mut-requires g c =
     let exists = exists-view c.self.inside.room c.self.inside.jobs c.self.inside.lines.items (ap queues_alone c.self.view_is) c.requires.exists in
-    omega (arith, exists, c.queue.view_is, c.self.inside.lines.ok.0)
+    omega (arith, exists, c.queue.view_is)

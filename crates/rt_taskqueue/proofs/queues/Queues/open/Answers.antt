@@ -6,5 +6,5 @@ use Rattle.rt_taskqueue.proofs.queues.Queues.open.Goals as goal
 
 pub invariant_of-result : goal.invariant_of-result
 invariant_of-result g c =
-    rw (c.push_reserved.ensures.items, c.push_reserved.ensures.capacity, c.push_reserved-2.ensures.items, c.push_reserved-2.ensures.capacity, c.in_ok-lines.ensures.items, c.in_ok-slips.ensures.items, c.in_ok-new_slip.ensures)
-    (IsKept-opened _ _ c.in_ok-jobs.jobs c.empty.result c.in_ok-jobs.ensures.empty (ap (λ (l : Line). l.count) c.empty.ensures) (omega (arith, c.in_ok-jobs.ensures.capacity)) (omega (arith, c.in_ok-lines.ensures.capacity)), HasOwnSlips-one _ (omega (arith, c.in_ok-slips.ensures.capacity)))
+    rw (c.sealed.ensures, c.sealed-2.ensures.items, c.sealed-2.ensures.capacity, c.push_reserved.ensures.items, c.push_reserved.ensures.capacity, c.in_ok-lines.ensures.items, c.in_ok-add.ensures.added, c.add.ensures.capacity, c.in_ok-slips.ensures.empty)
+    (IsKept-opened _ _ c.in_ok-jobs.jobs c.empty.result c.in_ok-jobs.ensures.empty (ap (λ (l : Line). l.count) c.empty.ensures) (omega (arith, c.in_ok-jobs.ensures.capacity)) (omega (arith, c.in_ok-lines.ensures.capacity)), HasOwnSlips-one _ (omega (arith, c.in_ok-slips.ensures.room)))

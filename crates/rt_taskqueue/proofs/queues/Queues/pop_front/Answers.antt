@@ -45,7 +45,7 @@ invariant_of-self g c =
     let leaves = subst (λ (l : Line). Leaves inside.jobs l front c.remove-front.new.self rest) (sym here) leaves_line in
     rw c.queue.view_is (
       IsKept-left c.args.queue front rest c.self.invariant.0 leaves exists,
-      subst (λ count. HasOwnSlips count inside.slips.cap inside.slips.items) (sym (length-set lines c.args.queue rest)) c.self.invariant.1,
+      subst (λ count. HasOwnSlips count inside.slips.at.cap inside.slips.at.items) (sym (length-set lines c.args.queue rest)) c.self.invariant.1,
     )
 
 pub returns : goal.returns
@@ -84,9 +84,9 @@ returns g c =
 pub index-line-requires : goal.index-line-requires
 index-line-requires g c =
     let exists = exists-view c.self.inside.room c.self.inside.jobs c.self.inside.lines.items (ap queues_alone c.self.view_is) c.requires.exists in
-    omega (arith, exists, c.queue.view_is, c.self.inside.lines.ok.0)
+    omega (arith, exists, c.queue.view_is)
 
 pub index_mut-requires : goal.index_mut-requires
 index_mut-requires g c =
     let exists = exists-view c.self.inside.room c.self.inside.jobs c.self.inside.lines.items (ap queues_alone c.self.view_is) c.requires.exists in
-    omega (arith, exists, c.queue.view_is, c.self.inside.lines.ok.0)
+    omega (arith, exists, c.queue.view_is)

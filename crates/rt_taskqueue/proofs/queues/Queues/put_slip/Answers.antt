@@ -6,14 +6,14 @@ use Rattle.rt_taskqueue.proofs.queues.Queues.put_slip.Goals as goal
 
 pub index_mut-requires : goal.index_mut-requires
 index_mut-requires g c =
-    omega (arith, exists-view c.self.inside.room c.self.inside.jobs c.self.inside.lines.items (ap queues_alone c.self.view_is) c.requires.exists, c.place.view_is, c.queue.ensures, c.self.inside.slips.ok.0, c.self.invariant.1.counted)
+    omega (arith, exists-view c.self.inside.room c.self.inside.jobs c.self.inside.lines.items (ap queues_alone c.self.view_is) c.requires.exists, c.place.view_is, c.queue.ensures, c.self.invariant.1.counted)
 
 pub invariant_of-self : goal.invariant_of-self
 invariant_of-self g c =
     let within = exists-view c.self.inside.room c.self.inside.jobs c.self.inside.lines.items (ap queues_alone c.self.view_is) c.requires.exists in
-    (c.self.invariant.0, HasOwnSlips-set _ _ c.place.inside.0 _ c.self.inside.slips.items (omega (arith, within, c.place.view_is, c.queue.ensures)) (sym c.queue.ensures ∙ sym c.place.view_is) c.self.invariant.1)
+    (c.self.invariant.0, HasOwnSlips-set _ _ c.place.inside.0 _ c.self.inside.slips.at.items (omega (arith, within, c.place.view_is, c.queue.ensures)) (sym c.queue.ensures ∙ sym c.place.view_is) c.self.invariant.1)
 
 pub returns : goal.returns
 returns g c =
     rw (← c.self.view_is)
-    (linked_view-set c.self.inside.room c.self.inside.jobs c.self.inside.lines.items c.self.inside.slips.items c.place.inside.0 c.args.slip (Some c.args.slip) (c.place.view_is ∙ c.queue.ensures))
+    (linked_view-set c.self.inside.room c.self.inside.jobs c.self.inside.lines.items c.self.inside.slips.at.items c.place.inside.0 c.args.slip (Some c.args.slip) (c.place.view_is ∙ c.queue.ensures))

@@ -11,12 +11,12 @@ use Rattle.rt_taskqueue.proofs.queues.Queues.requeue.Goals as goal
 pub index-line-requires : goal.index-line-requires
 index-line-requires g c =
     let exists = exists-view c.self.inside.room c.self.inside.jobs c.self.inside.lines.items (ap queues_alone c.self.view_is) c.requires.exists in
-    omega (arith, exists, c.queue.view_is, c.self.inside.lines.ok.0)
+    omega (arith, exists, c.queue.view_is)
 
 pub index_mut-requires : goal.index_mut-requires
 index_mut-requires g c =
     let exists = exists-view c.self.inside.room c.self.inside.jobs c.self.inside.lines.items (ap queues_alone c.self.view_is) c.requires.exists in
-    omega (arith, exists, c.queue.view_is, c.self.inside.lines.ok.0)
+    omega (arith, exists, c.queue.view_is)
 
 pub requeue-requires : goal.requeue-requires
 requeue-requires g c =
@@ -40,7 +40,7 @@ invariant_of-self g c =
     let requeues = subst (λ (l : Line). Requeues inside.jobs l c.requeue.new.jobs c.requeue.result) (sym here) c.requeue.ensures in
     rw c.queue.view_is (
       IsKept-requeued c.args.queue c.requeue.result c.self.invariant.0 requeues exists (some_waiting c.self.invariant.0 c.args.queue waits),
-      subst (λ count. HasOwnSlips count inside.slips.cap inside.slips.items) (sym (length-set lines c.args.queue c.requeue.result)) c.self.invariant.1,
+      subst (λ count. HasOwnSlips count inside.slips.at.cap inside.slips.at.items) (sym (length-set lines c.args.queue c.requeue.result)) c.self.invariant.1,
     )
 
 pub returns : goal.returns

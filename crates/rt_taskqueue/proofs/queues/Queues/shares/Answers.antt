@@ -7,7 +7,7 @@ use Rattle.rt_taskqueue.proofs.queues.Queues.shares.Goals as goal
 pub index-requires : goal.index-requires
 index-requires g c =
     let exists = exists-view c.self.inside.room c.self.inside.jobs c.self.inside.lines.items (ap queues_alone c.self.view_is) c.requires.exists in
-    omega (arith, exists, c.queue.view_is, c.self.inside.lines.ok.0)
+    omega (arith, exists, c.queue.view_is)
 
 pub returns : goal.returns
 returns g c =

@@ -1,4 +1,4 @@
-use Rattle.std.proofs.Common.{◌≡◌, [], ◌∷◌, ◌++◌, Some, length, sym, ap, subst, ◌∙◌, refl, arith}
+use Rattle.std.proofs.Common.{[], ◌∷◌, ◌++◌, Some, length, sym, ap, subst, ◌∙◌, refl, arith}
 use Rattle.std.proofs.lemmas.List.{length_push}
 use Rattle.rt_taskqueue.specs.declared.line.Line.{Line}
 use Rattle.rt_taskqueue.specs.Queues.{AddsQueue}
@@ -10,57 +10,59 @@ use Rattle.rt_taskqueue.proofs.queues.Queues.try_create.Goals as goal
 
 pub returns-then-count-eq-MOST_QUEUES-clause-too_many : goal.returns-then-count-eq-MOST_QUEUES-clause-too_many
 returns-then-count-eq-MOST_QUEUES-clause-too_many g c =
-    rw (← c.self.view_is) (λ _. omega (arith, queue_count-view c.self.inside.room c.self.inside.jobs c.self.inside.lines.items, c.self.inside.lines.ok.0), λ _. refl)
+    rw (← c.self.view_is) (λ _. omega (arith, queue_count-view c.self.inside.room c.self.inside.jobs c.self.inside.lines.items, c.len-count.ensures), λ _. refl)
 
 pub returns-then-count-eq-MOST_QUEUES-clause-limits : goal.returns-then-count-eq-MOST_QUEUES-clause-limits
 returns-then-count-eq-MOST_QUEUES-clause-limits g c = rw (← c.self.view_is) (IsWithinLimits-view c.self.invariant.0)
 
-pub returns-in_default-clause-too_many : goal.returns-in_default-clause-too_many
-returns-in_default-clause-too_many g c =
-    let counted : c.len-count.result ≡ length c.self.inside.lines.items = omega (arith, c.self.inside.lines.ok.0) in
-    rw (← c.self.view_is) (λ e. cc, λ e. absurd (c.if-count-eq-MOST_QUEUES.false (counted ∙ sym (queue_count-view c.self.inside.room c.self.inside.jobs c.self.inside.lines.items) ∙ e)))
-
-pub returns-in_default-clause-limits : goal.returns-in_default-clause-limits
-returns-in_default-clause-limits g c = rw (← c.self.view_is) (IsWithinLimits-view c.self.invariant.0)
+pub add-requires : goal.add-requires
+add-requires g c =
+    omega (arith, c.self.invariant.1.counted, c.self.invariant.1.reserved, c.self.invariant.0.few_queues, c.len-count.ensures, c.if-count-eq-MOST_QUEUES.false)
 
 pub invariant_of-self : goal.invariant_of-self
 invariant_of-self g c =
     let head = ap (λ (l : Line). l.head) c.empty.ensures in
     let tail = ap (λ (l : Line). l.tail) c.empty.ensures in
     let count = ap (λ (l : Line). l.count) c.empty.ensures in
-    let counted : c.len-count.result ≡ length c.self.inside.lines.items = omega (arith, c.self.inside.lines.ok.0) in
-    let slips = c.self.inside.slips.items in
-    let number : c.in-Ok.slip ≡ length c.self.inside.lines.items = c.in-Ok.ensures ∙ counted in
-    let of_number : HasOwnSlips (length (c.self.inside.lines.items ++ c.empty.result ∷ [])) c.self.inside.slips.cap (slips ++ Some c.in-Ok.slip ∷ []) =
-    rw (length_push, number) (HasOwnSlips-push (length c.self.inside.lines.items) c.self.inside.slips.cap slips c.self.invariant.1) in
-    rw (c.push_reserved.ensures.items, c.push_reserved.ensures.capacity, c.push_reserved-2.ensures.items, c.push_reserved-2.ensures.capacity)
-    (IsKept-created c.empty.result c.self.invariant.0 (λ e. c.if-count-eq-MOST_QUEUES.false (counted ∙ e)) head tail count, of_number)
+    let lines = c.self.inside.lines.items in
+    let slips = c.self.inside.slips.at.items in
+    let of_number : HasOwnSlips (length (lines ++ c.empty.result ∷ [])) c.self.inside.slips.at.cap (slips ++ Some c.len-count.result ∷ []) =
+    rw (length_push, c.len-count.ensures) (HasOwnSlips-push (length lines) c.self.inside.slips.at.cap slips c.self.invariant.1) in
+    rw (c.push_reserved.ensures.items, c.push_reserved.ensures.capacity, c.in-Ok.ensures.added, c.add.ensures.capacity)
+    (IsKept-created c.empty.result c.self.invariant.0 (λ e. c.if-count-eq-MOST_QUEUES.false (c.len-count.ensures ∙ e)) head tail count, of_number)
 
-pub returns-clause-created : goal.returns-clause-created
-returns-clause-created g c =
+pub invariant_of-self-in-Err : goal.invariant_of-self-in-Err
+invariant_of-self-in-Err g c = rw c.in-Err.ensures.refused c.self.invariant
+
+pub returns-in-Ok-clause-created : goal.returns-in-Ok-clause-created
+returns-in-Ok-clause-created g c =
     let inside = c.self.inside in
     let lines = inside.lines.items in
     let weight = ap (λ (l : Line). l.shares) c.empty.ensures in
     let head = ap (λ (l : Line). l.head) c.empty.ensures in
     let tail = ap (λ (l : Line). l.tail) c.empty.ensures in
     let count = ap (λ (l : Line). l.count) c.empty.ensures in
-    let counted : c.len-count.result ≡ length c.self.inside.lines.items = omega (arith, c.self.inside.lines.ok.0) in
     let never = ap (λ (l : Line). l.mode) c.empty.ensures in
-    rw (c.push_reserved.ensures.items, c.push_reserved-2.ensures.items, ← c.self.view_is, counted) (record {
+    rw (c.push_reserved.ensures.items, c.in-Ok.ensures.added, ← c.self.view_is, c.len-count.ensures) (record {
       queues = subst (λ shares. AddsQueue (alone inside.room inside.jobs lines) (alone inside.room inside.jobs (lines ++ c.empty.result ∷ [])) (length lines) shares) weight
-          (AddsQueue-created c.empty.result c.self.invariant.0 (λ e. c.if-count-eq-MOST_QUEUES.false (counted ∙ e)) head tail count never);
-      slips = map_is_some-push c.self.inside.slips.items c.in-Ok.slip;
+          (AddsQueue-created c.empty.result c.self.invariant.0 (λ e. c.if-count-eq-MOST_QUEUES.false (c.len-count.ensures ∙ e)) head tail count never);
+      slips = map_is_some-push inside.slips.at.items (length lines);
     })
 
-pub returns-clause-too_many : goal.returns-clause-too_many
-returns-clause-too_many g c =
-    let counted : c.len-count.result ≡ length c.self.inside.lines.items = omega (arith, c.self.inside.lines.ok.0) in
-    rw (← c.self.view_is) (λ e. cc, λ e. absurd (c.if-count-eq-MOST_QUEUES.false (counted ∙ sym (queue_count-view c.self.inside.room c.self.inside.jobs c.self.inside.lines.items) ∙ e)))
+pub returns-in-Ok-clause-too_many : goal.returns-in-Ok-clause-too_many
+returns-in-Ok-clause-too_many g c =
+    rw (← c.self.view_is) (λ e. cc, λ e. absurd (c.if-count-eq-MOST_QUEUES.false (c.len-count.ensures ∙ sym (queue_count-view c.self.inside.room c.self.inside.jobs c.self.inside.lines.items) ∙ e)))
 
-pub returns-clause-limits : goal.returns-clause-limits
-returns-clause-limits g c =
+pub returns-in-Ok-clause-limits : goal.returns-in-Ok-clause-limits
+returns-in-Ok-clause-limits g c =
     let head = ap (λ (l : Line). l.head) c.empty.ensures in
     let tail = ap (λ (l : Line). l.tail) c.empty.ensures in
     let count = ap (λ (l : Line). l.count) c.empty.ensures in
-    let counted : c.len-count.result ≡ length c.self.inside.lines.items = omega (arith, c.self.inside.lines.ok.0) in
-    rw c.push_reserved.ensures.items (IsWithinLimits-view (IsKept-created c.empty.result c.self.invariant.0 (λ e. c.if-count-eq-MOST_QUEUES.false (counted ∙ e)) head tail count))
+    rw c.push_reserved.ensures.items (IsWithinLimits-view (IsKept-created c.empty.result c.self.invariant.0 (λ e. c.if-count-eq-MOST_QUEUES.false (c.len-count.ensures ∙ e)) head tail count))
+
+pub returns-in-Err-clause-too_many : goal.returns-in-Err-clause-too_many
+returns-in-Err-clause-too_many g c =
+    rw (← c.self.view_is) (λ e. cc, λ e. absurd (c.if-count-eq-MOST_QUEUES.false (c.len-count.ensures ∙ sym (queue_count-view c.self.inside.room c.self.inside.jobs c.self.inside.lines.items) ∙ e)))
+
+pub returns-in-Err-clause-limits : goal.returns-in-Err-clause-limits
+returns-in-Err-clause-limits g c = IsWithinLimits-view c.self.invariant.0

@@ -1,0 +1,101 @@
+-- The jobs inside a core are those that its journal tells, in all queues together.
+use Rattle.std.proofs.Common.{◌≡◌, ℕ, zero, suc, ◌+◌, ◌<◌, ◌≤◌, List, [], ◌∷◌, length, refl, sym, ◌∙◌, ap, arith, get_or, ◌⊎◌, inl, inr}
+use Rattle.std.specs.Prelude.{Option, Some, None, is_some, sum_by, ◌==◌}
+use Rattle.std.proofs.lemmas.Bool.{cases_eq, cases_lt, eq-eqb, ne_eqb}
+use Rattle.std.proofs.lemmas.List.{length-map}
+use Rattle.std.proofs.lemmas.List.Sums.{sum_by-cons}
+use Rattle.rt_ids.specs.HandBacks.{jobs_below, jobs_held}
+use Rattle.rt_ids.specs.Journal.{Journal, EachNote}
+use Rattle.rt_ids.specs.Lawful.{MayStand}
+use Rattle.rt_ids.specs.Lines.{line, queue_out}
+use Rattle.rt_ids.specs.Names.{is_number}
+use Rattle.rt_ids.specs.Terms.{Terms}
+use Rattle.rt_ids.specs.Work.{number_if}
+use Rattle.rt_ids.proofs.Counts.{counts_agree}
+use Rattle.rt_taskqueue.specs.Queues.{QueueView, no_queue, queue_count, waiting_of, held_count}
+use Rattle.rt_core.specs.State as state
+use Rattle.rt_core.specs.State.{CoreView, JobOut, inside_count}
+use Rattle.rt_journal.specs.Agreement.{IsKept}
+use Rattle.rt_journal.proofs.Kept.{queue_out-agrees}
+
+-- a count of the first numbers together
+abbrev below : (ℕ → ℕ) → ℕ → ℕ
+below count zero = 0
+below count (suc last) = below count last + count last
+
+below-alike : (count other : ℕ → ℕ) → ((number : ℕ) → count number ≡ other number) → (last : ℕ) → below count last ≡ below other last
+below-alike count other same zero = refl
+below-alike count other same (suc last) = λ i. below-alike count other same last i + same last i
+
+below-first : (count : ℕ → ℕ) (last : ℕ) → below count (suc last) ≡ count 0 + below (λ number. count (suc number)) last
+below-first count zero = omega arith
+below-first count (suc last) = omega (arith, below-first count last)
+
+-- all items of a list, one by one
+below-items : {A : Type 0} (count : A → ℕ) (default : A) (items : List A) → below (λ place. count (get_or items place default)) (length items) ≡ sum_by count items
+below-items count default [] = refl
+below-items count default (item ∷ items) =
+    below-first (λ place. count (get_or (item ∷ items) place default)) (length items)
+    ∙ (ap (λ rest. count item + rest) (below-items count default items) ∙ sym (sum_by-cons count item items))
+
+none_below : (last : ℕ) → below (λ number. number_if (is_number number None)) last ≡ 0
+none_below zero = refl
+none_below (suc last) = omega (arith, none_below last)
+
+-- how often a number is met among the first
+abbrev met : ℕ → ℕ → ℕ
+met queue = below (λ number. number_if (number == queue))
+
+-- it is met once, if it is among them
+one_below : (queue last : ℕ) → ((last ≤ queue) × (met queue last ≡ 0)) ⊎ ((queue < last) × (met queue last ≡ 1))
+one_below queue zero = inl (omega arith, refl)
+one_below queue (suc last) = by_place (cases_eq last queue) (one_below queue last)
+  where
+    by_place : (last ≡ queue) ⊎ (last ≡ queue → ⊥) → ((last ≤ queue) × (met queue last ≡ 0)) ⊎ ((queue < last) × (met queue last ≡ 1)) →
+        ((suc last ≤ queue) × (met queue (suc last) ≡ 0)) ⊎ ((queue < suc last) × (met queue (suc last) ≡ 1))
+    by_place (inl same) (inl past) = inr (omega (arith, same), omega (arith, past.1, ap number_if (eq-eqb last queue same)))
+    by_place (inl same) (inr within) = absurd (omega (arith, same, within.0))
+    by_place (inr apart) (inl past) = inl (further apart past.0, omega (arith, past.1, ap number_if (ne_eqb last queue apart)))
+      where
+        further : (last ≡ queue → ⊥) → last ≤ queue → suc last ≤ queue
+        further apart low = by_order (cases_lt last queue)
+          where
+            by_order : (last < queue) ⊎ (queue ≤ last) → suc last ≤ queue
+            by_order (inl less) = omega (arith, less)
+            by_order (inr more) = absurd (apart (omega (arith, low, more)))
+    by_place (inr apart) (inr within) = inr (omega (arith, within.0), omega (arith, within.1, ap number_if (ne_eqb last queue apart)))
+
+module _ {J : Type 0} where
+  -- the job that is out is of one of the queues
+  out_below : (count : ℕ) (out : Option (JobOut J)) → ((job : JobOut J) → out ≡ Some job → job.queue < count) →
+      below (λ queue. number_if (is_number queue (state.queue_out out))) count ≡ number_if (is_some out)
+  out_below count None there = none_below count
+  out_below count (Some job) there = by_place (one_below job.queue count)
+    where
+      by_place : ((count ≤ job.queue) × (met job.queue count ≡ 0)) ⊎ ((job.queue < count) × (met job.queue count ≡ 1)) → met job.queue count ≡ 1
+      by_place (inl past) = absurd (omega (arith, past.0, there job refl))
+      by_place (inr within) = within.1
+
+module _ {T : Type 0} (terms : Terms) (journal : Journal T) (notes : EachNote (MayStand terms) journal) where
+  abbrev is_out : ℕ → ℕ
+  is_out queue = number_if (is_number queue (queue_out journal))
+
+  -- who is inside waits or is out
+  below_told : (count : ℕ) → jobs_below count journal ≡ below (λ queue. length (line queue journal)) count + below is_out count
+  below_told zero = refl
+  below_told (suc queue) = omega (arith, below_told queue, counts_agree terms queue journal notes)
+
+pub held_told : {J T : Type 0} (terms : Terms) (core : CoreView J) (journal : Journal T) → IsKept terms core journal → inside_count core ≡ jobs_held journal
+held_told terms core journal kept =
+    omega (arith, waiting, out, below_told terms journal kept.notes (queue_count core.queues), ap (λ count. jobs_below count journal) kept.agrees.last)
+  where
+    waiting : below (λ queue. length (line queue journal)) (queue_count core.queues) ≡ held_count core.queues
+    waiting =
+        below-alike (λ queue. length (line queue journal)) (λ queue. length (waiting_of queue core.queues))
+        (λ queue. ap length (sym (kept.agrees.lines queue)) ∙ length-map (waiting_of queue core.queues) _) (queue_count core.queues)
+        ∙ below-items (λ (queue : QueueView _). length queue.waiting) no_queue core.queues.queues
+
+    out : below (λ queue. number_if (is_number queue (queue_out journal))) (queue_count core.queues) ≡ number_if (is_some core.out)
+    out =
+        ap (λ there. below (λ queue. number_if (is_number queue there)) (queue_count core.queues)) (sym (queue_out-agrees core journal kept.agrees.out))
+        ∙ out_below (queue_count core.queues) core.out kept.agrees.out_exists
