@@ -1,6 +1,6 @@
 //! What time a worker reads.
 
-ghost use Rattle.std.specs.Prelude.{◌≡◌, ◌-◌, ◌≤◌};
+ghost use Rattle.std.specs.Prelude.{◌≡◌, ℕ, ◌-◌, ◌≤◌};
 
 use std::time;
 
@@ -8,8 +8,12 @@ use std::time;
 ///
 /// It may tell any number: a poll counts with the time that its clock tells.
 pub trait Clock {
+    /// What a reading may tell, and what the clock is behind it. A clock that says nothing of it may tell any number.
+    ghost Reads: { Self → ℕ → Self → Type 0 } = { λ clock told after. Unit {0} };
+
     /// The time in nanoseconds, since any moment.
-    fn now(&mut self) -> u64;
+    fn now(&mut self) -> u64
+        ensures { Reads self.old result self.new };
 }
 
 /// How long a poll took, between two readings. 0 where the clock fell.
@@ -41,9 +45,12 @@ impl<R> SystemClock<R> {
 }
 
 impl<R: time::Clock> Clock for SystemClock<R> {
+    ghost use Rattle.std.specs.Prelude.{◌≡◌, ◌≤◌};
+
+    ghost Reads = { λ clock told after. (clock.last ≤ told) × (after.last ≡ told) };
+
     fn now(&mut self) -> u64
-        ensures rises { self.old.last ≤ result }
-        ensures kept { self.new.last ≡ result }
+        ensures { (self.old.last ≤ result) × (self.new.last ≡ result) }
     {
         if let Ok(time) = self.clock.monotonic() {
             let nanos = u64::try_from(time.as_nanos()).unwrap_or(u64::MAX);

@@ -13,3 +13,4 @@ pub mod Serving
 pub mod Opened
 pub mod Creating
 pub mod Ending
+pub mod Readings

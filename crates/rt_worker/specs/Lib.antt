@@ -6,3 +6,4 @@ pub mod Gates
 pub mod Ended
 pub mod Opening
 pub mod Together
+pub mod Readings

@@ -1,5 +1,7 @@
 //! How a worker measures a poll: two readings of its clock.
 
+ghost use Rattle.std.specs.Prelude.{◌≡◌};
+
 use rt_settings::{Clock, spent_between};
 use rt_taskqueue::Meter;
 
@@ -8,24 +10,50 @@ use rt_taskqueue::Meter;
 pub struct Stopwatch<C> {
     clock: C,
     began: u64,
+    /// What the polls took together since `forget`.
+    taken: u64,
 }
 
 impl<C> Stopwatch<C> {
     /// A clock that has not been read.
-    pub fn new(clock: C) -> Self {
-        Stopwatch { clock, began: 0 }
+    pub fn new(clock: C) -> Self
+        ensures { result.clock ≡ clock }
+    {
+        Stopwatch {
+            clock,
+            began: 0,
+            taken: 0,
+        }
+    }
+
+    /// The nanoseconds that the polls took together since `forget`.
+    pub(crate) fn taken(&self) -> u64
+        ensures { result ≡ self.now.taken }
+    {
+        self.taken
+    }
+
+    /// Counts the polls from here on.
+    pub(crate) fn forget(&mut self)
+        ensures { self.new ≡ record self.old { taken = 0 } }
+    {
+        self.taken = 0;
     }
 }
 
-/// It is read just before a poll and just after it, and at no other time.
+/// It is read just before a poll and just after it, and at no other time. A poll took what lies between two readings in a row.
 impl<C: Clock> Meter for Stopwatch<C> {
-    ghost Tells = { λ watch spent. Unit {0} };
+    ghost use Rattle.rt_worker.specs.Readings.{MayTell};
+
+    ghost Tells = { λ watch spent. MayTell C.Reads watch.clock watch.began spent };
 
     fn start(&mut self) {
         self.began = self.clock.now();
     }
 
     fn spent(&mut self) -> u64 {
-        spent_between(self.began, self.clock.now())
+        let spent = spent_between(self.began, self.clock.now());
+        self.taken = self.taken.saturating_add(spent);
+        spent
     }
 }

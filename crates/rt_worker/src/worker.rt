@@ -18,6 +18,12 @@ use std::sync::atomic::Ordering;
 /// How many rounds in which nothing was done a worker makes before it parks.
 const TRIES: u32 = 256;
 
+/// How many turns a worker makes at most before it looks at its links again, if they had nothing.
+const MOST_TURNS: u32 = 16;
+
+/// It looks again at once after polls that took so many nanoseconds together.
+const MOST_TIME: u64 = 2_000;
+
 /// A core beside its journal, over its actor's ends of the links, with a clock, a gate and a bell of its own.
 #[derive(Drop)]
 pub struct Worker<J: Task<Out = u64>, C: Drop, G: Drop> {
@@ -28,8 +34,12 @@ pub struct Worker<J: Task<Out = u64>, C: Drop, G: Drop> {
     bell: Bell,
     /// The bells of all workers, each at the number of its core. There may be none: then nobody is woken.
     bells: Vec<Bell>,
+    /// After how many rounds in which nothing was done it parks.
+    tries: u32,
     /// How many rounds in a row nothing was done.
     idle: u32,
+    /// How many turns it may make before it looks at its links again.
+    turns: u32,
 }
 
 impl<J: Task<Out = u64>, C: Drop, G: Drop> Model for Worker<J, C, G> {
@@ -53,8 +63,19 @@ impl<J: Task<Out = u64>, C: Drop, G: Drop> Worker<J, C, G> {
             gate,
             bell,
             bells: Vec::new(alloc),
+            tries: TRIES,
             idle: 0,
+            turns: 0,
         }
+    }
+
+    /// The same worker, which parks after so many rounds in which nothing was done. With 0 it parks after the first.
+    pub fn with_tries(self, tries: u32) -> Self
+        ensures { result ≡ self }
+    {
+        let mut worker = self;
+        worker.tries = tries;
+        worker
     }
 
     /// The same worker, which wakes the workers of these bells: one to which a job of its core sent an order, and one whose order has its
@@ -79,11 +100,30 @@ impl<J: Task<Out = u64>, C: Drop, G: Drop> Worker<J, C, G> {
     fn rest<R: Wait>(&mut self, rt: &R, heard: u64)
         ensures { self.new ≡ self.old }
     {
-        if self.idle < TRIES {
+        if self.idle < self.tries {
             self.idle += 1;
         } else {
             sleep(rt, &self.bell, heard);
         }
+    }
+
+    /// Plans the turns until the next look at the links: some if the links had nothing while there was work, else none.
+    fn plan(&mut self, quiet: bool)
+        ensures { self.new ≡ self.old }
+    {
+        self.watch.forget();
+        self.turns = if quiet { MOST_TURNS } else { 0 };
+    }
+
+    /// Whether a turn is made without a look at the links. It counts as made.
+    fn passes_links(&mut self) -> bool
+        ensures { self.new ≡ self.old }
+    {
+        if self.turns == 0 || self.watch.taken() >= MOST_TIME {
+            return false;
+        }
+        self.turns -= 1;
+        true
     }
 
     /// Shuts the gates of a closed core, and delivers what shows. Whether anything was done.
@@ -111,14 +151,28 @@ impl<J: Job + Task<Out = u64>, C: Clock + Drop, G: Gate + Drop> Worker<J, C, G> 
         turned
     }
 
-    /// One round: gates, deliveries, one turn, outcomes. Whether anything was done.
-    fn round(&mut self) -> bool
+    /// A look at all links, and one turn: gates, deliveries, the turn, outcomes. Whether anything was done.
+    fn look(&mut self) -> bool
         ensures { StaysLinked self.old self.new }
     {
         let taken = self.take_in();
         let turned = self.take_turn();
         let collected = self.served.collect_all();
-        taken || turned || collected
+        let came = taken || collected;
+        self.plan(turned && !came);
+        turned || came
+    }
+
+    /// One round: a turn alone if the links had nothing a moment ago and there is work, else a look at all links and a turn. Whether
+    /// anything was done.
+    fn round(&mut self) -> bool
+        ensures { StaysLinked self.old self.new }
+    {
+        if self.passes_links() && self.take_turn() {
+            true
+        } else {
+            self.look()
+        }
     }
 
     /// One round, and a rest if nothing was to be done.

@@ -1,20 +1,17 @@
-use Rattle.std.proofs.Common.{sym, subst, ap, length, arith}
-use Rattle.rt_journal.specs.Turns.{IsOut, IsOutUnder}
+use Rattle.std.proofs.Common.{arith}
 use Rattle.rt_worker.proofs.Along.{stays_along}
-use Rattle.rt_worker.proofs.Posted.{posts_again}
+use Rattle.rt_worker.proofs.Posted.{posts_again, posts_out, posts_named, posts_room}
 use Rattle.rt_worker.proofs.polling.poll_on.Goals as goal
 
 pub settle_on-requires : goal.settle_on-requires
-settle_on-requires g c =
-    let posts = c.post_on-ran.ensures.posts in
-    record {
-      out = subst (λ out. IsOut out c.post_on-ran.result.before) (sym (ap (λ view. view.core.out) posts.rest)) (subst (IsOut c.args.recorded.now.core.out) (sym c.post_on-ran.ensures.before) c.requires.out);
-      named = subst (λ out. IsOutUnder out c.args.name) (sym (ap (λ view. view.core.out) posts.rest)) c.requires.named;
-      known = omega (arith, c.requires.known, c.post_on-ran.ensures.seat.cores);
-      beside = c.post_on-ran.ensures.beside;
-      polled = c.post_on-ran.ensures.polled;
-      room = omega (arith, c.requires.room, posts.few, c.post_on-ran.ensures.seat.room);
-    }
+settle_on-requires g c = record {
+  out = posts_out c.post_on-ran.result (record { recorded = c.args.recorded.now; ends = c.args.ends.now }) (record { recorded = c.post_on-ran.new.recorded; ends = c.post_on-ran.new.ends }) c.post_on-ran.ensures.posts c.args.job c.post_on-ran.ensures.before c.requires.out;
+  named = posts_named c.post_on-ran.result (record { recorded = c.args.recorded.now; ends = c.args.ends.now }) (record { recorded = c.post_on-ran.new.recorded; ends = c.post_on-ran.new.ends }) c.post_on-ran.ensures.posts c.args.name c.requires.named;
+  known = omega (arith, c.requires.known, c.post_on-ran.ensures.seat.cores);
+  beside = c.post_on-ran.ensures.beside;
+  polled = c.post_on-ran.ensures.polled;
+  room = posts_room c.post_on-ran.result (record { recorded = c.args.recorded.now; ends = c.args.ends.now }) (record { recorded = c.post_on-ran.new.recorded; ends = c.post_on-ran.new.ends }) c.post_on-ran.ensures.posts c.post_on-ran.ensures.seat c.requires.room;
+}
 
 pub returns-clause-settles : goal.returns-clause-settles
 returns-clause-settles g c = record {

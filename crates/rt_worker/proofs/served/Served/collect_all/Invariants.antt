@@ -1,4 +1,4 @@
-use Rattle.std.proofs.Common.{◌≡◌, ◌+◌}
+use Rattle.std.proofs.Common.{◌≡◌}
 use Rattle.rt_worker.specs.Linked.{StaysLinked}
 use Rattle.rt_worker.proofs.served.Served.collect_all.Given as goal
 

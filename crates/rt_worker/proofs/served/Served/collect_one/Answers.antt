@@ -1,4 +1,4 @@
-use Rattle.std.proofs.Common.{sym, subst, ap, arith}
+use Rattle.std.proofs.Common.{sym, subst, arith}
 use Rattle.rt_link.specs.Fits.{Fits}
 use Rattle.rt_worker.specs.Rooms.{IsReady}
 use Rattle.rt_worker.specs.Ended.{IsServed}

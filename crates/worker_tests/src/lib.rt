@@ -1,0 +1,5 @@
+//! Tests of one worker over its public calls, on one thread over the ends of rings.
+#![tactic(auto)]
+
+#[cfg(test)]
+mod alone;
