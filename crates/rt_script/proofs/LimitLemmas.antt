@@ -1,5 +1,5 @@
 -- What the lines of a script say keeps within the limits.
-use Rattle.std.proofs.Common.{IfOk, eqb, ap, zero-add, ◌∙◌, ◌≡◌, ℕ, ◌+◌, ◌-◌, ◌≤◌, ◌<◌, ◌++◌, ◌==◌, Bool, true, false, cond, List, [], ◌∷◌, Option, Some, None, Result, Ok, Err, refl, arith}
+use Rattle.std.proofs.Common.{IfOk, eqb, sym, ap, zero-add, zero, suc, get_or, replicate, ◌∙◌, ◌≡◌, ℕ, ◌+◌, ◌-◌, ◌≤◌, ◌<◌, ◌++◌, ◌==◌, Bool, true, false, cond, List, [], ◌∷◌, Option, Some, None, Result, Ok, Err, refl, arith}
 use Rattle.std.proofs.lemmas.Bool.Decides.{nat_tests}
 use Rattle.std.proofs.lemmas.List.Sums.{sum_by-append}
 use Rattle.std.proofs.lemmas.List.Elements.{All-push}
@@ -13,6 +13,7 @@ use Rattle.rt_script.specs.Keywords.{keyword_of}
 use Rattle.rt_words.specs.Words.{first, others, third}
 use Rattle.rt_script.specs.Lines.{size_line, queue_line, line_of, first_line, keyword_line, later_line}
 use Rattle.rt_script.specs.Drafts.{Drafted, queue_lines}
+use Rattle.rt_script.specs.Counts.{IsCounted, count_of}
 use Rattle.rt_script.specs.Limits.{ArePlaced, IsWithinLimits, IsCoreOf, MayFollow, AreEventsOf, IsEventFor, IsEventOf}
 use Rattle.rt_words.proofs.FieldLemmas.{made_ok, both_ok, within_ok}
 use Rattle.rt_script.proofs.EventLimits.{submit_line_ok, create_line_ok, shares_line_ok, close_line_ok, closecore_line_ok, deliver_line_ok, turn_line_ok, shut_line_ok, collect_line_ok, redeem_line_ok, detach_line_ok}
@@ -69,8 +70,14 @@ keyword_line_ok (Some k) size late ws line some e =
 pub later_line_ok : (size : ℕ × ℕ) (late : Bool) (ws : List (List ℕ)) (line : Line) → 1 ≤ size.0 → later_line size.0 late ws ≡ Ok line → MayFollow (Some size) line
 later_line_ok size late ws line some e = keyword_line_ok (keyword_of (first ws)) size late ws line some e
 
+-- before any core was named
+pub none_named : (count core : ℕ) → ◌≡◌ {A = ℕ} (get_or (replicate count 0) core 0) 0
+none_named zero core = refl
+none_named (suc count) zero = refl
+none_named (suc count) (suc core) = none_named count core
+
 -- one `queue` line more
-count_more : (core : ℕ) (queues : List (ℕ × ℕ)) (queue : ℕ × ℕ) → queue_lines core (queues ++ queue ∷ []) ≡ queue_lines core queues + cond (eqb queue.0 core) 1 0
+pub count_more : (core : ℕ) (queues : List (ℕ × ℕ)) (queue : ℕ × ℕ) → queue_lines core (queues ++ queue ∷ []) ≡ queue_lines core queues + cond (eqb queue.0 core) 1 0
 count_more core queues queue = sum_by-append (λ q. cond (q.0 == core) 1 0) queues (queue ∷ []) ∙ ap (λ n. queue_lines core queues + n) (zero-add (cond (eqb queue.0 core) 1 0))
 
 few_of : (same : Bool) (before after : ℕ) → after ≡ before + cond same 1 0 → (same ≡ true → before < 255) → before ≤ 255 → after ≤ 255
@@ -94,16 +101,29 @@ limits_more draft queue limits core room = record {
   happen = limits.happen;
 }
 
+-- a `queue` line more is counted
+pub counted_more : (draft : Drafted) (queue : ℕ × ℕ) (old new : List ℕ) → IsCounted draft old → IsCoreOf draft.size queue.0 → queue_lines queue.0 draft.queues < 255 → ((core : ℕ) → count_of core new ≡ count_of core old + cond (eqb queue.0 core) 1 0) → IsCounted (record { size = draft.size; queues = draft.queues ++ queue ∷ []; events = draft.events }) new
+counted_more draft queue old new counted core room more = record {
+  limits = limits_more draft queue counted.limits core room;
+  each = λ c. more c ∙ ap (λ n. n + cond (eqb queue.0 c) 1 0) (counted.each c) ∙ sym (count_more c draft.queues queue);
+}
+
 happen_more : (size : Option (ℕ × ℕ)) (events : List ScriptEvent) (event : ScriptEvent) → AreEventsOf size events → IsEventFor size event → AreEventsOf size (events ++ event ∷ [])
 happen_more None events event happen here = absurd here
 happen_more (Some s) events event happen here = All-push (IsEventOf s.0) events event happen here
 
-pub limits_event : (draft : Drafted) (event : ScriptEvent) → IsWithinLimits draft → IsEventFor draft.size event → IsWithinLimits (record { size = draft.size; queues = draft.queues; events = draft.events ++ event ∷ [] })
+limits_event : (draft : Drafted) (event : ScriptEvent) → IsWithinLimits draft → IsEventFor draft.size event → IsWithinLimits (record { size = draft.size; queues = draft.queues; events = draft.events ++ event ∷ [] })
 limits_event draft event limits here = record {
   sized = limits.sized;
   placed = limits.placed;
   few = limits.few;
   happen = happen_more draft.size draft.events event limits.happen here;
+}
+
+pub counted_event : (draft : Drafted) (event : ScriptEvent) (counts : List ℕ) → IsCounted draft counts → IsEventFor draft.size event → IsCounted (record { size = draft.size; queues = draft.queues; events = draft.events ++ event ∷ [] }) counts
+counted_event draft event counts counted here = record {
+  limits = limits_event draft event counted.limits here;
+  each = counted.each;
 }
 
 pub IfOk-from_each : {A : Type 0} (r : Result A Cause) (P : A → Type 0) → ((a : A) → r ≡ Ok a → P a) → IfOk r P

@@ -4,6 +4,7 @@ pub mod EventLines
 pub mod Lines
 pub mod Drafts
 pub mod Limits
+pub mod Counts
 pub mod Feeds
 pub mod Scripts
 pub mod ScriptFaults

@@ -7,6 +7,7 @@ ghost use Rattle.rt_script.specs.Drafts as spec;
 ghost use Rattle.rt_script.specs.Limits.{MayFollow};
 ghost use Rattle.rt_script.specs.ScriptFaults.{IfFaulty};
 
+use crate::counts::CoreCounts;
 use crate::event::ScriptEvent;
 use crate::line::{Line, first_line, later_line};
 use crate::script::Script;
@@ -24,19 +25,21 @@ const MOST_QUEUE_LINES: usize = 255;
 pub struct Draft {
     size: Option<(u8, u16)>,
     queues: Vec<(CoreNo, Shares)>,
+    // How many `queue` lines each core has.
+    counts: CoreCounts,
     events: Vec<ScriptEvent>,
 }
 
 impl Model for Draft {
     ghost use Rattle.rt_script.specs.Drafts.{Drafted};
-    ghost use Rattle.rt_script.specs.Limits.{IsWithinLimits};
+    ghost use Rattle.rt_script.specs.Counts.{IsCounted};
 
     ghost Value = { Drafted };
 
     ghost view = { λ d. record { size = d.size; queues = d.queues.items; events = d.events.items } };
 
-    ghost invariant = { λ d. IsWithinLimits
-        (record { size = d.size; queues = d.queues.items; events = d.events.items }) };
+    ghost invariant = { λ d. IsCounted
+        (record { size = d.size; queues = d.queues.items; events = d.events.items }) d.counts };
 }
 
 impl Draft {
@@ -47,6 +50,7 @@ impl Draft {
         Draft {
             size: None,
             queues: Vec::new(alloc),
+            counts: CoreCounts::new(),
             events: Vec::new(alloc),
         }
     }
@@ -60,6 +64,7 @@ impl Draft {
         let Draft {
             size,
             queues,
+            counts: _,
             events,
         } = self;
         let (cores, cap) = size?;
@@ -115,24 +120,18 @@ impl Draft {
         match line {
             Line::Size(cores, cap) => self.size = Some((cores, cap)),
             Line::Queue(core, shares) => {
-                if self.queue_lines(core) >= MOST_QUEUE_LINES {
+                if self.counts.of(core) >= MOST_QUEUE_LINES {
                     return Err(EngineFault::Text {
                         line: number,
                         cause: Cause::TooManyQueues,
                     });
                 }
                 self.queues.push((core, shares))?;
+                self.counts.add(core);
             }
             Line::Step(event) => self.events.push(event)?,
         }
         Ok(())
-    }
-
-    /// How many `queue` lines the core has.
-    fn queue_lines(&self, core: CoreNo) -> usize
-        ensures { result ≡ spec.queue_lines core self.now.queues }
-    {
-        self.queues.iter().filter(|queue| queue.0 == core).count()
     }
 }
 

@@ -1,6 +1,7 @@
 //! Scripts: their lines, what can be wrong with them, and the events that they tell.
 #![tactic(auto)]
 
+pub mod counts;
 pub mod draft;
 pub mod event;
 mod event_line;

@@ -1,5 +1,5 @@
 -- What the lines of a script for threads say keeps within the limits.
-use Rattle.std.proofs.Common.{IfOk, eqb, ◌∙◌, ◌≡◌, ℕ, ◌+◌, ◌≤◌, ◌<◌, ◌==◌, ◌++◌, Bool, true, false, cond, List, [], ◌∷◌, Option, Some, None, Result, Ok, Err, refl, ap, zero-add, arith}
+use Rattle.std.proofs.Common.{IfOk, eqb, sym, ◌∙◌, ◌≡◌, ℕ, ◌+◌, ◌≤◌, ◌<◌, ◌==◌, ◌++◌, Bool, true, false, cond, List, [], ◌∷◌, Option, Some, None, Result, Ok, Err, refl, ap, zero-add, arith}
 use Rattle.std.proofs.lemmas.Bool.Decides.{nat_tests}
 use Rattle.std.proofs.lemmas.List.Elements.{All-nil, All-push}
 use Rattle.std.proofs.lemmas.List.Sums.{sum_by-append}
@@ -8,9 +8,10 @@ use Rattle.rt_ids.specs.declared.order.Order.TheVariants as order
 use Rattle.rt_jobs.specs.Scripts.{Script}
 use Rattle.rt_script.specs.declared.event.ScriptEvent.TheVariants.{Send}
 use Rattle.rt_script.specs.declared.line.Line.{Line}
+use Rattle.rt_script.specs.Counts.{count_of}
 use Rattle.rt_script.specs.Drafts.{queue_lines}
 use Rattle.rt_script.specs.Limits as script
-use Rattle.rt_script.proofs.LimitLemmas.{first_line_ok, later_line_ok, limits_more}
+use Rattle.rt_script.proofs.LimitLemmas.{first_line_ok, later_line_ok, limits_more, count_more}
 use Rattle.rt_text.specs.declared.fault.Cause.{Cause}
 use Rattle.rt_words.specs.Words.{first, others}
 use Rattle.rt_script.specs.Keywords.{keyword_of}
@@ -18,7 +19,7 @@ use Rattle.rt_script.specs.Lines.{first_line, later_line}
 use Rattle.rt_threads_script.specs.declared.fault.ThreadsCause.{ThreadsCause}
 use Rattle.rt_threads_script.specs.Lines.{of_script, is_barred, size_told, line_told}
 use Rattle.rt_threads_script.specs.Drafts.{Told, Drafted, orders_to, cap_of, polls_of, polls_in}
-use Rattle.rt_threads_script.specs.Limits.{IsToldOf, IsToldFor, AreTold, HasSpare, IsWithinLimits}
+use Rattle.rt_threads_script.specs.Limits.{IsToldOf, IsToldFor, AreTold, HasSpare, IsWithinLimits, AreCounted}
 
 of_script_ok : (r : Result Line Cause) (line : Line) → of_script r ≡ Ok line → r ≡ Ok line
 of_script_ok (Ok read) line e = cc
@@ -96,6 +97,28 @@ order_more draft told limits one room = record {
   told = told_more draft.size draft.orders told limits.told one;
   spare = spare_more draft.size draft.orders told limits.spare room;
 }
+
+-- one `queue` line more is counted
+pub lines_counted : (queues : List (ℕ × ℕ)) (queue : ℕ × ℕ) (orders : List Told) (old new sent : List ℕ) → AreCounted queues orders old sent → ((core : ℕ) → count_of core new ≡ count_of core old + cond (eqb queue.0 core) 1 0) → AreCounted (queues ++ queue ∷ []) orders new sent
+lines_counted queues queue orders old new sent counted more = record {
+  lines_are = λ core. more core ∙ ap (λ n. n + cond (eqb queue.0 core) 1 0) (counted.lines_are core) ∙ sym (count_more core queues queue);
+  sent_are = counted.sent_are;
+}
+
+-- one order more is counted
+pub sent_counted : (queues : List (ℕ × ℕ)) (orders : List Told) (told : Told) (lines old new : List ℕ) → AreCounted queues orders lines old → ((core : ℕ) → count_of core new ≡ count_of core old + cond (eqb told.0 core) 1 0) → AreCounted queues (orders ++ told ∷ []) lines new
+sent_counted queues orders told lines old new counted more = record {
+  lines_are = counted.lines_are;
+  sent_are = λ core. more core ∙ ap (λ n. n + cond (eqb told.0 core) 1 0) (counted.sent_are core) ∙ sym (number_more core orders told);
+}
+
+-- a core that gets fewer orders than the capacity is counted
+cap_small : (size : Option (ℕ × ℕ)) → script.IsSized size → cap_of size ≤ 1024
+cap_small None sized = omega arith
+cap_small (Some size) sized = sized.small_cap
+
+pub few_sent : (size : Option (ℕ × ℕ)) (count : ℕ) → script.IsSized size → count + 1 < cap_of size → count < 65535
+few_sent size count sized room = let small = cap_small size sized in omega arith
 
 pub polls_more : (orders : List Told) (told : Told) → polls_in (orders ++ told ∷ []) ≡ polls_in orders + polls_of told.1
 polls_more orders told = sum_by-append (λ t. polls_of t.1) orders (told ∷ []) ∙ ap (λ n. polls_in orders + n) (zero-add (polls_of told.1))

@@ -4,6 +4,8 @@ use Rattle.rt_ids.specs.declared.order.Order.{Order}
 use Rattle.rt_ids.specs.declared.order.Order.TheVariants as order
 use Rattle.rt_jobs.specs.declared.poll.Poll.TheVariants.{Yield}
 use Rattle.rt_jobs.specs.Scripts.{Script}
+use Rattle.rt_script.specs.Counts.{count_of}
+use Rattle.rt_script.specs.Drafts.{queue_lines}
 use Rattle.rt_script.specs.Limits.{IsSized, ArePlaced, HasFewQueues}
 use Rattle.rt_threads_script.specs.Drafts.{Drafted, Told, orders_to}
 
@@ -39,3 +41,8 @@ pub record IsWithinLimits (draft : Drafted) : Type 0 where
   pub few : HasFewQueues draft.queues
   pub told : AreTold draft.size draft.orders
   pub spare : HasSpare draft.size draft.orders
+
+-- the `queue` lines and the orders of each core are counted
+pub record AreCounted (queues : List (ℕ × ℕ)) (orders : List Told) (lines sent : List ℕ) : Type 0 where
+  pub lines_are : (core : ℕ) → count_of core lines ≡ queue_lines core queues
+  pub sent_are : (core : ℕ) → count_of core sent ≡ orders_to core orders

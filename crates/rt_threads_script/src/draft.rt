@@ -2,7 +2,7 @@
 
 ghost use Rattle.std.specs.Prelude.{◌≡◌, Ok, Err, IfOk, IfErr, IfSome, IsNone, None, Some, OnOk, OnErr, length, nat_lt, ◌<◌, ◌≤◌, ◌+◌, ◌++◌, ◌∷◌, [], ◌↔◌};
 ghost use Rattle.rt_words.specs.Words.{words};
-ghost use Rattle.rt_script.specs.Drafts.{is_skipped, queue_lines};
+ghost use Rattle.rt_script.specs.Drafts.{is_skipped};
 ghost use Rattle.rt_script.specs.Limits.{IsCoreOf, IsSize, MayFollow, IsEventFor};
 ghost use Rattle.rt_threads_script.specs.declared.fault.ThreadsFault.TheVariants.{Memory};
 ghost use Rattle.rt_threads_script.specs.Drafts as spec;
@@ -16,6 +16,7 @@ use crate::script::ThreadsScript;
 use rt_ids::{CoreNo, Order};
 use rt_jobs::ScriptJob;
 use rt_script::ScriptEvent;
+use rt_script::counts::CoreCounts;
 use rt_script::line::Line;
 use rt_shares::Shares;
 use rt_text::Cause;
@@ -33,7 +34,11 @@ const MOST_POLLS: u32 = 4096;
 pub(crate) struct Draft {
     size: Option<(u8, u16)>,
     queues: Vec<(CoreNo, Shares)>,
+    /// How many `queue` lines each core has.
+    lines: CoreCounts,
     orders: Vec<(CoreNo, Order<ScriptJob>)>,
+    /// How many orders each core gets.
+    sent: CoreCounts,
     /// How many polls the jobs have together.
     polls: u32,
 }
@@ -41,7 +46,7 @@ pub(crate) struct Draft {
 impl Model for Draft {
     ghost use Rattle.std.specs.Prelude.{◌≤◌, ◌≡◌};
     ghost use Rattle.rt_threads_script.specs.Drafts.{Drafted, polls_in};
-    ghost use Rattle.rt_threads_script.specs.Limits.{IsWithinLimits};
+    ghost use Rattle.rt_threads_script.specs.Limits.{IsWithinLimits, AreCounted};
 
     ghost Value = { Drafted };
 
@@ -49,7 +54,8 @@ impl Model for Draft {
 
     ghost invariant = { λ d. IsWithinLimits
         (record { size = d.size; queues = d.queues.items; orders = d.orders.items })
-        × (d.polls ≡ polls_in d.orders.items) × (d.polls ≤ 4096) };
+        × (d.polls ≡ polls_in d.orders.items) × (d.polls ≤ 4096)
+        × AreCounted d.queues.items d.orders.items d.lines d.sent };
 }
 
 impl Draft {
@@ -60,7 +66,9 @@ impl Draft {
         Draft {
             size: None,
             queues: Vec::new(alloc),
+            lines: CoreCounts::new(),
             orders: Vec::new(alloc),
+            sent: CoreCounts::new(),
             polls: 0,
         }
     }
@@ -74,7 +82,9 @@ impl Draft {
         let Draft {
             size,
             queues,
+            lines: _,
             orders,
+            sent: _,
             polls: _,
         } = self;
         let (cores, cap) = size?;
@@ -155,13 +165,14 @@ impl Draft {
         ensures one_more { OnOk result (length self.new.orders ≤ length self.old.orders + 1) }
         ensures err { OnErr result (self.new ≡ self.old) }
     {
-        if self.queue_lines(core) >= MOST_QUEUE_LINES {
+        if self.lines.of(core) >= MOST_QUEUE_LINES {
             return Err(ThreadsFault::Text {
                 line: number,
                 cause: ThreadsCause::Line(Cause::TooManyQueues),
             });
         }
         self.queues.push((core, shares))?;
+        self.lines.add(core);
         Ok(())
     }
 
@@ -224,6 +235,7 @@ impl Draft {
         ensures err { OnErr result (self.new ≡ self.old) }
     {
         self.orders.push((core, order))?;
+        self.sent.add(core);
         self.polls += polls;
         Ok(())
     }
@@ -234,7 +246,7 @@ impl Draft {
         ensures { result ≡ spec.refusal self.now core polls }
     {
         let most = self.cap().saturating_sub(1);
-        if self.orders_to(core) >= most as usize {
+        if self.sent.of(core) >= most as usize {
             return Some(ThreadsCause::TooManyForCap);
         }
         if self.polls + polls > MOST_POLLS {
@@ -251,20 +263,6 @@ impl Draft {
             None => 0,
             Some((_, cap)) => cap,
         }
-    }
-
-    /// How many `queue` lines the core has.
-    fn queue_lines(&self, core: CoreNo) -> usize
-        ensures { result ≡ queue_lines core self.now.queues }
-    {
-        self.queues.iter().filter(|queue| queue.0 == core).count()
-    }
-
-    /// How many orders the core gets.
-    fn orders_to(&self, core: CoreNo) -> usize
-        ensures { result ≡ spec.orders_to core self.now.orders }
-    {
-        self.orders.iter().filter(|told| told.0 == core).count()
     }
 }
 

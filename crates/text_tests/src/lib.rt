@@ -6,6 +6,8 @@ mod devices;
 #[cfg(test)]
 mod journals;
 #[cfg(test)]
+mod pages;
+#[cfg(test)]
 mod reading;
 #[cfg(test)]
 mod spelled;

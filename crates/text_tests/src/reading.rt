@@ -16,7 +16,7 @@ fn is_refused(alloc: Global, text: &[u8], line: u32, cause: JournalCause) -> boo
 }
 
 /// Whether the text is read, and what is written of it is the same text.
-fn is_same(alloc: Global, text: &str) -> bool {
+pub(crate) fn is_same(alloc: Global, text: &str) -> bool {
     let mut source = text.as_bytes();
     match read_journal(alloc, &mut source) {
         Ok(journals) => {

@@ -23,7 +23,7 @@ const STATS: &str =
     "core 0 turns 3 floor 20 held 0 drained no\nstat 0 q0 shares 1000 selected 3 runtime 30 vr 30 waiting 0 finished 2 returned 0\n";
 
 /// Whether the audit of the text ends in this status and writes this.
-fn comes_to(alloc: Global, text: &str, status: u8, line: &str) -> bool {
+pub(crate) fn comes_to(alloc: Global, text: &str, status: u8, line: &str) -> bool {
     let mut source = text.as_bytes();
     let mut written = Vec::new(alloc);
     let answer = audit_text(alloc, &mut source, &mut written);

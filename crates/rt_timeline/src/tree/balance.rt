@@ -243,6 +243,17 @@ pub(super) fn without_left<A: Allocator>(root: &mut Link<A>, vr: &mut u128) -> B
     }
 }
 
+/// Puts two sides on a loose node, which leans so from then on.
+#[inline(always)]
+fn take_sides<A: Allocator>(node: &mut Node<A>, lean: Lean, left: Tree<A>, right: Tree<A>)
+    requires { IsLoose node.old }
+    ensures { HasSides node.new left right node.old.queue lean }
+{
+    node.lean = lean;
+    fill(&mut node.left, left);
+    fill(&mut node.right, right);
+}
+
 /// Joins two trees to one, of which the right one isn't empty: its first node goes on top. The two stood under a node that leaned so. Tells
 /// whether the joined tree is as high as the higher one of the two.
 fn joined<A: Allocator>(lean: Lean, left: Tree<A>, mut right: Tree<A>) -> (Tree<A>, bool)
@@ -255,16 +266,13 @@ fn joined<A: Allocator>(lean: Lean, left: Tree<A>, mut right: Tree<A>) -> (Tree<
     let mut vr = 0;
     let (mut next, lower) = right.take_first(&mut vr);
     right.know_filled();
-    let top: &mut Node<A> = &mut next;
-    top.lean = lean;
-    fill(&mut top.left, left);
-    fill(&mut top.right, right);
-    let mut rest = Link::Top(next, vr);
+    take_sides(&mut next, lean, left, right);
+    let mut whole = Link::Top(next, vr);
     if !lower {
-        return (Tree::close(rest), false);
+        return (Tree::close(whole), false);
     }
-    let lower = tilt(&mut rest, false);
-    (Tree::close(rest), lower)
+    let lower = tilt(&mut whole, false);
+    (Tree::close(whole), lower)
 }
 
 /// Parts a node from its sides, and joins these to one tree. The last tells whether it is one level lower.

@@ -11,7 +11,7 @@ returns-in-None-clause-follows c =
 
 pub returns-in-Some-clause-follows : goal.returns-in-Some-clause-follows
 returns-in-Some-clause-follows c =
-    let sized : IsSized (Some (c.in-Some.cores, c.in-Some.field-0-1)) = rw c.in-Some.is at c.self.invariant.sized in
+    let sized : IsSized (Some (c.in-Some.cores, c.in-Some.field-0-1)) = rw c.in-Some.is at c.self.invariant.limits.sized in
     rw (← c.self.view_is, c.in-Some.is)
     (IfOk-from_each _ (MayFollow (Some (c.in-Some.cores, c.in-Some.field-0-1)))
     (λ line e. later_line_ok (c.in-Some.cores, c.in-Some.field-0-1) (not c.is_empty.result) (words c.args.text.now) line sized.some_cores (sym c.later_line.ensures ∙ e)))
