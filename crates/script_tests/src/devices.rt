@@ -4,22 +4,23 @@ use std::alloc::Global;
 use std::io;
 use std::io::{ErrorKind, Read, Write};
 
-/// Reads a text, ten bytes at a time. Calls are interrupted so often in a row before each that isn't, and one call fails.
+/// Reads a text, ten bytes at a time, and counts its calls. Calls are interrupted so often in a row before each that isn't, and one
+/// call fails.
 #[derive(Drop)]
 pub(crate) struct FaultyReader {
+    pub(crate) calls: u32,
     text: &'static [u8],
     interruptions: u32,
     interrupted: u32,
-    calls: u32,
     failing: u32,
 }
 
 pub(crate) fn reader_of(text: &'static str, interruptions: u32, failing: u32) -> FaultyReader {
     FaultyReader {
+        calls: 0,
         text: text.as_bytes(),
         interruptions,
         interrupted: 0,
-        calls: 0,
         failing,
     }
 }
@@ -42,13 +43,14 @@ impl Read for FaultyReader {
     }
 }
 
-/// Keeps what is written, ten bytes at a time, and counts its calls and the flushes among them. Calls are interrupted and fail as a
-/// reader's do; where it is full it takes nothing.
+/// Keeps what is written, at first ten bytes at a time, and counts its calls and the flushes among them. Calls are interrupted and
+/// fail as a reader's do; where it is full it takes nothing.
 #[derive(Drop)]
 pub(crate) struct FaultyWriter {
     pub(crate) written: Vec<u8>,
     pub(crate) calls: u32,
     pub(crate) flushes: u32,
+    pub(crate) most_at_once: usize,
     interruptions: u32,
     interrupted: u32,
     failing: u32,
@@ -81,6 +83,7 @@ pub(crate) fn writer_of(
         written: Vec::new(alloc),
         calls: 0,
         flushes: 0,
+        most_at_once: 10,
         interruptions,
         interrupted: 0,
         failing,
@@ -92,7 +95,7 @@ impl Write for FaultyWriter {
     fn write(&mut self, bytes: &[u8]) -> io::Result<usize> {
         self.call()?;
         let room = self.most.saturating_sub(self.written.len());
-        let count = bytes.len().min(10).min(room);
+        let count = bytes.len().min(self.most_at_once).min(room);
         self.written.extend_from_slice(&bytes[..count])?;
         Ok(count)
     }

@@ -85,6 +85,11 @@ fn each_call_of_an_audit_fails(rt: HostRuntime) {
 
 #[test]
 fn a_faulty_line_of_journals_is_told_before_the_next_read(rt: HostRuntime) {
-    let (answer, sink) = audited(rt.alloc(), FAULTY, 2, 0);
-    assert!(rt; matches!(answer, Err(AuditFault::Text { line: 1, .. })) && sink.calls == 0);
+    let mut source = reader_of(FAULTY, 0, 0);
+    let mut sink = writer_of(rt.alloc(), 0, 0, 4096);
+    let told = matches!(
+        audit_text(rt.alloc(), &mut source, &mut sink),
+        Err(AuditFault::Text { line: 1, .. })
+    );
+    assert!(rt; told && source.calls == 1 && sink.calls == 0);
 }
