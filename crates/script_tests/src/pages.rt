@@ -9,9 +9,11 @@ use std::test::Fail;
 /// So many turns fill a script.
 const TURNS: usize = 4095;
 
-/// The number of the call to the sink that fails, what the run comes to, and how many bytes are written. The first page is full behind
-/// 2341 lines of seven bytes; the second call writes the rest, and the third is the flush.
-const RUNS: [(u32, Result<bool, EngineFault>, usize); 4] = [
+/// The number of the call to the sink that fails, what the run comes to, and how many bytes are written.
+type Row = (u32, Result<bool, EngineFault>, usize);
+
+/// The first page is full behind 2341 lines of seven bytes. The second call writes the rest, and the third is the flush.
+const RUNS: [Row; 4] = [
     (0, Ok(true), 28665),
     (1, Err(EngineFault::Write), 0),
     (2, Err(EngineFault::Write), 16387),
@@ -37,17 +39,23 @@ fn ran(alloc: Global, script: &[u8], failing: u32) -> (Result<bool, EngineFault>
     (answer, sink)
 }
 
+/// Whether a run whose call of this number to the sink fails comes to this answer, and writes so many bytes of what is printed.
+fn comes_to(alloc: Global, script: &[u8], printed: &[u8], row: &Row) -> bool {
+    let (answer, sink) = ran(alloc, script, row.0);
+    let written = sink.written.as_slice();
+    answer == row.1 && written.len() == row.2 && printed.starts_with(written)
+}
+
 #[test]
 fn a_full_page_is_written_at_once(rt: HostRuntime) -> Result<(), Fail> {
     let alloc = rt.alloc();
     let script = text_of(alloc, "cores 1 cap 4\n", "turn 0\n")?;
     let printed = text_of(alloc, "", "0 idle\n")?;
-    for (failing, wanted, count) in RUNS.iter() {
-        let (answer, sink) = ran(alloc, script.as_slice(), *failing);
-        let written = sink.written.as_slice();
+    for row in RUNS.iter() {
         assert!(rt;
-            answer == *wanted && written == &printed.as_slice()[..*count],
-            "{failing}"
+            comes_to(alloc, script.as_slice(), printed.as_slice(), row),
+            "{}",
+            row.0
         );
     }
     Ok(())
