@@ -1,3 +1,3 @@
 mod Owing
-mod FreshLanes
+mod Fresh
 mod OneOut

@@ -2,15 +2,14 @@
 
 ghost use Rattle.std.specs.Prelude.{◌≡◌};
 ghost use Rattle.rt_jobs.specs.Ready.{HasReadyJob};
-ghost use Rattle.rt_journal.specs.Ends.{IsInOf, IsOutOf};
-ghost use Rattle.rt_link.specs.Fits.{Fits};
-ghost use Rattle.rt_journal.specs.Tickets.{HasLane};
+ghost use Rattle.rt_link.specs.Whole.{fresh, inward_of, out_of};
 
 use rt_core::Turn;
-use rt_ids::{ActorNo, CoreNo, JobId, Note, Order, Outcome, Ticket, TicketError};
+use rt_ids::{ActorNo, CoreNo, JobId, Note, Order, Outcome, QueueNo, Ticket, TicketError};
 use rt_jobs::{NoPost, Ran, ScriptJob, Task};
 use rt_journal::{Journal, Recorded, RecordedDesk};
-use rt_link::{InEnd, OutEnd};
+use rt_link::{InEnd, OutEnd, PlainLink};
+use std::alloc::{AllocError, Global};
 use std::marker::Model;
 
 /// The core that all orders here are for.
@@ -22,20 +21,45 @@ pub const OWN: ActorNo = ActorNo(0);
 /// The outside actor of one core.
 pub const OUTSIDE: ActorNo = ActorNo(1);
 
+/// The queue of all jobs here.
+pub const QUEUE: QueueNo = QueueNo(0);
+
+/// The name of the outside actor's first submission.
+pub const FIRST: JobId = JobId {
+    from: OUTSIDE,
+    to: CORE,
+    number: 1,
+};
+
+/// The name of its second one.
+pub const SECOND: JobId = JobId {
+    from: OUTSIDE,
+    to: CORE,
+    number: 2,
+};
+
 /// Whether these are the notes, the oldest first.
 pub fn tells(journal: &Journal<u64>, notes: &[Note<u64>]) -> bool {
     journal.as_slice() == notes
 }
 
-/// The name of the submission of this number from the actor to core 0.
-pub fn name(from: ActorNo, number: u64) -> JobId
-    ensures { result ≡ record { from = from; to = 0; number = number } }
+/// Sends an order on a plain link that has a place for it.
+pub fn put(link: &mut PlainLink<ScriptJob>, order: Order<ScriptJob>)
+    requires { HasReadyJob ⟦<ScriptJob as Task>⟧.done ⟦<ScriptJob as Task>⟧.CanPoll order }
+    ensures { link.new ≡ record link.old { sent = link.new.sent } }
 {
-    JobId {
-        from,
+    drop(link.send(order));
+}
+
+/// The ticket of the outside actor's submission of this number.
+fn ticket(number: u64) -> Ticket
+    ensures { result ≡ record { from = 1; to = 0; number = number } }
+{
+    Ticket::named(JobId {
+        from: OUTSIDE,
         to: CORE,
         number,
-    }
+    })
 }
 
 /// What a core is to do.
@@ -71,11 +95,13 @@ impl<I: InEnd<ScriptJob> + Drop> Model for Receiver<I> {
 }
 
 impl<I: InEnd<ScriptJob> + Drop> Receiver<I> {
-    pub fn new(core: Recorded<ScriptJob>, own: I, outside: I) -> Self
-        requires own { IsInOf 0 core (I.inward own) }
-        requires outside { IsInOf 1 core (I.inward outside) }
+    /// Opens the core, with the ends of links of this capacity that were just opened. The outside actor may have sent already.
+    pub fn open(alloc: Global, cap: u16, own: I, outside: I) -> Result<Self, AllocError>
+        requires own { I.inward own ≡ inward_of (fresh 0 0 cap 0) }
+        requires outside { I.inward outside ≡ record (inward_of (fresh 1 0 cap 0)) { seen = (I.inward outside).seen } }
     {
-        Receiver { core, own, outside }
+        let core = Recorded::open(alloc, alloc, CORE, 1, cap, 10)?;
+        Ok(Receiver { core, own, outside })
     }
 
     fn deliver(&mut self) -> bool {
@@ -172,11 +198,13 @@ impl<O: OutEnd<ScriptJob> + Drop> Model for Sender<O> {
 }
 
 impl<O: OutEnd<ScriptJob> + Drop> Sender<O> {
-    pub fn new(desk: RecordedDesk<ScriptJob>, end: O) -> Self
-        requires beside { IsOutOf 0 desk (O.out end) (O.credited end) }
-        requires lane { HasLane (Fits ⟦<ScriptJob as Task>⟧.SameTask ⟦<ScriptJob as Task>⟧.Answers) 0 desk (O.out end) (O.credited end) }
+    /// Opens the desk, with the end of a link of this capacity that was just opened.
+    pub fn open(alloc: Global, cap: u16, end: O) -> Result<Self, AllocError>
+        requires out { O.out end ≡ out_of (fresh 1 0 cap 0) }
+        requires credited { O.credited end ≡ 0 }
     {
-        Sender { desk, end }
+        let desk = RecordedDesk::open(alloc, OUTSIDE, 1, cap, 10)?;
+        Ok(Sender { desk, end })
     }
 
     /// Whether the order was accepted.
@@ -196,7 +224,7 @@ impl<O: OutEnd<ScriptJob> + Drop> Sender<O> {
 
     /// The answer of the submission of this number, or why there is none.
     pub fn redeem(&mut self, number: u64) -> Result<Option<u64>, TicketError> {
-        let ticket = Ticket::named(name(OUTSIDE, number));
+        let ticket = ticket(number);
         if self.desk.journal().free() < 1 || !self.desk.knows(ticket) {
             return Ok(None);
         }
@@ -208,7 +236,7 @@ impl<O: OutEnd<ScriptJob> + Drop> Sender<O> {
 
     /// Whether the submission of this number was detached.
     pub fn detach(&mut self, number: u64) -> bool {
-        let ticket = Ticket::named(name(OUTSIDE, number));
+        let ticket = ticket(number);
         self.desk.journal().free() >= 1 && self.desk.detach(&mut self.end, ticket).is_ok()
     }
 

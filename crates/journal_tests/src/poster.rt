@@ -5,8 +5,9 @@ ghost use Rattle.rt_journal.specs.Ends.{IsInOf, IsOutOf};
 ghost use Rattle.rt_journal.specs.Recorded.{desk_of};
 ghost use Rattle.rt_journal.specs.Tickets.{HasLane};
 ghost use Rattle.rt_link.specs.Fits.{Fits};
+ghost use Rattle.rt_link.specs.Whole.{fresh, inward_of, out_of};
 
-use crate::actors::{OUTSIDE, OWN, tells};
+use crate::actors::{CORE, OUTSIDE, OWN, tells};
 use rt_core::Ahead;
 use rt_ids::{ActorNo, Note};
 use rt_jobs::{ScriptJob, Task};
@@ -42,7 +43,7 @@ impl<O: OutEnd<ScriptJob> + Drop, I: InEnd<ScriptJob> + Drop> Model for Poster<O
 }
 
 impl<O: OutEnd<ScriptJob> + Drop, I: InEnd<ScriptJob> + Drop> Poster<O, I> {
-    pub fn new(
+    fn new(
         alloc: Global,
         core: Recorded<ScriptJob>,
         out: O,
@@ -63,6 +64,17 @@ impl<O: OutEnd<ScriptJob> + Drop, I: InEnd<ScriptJob> + Drop> Poster<O, I> {
             own,
             outside,
         })
+    }
+
+    /// Opens the core, with the ends of links of one place that were just opened. The outside actor may have sent already.
+    pub fn open(alloc: Global, out: O, own: I, outside: I) -> Result<Self, AllocError>
+        requires out { O.out out ≡ out_of (fresh 0 0 1 0) }
+        requires credited { O.credited out ≡ 0 }
+        requires own { I.inward own ≡ inward_of (fresh 0 0 1 0) }
+        requires outside { I.inward outside ≡ record (inward_of (fresh 1 0 1 0)) { seen = (I.inward outside).seen } }
+    {
+        let core = Recorded::open(alloc, alloc, CORE, 1, 1, 30)?;
+        Poster::new(alloc, core, out, own, outside)
     }
 
     /// Whether an order came from this actor.

@@ -2,20 +2,47 @@
 
 ghost use Rattle.std.specs.Prelude.{◌≡◌, IfOk};
 ghost use Rattle.rt_jobs.specs.Ready.{HasReadyJob};
-ghost use Rattle.rt_link.specs.Whole.{fresh};
+ghost use Rattle.rt_link.specs.Whole.{fresh, inward_of};
 
-use crate::actors::{CORE, OUTSIDE, OWN, Sender, name};
+use crate::actors::{CORE, FIRST, OUTSIDE, OWN, QUEUE, Sender, put};
 use crate::poster::Poster;
-use rt_ids::{CoreNo, Note, Order, QueueNo};
+use rt_ids::{CoreNo, JobId, Note, Order};
 use rt_jobs::{Poll, ScriptJob, Task};
-use rt_journal::{Recorded, RecordedDesk};
-use rt_link::{OutEnd, PlainLink};
-use rt_ring::RingLink;
+use rt_link::{InEnd, OutEnd, PlainLink};
+use rt_ring::{RingIn, RingLink, RingOut};
 use std::alloc::{AllocError, Global};
 use std::process::Abort;
-use std::test::Fail;
 
-const QUEUE: QueueNo = QueueNo(0);
+/// The name of the core's first submission to itself.
+const OF_CORE: JobId = JobId {
+    from: OWN,
+    to: CORE,
+    number: 1,
+};
+
+/// What the core notes of the job, and then of the one that it submitted. The link to itself has one place, so the second submission is
+/// refused, and there is no core 9.
+const NOTED: [Note<u64>; 19] = [
+    Note::Took(FIRST, QUEUE),
+    Note::Pick(QUEUE, 0),
+    Note::Start(FIRST),
+    Note::Sent(OF_CORE, Order::Job(QUEUE, ())),
+    Note::Detached(OF_CORE),
+    Note::Yield(FIRST, 10),
+    Note::Pick(QUEUE, 10),
+    Note::Resume(FIRST),
+    Note::Yield(FIRST, 10),
+    Note::Pick(QUEUE, 20),
+    Note::Resume(FIRST),
+    Note::Yield(FIRST, 10),
+    Note::Pick(QUEUE, 30),
+    Note::Resume(FIRST),
+    Note::Done(FIRST, 1, 7),
+    Note::Took(OF_CORE, QUEUE),
+    Note::Pick(QUEUE, 31),
+    Note::Start(OF_CORE),
+    Note::Done(OF_CORE, 1, 0),
+];
 
 /// A job that submits to its own core twice and then to a core that there isn't, of 10 ns each, and answers 7 in 1 ns.
 fn job(rt: &impl Abort) -> Order<ScriptJob>
@@ -38,59 +65,78 @@ fn link_with(alloc: Global, job: Order<ScriptJob>) -> Result<PlainLink<ScriptJob
     ensures { IfOk result (λ link. link ≡ record (fresh 1 0 1 0) { sent = link.sent }) }
 {
     let mut link = PlainLink::open(alloc, OUTSIDE, CORE, 1)?;
-    drop(link.send(job));
+    put(&mut link, job);
     Ok(link)
 }
 
-/// What the core notes of that job, and then of the job that it submitted. The link to itself has one place, so the second submission is
-/// refused, and there is no core 9.
-fn noted() -> [Note<u64>; 19] {
-    [
-        Note::Took(name(OUTSIDE, 1), QUEUE),
-        Note::Pick(QUEUE, 0),
-        Note::Start(name(OUTSIDE, 1)),
-        Note::Sent(name(OWN, 1), Order::Job(QUEUE, ())),
-        Note::Detached(name(OWN, 1)),
-        Note::Yield(name(OUTSIDE, 1), 10),
-        Note::Pick(QUEUE, 10),
-        Note::Resume(name(OUTSIDE, 1)),
-        Note::Yield(name(OUTSIDE, 1), 10),
-        Note::Pick(QUEUE, 20),
-        Note::Resume(name(OUTSIDE, 1)),
-        Note::Yield(name(OUTSIDE, 1), 10),
-        Note::Pick(QUEUE, 30),
-        Note::Resume(name(OUTSIDE, 1)),
-        Note::Done(name(OUTSIDE, 1), 1, 7),
-        Note::Took(name(OWN, 1), QUEUE),
-        Note::Pick(QUEUE, 31),
-        Note::Start(name(OWN, 1)),
-        Note::Done(name(OWN, 1), 1, 0),
-    ]
+/// A core with plain links, of which the outside actor's is this one.
+fn plain_poster(
+    alloc: Global,
+    outside: PlainLink<ScriptJob>,
+) -> Result<Poster<PlainLink<ScriptJob>, PlainLink<ScriptJob>>, AllocError>
+    requires { outside ≡ record (fresh 1 0 1 0) { sent = outside.sent } }
+{
+    let out = PlainLink::open(alloc, OWN, CORE, 1)?;
+    let own = PlainLink::open(alloc, OWN, CORE, 1)?;
+    Poster::open(alloc, out, own, outside)
+}
+
+/// Whether the job's polls over plain links come to these notes.
+fn posts_over_plain_links(alloc: Global, job: Order<ScriptJob>) -> Option<bool>
+    requires { HasReadyJob ⟦<ScriptJob as Task>⟧.done ⟦<ScriptJob as Task>⟧.CanPoll job }
+{
+    let outside = link_with(alloc, job).ok()?;
+    let mut poster = plain_poster(alloc, outside).ok()?;
+    let polled = poster.deliver(OUTSIDE) && poster.turns(alloc, 4);
+    Some(polled && poster.tells(&NOTED[..15]))
+}
+
+/// A core with a ring to itself, which receives from the outside actor on this end.
+fn ring_poster(
+    alloc: Global,
+    outside: RingIn<ScriptJob>,
+) -> Option<Poster<RingOut<ScriptJob>, RingIn<ScriptJob>>>
+    requires { ⟦<RingIn<ScriptJob> as InEnd<ScriptJob>>⟧.inward outside ≡ inward_of (fresh 1 0 1 0) }
+{
+    let Ok((out, own)) = RingLink::open(alloc, OWN, CORE, 1) else {
+        return None;
+    };
+    Poster::open(alloc, out, own, outside).ok()
+}
+
+/// The outside actor and the core, with a ring between them.
+fn ring_actors(
+    alloc: Global,
+) -> Option<
+    (
+        Sender<RingOut<ScriptJob>>,
+        Poster<RingOut<ScriptJob>, RingIn<ScriptJob>>,
+    ),
+> {
+    let Ok((to, outside)) = RingLink::open(alloc, OUTSIDE, CORE, 1) else {
+        return None;
+    };
+    let sender = Sender::open(alloc, 1, to).ok()?;
+    let poster = ring_poster(alloc, outside)?;
+    Some((sender, poster))
+}
+
+/// Whether the job's polls over rings come to these notes, and then the poll of the job that it submitted.
+fn posts_over_rings(alloc: Global, job: Order<ScriptJob>) -> Option<bool>
+    requires { HasReadyJob ⟦<ScriptJob as Task>⟧.done ⟦<ScriptJob as Task>⟧.CanPoll job }
+{
+    let (mut sender, mut poster) = ring_actors(alloc)?;
+    let polled = sender.submit(job) && poster.deliver(OUTSIDE) && poster.turns(alloc, 4);
+    let own = poster.deliver(OWN) && poster.turns(alloc, 1);
+    Some(polled && own && poster.tells(&NOTED))
 }
 
 #[test]
-fn a_job_submits_over_rings(rt: HostRuntime) -> Result<(), Fail> {
-    let (out, own) = RingLink::open(rt.alloc(), OWN, CORE, 1)?;
-    let (to, outside) = RingLink::open(rt.alloc(), OUTSIDE, CORE, 1)?;
-    let desk = RecordedDesk::open(rt.alloc(), OUTSIDE, 1, 1, 10)?;
-    let core = Recorded::open(rt.alloc(), rt.alloc(), CORE, 1, 1, 30)?;
-    let mut sender = Sender::new(desk, to);
-    let mut poster = Poster::new(rt.alloc(), core, out, own, outside)?;
-    let sent = sender.submit(job(&rt)) && poster.deliver(OUTSIDE);
-    let polled = poster.turns(rt.alloc(), 4);
-    let own = poster.deliver(OWN) && poster.turns(rt.alloc(), 1);
-    assert!(rt; sent && polled && own && poster.tells(&noted()));
-    Ok(())
+fn a_job_submits_over_rings(rt: HostRuntime) {
+    assert!(rt; posts_over_rings(rt.alloc(), job(&rt)) == Some(true));
 }
 
 #[test]
-fn a_job_submits_over_plain_links(rt: HostRuntime) -> Result<(), Fail> {
-    let out = PlainLink::open(rt.alloc(), OWN, CORE, 1)?;
-    let own = PlainLink::open(rt.alloc(), OWN, CORE, 1)?;
-    let outside = link_with(rt.alloc(), job(&rt))?;
-    let core = Recorded::open(rt.alloc(), rt.alloc(), CORE, 1, 1, 30)?;
-    let mut poster = Poster::new(rt.alloc(), core, out, own, outside)?;
-    let polled = poster.deliver(OUTSIDE) && poster.turns(rt.alloc(), 4);
-    assert!(rt; polled && poster.tells(&noted()[..15]));
-    Ok(())
+fn a_job_submits_over_plain_links(rt: HostRuntime) {
+    assert!(rt; posts_over_plain_links(rt.alloc(), job(&rt)) == Some(true));
 }

@@ -2,119 +2,187 @@
 
 ghost use Rattle.std.specs.Prelude.{◌≡◌, IfOk};
 ghost use Rattle.rt_jobs.specs.Ready.{HasReadyJob};
-ghost use Rattle.rt_link.specs.Whole.{fresh};
+ghost use Rattle.rt_link.specs.Whole.{fresh, inward_of};
 
-use crate::actors::{Act, CORE, OUTSIDE, OWN, Receiver, Sender, name, tells};
+use crate::actors::{Act, CORE, FIRST, OUTSIDE, OWN, QUEUE, Receiver, SECOND, Sender, put, tells};
 use rt_ids::{Answer, Mode, Note, Order, OutcomeNote, QueueNo, Reason, TicketError};
 use rt_jobs::{ScriptJob, Task};
-use rt_journal::{Recorded, RecordedDesk};
-use rt_link::{OutEnd, PlainLink};
-use rt_ring::RingLink;
+use rt_journal::Recorded;
+use rt_link::{InEnd, OutEnd, PlainLink};
+use rt_ring::{RingIn, RingLink, RingOut};
 use rt_shares::Shares;
 use std::alloc::{AllocError, Global};
-use std::process::Abort;
 use std::test::Fail;
 
-const QUEUE: QueueNo = QueueNo(0);
+/// The notes of a core whose queue hands a job back.
+const HANDED_BACK: [Note<u64>; 5] = [
+    Note::Took(FIRST, QUEUE),
+    Note::Answered(SECOND, Answer::Closed),
+    Note::QueueClosed(QUEUE, Mode::Return),
+    Note::Pick(QUEUE, 0),
+    Note::Returned(FIRST, Reason::QueueReturned),
+];
+
+/// What a core does that is closed by the second order and finishes its job.
+const FINISHES: [Act; 6] = [
+    Act::Deliver,
+    Act::Deliver,
+    Act::Nothing,
+    Act::Turn,
+    Act::Shut(OUTSIDE),
+    Act::Shut(OWN),
+];
+
+/// The notes of that core.
+const FINISHED: [Note<u64>; 8] = [
+    Note::Took(FIRST, QUEUE),
+    Note::Answered(SECOND, Answer::Closed),
+    Note::CoreClosed(Mode::Finish),
+    Note::Pick(QUEUE, 0),
+    Note::Start(FIRST),
+    Note::Done(FIRST, 10, 7),
+    Note::Shut(OUTSIDE, 2),
+    Note::Shut(OWN, 0),
+];
+
+/// The notes of the outside actor that sent both orders, detached the second one and redeemed the first.
+const REDEEMED: [Note<u64>; 6] = [
+    Note::Sent(FIRST, Order::Job(QUEUE, ())),
+    Note::Sent(SECOND, Order::CloseCore(Mode::Finish)),
+    Note::Detached(SECOND),
+    Note::Collected(SECOND, OutcomeNote::Answered(Answer::Closed)),
+    Note::Collected(FIRST, OutcomeNote::Finished(7)),
+    Note::Redeemed(FIRST, OutcomeNote::Finished(7)),
+];
+
+/// The notes of an actor that sent a job and let it go.
+const LET_GO: [Note<u64>; 2] = [
+    Note::Sent(FIRST, Order::Job(QUEUE, ())),
+    Note::Detached(FIRST),
+];
 
 /// A job for queue 0 that answers 7 at its first poll, of 10 ns.
-fn job(rt: &impl Abort) -> Order<ScriptJob>
+fn job() -> Order<ScriptJob>
     ensures { HasReadyJob ⟦<ScriptJob as Task>⟧.done ⟦<ScriptJob as Task>⟧.CanPoll result }
 {
-    let job = ScriptJob::done(10, 7);
-    assert!(rt; !job.is_done());
-    Order::Job(QUEUE, job)
+    Order::Job(QUEUE, ScriptJob::done(10, 7))
 }
 
 /// A link from the outside actor to core 0 on which a job was sent, and a closing of its queue.
-fn link_with(alloc: Global, job: Order<ScriptJob>) -> Result<PlainLink<ScriptJob>, AllocError>
-    requires { HasReadyJob ⟦<ScriptJob as Task>⟧.done ⟦<ScriptJob as Task>⟧.CanPoll job }
+fn link_with(alloc: Global) -> Result<PlainLink<ScriptJob>, AllocError>
     ensures { IfOk result (λ link. link ≡ record (fresh 1 0 4 0) { sent = link.sent }) }
 {
     let mut link = PlainLink::open(alloc, OUTSIDE, CORE, 4)?;
-    drop(link.send(job));
-    drop(link.send(Order::Close(QUEUE, Mode::Return)));
+    put(&mut link, job());
+    put(&mut link, Order::Close(QUEUE, Mode::Return));
     Ok(link)
 }
 
-#[test]
-fn a_queue_hands_back_over_plain_links(rt: HostRuntime) -> Result<(), Fail> {
-    let outside = link_with(rt.alloc(), job(&rt))?;
-    let own = PlainLink::open(rt.alloc(), OWN, CORE, 4)?;
-    let core = Recorded::open(rt.alloc(), rt.alloc(), CORE, 1, 4, 10)?;
-    let mut receiver = Receiver::new(core, own, outside);
+/// A core with plain links, of which the outside actor's has both orders.
+fn plain_receiver(alloc: Global) -> Result<Receiver<PlainLink<ScriptJob>>, AllocError> {
+    let outside = link_with(alloc)?;
+    let own = PlainLink::open(alloc, OWN, CORE, 4)?;
+    Receiver::open(alloc, 4, own, outside)
+}
+
+fn hands_back(alloc: Global) -> Option<bool> {
+    let mut receiver = plain_receiver(alloc).ok()?;
     let done = receiver.does(&[Act::Deliver, Act::Deliver, Act::Nothing, Act::Turn]);
-    let notes = [
-        Note::Took(name(OUTSIDE, 1), QUEUE),
-        Note::Answered(name(OUTSIDE, 2), Answer::Closed),
-        Note::QueueClosed(QUEUE, Mode::Return),
-        Note::Pick(QUEUE, 0),
-        Note::Returned(name(OUTSIDE, 1), Reason::QueueReturned),
-    ];
-    assert!(rt; done && receiver.tells(&notes));
-    Ok(())
+    Some(done && receiver.tells(&HANDED_BACK))
 }
 
 #[test]
-fn outcomes_cross_back_over_rings(rt: HostRuntime) -> Result<(), Fail> {
-    let (out, outside) = RingLink::open(rt.alloc(), OUTSIDE, CORE, 4)?;
-    let (_, own) = RingLink::open(rt.alloc(), OWN, CORE, 4)?;
-    let desk = RecordedDesk::open(rt.alloc(), OUTSIDE, 1, 4, 10)?;
-    let core = Recorded::open(rt.alloc(), rt.alloc(), CORE, 1, 4, 10)?;
-    let mut sender = Sender::new(desk, out);
-    let mut receiver = Receiver::new(core, own, outside);
-    let sent = sender.submit(job(&rt)) && sender.submit(Order::CloseCore(Mode::Finish));
-    let came = receiver.does(&[Act::Deliver, Act::Deliver, Act::Nothing, Act::Turn]);
-    let shut = receiver.does(&[Act::Shut(OUTSIDE), Act::Shut(OWN)]) && receiver.is_drained();
-    let early = sender.redeem(1) == Err(TicketError::Pending) && sender.outstanding() == 2;
-    let late = !sender.submit(job(&rt)) && sender.detach(2) && sender.collect() == 2;
-    let back = sender.redeem(1) == Ok(Some(7)) && sender.redeem(1) == Err(TicketError::Gone);
-    let notes = [
-        Note::Took(name(OUTSIDE, 1), QUEUE),
-        Note::Answered(name(OUTSIDE, 2), Answer::Closed),
-        Note::CoreClosed(Mode::Finish),
-        Note::Pick(QUEUE, 0),
-        Note::Start(name(OUTSIDE, 1)),
-        Note::Done(name(OUTSIDE, 1), 10, 7),
-        Note::Shut(OUTSIDE, 2),
-        Note::Shut(OWN, 0),
-    ];
-    let noted = [
-        Note::Sent(name(OUTSIDE, 1), Order::Job(QUEUE, ())),
-        Note::Sent(name(OUTSIDE, 2), Order::CloseCore(Mode::Finish)),
-        Note::Detached(name(OUTSIDE, 2)),
-        Note::Collected(name(OUTSIDE, 2), OutcomeNote::Answered(Answer::Closed)),
-        Note::Collected(name(OUTSIDE, 1), OutcomeNote::Finished(7)),
-        Note::Redeemed(name(OUTSIDE, 1), OutcomeNote::Finished(7)),
-    ];
-    assert!(rt; sent && came && shut && early && late && back && sender.outstanding() == 0);
-    assert!(rt; receiver.tells(&notes) && sender.tells(&noted));
-    Ok(())
+fn a_queue_hands_back_over_plain_links(rt: HostRuntime) {
+    assert!(rt; hands_back(rt.alloc()) == Some(true));
+}
+
+/// A core with a ring to itself, which receives from the outside actor on this end.
+fn ring_receiver(alloc: Global, outside: RingIn<ScriptJob>) -> Option<Receiver<RingIn<ScriptJob>>>
+    requires { ⟦<RingIn<ScriptJob> as InEnd<ScriptJob>>⟧.inward outside ≡ inward_of (fresh 1 0 4 0) }
+{
+    let Ok((_out, own)) = RingLink::open(alloc, OWN, CORE, 4) else {
+        return None;
+    };
+    Receiver::open(alloc, 4, own, outside).ok()
+}
+
+/// The outside actor and the core, with a ring between them.
+fn ring_actors(alloc: Global) -> Option<(Sender<RingOut<ScriptJob>>, Receiver<RingIn<ScriptJob>>)> {
+    let Ok((out, outside)) = RingLink::open(alloc, OUTSIDE, CORE, 4) else {
+        return None;
+    };
+    let sender = Sender::open(alloc, 4, out).ok()?;
+    let receiver = ring_receiver(alloc, outside)?;
+    Some((sender, receiver))
+}
+
+fn sends_both(sender: &mut Sender<RingOut<ScriptJob>>) -> bool {
+    sender.submit(job()) && sender.submit(Order::CloseCore(Mode::Finish))
+}
+
+fn finishes(receiver: &mut Receiver<RingIn<ScriptJob>>) -> bool {
+    receiver.does(&FINISHES) && receiver.is_drained() && receiver.tells(&FINISHED)
+}
+
+/// Both outcomes come when the gate is shut, and one of them is waited for.
+fn collects_both(sender: &mut Sender<RingOut<ScriptJob>>) -> bool {
+    sender.redeem(1) == Err(TicketError::Pending)
+        && sender.outstanding() == 2
+        && !sender.submit(job())
+        && sender.detach(2)
+        && sender.collect() == 2
+}
+
+/// The job's answer is given once.
+fn redeems_one(sender: &mut Sender<RingOut<ScriptJob>>) -> bool {
+    sender.redeem(1) == Ok(Some(7))
+        && sender.redeem(1) == Err(TicketError::Gone)
+        && sender.outstanding() == 0
+        && sender.tells(&REDEEMED)
+}
+
+fn outcomes_cross(alloc: Global) -> Option<bool> {
+    let (mut sender, mut receiver) = ring_actors(alloc)?;
+    let came = sends_both(&mut sender) && finishes(&mut receiver);
+    Some(came && collects_both(&mut sender) && redeems_one(&mut sender))
 }
 
 #[test]
-fn an_actor_sends_over_a_plain_link(rt: HostRuntime) -> Result<(), Fail> {
-    let desk = RecordedDesk::open(rt.alloc(), OUTSIDE, 1, 1, 10)?;
-    let mut sender = Sender::new(desk, PlainLink::open(rt.alloc(), OUTSIDE, CORE, 1)?);
-    let sent = sender.submit(job(&rt)) && !sender.submit(job(&rt)) && sender.detach(1);
+fn outcomes_cross_back_over_rings(rt: HostRuntime) {
+    assert!(rt; outcomes_cross(rt.alloc()) == Some(true));
+}
+
+/// On a link of one place a job is sent and let go, and its place isn't free yet.
+fn lets_go(alloc: Global) -> Result<bool, AllocError> {
+    let link = PlainLink::open(alloc, OUTSIDE, CORE, 1)?;
+    let mut sender = Sender::open(alloc, 1, link)?;
+    let sent = sender.submit(job()) && !sender.submit(job()) && sender.detach(1);
+    Ok(sent && sender.outstanding() == 1 && sender.tells(&LET_GO))
+}
+
+#[test]
+fn an_actor_sends_over_a_plain_link(rt: HostRuntime) {
+    assert!(rt; lets_go(rt.alloc()) == Ok(true));
+}
+
+fn closes(core: &mut Recorded<ScriptJob>) -> bool {
+    core.journal().free() >= 1 && core.close(Mode::Return) && core.is_closed()
+}
+
+/// A core makes a queue of these shares before anything else, and closes.
+fn makes_and_closes(alloc: Global, half: Shares) -> Result<bool, AllocError> {
+    let mut core: Recorded<ScriptJob> = Recorded::open(alloc, alloc, CORE, 1, 4, 10)?;
+    let made = core.create(half) == Ok(QueueNo(1)) && core.cap() == 4;
     let notes = [
-        Note::Sent(name(OUTSIDE, 1), Order::Job(QUEUE, ())),
-        Note::Detached(name(OUTSIDE, 1)),
+        Note::Created(QueueNo(1), half),
+        Note::CoreClosed(Mode::Return),
     ];
-    assert!(rt; sent && sender.outstanding() == 1 && sender.tells(&notes));
-    Ok(())
+    Ok(made && closes(&mut core) && tells(core.journal(), &notes))
 }
 
 #[test]
 fn a_core_makes_a_queue_and_closes(rt: HostRuntime) -> Result<(), Fail> {
     let half = Shares::try_new(500)?;
-    let mut core: Recorded<ScriptJob> = Recorded::open(rt.alloc(), rt.alloc(), CORE, 1, 4, 10)?;
-    let made = core.create(half) == Ok(QueueNo(1)) && core.cap() == 4;
-    let closed = core.journal().free() >= 1 && core.close(Mode::Return) && core.is_closed();
-    let notes = [
-        Note::Created(QueueNo(1), half),
-        Note::CoreClosed(Mode::Return),
-    ];
-    assert!(rt; made && closed && tells(core.journal(), &notes));
+    assert!(rt; makes_and_closes(rt.alloc(), half)?);
     Ok(())
 }

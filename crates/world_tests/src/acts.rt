@@ -7,7 +7,6 @@ use rt_ids::{
     ActorNo, CoreNo, JobId, Mode, Order, Outcome, QueueNo, SendError, Ticket, TicketError,
 };
 use rt_jobs::{Poll, ScriptJob, Task};
-use rt_shares::Shares;
 use rt_world::{Event, Reply, World};
 use std::process::Abort;
 
@@ -20,8 +19,8 @@ pub enum Act {
     Work(u8, u8, u8, u64, u64),
     /// A job for queue 0 whose first polls, of 10 ns, each submit to queue 0 of one of these cores. It is done with 7 at its next poll of 1 ns.
     Posts(u8, u8, [u8; 5]),
-    /// The order to make a queue of these shares.
-    Create(u8, u8, Shares),
+    /// The order to make a queue of 1000 shares.
+    Create(u8, u8),
     /// The order to close the core.
     CloseCore(u8, u8, Mode),
     Deliver(u8, u8),
@@ -115,7 +114,7 @@ pub fn event_of(rt: &impl Abort, act: &Act) -> Event<ScriptJob>
             send_job(rt, *from, *to, *queue, two_polls(*time, *answer))
         }
         Act::Posts(from, to, cores) => send_job(rt, *from, *to, 0, posting(rt, cores)),
-        Act::Create(from, to, shares) => send(*from, *to, Order::Create(*shares)),
+        Act::Create(from, to) => send(*from, *to, Order::Create(Default::default())),
         Act::CloseCore(from, to, mode) => send(*from, *to, Order::CloseCore(*mode)),
         Act::Deliver(core, from) => Event::Deliver(CoreNo(*core), ActorNo(*from)),
         Act::Turn(core) => Event::Turn(CoreNo(*core), 0),

@@ -2,15 +2,51 @@
 
 ghost use Rattle.rt_world.specs.Opening.{HasReadyEvent};
 
-use crate::model::{name, tells};
-use rt_ids::{ActorNo, CoreNo, Note, Order, QueueNo};
+use crate::model::tells;
+use rt_ids::{ActorNo, CoreNo, JobId, Note, Order, QueueNo};
 use rt_jobs::{AnyJob, OnceBox, Polled, Range, Step, Task, once_job, polled_job};
 use rt_world::{Event, Reply, World};
+use std::alloc::{AllocError, Global};
+use std::process::Abort;
 use std::test::Fail;
 
 const CORE: CoreNo = CoreNo(0);
 
 const SELF: ActorNo = ActorNo(0);
+
+const Q0: QueueNo = QueueNo(0);
+
+const FIRST: JobId = JobId {
+    from: ActorNo(0),
+    to: CoreNo(0),
+    number: 1,
+};
+
+const SECOND: JobId = JobId {
+    from: ActorNo(0),
+    to: CoreNo(0),
+    number: 2,
+};
+
+/// What the core notes.
+const NOTES: [Note<u64>; 16] = [
+    Note::Sent(FIRST, Order::Job(Q0, ())),
+    Note::Took(FIRST, Q0),
+    Note::Sent(SECOND, Order::Job(Q0, ())),
+    Note::Took(SECOND, Q0),
+    Note::Pick(Q0, 0),
+    Note::Start(FIRST),
+    Note::Done(FIRST, 10, 7),
+    Note::Pick(Q0, 10),
+    Note::Start(SECOND),
+    Note::Yield(SECOND, 10),
+    Note::Pick(Q0, 20),
+    Note::Resume(SECOND),
+    Note::Yield(SECOND, 10),
+    Note::Pick(Q0, 30),
+    Note::Resume(SECOND),
+    Note::Done(SECOND, 10, 9),
+];
 
 /// Work that yields so often and then answers 9.
 #[derive(Drop)]
@@ -53,46 +89,53 @@ fn is_noted(world: &mut World<AnyJob>, event: Event<AnyJob>) -> bool
     matches!(world.step(event), Reply::Noted)
 }
 
-#[test]
-fn boxed_jobs_run_as_any_other(rt: HostRuntime) -> Result<(), Fail> {
-    let mut world: World<AnyJob> = World::try_new(rt.alloc(), rt.alloc(), 1, 4, 100)?;
-    let call: Box<dyn FnOnce() -> u64 + Send> = Box::new(rt.alloc(), || 7)?;
-    let first = once_job(OnceBox::new(call));
+/// A call that answers 7.
+fn seven(alloc: Global) -> Result<AnyJob, AllocError> {
+    let call: Box<dyn FnOnce() -> u64 + Send> = Box::new(alloc, || 7)?;
+    Ok(once_job(OnceBox::new(call)))
+}
+
+/// Work that yields twice.
+fn nine(alloc: Global) -> Result<AnyJob, AllocError> {
     let twice = Countdown {
         yields: 2,
         ended: false,
     };
-    let inside: Box<dyn Polled + Send> = Box::new(rt.alloc(), twice)?;
-    let second = polled_job(inside);
-    for job in [first, second] {
-        assert!(rt; !job.is_done());
-        let sent = matches!(
-            world.step(Event::Send(SELF, CORE, Order::Job(QueueNo(0), job))),
-            Reply::Sent(_)
-        );
-        assert!(rt; sent && is_noted(&mut world, Event::Deliver(CORE, SELF)));
-    }
+    let inside: Box<dyn Polled + Send> = Box::new(alloc, twice)?;
+    Ok(polled_job(inside))
+}
+
+/// Whether this job is sent and delivered.
+fn comes(rt: &impl Abort, world: &mut World<AnyJob>, job: AnyJob) -> bool {
+    assert!(rt; !job.is_done());
+    let sent = matches!(
+        world.step(Event::Send(SELF, CORE, Order::Job(Q0, job))),
+        Reply::Sent(_)
+    );
+    sent && is_noted(world, Event::Deliver(CORE, SELF))
+}
+
+/// Whether four turns are made.
+fn turns(world: &mut World<AnyJob>) -> bool {
+    let mut all = true;
     for _turn in 0..4 {
-        assert!(rt; is_noted(&mut world, Event::Turn(CORE, 10)));
+        all = is_noted(world, Event::Turn(CORE, 10)) && all;
     }
-    let notes = [
-        Note::Sent(name(0, 0, 1), Order::Job(QueueNo(0), ())),
-        Note::Took(name(0, 0, 1), QueueNo(0)),
-        Note::Sent(name(0, 0, 2), Order::Job(QueueNo(0), ())),
-        Note::Took(name(0, 0, 2), QueueNo(0)),
-        Note::Pick(QueueNo(0), 0),
-        Note::Start(name(0, 0, 1)),
-        Note::Done(name(0, 0, 1), 10, 7),
-        Note::Pick(QueueNo(0), 10),
-        Note::Start(name(0, 0, 2)),
-        Note::Yield(name(0, 0, 2), 10),
-        Note::Pick(QueueNo(0), 20),
-        Note::Resume(name(0, 0, 2)),
-        Note::Yield(name(0, 0, 2), 10),
-        Note::Pick(QueueNo(0), 30),
-        Note::Resume(name(0, 0, 2)),
-        Note::Done(name(0, 0, 2), 10, 9),
-    ];
-    assert!(rt; tells(&world, SELF, &notes));
+    all
+}
+
+/// Whether both jobs run to their ends in a world of one core, with these notes.
+fn run_both(rt: &impl Abort, alloc: Global, first: AnyJob, second: AnyJob) -> Option<bool> {
+    let mut world: World<AnyJob> = World::try_new(alloc, alloc, 1, 4, 100).ok()?;
+    let one = comes(rt, &mut world, first);
+    let two = comes(rt, &mut world, second);
+    Some(one && two && turns(&mut world) && tells(&world, SELF, &NOTES))
+}
+
+#[test]
+fn boxed_jobs_run_as_any_other(rt: HostRuntime) -> Result<(), Fail> {
+    let first = seven(rt.alloc())?;
+    let second = nine(rt.alloc())?;
+    assert!(rt; run_both(&rt, rt.alloc(), first, second) == Some(true));
     Ok(())
 }

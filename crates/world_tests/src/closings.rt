@@ -1,110 +1,179 @@
 //! Closed queues and cores: what their events become, and what the journals tell.
 
-use crate::acts::{Act, Became, has_shut, is_drained, run};
-use crate::model::{name, tells};
-use rt_ids::{ActorNo, Answer, CoreNo, Mode, Note, Order, QueueNo, Reason};
+use crate::acts::{Act, Became, has_shut, is_drained};
+use crate::model::{after, tells};
+use rt_ids::{ActorNo, Answer, CoreNo, JobId, Mode, Note, Order, QueueNo, Reason};
 use rt_jobs::ScriptJob;
-use rt_shares::Shares;
 use rt_world::World;
-use std::test::Fail;
+use std::alloc::Global;
+use std::process::Abort;
 
 const SELF: ActorNo = ActorNo(0);
 
 const Q0: QueueNo = QueueNo(0);
 
-#[test]
-fn a_core_finishes_what_its_shut_links_hold(rt: HostRuntime) -> Result<(), Fail> {
-    let mut world: World<ScriptJob> = World::try_new(rt.alloc(), rt.alloc(), 2, 4, 100)?;
-    let row = [
-        (Act::Job(0, 1, 0, 5, 1), Became::Sent),
-        (Act::Job(0, 1, 0, 5, 2), Became::Sent),
-        (Act::CloseCore(2, 1, Mode::Finish), Became::Sent),
-        (Act::Deliver(1, 2), Became::Noted),
-        (Act::Shut(1, 0), Became::Noted),
-        (Act::Job(0, 1, 0, 5, 3), Became::Closed(2)),
-        (Act::Shut(1, 1), Became::Noted),
-        (Act::Shut(1, 2), Became::Noted),
-        (Act::Deliver(1, 0), Became::Noted),
-        (Act::Deliver(1, 0), Became::Noted),
-        (Act::Turn(1), Became::Noted),
-        (Act::Turn(1), Became::Noted),
-        (Act::Turn(1), Became::Idle),
-    ];
-    assert!(rt; run(&rt, &mut world, &row));
-    let notes = [
-        Note::Answered(name(2, 1, 1), Answer::Closed),
-        Note::CoreClosed(Mode::Finish),
-        Note::Shut(ActorNo(0), 2),
-        Note::Shut(ActorNo(1), 0),
-        Note::Shut(ActorNo(2), 1),
-        Note::Took(name(0, 1, 1), Q0),
-        Note::Took(name(0, 1, 2), Q0),
-        Note::Pick(Q0, 0),
-        Note::Start(name(0, 1, 1)),
-        Note::Done(name(0, 1, 1), 5, 1),
-        Note::Pick(Q0, 5),
-        Note::Start(name(0, 1, 2)),
-        Note::Done(name(0, 1, 2), 5, 2),
-    ];
-    assert!(rt;
-        tells(&world, ActorNo(1), &notes) && is_drained(&world, 1) && !is_drained(&world, 0)
-    );
-    Ok(())
-}
+/// The names of two jobs from core 0 to core 1, and of the order of the outside actor that closes core 1.
+const CROSS_1: JobId = JobId {
+    from: ActorNo(0),
+    to: CoreNo(1),
+    number: 1,
+};
 
-#[test]
-fn an_open_core_shuts_no_gate(rt: HostRuntime) -> Result<(), Fail> {
-    let mut world: World<ScriptJob> = World::try_new(rt.alloc(), rt.alloc(), 1, 1, 100)?;
-    let row = [
-        (Act::Shut(0, 0), Became::NotClosed),
-        (Act::Deliver(0, 0), Became::Empty),
-        (Act::Shut(0, 1), Became::NotClosed),
-        (Act::Shut(0, 2), Became::NoActor),
-    ];
-    assert!(rt; run(&rt, &mut world, &row) && tells(&world, SELF, &[]));
-    assert!(rt; !has_shut(&world, 0, 0) && !is_drained(&world, 0));
-    Ok(())
-}
+const CROSS_2: JobId = JobId {
+    from: ActorNo(0),
+    to: CoreNo(1),
+    number: 2,
+};
 
-#[test]
-fn a_core_returns_what_it_holds(rt: HostRuntime) -> Result<(), Fail> {
-    let mut world: World<ScriptJob> = World::try_new(rt.alloc(), rt.alloc(), 1, 4, 100)?;
-    let shares = Shares::try_new(10)?;
-    let row = [
-        (Act::Work(0, 0, 0, 10, 1), Became::Sent),
-        (Act::Deliver(0, 0), Became::Noted),
-        (Act::Turn(0), Became::Noted),
-        (Act::CloseCore(0, 0, Mode::Return), Became::Sent),
-        (Act::Create(0, 0, shares), Became::Sent),
-        (Act::Job(0, 0, 0, 1, 2), Became::Sent),
-        (Act::Deliver(0, 0), Became::Noted),
-        (Act::Deliver(0, 0), Became::Noted),
-        (Act::Deliver(0, 0), Became::Noted),
-        (Act::Shut(0, 0), Became::Noted),
-        (Act::Shut(0, 1), Became::Noted),
-        (Act::Turn(0), Became::Noted),
-        (Act::Turn(0), Became::Idle),
-        (Act::Shut(0, 0), Became::AlreadyShut),
-    ];
-    assert!(rt; run(&rt, &mut world, &row));
-    let notes = [
-        Note::Sent(name(0, 0, 1), Order::Job(Q0, ())),
-        Note::Took(name(0, 0, 1), Q0),
+const CLOSING: JobId = JobId {
+    from: ActorNo(2),
+    to: CoreNo(1),
+    number: 1,
+};
+
+/// The names of what the only core sends to itself.
+const OWN_1: JobId = JobId {
+    from: ActorNo(0),
+    to: CoreNo(0),
+    number: 1,
+};
+
+const OWN_2: JobId = JobId {
+    from: ActorNo(0),
+    to: CoreNo(0),
+    number: 2,
+};
+
+const OWN_3: JobId = JobId {
+    from: ActorNo(0),
+    to: CoreNo(0),
+    number: 3,
+};
+
+const OWN_4: JobId = JobId {
+    from: ActorNo(0),
+    to: CoreNo(0),
+    number: 4,
+};
+
+/// Core 1 of two is closed, and finishes what its shut links hold.
+const FINISHES: [(Act, Became); 13] = [
+    (Act::Job(0, 1, 0, 5, 1), Became::Sent),
+    (Act::Job(0, 1, 0, 5, 2), Became::Sent),
+    (Act::CloseCore(2, 1, Mode::Finish), Became::Sent),
+    (Act::Deliver(1, 2), Became::Noted),
+    (Act::Shut(1, 0), Became::Noted),
+    (Act::Job(0, 1, 0, 5, 3), Became::Closed(2)),
+    (Act::Shut(1, 1), Became::Noted),
+    (Act::Shut(1, 2), Became::Noted),
+    (Act::Deliver(1, 0), Became::Noted),
+    (Act::Deliver(1, 0), Became::Noted),
+    (Act::Turn(1), Became::Noted),
+    (Act::Turn(1), Became::Noted),
+    (Act::Turn(1), Became::Idle),
+];
+
+/// What it notes.
+const FINISHED: [Note<u64>; 13] = [
+    Note::Answered(CLOSING, Answer::Closed),
+    Note::CoreClosed(Mode::Finish),
+    Note::Shut(ActorNo(0), 2),
+    Note::Shut(ActorNo(1), 0),
+    Note::Shut(ActorNo(2), 1),
+    Note::Took(CROSS_1, Q0),
+    Note::Took(CROSS_2, Q0),
+    Note::Pick(Q0, 0),
+    Note::Start(CROSS_1),
+    Note::Done(CROSS_1, 5, 1),
+    Note::Pick(Q0, 5),
+    Note::Start(CROSS_2),
+    Note::Done(CROSS_2, 5, 2),
+];
+
+/// The only core is open.
+const OPEN: [(Act, Became); 4] = [
+    (Act::Shut(0, 0), Became::NotClosed),
+    (Act::Deliver(0, 0), Became::Empty),
+    (Act::Shut(0, 1), Became::NotClosed),
+    (Act::Shut(0, 2), Became::NoActor),
+];
+
+/// What becomes of the only core's events when it has a job inside, closes, and gets an order to make a queue and a job.
+const RETURNS: [(Act, Became); 14] = [
+    (Act::Work(0, 0, 0, 10, 1), Became::Sent),
+    (Act::Deliver(0, 0), Became::Noted),
+    (Act::Turn(0), Became::Noted),
+    (Act::CloseCore(0, 0, Mode::Return), Became::Sent),
+    (Act::Create(0, 0), Became::Sent),
+    (Act::Job(0, 0, 0, 1, 2), Became::Sent),
+    (Act::Deliver(0, 0), Became::Noted),
+    (Act::Deliver(0, 0), Became::Noted),
+    (Act::Deliver(0, 0), Became::Noted),
+    (Act::Shut(0, 0), Became::Noted),
+    (Act::Shut(0, 1), Became::Noted),
+    (Act::Turn(0), Became::Noted),
+    (Act::Turn(0), Became::Idle),
+    (Act::Shut(0, 0), Became::AlreadyShut),
+];
+
+/// What it notes, with the shares of the queue that it was to make.
+fn returned() -> [Note<u64>; 16] {
+    [
+        Note::Sent(OWN_1, Order::Job(Q0, ())),
+        Note::Took(OWN_1, Q0),
         Note::Pick(Q0, 0),
-        Note::Start(name(0, 0, 1)),
-        Note::Yield(name(0, 0, 1), 10),
-        Note::Sent(name(0, 0, 2), Order::CloseCore(Mode::Return)),
-        Note::Sent(name(0, 0, 3), Order::Create(shares)),
-        Note::Sent(name(0, 0, 4), Order::Job(Q0, ())),
-        Note::Answered(name(0, 0, 2), Answer::Closed),
+        Note::Start(OWN_1),
+        Note::Yield(OWN_1, 10),
+        Note::Sent(OWN_2, Order::CloseCore(Mode::Return)),
+        Note::Sent(OWN_3, Order::Create(Default::default())),
+        Note::Sent(OWN_4, Order::Job(Q0, ())),
+        Note::Answered(OWN_2, Answer::Closed),
         Note::CoreClosed(Mode::Return),
-        Note::Answered(name(0, 0, 3), Answer::CoreClosing),
-        Note::Back(name(0, 0, 4), Reason::CoreClosing),
+        Note::Answered(OWN_3, Answer::CoreClosing),
+        Note::Back(OWN_4, Reason::CoreClosing),
         Note::Shut(ActorNo(0), 4),
         Note::Shut(ActorNo(1), 0),
         Note::Pick(Q0, 10),
-        Note::Returned(name(0, 0, 1), Reason::CoreReturned),
-    ];
-    assert!(rt; tells(&world, SELF, &notes) && is_drained(&world, 0));
-    Ok(())
+        Note::Returned(OWN_1, Reason::CoreReturned),
+    ]
+}
+
+/// Whether both cores are as they should be in the end.
+fn has_finished(world: &World<ScriptJob>) -> bool {
+    tells(world, ActorNo(1), &FINISHED) && is_drained(world, 1) && !is_drained(world, 0)
+}
+
+fn finishes(rt: &impl Abort, alloc: Global) -> Option<bool> {
+    let world = after(rt, alloc, 2, 4, &FINISHES)?;
+    Some(has_finished(&world))
+}
+
+#[test]
+fn a_core_finishes_what_its_shut_links_hold(rt: HostRuntime) {
+    assert!(rt; finishes(&rt, rt.alloc()) == Some(true));
+}
+
+/// Whether the only core notes nothing, and is open.
+fn is_open(world: &World<ScriptJob>) -> bool {
+    tells(world, SELF, &[]) && !has_shut(world, 0, 0) && !is_drained(world, 0)
+}
+
+fn stays_open(rt: &impl Abort, alloc: Global) -> Option<bool> {
+    let world = after(rt, alloc, 1, 1, &OPEN)?;
+    Some(is_open(&world))
+}
+
+#[test]
+fn an_open_core_shuts_no_gate(rt: HostRuntime) {
+    assert!(rt; stays_open(&rt, rt.alloc()) == Some(true));
+}
+
+fn returns(rt: &impl Abort, alloc: Global) -> Option<bool> {
+    let world = after(rt, alloc, 1, 4, &RETURNS)?;
+    Some(tells(&world, SELF, &returned()) && is_drained(&world, 0))
+}
+
+#[test]
+fn a_core_returns_what_it_holds(rt: HostRuntime) {
+    assert!(rt; returns(&rt, rt.alloc()) == Some(true));
 }
