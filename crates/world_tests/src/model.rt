@@ -22,7 +22,7 @@ pub fn after(
     cap: u16,
     row: &[(Act, Became)],
 ) -> Option<World<ScriptJob>> {
-    let mut world = World::try_new(alloc, alloc, cores, cap, 100).ok()?;
+    let mut world: World<ScriptJob> = World::try_new(alloc, alloc, cores, cap, 100).ok()?;
     if run(rt, &mut world, row) {
         Some(world)
     } else {
@@ -96,7 +96,7 @@ fn numbers_out_of_range_are_refused(rt: HostRuntime) {
 
 /// Whether these events, in a world of one core with links of one place and room for 7 notes, become what stands beside them.
 fn runs_in_little_room(rt: &impl Abort, alloc: Global) -> Option<bool> {
-    let mut world = World::try_new(alloc, alloc, 1, 1, 7).ok()?;
+    let mut world: World<ScriptJob> = World::try_new(alloc, alloc, 1, 1, 7).ok()?;
     Some(run(rt, &mut world, &CANNOT_BE))
 }
 
@@ -111,38 +111,39 @@ fn each_link_holds_its_own(rt: HostRuntime) {
 }
 
 /// A queue of these shares is made first, and told.
-fn makes_a_queue(alloc: Global, shares: Shares) -> Option<bool> {
-    let mut world: World<ScriptJob> = World::try_new(alloc, alloc, 1, 4, 100).ok()?;
+fn makes_a_queue(alloc: Global, shares: Shares) -> Result<bool, WorldError> {
+    let mut world: World<ScriptJob> = World::try_new(alloc, alloc, 1, 4, 100)?;
     let made = matches!(world.create(CoreNo(0), shares), Ok(QueueNo(1)));
-    Some(made && tells(&world, ActorNo(0), &[Note::Created(QueueNo(1), shares)]))
+    Ok(made && tells(&world, ActorNo(0), &[Note::Created(QueueNo(1), shares)]))
 }
 
 #[test]
 fn a_queue_is_made_before_the_first_event(rt: HostRuntime) -> Result<(), Fail> {
     let shares = Shares::try_new(500)?;
-    assert!(rt; makes_a_queue(rt.alloc(), shares) == Some(true));
+    let made = makes_a_queue(rt.alloc(), shares)?;
+    assert!(rt; made);
     Ok(())
 }
 
 /// The last note of core 0 in a run of one job.
-fn last_of_run(rt: &impl Abort, alloc: Global) -> Option<Note<u64>> {
-    let world: World<ScriptJob> = World::try_new(alloc, alloc, 1, 4, 100).ok()?;
+fn last_of_run(rt: &impl Abort, alloc: Global) -> Result<Option<Note<u64>>, WorldError> {
+    let world: World<ScriptJob> = World::try_new(alloc, alloc, 1, 4, 100)?;
     let send = event_of(rt, &Act::Job(1, 0, 0, 10, 7));
-    let deliver = Event::Deliver(CoreNo(0), ActorNo(1));
-    let turn = Event::Turn(CoreNo(0), 0);
-    let events = vec![in alloc; send, deliver, turn].ok()?;
+    let events = vec![in alloc;
+        send,
+        Event::Deliver(CoreNo(0), ActorNo(1)),
+        Event::Turn(CoreNo(0), 0),
+    ]?;
     let assembly = world.run(events);
-    if assembly.cores() == 1 {
-        assembly.journal(ActorNo(0)).get(3)
-    } else {
-        None
-    }
+    let last = assembly.journal(ActorNo(0)).get(3);
+    Ok(if assembly.cores() == 1 { last } else { None })
 }
 
 #[test]
-fn a_run_answers_the_journals(rt: HostRuntime) {
-    let done = Note::Done(OUTSIDE_1, 10, 7);
-    assert!(rt; last_of_run(&rt, rt.alloc()) == Some(done));
+fn a_run_answers_the_journals(rt: HostRuntime) -> Result<(), Fail> {
+    let last = last_of_run(&rt, rt.alloc())?;
+    assert!(rt; last == Some(Note::Done(OUTSIDE_1, 10, 7)));
+    Ok(())
 }
 
 /// Whether outcomes come back so, and core 0 has made one turn.
