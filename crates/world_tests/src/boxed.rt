@@ -8,7 +8,6 @@ use rt_jobs::{AnyJob, OnceBox, Polled, Range, Step, Task, once_job, polled_job};
 use rt_world::{Event, Reply, World};
 use std::alloc::{AllocError, Global};
 use std::process::Abort;
-use std::test::Fail;
 
 const CORE: CoreNo = CoreNo(0);
 
@@ -125,7 +124,9 @@ fn turns(world: &mut World<AnyJob>) -> bool {
 }
 
 /// Whether both jobs run to their ends in a world of one core, with these notes.
-fn run_both(rt: &impl Abort, alloc: Global, first: AnyJob, second: AnyJob) -> Option<bool> {
+fn run_both(rt: &impl Abort, alloc: Global) -> Option<bool> {
+    let first = seven(alloc).ok()?;
+    let second = nine(alloc).ok()?;
     let mut world: World<AnyJob> = World::try_new(alloc, alloc, 1, 4, 100).ok()?;
     let one = comes(rt, &mut world, first);
     let two = comes(rt, &mut world, second);
@@ -133,9 +134,6 @@ fn run_both(rt: &impl Abort, alloc: Global, first: AnyJob, second: AnyJob) -> Op
 }
 
 #[test]
-fn boxed_jobs_run_as_any_other(rt: HostRuntime) -> Result<(), Fail> {
-    let first = seven(rt.alloc())?;
-    let second = nine(rt.alloc())?;
-    assert!(rt; run_both(&rt, rt.alloc(), first, second) == Some(true));
-    Ok(())
+fn boxed_jobs_run_as_any_other(rt: HostRuntime) {
+    assert!(rt; run_both(&rt, rt.alloc()) == Some(true));
 }

@@ -129,11 +129,14 @@ fn a_queue_is_made_before_the_first_event(rt: HostRuntime) -> Result<(), Fail> {
 fn last_of_run(rt: &impl Abort, alloc: Global) -> Result<Option<Note<u64>>, WorldError> {
     let world: World<ScriptJob> = World::try_new(alloc, alloc, 1, 4, 100)?;
     let send = event_of(rt, &Act::Job(1, 0, 0, 10, 7));
-    let events = vec![in alloc;
+    let made = vec![in alloc;
         send,
         Event::Deliver(CoreNo(0), ActorNo(1)),
         Event::Turn(CoreNo(0), 0),
-    ]?;
+    ];
+    let Ok(events) = made else {
+        return Ok(None);
+    };
     let assembly = world.run(events);
     let last = assembly.journal(ActorNo(0)).get(3);
     Ok(if assembly.cores() == 1 { last } else { None })
