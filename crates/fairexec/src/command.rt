@@ -6,8 +6,11 @@ ghost use Rattle.clap.specs.Words.{app_of, is_broken, subcommand_names};
 use clap::{Arg, ArgAction, Command};
 use std::alloc::{AllocError, Global};
 
-/// The subcommand that judges the text of journals. The other one, `run`, runs a script.
+/// The subcommand that judges the text of journals.
 pub const AUDIT: &str = "audit";
+
+/// The subcommand that runs a script on threads. The one that is left, `run`, runs it on the model.
+pub const THREADS: &str = "threads";
 
 /// The argument that names the file to read.
 pub const FILE: &str = "FILE";
@@ -36,7 +39,7 @@ Exit status:
   1  the audit found a fault
   2  the script, the journal text or the command line was refused
   3  a read or a write failed
-  4  there was no memory";
+  4  there was no memory, or a thread couldn't be made";
 
 /// What follows the options in the help of `run`.
 const AFTER_RUN: &str = "\
@@ -51,6 +54,20 @@ Exit status:
   2  the script or the command line was refused
   3  a read or a write failed
   4  there was no memory";
+
+/// What follows the options in the help of `threads`.
+const AFTER_THREADS: &str = "\
+Example:
+  fairexec threads examples/two_tenants.threads
+
+Each line of a script, each line that is printed, and each cause of a refusal:
+  docs/SCRIPTS.md
+
+Exit status:
+  0  all is done
+  2  the script or the command line was refused
+  3  a read or a write failed
+  4  there was no memory, or a thread couldn't be made";
 
 /// What follows the options in the help of `audit`.
 const AFTER_AUDIT: &str = "\
@@ -68,16 +85,17 @@ Exit status:
 
 /// The commands and arguments of the program, with their help.
 pub fn command<'a>(alloc: Global) -> Result<Command<'a>, AllocError>
-    ensures names { IfOk result (λ command. subcommand_names command ≡ codes "run" ∷ codes "audit" ∷ []) }
+    ensures names { IfOk result (λ command. subcommand_names command ≡ codes "run" ∷ codes "threads" ∷ codes "audit" ∷ []) }
     ensures whole { IfOk result (λ command. is_broken command ≡ false) }
 {
     Command::new(alloc, "fairexec")
         .bin_name("fairexec")?
-        .about("Runs scripts on the model of a thread-per-core executor with fair task queues")
+        .about("Runs scripts on the model of a thread-per-core executor with fair task queues, or on its threads")
         .version(VERSION)
         .subcommand_required(true)
         .after_help(AFTER_HELP)
         .subcommand(run_command(alloc)?)?
+        .subcommand(threads_command(alloc)?)?
         .subcommand(audit_command(alloc)?)
 }
 
@@ -104,6 +122,20 @@ fn run_command<'a>(alloc: Global) -> Result<Command<'a>, AllocError>
             .arg(stats)?
             .arg(file)?
             .after_help(AFTER_RUN),
+    )
+}
+
+/// `threads [FILE]`
+fn threads_command<'a>(alloc: Global) -> Result<Command<'a>, AllocError>
+    ensures name { IfOk result (λ command. (app_of command).top.name ≡ codes "threads") }
+    ensures whole { IfOk result (λ command. is_broken command ≡ false) }
+{
+    let file = Arg::new(alloc, FILE).help("The script; without it, standard input is read");
+    Ok(
+        Command::new(alloc, THREADS)
+            .about("Runs a script on threads, and prints the outcome of each order and the verdict of the audit")
+            .arg(file)?
+            .after_help(AFTER_THREADS),
     )
 }
 

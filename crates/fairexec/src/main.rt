@@ -1,4 +1,4 @@
-//! Runs scripts on the model of a thread-per-core executor with fair task queues, and judges journals.
+//! Runs scripts on the model of a thread-per-core executor with fair task queues, or on its threads, and judges journals.
 #![tactic(auto)]
 
 ghost use Rattle.std.specs.Prelude.{◌≡◌, ◌≢◌, true, IfOk, codes};
@@ -8,6 +8,8 @@ ghost use Rattle.clap.specs.declared.error.kind.ErrorKind.TheVariants as command
 ghost use Rattle.rt_report.specs.Faults.{status_of as audit_status};
 ghost use Rattle.rt_report.specs.declared.fault.AuditFault.TheVariants as audit_faults;
 ghost use Rattle.rt_text.specs.Statuses.{status_of};
+ghost use Rattle.rt_threads_script.specs.Faults.{status_of as threads_code};
+ghost use Rattle.rt_threads_script.specs.declared.fault.ThreadsFault.TheVariants as threads_faults;
 ghost use Rattle.rt_text.specs.declared.status.Status.TheVariants as status;
 ghost use Rattle.rt_text.specs.declared.fault.EngineFault.TheVariants as faults;
 
@@ -17,9 +19,13 @@ use rt_engine::run_script;
 use rt_report::fault::status_of;
 use rt_report::{AuditFault, audit_text};
 use rt_text::{EngineFault, Status};
+use rt_threads::threads_script;
+use rt_threads_script::{ThreadsFault, status_of as threads_status};
 use std::io::ErrorKind;
 use std::process::ExitCode;
 use std::rt::{Env, Files};
+use std::sync::Wait;
+use std::thread::Threads;
 use std::{env, fs, io};
 
 mod command;
@@ -29,7 +35,10 @@ fn main(rt: HostRuntime) -> ExitCode {
 }
 
 /// Does what the command line asks for, and answers how it ended.
-fn program<R: Files + Input + Print + Eprint + Env + AllocGlobal>(rt: &R) -> Status {
+fn program<R>(rt: &R) -> Status
+where
+    R: Files + Input + Print + Eprint + Env + AllocGlobal + Threads + Wait + Copy + Drop + Send + 'static,
+{
     let args = match env::args(rt) {
         Ok(args) => args,
         Err(error) => return words_refused(rt, error.kind()),
@@ -50,16 +59,17 @@ fn program<R: Files + Input + Print + Eprint + Env + AllocGlobal>(rt: &R) -> Sta
 }
 
 /// Does what the subcommand of this name and its arguments ask for.
-fn done<R: Files + Input + Print + Eprint + AllocGlobal>(
-    rt: &R,
-    name: &str,
-    found: &ArgMatches<'_>,
-) -> Status
+fn done<R>(rt: &R, name: &str, found: &ArgMatches<'_>) -> Status
+where
+    R: Files + Input + Print + Eprint + AllocGlobal + Threads + Wait + Copy + Drop + Send + 'static,
     ensures { name.now ≢ codes "audit" → result ≢ status.FaultFound }
 {
     let file = found.get_str(command::FILE);
     if name == command::AUDIT {
         return judged(rt, audit(rt, file));
+    }
+    if name == command::THREADS {
+        return ran(rt, threads(rt, file));
     }
     let journal = found.get_flag(command::JOURNAL);
     let stats = found.get_flag(command::STATS);
@@ -82,6 +92,23 @@ fn run<R: Files + Input + Print + AllocGlobal>(
         Some(path) => match fs::open(rt, path) {
             Ok(mut source) => run_script(alloc, journal, stats, &mut source, &mut sink),
             Err(error) => Err(opening_fault(error.kind())),
+        },
+    }
+}
+
+/// Runs the script of the file, or of standard input, on threads.
+fn threads<R>(rt: &R, file: Option<&str>) -> Result<bool, ThreadsFault>
+where
+    R: Files + Input + Print + AllocGlobal + Threads + Wait + Copy + Drop + Send + 'static,
+    ensures { IfOk result (λ sound. sound ≡ true) }
+{
+    let alloc = rt.alloc();
+    let mut sink = io::writer(rt);
+    match file {
+        None => threads_script(*rt, alloc, &mut rt.reader(), &mut sink),
+        Some(path) => match fs::open(rt, path) {
+            Ok(mut source) => threads_script(*rt, alloc, &mut source, &mut sink),
+            Err(error) => Err(not_opened(error.kind())),
         },
     }
 }
@@ -122,6 +149,27 @@ fn unopened(kind: ErrorKind) -> AuditFault
         ErrorKind::OutOfMemory => AuditFault::Memory,
         _ => AuditFault::Read,
     }
+}
+
+/// Why a script for threads can't be opened.
+fn not_opened(kind: ErrorKind) -> ThreadsFault
+    ensures memory { kind ≡ kinds.OutOfMemory → result ≡ threads_faults.Memory }
+    ensures other { kind ≢ kinds.OutOfMemory → result ≡ threads_faults.Read }
+{
+    match kind {
+        ErrorKind::OutOfMemory => ThreadsFault::Memory,
+        _ => ThreadsFault::Read,
+    }
+}
+
+/// Says on standard error why a script wasn't run on threads, if it wasn't. Where even that can't be said, the status is the same.
+fn ran<R: Eprint>(rt: &R, answer: Result<bool, ThreadsFault>) -> Status
+    ensures { result ≡ threads_code answer }
+{
+    if let Err(fault) = &answer {
+        let _ = eprintln!(rt; "{fault}");
+    }
+    threads_status(&answer)
 }
 
 /// Says on standard error why there is no verdict, if there is none. Where even that can't be said, the status is the same.

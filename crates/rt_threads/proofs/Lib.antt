@@ -1,0 +1,6 @@
+pub mod Rooming
+pub mod Sending
+pub mod Good
+pub mod Walking
+pub mod Running
+pub mod Ready

@@ -1,0 +1,5 @@
+pub mod Rooms
+pub mod Starting
+pub mod Offers
+pub mod Counting
+pub mod Runs
