@@ -90,7 +90,9 @@ pub fn command<'a>(alloc: Global) -> Result<Command<'a>, AllocError>
 {
     Command::new(alloc, "fairexec")
         .bin_name("fairexec")?
-        .about("Runs scripts on the model of a thread-per-core executor with fair task queues, or on its threads")
+        .about(
+            "Runs scripts on the model of a thread-per-core executor with fair task queues, or on its threads",
+        )
         .version(VERSION)
         .subcommand_required(true)
         .after_help(AFTER_HELP)
@@ -133,7 +135,9 @@ fn threads_command<'a>(alloc: Global) -> Result<Command<'a>, AllocError>
     let file = Arg::new(alloc, FILE).help("The script; without it, standard input is read");
     Ok(
         Command::new(alloc, THREADS)
-            .about("Runs a script on threads, and prints the outcome of each order and the verdict of the audit")
+            .about(
+                "Runs a script on threads, and prints the outcome of each order and the verdict of the audit",
+            )
             .arg(file)?
             .after_help(AFTER_THREADS),
     )

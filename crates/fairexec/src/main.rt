@@ -37,7 +37,18 @@ fn main(rt: HostRuntime) -> ExitCode {
 /// Does what the command line asks for, and answers how it ended.
 fn program<R>(rt: &R) -> Status
 where
-    R: Files + Input + Print + Eprint + Env + AllocGlobal + Threads + Wait + Copy + Drop + Send + 'static,
+    R: Files
+        + Input
+        + Print
+        + Eprint
+        + Env
+        + AllocGlobal
+        + Threads
+        + Wait
+        + Copy
+        + Drop
+        + Send
+        + 'static,
 {
     let args = match env::args(rt) {
         Ok(args) => args,

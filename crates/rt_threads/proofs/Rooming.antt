@@ -1,5 +1,5 @@
 -- A script's orders have room in the outside journal and on their links.
-use Rattle.std.proofs.Common.{◌≡◌, ℕ, zero, suc, ◌+◌, ◌-◌, ◌*◌, ◌≤◌, ◌<◌, List, length, refl, arith}
+use Rattle.std.proofs.Common.{◌≡◌, ℕ, zero, suc, ◌+◌, ◌-◌, ◌*◌, ◌≤◌, length, arith}
 use Rattle.std.proofs.Math.Nat.{mul-le-mul}
 use Rattle.std.proofs.lemmas.List.Sums.{count_by-le-length}
 use Rattle.rt_ids.specs.Filters.{accepted_orders}
@@ -9,7 +9,7 @@ use Rattle.rt_jobs.specs.Scripts.{Script}
 use Rattle.rt_notes.specs.Journals.{free_notes}
 use Rattle.rt_runtime.specs.Sends.{outstanding_upto, room_left}
 use Rattle.rt_runtime.specs.State.{RuntimeView}
-use Rattle.rt_threads.specs.Counting.{sent_to, HasPlace}
+use Rattle.rt_threads.specs.Counting.{HasPlace}
 use Rattle.rt_threads.specs.Rooms.{room_of}
 
 -- no more submissions are outstanding than were sent

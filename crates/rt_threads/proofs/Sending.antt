@@ -1,5 +1,5 @@
 -- What orders that are sent one after another change.
-use Rattle.std.proofs.Common.{◌≡◌, ◌≢◌, ℕ, zero, suc, ◌+◌, ◌≤◌, ◌<◌, ◌++◌, ◌==◌, ◌||◌, eqb, cond, Bool, true, false, List, [], ◌∷◌, length, length-append, Option, Some, None, Result, Ok, Err, refl, sym, ap, subst, ◌∙◌, append-nil, append_assoc, arith, zero-add, get_or-set_same, get_or-set_other, length-set}
+use Rattle.std.proofs.Common.{◌≡◌, ◌≢◌, ℕ, zero, suc, ◌+◌, ◌≤◌, ◌<◌, ◌++◌, ◌==◌, ◌||◌, eqb, cond, Bool, true, false, List, [], ◌∷◌, length, length-append, Some, None, Result, Ok, Err, refl, sym, ap, subst, ◌∙◌, arith, zero-add, get_or-set_same, get_or-set_other, length-set}
 use Rattle.std.proofs.lemmas.Bool.Decides.{nat_tests}
 use Rattle.std.proofs.lemmas.List.{length-replicate}
 use Rattle.std.proofs.lemmas.List.Sums.{sum_by-cons, sum_by-append}
@@ -10,7 +10,7 @@ use Rattle.rt_ids.specs.declared.order.Order.{Order}
 use Rattle.rt_ids.specs.declared.order.Order.TheVariants.{CloseCore}
 use Rattle.rt_ids.specs.declared.order.SendError.{SendError}
 use Rattle.rt_ids.specs.declared.order.SendError.TheVariants.{Closed, Full, Spent, NoCore}
-use Rattle.rt_ids.specs.Filters.{Orders, accepted_orders}
+use Rattle.rt_ids.specs.Filters.{accepted_orders}
 use Rattle.rt_ids.specs.Journal.{Journal, with_last}
 use Rattle.rt_ids.specs.Orders.{without_job}
 use Rattle.rt_journal.specs.Submissions.{DeskView, Submits}
@@ -21,7 +21,7 @@ use Rattle.rt_threads.specs.Rooms.{room_of}
 use Rattle.rt_jobs.specs.Scripts.{Script}
 use Rattle.rt_runtime.specs.declared.error.SubmitError.{SubmitError}
 use Rattle.rt_runtime.specs.declared.error.SubmitError.TheVariants.{JournalFull, Send}
-use Rattle.rt_runtime.specs.Sends.{SendsTo, SubmitsTo, is_closing, tells_closing}
+use Rattle.rt_runtime.specs.Sends.{SendsTo, SubmitsTo, tells_closing}
 use Rattle.rt_runtime.specs.State.{RuntimeView, closing_at}
 use Rattle.rt_threads_script.specs.Drafts.{Told, orders_to}
 use Rattle.rt_threads.specs.Counting.{sent_to, IsOfScript, HasPlace, CanClose, AreClosedBelow}
@@ -136,8 +136,7 @@ offers_both (told ∷ rest) second old between new (next, done, others) later = 
 pub started_of : (cores cap : ℕ) (view : View) → IsStarted cores cap (room_of cores cap) view → IsSize cores cap → IsOfScript view × (length view.desk.journal.notes ≡ 0) × ((core : ℕ) → sent_to core view ≡ 0) × (view.desk.cap ≡ cap)
 started_of cores cap view started size =
     let cores_are : view.desk.cores ≡ cores = ap (λ (desk : DeskView Script ℕ). desk.cores) started.desk in
-    let cap_is : view.desk.cap ≡ cap = ap (λ (desk : DeskView Script ℕ). desk.cap) started.desk in
-    (
+    let cap_is : view.desk.cap ≡ cap = ap (λ (desk : DeskView Script ℕ). desk.cap) started.desk in (
       record {
         some_cores = rw cores_are size.some_cores;
         few_cores = rw cores_are size.few_cores;

@@ -1,5 +1,5 @@
 -- Where a walk over the orders of a script stands.
-use Rattle.std.proofs.Common.{◌≡◌, ℕ, suc, ◌+◌, ◌<◌, ◌++◌, List, ◌∷◌, length, take, drop, refl, sym, ap, subst, ◌∙◌, arith, get_or}
+use Rattle.std.proofs.Common.{◌≡◌, ℕ, suc, ◌+◌, ◌<◌, ◌++◌, List, ◌∷◌, length, take, drop, sym, ap, subst, ◌∙◌, arith, get_or}
 use Rattle.std.proofs.Math.Seq.{drop-cons}
 use Rattle.std.proofs.lemmas.List.{map-id, take-append-drop}
 use Rattle.std.specs.Prelude.{map}

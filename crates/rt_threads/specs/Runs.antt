@@ -1,15 +1,13 @@
 -- A whole run of a script on threads.
 use Rattle.std.specs.Prelude.{◌≡◌, ◌++◌, ℕ, Bool, List, Option, Some, Ok}
 use Rattle.std.specs.Option.{IfSome}
-use Rattle.std.specs.Io.KnownBytes.{Keeps}
 use Rattle.rt_ids.specs.Assembly.{Assembly}
 use Rattle.rt_jobs.specs.Scripts.{Script}
 use Rattle.rt_outcomes.specs.Writing as writing
 use Rattle.rt_runtime.specs.Calls.{IsStarted, HasFinished}
 use Rattle.rt_runtime.specs.State.{RuntimeView}
-use Rattle.rt_threads_script.specs.declared.fault.ThreadsCause.{ThreadsCause}
 use Rattle.rt_threads_script.specs.declared.fault.ThreadsFault.{ThreadsFault}
-use Rattle.rt_threads_script.specs.declared.fault.ThreadsFault.TheVariants.{Text, Read, Write, Memory, Thread}
+use Rattle.rt_threads_script.specs.declared.fault.ThreadsFault.TheVariants.{Write}
 use Rattle.rt_threads_script.specs.Drafts.{Drafted, Told}
 use Rattle.rt_threads_script.specs.Scripts.{threads_script_of}
 use Rattle.rt_threads.specs.Offers.{OffersAll, closings}

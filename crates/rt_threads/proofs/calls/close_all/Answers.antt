@@ -1,4 +1,4 @@
-use Rattle.std.proofs.Common.{◌≡◌, ◌<◌, ◌∙◌, length, refl, sym, subst, ap, arith}
+use Rattle.std.proofs.Common.{◌≡◌, ◌<◌, ◌∙◌, length, refl, sym, subst, arith}
 use Rattle.rt_threads.specs.Counting.{AreClosedBelow}
 use Rattle.rt_threads.specs.Offers.{OffersAll, closings}
 use Rattle.rt_threads.proofs.Sending.{place_to_close, closed_more, grows}

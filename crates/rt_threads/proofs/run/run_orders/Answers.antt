@@ -1,4 +1,4 @@
-use Rattle.std.proofs.Common.{◌≡◌, ◌∙◌, ap, Some}
+use Rattle.std.proofs.Common.{◌∙◌, ap, Some}
 use Rattle.rt_runtime.specs.Calls.{IsStarted}
 use Rattle.rt_script.specs.Limits.{IsSize}
 use Rattle.rt_threads_script.specs.Limits.{AreTold, HasSpare}
