@@ -88,6 +88,14 @@ pub fn command<'a>(alloc: Global) -> Result<Command<'a>, AllocError>
     ensures names { IfOk result (λ command. subcommand_names command ≡ codes "run" ∷ codes "threads" ∷ codes "audit" ∷ []) }
     ensures whole { IfOk result (λ command. is_broken command ≡ false) }
 {
+    running(alloc)?.subcommand(audit_command(alloc)?)
+}
+
+/// The program with the two commands that run scripts.
+fn running<'a>(alloc: Global) -> Result<Command<'a>, AllocError>
+    ensures names { IfOk result (λ command. subcommand_names command ≡ codes "run" ∷ codes "threads" ∷ []) }
+    ensures whole { IfOk result (λ command. is_broken command ≡ false) }
+{
     Command::new(alloc, "fairexec")
         .bin_name("fairexec")?
         .about(
@@ -97,8 +105,7 @@ pub fn command<'a>(alloc: Global) -> Result<Command<'a>, AllocError>
         .subcommand_required(true)
         .after_help(AFTER_HELP)
         .subcommand(run_command(alloc)?)?
-        .subcommand(threads_command(alloc)?)?
-        .subcommand(audit_command(alloc)?)
+        .subcommand(threads_command(alloc)?)
 }
 
 /// `run [--journal] [--stats] [FILE]`
