@@ -1,5 +1,6 @@
 use Rattle.std.proofs.Common.{refl, subst}
-use Rattle.std.specs.Prelude.{Some}
+use Rattle.std.specs.Prelude.{Some, None}
+use Rattle.rt_runtime.specs.State.{RuntimeView}
 use Rattle.rt_runtime.specs.Finishing.{IsFirstOpenOf}
 use Rattle.rt_runtime.proofs.Finished.{first_open_of}
 use Rattle.rt_runtime.proofs.runtime.Runtime.finish.Goals as goal
@@ -10,3 +11,8 @@ returns-in-Some g c = (
       (subst (λ closing. IsFirstOpenOf closing (Some c.in-Some.core)) c.deref.ensures.value c.in-Some.ensures),
   refl,
 )
+
+pub end-requires : goal.end-requires
+end-requires g c =
+    subst (λ (view : RuntimeView _ _). IsFirstOpenOf view.closing None) c.self.view_is
+      (subst (λ closing. IsFirstOpenOf closing None) c.deref.ensures.value c.in-None.ensures)
