@@ -1,4 +1,4 @@
-use Rattle.std.proofs.Common.{arith, refl}
+use Rattle.std.proofs.Common.{◌≡◌, ◌∙◌, arith, refl}
 use Rattle.rt_world.proofs.PartOpening.{AreFirstOpened-push}
 use Rattle.rt_world.proofs.model.opening.open_cores.Goals as goal
 
@@ -13,3 +13,11 @@ loop-core-init g c = (
   omega (arith, c.in_ok-inside.ensures.capacity),
   rw c.in_ok-inside.ensures.items (record { cores_are = refl; each_opened = λ core below. absurd (omega (arith, below)) }),
 )
+
+pub returns : goal.returns
+returns g c =
+    let all : c.loop-core.core ≡ c.args.cores = omega (arith, c.loop-core-test.false, c.loop-core.auto.core-end) in
+    record {
+      cores_are = c.loop-core.invariant.1.cores_are ∙ all;
+      each_opened = λ core below. c.loop-core.invariant.1.each_opened core (omega (arith, below, all));
+    }
