@@ -1,7 +1,8 @@
 // A job submitted from one thread to a worker on another, polled there once and redeemed, by hand in Rust, as one writes it without
 // proofs. The two threads are joined by a link of two words (as benches/ring has it, sequentially consistent), or by two of std's
 // bounded channels. The worker takes what there is, puts it into a queue, polls the first of the queue, gives its answer, and parks
-// after so many rounds in which nothing was done.
+// after so many rounds in which nothing was done. Its turns are bare, or they are those of the runtime's worker: it reads the clock
+// before each poll and after it, and writes notes.
 use std::cell::UnsafeCell;
 use std::collections::VecDeque;
 use std::hint::{black_box, spin_loop};
@@ -16,6 +17,9 @@ const GATE: u64 = 1 << 63;
 
 // How many places a link has.
 const PLACES: usize = 64;
+
+// After so many idle rounds a worker parks, as the runtime's do.
+const PATIENCE: u64 = 256;
 
 // A worker that never parks.
 const NEVER: u64 = u64::MAX;
@@ -208,12 +212,59 @@ fn channels() -> (Front, Back) {
     (Front { orders: Some(orders), outcomes, sent: 0 }, Back { orders: orders_there, outcomes: outcomes_there })
 }
 
+// What a worker does beside its polls.
+trait Turns: Send + 'static {
+    fn took(&mut self, number: u64);
+    fn poll(&mut self, number: u64, job: &mut Job) -> u64;
+}
+
+struct Bare;
+
+impl Turns for Bare {
+    fn took(&mut self, _number: u64) {}
+
+    fn poll(&mut self, _number: u64, job: &mut Job) -> u64 {
+        job.poll()
+    }
+}
+
+// A journal and a clock, as a worker has them: a note for what was taken, and three for a poll.
+struct Noted {
+    journal: Vec<[u64; 5]>,
+    base: Instant,
+    runtime: u64,
+}
+
+impl Noted {
+    fn new(jobs: u64) -> Self {
+        Noted { journal: Vec::with_capacity(4 * jobs as usize), base: Instant::now(), runtime: 0 }
+    }
+}
+
+impl Turns for Noted {
+    fn took(&mut self, number: u64) {
+        self.journal.push([3, number, 0, 0, 0]);
+    }
+
+    fn poll(&mut self, number: u64, job: &mut Job) -> u64 {
+        self.journal.push([0, self.runtime, 0, 0, 0]);
+        self.journal.push([1, number, 0, 0, 0]);
+        let before = self.base.elapsed().as_nanos() as u64;
+        let answer = job.poll();
+        let spent = self.base.elapsed().as_nanos() as u64 - before;
+        self.runtime += spent.max(1);
+        self.journal.push([2, number, spent, answer, 0]);
+        answer
+    }
+}
+
 // One round: all that is there is taken, and one job polled. Whether anything was done, and whether no more comes.
-fn round(end: &mut impl Receiving, queue: &mut VecDeque<(u64, Job)>) -> (bool, bool) {
+fn round(end: &mut impl Receiving, queue: &mut VecDeque<(u64, Job)>, turns: &mut impl Turns) -> (bool, bool) {
     let (mut done, mut shut) = (false, false);
     for _ in 0..PLACES {
         match end.take() {
             Taken::Job(number, job) => {
+                turns.took(number);
                 queue.push_back((number, job));
                 done = true;
             }
@@ -225,18 +276,18 @@ fn round(end: &mut impl Receiving, queue: &mut VecDeque<(u64, Job)>) -> (bool, b
         }
     }
     if let Some((number, mut job)) = queue.pop_front() {
-        let answer = job.poll();
+        let answer = turns.poll(number, &mut job);
         end.give(number, answer);
         done = true;
     }
     (done, shut)
 }
 
-fn work(mut end: impl Receiving, patience: u64) {
+fn work(mut end: impl Receiving, mut turns: impl Turns, patience: u64) {
     let mut queue = VecDeque::with_capacity(PLACES);
     let mut idle = 0;
     loop {
-        let (done, shut) = round(&mut end, &mut queue);
+        let (done, shut) = round(&mut end, &mut queue, &mut turns);
         if done {
             idle = 0;
         } else if shut {
@@ -246,6 +297,7 @@ fn work(mut end: impl Receiving, patience: u64) {
             spin_loop();
         } else {
             if let Taken::Job(number, job) = end.park() {
+                turns.took(number);
                 queue.push_back((number, job));
             }
             idle = 0;
@@ -300,14 +352,14 @@ fn paused(mut out: impl Sending, worker: JoinHandle<()>, jobs: u64, pause: Durat
     taken.as_nanos() as f64 / jobs as f64
 }
 
-fn over_words(patience: u64) -> (Out, JoinHandle<()>) {
+fn over_words(turns: impl Turns, patience: u64) -> (Out, JoinHandle<()>) {
     let (out, inward) = words();
-    (out, thread::spawn(move || work(inward, patience)))
+    (out, thread::spawn(move || work(inward, turns, patience)))
 }
 
 fn over_channels(patience: u64) -> (Front, JoinHandle<()>) {
     let (front, back) = channels();
-    (front, thread::spawn(move || work(back, patience)))
+    (front, thread::spawn(move || work(back, Bare, patience)))
 }
 
 fn middle(rounds: usize, measure: impl Fn() -> f64) -> f64 {
@@ -316,30 +368,55 @@ fn middle(rounds: usize, measure: impl Fn() -> f64) -> f64 {
     times[rounds / 2]
 }
 
-fn main() {
-    let rounds = std::env::args().nth(1).map_or(9, |word| word.parse().unwrap());
-    for (name, outstanding, jobs) in [("single", 1, 20_000), ("trip_64", 64, 200_000)] {
-        for (form, patience) in [("", NEVER), ("_parking", 300)] {
-            let taken = middle(rounds, || {
-                let (out, worker) = over_words(patience);
-                trips(out, worker, jobs, outstanding)
-            });
-            println!("{name} words{form} {taken:.1}");
-            let taken = middle(rounds, || {
-                let (out, worker) = over_channels(patience);
-                trips(out, worker, jobs, outstanding)
-            });
-            println!("{name} channels{form} {taken:.1}");
-        }
+// One job polled so often on one thread, with two readings of the clock round each poll and three notes in a journal for it, as a
+// worker makes them. Nanoseconds for each poll.
+fn polls(count: u64) -> f64 {
+    let mut turns = Noted::new(count);
+    let mut queue = VecDeque::with_capacity(PLACES);
+    queue.push_back((1, Job { value: 0 }));
+    let start = Instant::now();
+    for _ in 0..count {
+        let Some((number, mut job)) = queue.pop_front() else { break };
+        black_box(turns.poll(number, &mut job));
+        queue.push_back((number, job));
     }
+    let taken = start.elapsed().as_nanos() as f64 / count as f64;
+    black_box(&turns.journal);
+    taken
+}
+
+// How many idle rounds before a worker parks, and how long the pause before each job is.
+fn table(rounds: usize) {
     for patience in [0, 10, 30, 100, 300, 1000, 3000, 10_000, 30_000, NEVER] {
         for pause in [0, 1, 10, 100] {
             let taken = middle(rounds, || {
-                let (out, worker) = over_words(patience);
+                let (out, worker) = over_words(Bare, patience);
                 paused(out, worker, 1000, Duration::from_micros(pause))
             });
             let rounds_of_idleness = if patience == NEVER { "never".to_string() } else { patience.to_string() };
             println!("idle {rounds_of_idleness} {pause} {taken:.1}");
         }
+    }
+}
+
+// One measure over each kind of link and turn: a line with its name and the nanoseconds of a job.
+fn each(name: &str, jobs: u64, over: impl Fn((Out, JoinHandle<()>)) -> f64, beside: impl Fn((Front, JoinHandle<()>)) -> f64) {
+    println!("turns {name} {:.1}", over(over_words(Noted::new(jobs), PATIENCE)));
+    println!("words {name} {:.1}", over(over_words(Bare, PATIENCE)));
+    println!("channels {name} {:.1}", beside(over_channels(PATIENCE)));
+}
+
+fn main() {
+    let words: Vec<String> = std::env::args().skip(1).collect();
+    let number = |place: usize, or: u64| words.get(place).map_or(or, |word| word.parse().unwrap());
+    match words.first().map(String::as_str) {
+        Some("single") => each("single", 20_000, |(out, worker)| trips(out, worker, 20_000, 1), |(out, worker)| trips(out, worker, 20_000, 1)),
+        Some("trip_64") => each("trip_64", 200_000, |(out, worker)| trips(out, worker, 200_000, 64), |(out, worker)| trips(out, worker, 200_000, 64)),
+        Some("idle") => {
+            let pause = Duration::from_micros(number(1, 0));
+            each("idle", 1000, |(out, worker)| paused(out, worker, 1000, pause), |(out, worker)| paused(out, worker, 1000, pause))
+        }
+        Some("polls") => println!("turns polls {:.1}", polls(1_000_000)),
+        _ => table(number(0, 9) as usize),
     }
 }
