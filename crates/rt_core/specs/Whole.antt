@@ -39,7 +39,7 @@ module _ {J : Type 0} where
   -- what the next pick would come to, told before it is made; a job that is out comes before turns that are used up
   abbrev pub TellsAhead : CoreView J → Result Ahead PickError → Type 0
   TellsAhead view (Ok (ahead.Job next)) = IsAhead view next.queue next.vr next.name next.started
-  TellsAhead view (Ok ahead.Back) = (queue : ℕ) × IsNext view queue × (return_reason queue view ≡ None → ⊥) × (view.turns < 2 ^ 64 - 1)
+  TellsAhead view (Ok ahead.Back) = (queue : ℕ) × IsNext view queue × (waiting_of queue view.queues ≡ [] → ⊥) × (return_reason queue view ≡ None → ⊥) × (view.turns < 2 ^ 64 - 1)
   TellsAhead view (Ok ahead.Idle) = (view.out ≡ None) × ((queue : ℕ) → waiting_of queue view.queues ≡ [])
   TellsAhead view (Err Busy) = view.out ≡ None → ⊥
   TellsAhead view (Err Spent) = (view.out ≡ None) × (view.turns ≡ 2 ^ 64 - 1) × ((queue : ℕ) × (waiting_of queue view.queues ≡ [] → ⊥))

@@ -2,8 +2,10 @@ use Rattle.std.proofs.Common.{◌≡◌, Option, Some, None, false, refl, sym, a
 use Rattle.std.specs.Prelude.{is_some}
 use Rattle.std.proofs.lemmas.Bool.{true≢false}
 use Rattle.rt_taskqueue.specs.Slips.{queues_alone}
+use Rattle.rt_taskqueue.specs.Queues.{waiting_of}
 use Rattle.rt_core.specs.State.{CoreView}
 use Rattle.rt_core.specs.Inside.{core_view, job_out}
+use Rattle.rt_core.proofs.Entries.{some_from_is_any}
 use Rattle.rt_core.proofs.Picking.{exists_if_waiting, first_waits, first_runtime, first_is_next}
 use Rattle.rt_core.proofs.Turned.{first_of}
 use Rattle.rt_core.proofs.one_core.Core.first_ahead.Goals as goal
@@ -30,6 +32,8 @@ returns-then-is_some g c =
     let later = first_of inside.ready.keys key c.in-Some.ensures in (
       key.queue,
       rw (← c.self.view_is) (first_is_next view inside.ready.keys key later.0 later.1 c.self.invariant.listed free c.len-count.ensures.rising),
+      some_from_is_any (waiting_of key.queue c.self.now.queues)
+        (rw (← c.self.view_is) (first_waits view inside.ready.keys key later.0 later.1 c.self.invariant.listed free)),
       λ none. true≢false (sym c.if-is_some.true ∙ c.is_some.ensures ∙ ap is_some (c.return_reason.ensures ∙ none)),
       c.requires.turns,
     )
