@@ -28,24 +28,28 @@ module _ {J T : Type 0} (same : J → J → Type 0) where
     pub did : IsHandBack same old name reason order new
 
 module _ {J : Type 0} (same : J → J → Type 0) (made : J → ℕ) (polls : Owed J ℕ) (answers : J → ℕ → Type 0) where
-  -- a core's turn with the job in its place, whose post has the links on which the core sends: the right pick, one poll, and its settling; the outcome is owed, if the job is done
+  -- a core's turn with the job in its place, whose post has the links on which the core sends: the right pick, one poll, and its settling
+  abbrev pub TurnsOn : ℕ → RecordedView J ℕ → List (Whole J ℕ) → JobId → ℕ → Bool → Settled ℕ → RecordedView J ℕ → List (Whole J ℕ) → Type 0
+  TurnsOn spent = IsPostingTurn same made polls answers (Does (Fits same answers) out_of (λ link. link.credited) kept_by_sender) out_of kept_by_sender (λ time. time ≡ spent)
+
+  -- such a turn, whose outcome is owed, if the job is done
   pub record TurnsOwing (number spent : ℕ) (name : JobId) (queue : ℕ) (started : Bool) (settled : Settled ℕ) (old new : RecordedView J ℕ) (before after : List (List (Whole J ℕ))) : Type 0 where
     pub row : List (Whole J ℕ)
-    pub turn : IsPostingTurn same made polls answers (Does (Fits same answers) out_of (λ link. link.credited) kept_by_sender) out_of kept_by_sender (λ time. time ≡ spent)
-        old (row_of number before) name queue started settled new row
-    pub links : after ≡ slice_set before number row
+    pub turn : TurnsOn spent old (row_of number before) name queue started settled new row
     pub recorded : IsRecorded same made polls new
+    pub links : after ≡ slice_set before number row
     pub owing : IsBesideAll number (owed_settled {J = J} name settled) new after
 
-  -- such a turn, and then the outcome is given
+  -- such a turn, whose outcome is given, if the job is done
   pub record PollsOne (number spent : ℕ) (old new : RecordedView J ℕ) (before after : List (List (Whole J ℕ))) : Type 0 where
     pub name : JobId
     pub queue : ℕ
     pub started : Bool
     pub settled : Settled ℕ
-    pub between : List (List (Whole J ℕ))
-    pub turns : TurnsOwing number spent name queue started settled old new before between
-    pub links : GivesOnOne number between after
+    pub row : List (Whole J ℕ)
+    pub turn : TurnsOn spent old (row_of number before) name queue started settled new row
+    pub recorded : IsRecorded same made polls new
+    pub links : GivesOnOne number (slice_set before number row) after
     pub ins : IsBesideAll number none_owed new after
 
   -- a poll, or a job is handed back; nothing where no queue has work, and nothing where all turns are used
