@@ -21,8 +21,8 @@ abbrev pub none_owed : {T : Type 0} → ℕ → Option (JobId × OutcomeNote T)
 none_owed sender = None
 
 -- the outcome of a settled poll is owed to the job's sender, if the job is done
-abbrev pub owed_settled : {J T : Type 0} → JobId → Settled T → ℕ → Option (JobId × OutcomeNote T)
-owed_settled {J} name settled = told_under name (option_map outcome_note (outcome_settled {J = J} settled))
+abbrev pub owed_settled : {T : Type 0} → Type 0 → JobId → Settled T → ℕ → Option (JobId × OutcomeNote T)
+owed_settled J name settled = told_under name (option_map outcome_note (outcome_settled {J = J} settled))
 
 module _ {J T : Type 0} where
   -- there is a link from each sender to this core, and each end is beside the core, where these outcomes are owed

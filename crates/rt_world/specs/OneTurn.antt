@@ -38,7 +38,7 @@ module _ {J : Type 0} (same : J → J → Type 0) (made : J → ℕ) (polls : Ow
     pub turn : TurnsOn spent old (row_of number before) name queue started settled new row
     pub recorded : IsRecorded same made polls new
     pub links : after ≡ slice_set before number row
-    pub owing : IsBesideAll number (owed_settled {J = J} name settled) new after
+    pub owing : IsBesideAll number (owed_settled J name settled) new after
 
   -- such a turn, whose outcome is given, if the job is done
   pub record PollsOne (number spent : ℕ) (old new : RecordedView J ℕ) (before after : List (List (Whole J ℕ))) : Type 0 where

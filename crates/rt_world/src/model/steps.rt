@@ -135,7 +135,7 @@ fn give_done_on<J: Job + Task<Out = u64>, A: Allocator + Clone>(
 )
     requires sender { name.from ≤ core.now.core.cores }
     requires may_answer { MayAnswer J.Answers core.now.took name settled.now }
-    requires owed { one.IsBesideAll number (one.owed_settled {J = J} name settled.now) core.now (map vec_items links.old.items) }
+    requires owed { one.IsBesideAll number (one.owed_settled J name settled.now) core.now (map vec_items links.old.items) }
     ensures links { GivesOnOne number (map vec_items links.old.items) (map vec_items links.new.items) }
     ensures beside { one.IsBesideAll number one.none_owed core.now (map vec_items links.new.items) }
 {

@@ -31,6 +31,6 @@ returns-clause-turns g c =
       turn = turn;
       recorded = done.sound;
       links = sym later;
-      owing = subst (IsBesideAll c.args.number (owed_settled {J = g.J.Denot} next.name c.turn_posting.result) c.turn_posting.new.self) later
-          (beside_posted c.args.number c.args.core.now c.turn_posting.new.self turn.picked turn.left links c.turn_posting.new.ends.items (owed_settled {J = g.J.Denot} next.name c.turn_posting.result) c.requires.beside known done.seat done.owes turn.posted);
+      owing = subst (IsBesideAll c.args.number (owed_settled g.row.J.Denot next.name c.turn_posting.result) c.turn_posting.new.self) later
+          (beside_posted c.args.number c.args.core.now c.turn_posting.new.self turn.picked turn.left links c.turn_posting.new.ends.items (owed_settled g.row.J.Denot next.name c.turn_posting.result) c.requires.beside known done.seat done.owes turn.posted);
     }

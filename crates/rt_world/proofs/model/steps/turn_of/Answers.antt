@@ -1,25 +1,25 @@
-use Rattle.std.proofs.Common.{◌+◌, ◌*◌, inl, inr, subst, arith, vec_items}
+use Rattle.std.proofs.Common.{inl, inr, refl, subst, vec_items}
 use Rattle.std.specs.Prelude.{map}
 use Rattle.rt_journal.proofs.Ahead.{idle, all_used}
 use Rattle.rt_world.specs.Links.{GivesOnOne}
 use Rattle.rt_world.proofs.OneTurn.{no_turn, turn_known}
 use Rattle.rt_world.proofs.model.steps.turn_of.Goals as goal
 
-pub post_turn-requires-clause-ahead : goal.post_turn-requires-clause-ahead
-post_turn-requires-clause-ahead g c = rw c.in-Ok-Job.field-0-is at c.in-Ok-Job.ensures
+pub post_turn-settled-requires-clause-ahead : goal.post_turn-settled-requires-clause-ahead
+post_turn-settled-requires-clause-ahead g c = rw c.in-Ok-Job.field-0-is at c.in-Ok-Job.ensures
 
 pub give_done_on-requires-clause-sender : goal.give_done_on-requires-clause-sender
-give_done_on-requires-clause-sender g c = turn_known c.post_turn.ensures.turns
+give_done_on-requires-clause-sender g c = turn_known c.post_turn-settled.ensures.turns
 
 pub returns-in-Ok-Job : goal.returns-in-Ok-Job
 returns-in-Ok-Job g c =
     let next = c.in-Ok-Job.next in
-    let did = c.post_turn.ensures.turns in
+    let did = c.post_turn-settled.ensures.turns in
     inl (record {
       name = next.name;
       queue = next.queue;
       started = next.started;
-      settled = c.post_turn.result;
+      settled = c.post_turn-settled.result;
       row = did.row;
       turn = did.turn;
       recorded = did.recorded;
