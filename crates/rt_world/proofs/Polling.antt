@@ -1,7 +1,7 @@
 -- A core's turn in its world: a job is picked, it is polled with its post, and the poll is settled; or it is handed back.
-use Rattle.std.proofs.Common.{◌≡◌, ℕ, ◌+◌, ◌-◌, ◌^◌, ◌<◌, ◌≤◌, List, [], ◌∷◌, ◌++◌, refl, sym, ◌∙◌, ap, subst, inl, inr, arith, set, map, get_or-set_same}
+use Rattle.std.proofs.Common.{◌≡◌, ℕ, ◌+◌, ◌-◌, ◌^◌, ◌<◌, ◌≤◌, List, [], ◌∷◌, refl, sym, ◌∙◌, ap, subst, inl, inr, arith, set, get_or-set_same}
 use Rattle.std.specs.Prelude.{Some, unwrap_or, slice_get}
-use Rattle.std.proofs.lemmas.List.{set-set, set-get_or, length-set}
+use Rattle.std.proofs.lemmas.List.{set-set, set-get_or}
 use Rattle.std.proofs.lemmas.Option.{same_Some}
 use Rattle.rt_ids.specs.declared.names.JobId.{JobId}
 use Rattle.rt_ids.specs.declared.note.Note.TheVariants as writes
@@ -15,12 +15,11 @@ use Rattle.rt_ids.specs.Picks.{IsRightPick, turns}
 use Rattle.rt_ids.specs.Work.{has_work}
 use Rattle.rt_jobs.specs.Calls.{Makes}
 use Rattle.rt_jobs.specs.Steps.{Owed}
-use Rattle.rt_core.specs.State.{JobOut}
 use Rattle.rt_link.specs.declared.plain.Whole.{Whole}
 use Rattle.rt_link.specs.Whole.{out_of}
 use Rattle.rt_journal.specs.Ends.{IsOutOf}
 use Rattle.rt_journal.specs.Polls.{polls_made, poll_note, settle_note}
-use Rattle.rt_journal.specs.Recorded.{RecordedView, desk_of, order_taken}
+use Rattle.rt_journal.specs.Recorded.{RecordedView, order_taken}
 use Rattle.rt_journal.specs.Steps.{opened_beside, with_notes}
 use Rattle.rt_journal.specs.Whole.{post_of}
 use Rattle.rt_journal.proofs.SentNotes.{all_posted}
@@ -28,9 +27,9 @@ use Rattle.rt_world.specs.declared.event.Reply.{Reply}
 use Rattle.rt_world.specs.declared.event.Reply.TheVariants as reply
 use Rattle.rt_world.specs.Calls.{CallsAt}
 use Rattle.rt_world.specs.Links.{row_of, link_at}
-use Rattle.rt_world.specs.Inside.{Parts, core_at, desk_at, world_of, IsWorld, IsAtRest}
+use Rattle.rt_world.specs.Inside.{Parts, core_at, world_of, IsWorld, IsAtRest}
 use Rattle.rt_world.specs.OneTurn as one
-use Rattle.rt_world.specs.State.{WorldView, journal_at, order_under, noted}
+use Rattle.rt_world.specs.State.{journal_at, order_under, noted}
 use Rattle.rt_world.specs.Turns.{pick_notes, IsPoll, Turns}
 use Rattle.rt_world.proofs.CoreSteps.{cores_are, number_is, desk_is, parts_now, lanes_kept, rests, journal_is, journals_now}
 use Rattle.rt_world.proofs.Desks.{sent_at-world}

@@ -1,6 +1,6 @@
 -- The links of a core after a turn whose job called its post.
-use Rattle.std.proofs.Common.{◌≡◌, ◌≢◌, ℕ, ◌<◌, ◌≤◌, List, [], length, sym, ◌∙◌, ap, subst, ⊎_elim, arith, get_or, set, get_or-set_same, get_or-set_other}
-use Rattle.std.specs.Prelude.{Option, Some, slice_get}
+use Rattle.std.proofs.Common.{◌≡◌, ◌≢◌, ℕ, ◌≤◌, List, [], length, sym, ap, subst, ⊎_elim, arith, get_or, set, get_or-set_same, get_or-set_other}
+use Rattle.std.specs.Prelude.{Option}
 use Rattle.std.proofs.lemmas.Bool.{cases_eq}
 use Rattle.std.proofs.lemmas.List.{length-set}
 use Rattle.std.proofs.lemmas.Option.{slice_get-get_or}
