@@ -1,7 +1,8 @@
 # Reads the text of journals. For each core and each two queues of it that had work at once: the greatest lead of either over the
-# other while both kept work, in virtual runtime, and the bound, which is the greatest charge of the one and of the other together.
-# One line each: core D qQ ahead L qR ahead M bound B
-# The status is 1 if a lead is above its bound. One pass; the memory is that of the jobs and of each two queues.
+# other while both kept work, in virtual runtime, and the bound, which is the greatest charge of the one and of the other together, up
+# to the last place where both had work. One line each: core D qQ ahead L qR ahead M bound B
+# Each lead is compared with the charges up to its own place. The last line tells how many pairs were never above that: N pairs, M within
+# the bound. The status is 1 if another one was. One pass; the memory is that of the jobs and of each two queues.
 
 function shares_of(core, queue) { return (core, queue) in shares ? shares[core, queue] : 1000 }
 
@@ -41,12 +42,14 @@ function look(core, queue, gain,    place, other, one, two) {
 }
 
 # The greatest rise and the greatest fall of the difference so far.
-function lead(core, one, two, now) {
+function lead(core, one, two, now,    most) {
     if (now < low[core, one, two]) low[core, one, two] = now
     if (now > high[core, one, two]) high[core, one, two] = now
     if (now - low[core, one, two] > ahead[core, one, two]) ahead[core, one, two] = now - low[core, one, two]
     if (high[core, one, two] - now > behind[core, one, two]) behind[core, one, two] = high[core, one, two] - now
-    pair[core, one, two] = 1
+    bound[core, one, two] = greatest[core, one] + greatest[core, two]
+    most = now - low[core, one, two] > high[core, one, two] - now ? now - low[core, one, two] : high[core, one, two] - now
+    if (most > bound[core, one, two]) above[core, one, two] = 1
 }
 
 # A note charges a queue.
@@ -84,12 +87,13 @@ $2 == "returned" && $3 in queue_of {
 }
 
 END {
-    for (each in pair) {
+    for (each in bound) {
         split(each, part, SUBSEP)
-        bound = greatest[part[1], part[2]] + greatest[part[1], part[3]]
-        most = ahead[each] > behind[each] ? ahead[each] : behind[each]
-        printf "core %d q%d ahead %d q%d ahead %d bound %d\n", part[1], part[2], ahead[each], part[3], behind[each], bound
-        if (most > bound) worse = 1
+        printf "core %d q%d ahead %d q%d ahead %d bound %d\n", part[1], part[2], ahead[each], part[3], behind[each], bound[each] | "sort"
+        pairs++
+        if (!(each in above)) within++
     }
-    exit worse
+    close("sort")
+    printf "%d pairs, %d within the bound\n", pairs, within
+    exit within < pairs
 }

@@ -1,6 +1,10 @@
 // Lets one call for memory fail. Preloaded into a program, it counts the program's calls of malloc and realloc, and answers that there is
-// no memory at the call whose number stands in FAILING_CALL. At the end it writes how many calls there were into the file FAILING_COUNT.
-// A program with threads ends by `_exit`, and any other by its return.
+// no memory at the call whose number stands in FAILING_CALL. At the end it writes how many calls there were into the file FAILING_COUNT,
+// and behind it how many failed. A program with threads ends by `_exit`, and any other by its return.
+//
+// With FAILING_IN_TURN the calls of further numbers fail too: after the first failure the second call from there, then the third from
+// there, and so on. So where a step asks for memory again from its beginning whenever it was refused, each of its calls fails in turn
+// until the step succeeds. This is for programs with one thread.
 #define _GNU_SOURCE
 #include <dlfcn.h>
 #include <fcntl.h>
@@ -13,18 +17,27 @@
 
 static void *(*next_malloc)(size_t);
 static void *(*next_realloc)(void *, size_t);
-static atomic_ulong calls;
-static unsigned long failing;
+static atomic_ulong calls, failed;
+static unsigned long failing, gap;
+static int in_turn;
 
 __attribute__((constructor)) static void begin(void) {
     next_malloc = dlsym(RTLD_NEXT, "malloc");
     next_realloc = dlsym(RTLD_NEXT, "realloc");
     const char *number = getenv("FAILING_CALL");
     failing = number ? strtoul(number, NULL, 10) : 0;
+    in_turn = getenv("FAILING_IN_TURN") != NULL;
+    gap = 1;
     atomic_store(&calls, 0);
+    atomic_store(&failed, 0);
 }
 
-static int fails(void) { return atomic_fetch_add(&calls, 1) + 1 == failing; }
+static int fails(void) {
+    if (atomic_fetch_add(&calls, 1) + 1 != failing) return 0;
+    atomic_fetch_add(&failed, 1);
+    if (in_turn) failing += ++gap;
+    return 1;
+}
 
 void *malloc(size_t size) {
     if (!next_malloc) begin();
@@ -45,8 +58,8 @@ __attribute__((destructor)) static void end(void) {
     const char *name = getenv("FAILING_COUNT");
     int file = name ? open(name, O_WRONLY | O_CREAT | O_TRUNC, 0666) : -1;
     if (file < 0) return;
-    char text[32];
-    int length = snprintf(text, sizeof text, "%lu\n", atomic_load(&calls));
+    char text[64];
+    int length = snprintf(text, sizeof text, "%lu %lu\n", atomic_load(&calls), atomic_load(&failed));
     if (write(file, text, (size_t)length) != length) leave(9);
     close(file);
 }

@@ -19,7 +19,7 @@ const VERDICTS: [(&str, u8, &str); 3] = [
 ];
 
 /// The statistics of the turns.
-const STATS: &str =
+pub(crate) const STATS: &str =
     "core 0 turns 3 floor 20 held 0 drained no\nstat 0 q0 shares 1000 selected 3 runtime 30 vr 30 waiting 0 finished 2 returned 0\n";
 
 /// Whether the audit of the text ends in this status and writes this.

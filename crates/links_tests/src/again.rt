@@ -1,0 +1,88 @@
+//! Links whose opening is refused for want of memory, and tried again. tests/memory/again lets each growth fail.
+
+use crate::life::{Link, ONE_PLACE, Ring, Step, first_wrong};
+use crate::numbers::{FROM, Number, TO, Told};
+use rt_link::PlainLink;
+use rt_ring::{OpenError, RingLink};
+use std::alloc::Global;
+
+/// How often an opening is tried at most.
+const TRIES: u32 = 1000;
+
+/// What is done at a link with two places before another one is opened.
+const BEFORE: [(Step, Told); 4] = [
+    (Step::Send(4), Told::Sent(1)),
+    (Step::Send(5), Told::Sent(2)),
+    (Step::Send(6), Told::Full),
+    (Step::Serve, Told::Taken(1)),
+];
+
+/// What is done at it afterwards. It is as before.
+const AFTER: [(Step, Told); 6] = [
+    (Step::RedeemLate, Told::Finished(1, 4)),
+    (Step::Outstanding, Told::Count(1)),
+    (Step::Send(6), Told::Sent(3)),
+    (Step::Serve, Told::Taken(2)),
+    (Step::Redeem, Told::Finished(2, 5)),
+    (Step::Shut, Told::Count(3)),
+];
+
+/// A ring, opened until it isn't refused.
+fn ring(alloc: Global, capacity: u16) -> Option<Ring> {
+    for _ in 0..TRIES {
+        match RingLink::open::<Number>(alloc, FROM, TO, capacity) {
+            Ok((out, inward)) => return Some(Ring { out, inward }),
+            Err(OpenError::Memory) => {}
+        }
+    }
+    None
+}
+
+/// A plain link, opened until it isn't refused.
+fn plain(alloc: Global, capacity: u16) -> Option<PlainLink<Number>> {
+    for _ in 0..TRIES {
+        if let Ok(link) = PlainLink::open(alloc, FROM, TO, capacity) {
+            return Some(link);
+        }
+    }
+    None
+}
+
+/// Whether each row comes to what it should.
+fn lives<L: Link>(link: &mut L, rows: &[(Step, Told)]) -> bool {
+    first_wrong(link, rows) == rows.len()
+}
+
+/// Whether a ring is as before when another one was opened, and the other one has its whole life.
+fn rings_live(alloc: Global) -> bool {
+    let Some(mut first) = ring(alloc, 2) else {
+        return false;
+    };
+    let begun = lives(&mut first, &BEFORE);
+    let Some(mut second) = ring(alloc, 1) else {
+        return false;
+    };
+    begun && lives(&mut first, &AFTER) && lives(&mut second, &ONE_PLACE)
+}
+
+/// The same of plain links.
+fn plain_links_live(alloc: Global) -> bool {
+    let Some(mut first) = plain(alloc, 2) else {
+        return false;
+    };
+    let begun = lives(&mut first, &BEFORE);
+    let Some(mut second) = plain(alloc, 1) else {
+        return false;
+    };
+    begun && lives(&mut first, &AFTER) && lives(&mut second, &ONE_PLACE)
+}
+
+#[test]
+fn rings_are_opened_again(rt: HostRuntime) {
+    assert!(rt; rings_live(rt.alloc()));
+}
+
+#[test]
+fn plain_links_are_opened_again(rt: HostRuntime) {
+    assert!(rt; plain_links_live(rt.alloc()));
+}
