@@ -3,11 +3,11 @@ pub mod Openings
 mod QueuesRefused
 pub mod Stepping
 pub mod Delivered
-pub mod Polled
 pub mod Posted
 pub mod InPlace
 pub mod Collected
-pub mod Turning
+pub mod Ahead
+pub mod Handing
 pub mod Noted
 pub mod Spare
 pub mod Gated

@@ -1,7 +1,7 @@
 pub mod Queues
 pub mod Linked
 pub mod Steps
-pub mod Next
+pub mod Handing
 pub mod Rooms
 pub mod Gates
 pub mod Ended
