@@ -6,7 +6,6 @@ pub mod Delivered
 pub mod Posted
 pub mod InPlace
 pub mod Collected
-pub mod Ahead
 pub mod Handing
 pub mod Noted
 pub mod Spare

@@ -8,8 +8,8 @@ ghost use Rattle.rt_core.specs.Whole.{TellsAhead};
 ghost use Rattle.rt_link.specs.Fits.{Fits};
 ghost use Rattle.rt_journal.specs.Recorded.{IsRecorded};
 ghost use Rattle.rt_journal.specs.Owed.{IsSentUnder};
+ghost use Rattle.rt_journal.specs.Turns.{IsBack};
 ghost use Rattle.rt_grid.specs.Ends.{SameEnds};
-ghost use Rattle.rt_worker.specs.Handing.{IsBack};
 ghost use Rattle.rt_worker.specs.Linked.{AreOwing, IsLinked, StaysLinked};
 ghost use Rattle.rt_worker.specs.Steps.{HandsBack};
 

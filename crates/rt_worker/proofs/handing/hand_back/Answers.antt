@@ -1,14 +1,13 @@
-use Rattle.std.proofs.Common.{◌∙◌, sym, subst, ap, arith}
+use Rattle.std.proofs.Common.{sym, subst, ap, arith}
 use Rattle.rt_journal.specs.Ends.{LeavesOwed}
 use Rattle.rt_journal.specs.Owed.{owed_back}
 use Rattle.rt_journal.specs.Turns.{Picks}
-use Rattle.rt_worker.proofs.Ahead.{picks_back}
-use Rattle.rt_worker.proofs.Handing.{stay_owing, sent_under}
+use Rattle.rt_worker.proofs.Handing.{handed_back, stay_owing, sent_under}
 use Rattle.rt_worker.proofs.Openings.{opening_returned}
 use Rattle.rt_worker.proofs.handing.hand_back.Goals as goal
 
 pub back_of-requires : goal.back_of-requires
-back_of-requires g c = picks_back c.args.recorded.now c.requires.linked.recorded c.requires.ahead c.pick.result c.pick.new.self c.pick.ensures.picks
+back_of-requires g c = c.pick.ensures.back c.requires.ahead
 
 pub give_on-requires-clause-known : goal.give_on-requires-clause-known
 give_on-requires-clause-known g c = ?
