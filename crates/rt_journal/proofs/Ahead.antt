@@ -30,7 +30,7 @@ one_key runtime queue other_runtime other first second =
     ⊎_elim (λ less. absurd (⊎_elim (λ more. omega (arith, less, more)) (λ same. omega (arith, less, same.0)) second))
     (λ same. ⊎_elim (λ more. absurd (omega (arith, same.0, more))) (λ back. omega (arith, same.1, back.1)) second) first
 
-module _ {J T : Type 0} (view core : CoreView J) (told : TellsAhead view (Ok ahead.Back)) where
+module _ {J : Type 0} (view core : CoreView J) (told : TellsAhead view (Ok ahead.Back)) where
   -- the next queue hands back, so no job of it goes out
   no_job : (name : JobId) (queue : ℕ) (started : Bool) (job : J) → TakesOut view name queue started job core → return_reason queue view ≡ None → ⊥
   no_job name queue started job takes kept =
@@ -38,7 +38,7 @@ module _ {J T : Type 0} (view core : CoreView J) (told : TellsAhead view (Ok ahe
       let one = one_key (runtime_of queue view) queue (runtime_of told.0 view) told.0 (takes.next.least told.0 told.2) (told.1.least queue some) in
       told.3 (subst (λ at. return_reason at view ≡ None) one kept)
 
-  pub is_back : (picked : Result (Turn J) PickError) (notes : List (Note T)) → Picks view picked core notes → IsBack picked
+  pub is_back : {T : Type 0} (picked : Result (Turn J) PickError) (notes : List (Note T)) → Picks view picked core notes → IsBack picked
   is_back (Ok (Start name queue job)) notes picks = absurd (no_job name queue false job picks.0 picks.1)
   is_back (Ok (Resume name queue job)) notes picks = absurd (no_job name queue true job picks.0 picks.1)
   is_back (Ok (Back name reason order)) notes picks = tt
