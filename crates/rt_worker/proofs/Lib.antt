@@ -6,7 +6,7 @@ pub mod Delivered
 pub mod Posted
 pub mod InPlace
 pub mod Collected
-pub mod Handing
+pub mod HandedBack
 pub mod Noted
 pub mod Spare
 pub mod Gated
