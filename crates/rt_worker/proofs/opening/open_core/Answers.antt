@@ -30,7 +30,7 @@ loop-index-preserved g c =
           (sym c.of.view_is ∙ w.if-of-core.true) w.create_one.new.recorded w.in_ok-create_one.ensures.since
           (w.in_ok-create_one.ensures.noted
           ∙ ap (λ (entry : Entry). Created (created_count c.loop-index.recorded.journal.notes + 1) entry.1 ∷ c.loop-index.recorded.journal.notes)
-          (c.index-queues-index-in-loop-index.is ∙ get_or_default c.args.queues.now c.loop-index.index _ _ c.loop-index-test.true)))
+          (get_or_default c.args.queues.now c.loop-index.index c.index-queues-index-in-loop-index.result c.index-queues-index.result c.loop-index-test.true)))
       | else-of-core w ↦
           subst (λ view. IsCreating g.J.Task.SameTask g.J.Task.made g.J.Task.Polls c.args.core c.args.queues.now (c.loop-index.index + 1) (opened_beside c.args.core c.args.cores c.args.cap c.args.room) view) (sym w.recorded-is)
           (creating_on c.args.core c.args.queues.now c.loop-index.index (c.loop-index.index + 1) (omega arith) c.loop-index-test.true c.index-queues-index.result _ c.loop-index.recorded c.loop-index.invariant
