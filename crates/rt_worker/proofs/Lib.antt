@@ -1,4 +1,5 @@
 pub mod Along
+pub mod Openings
 pub mod Stepping
 pub mod Delivered
 pub mod Polled

@@ -1,3 +1,4 @@
+pub mod Queues
 pub mod Linked
 pub mod Steps
 pub mod Next

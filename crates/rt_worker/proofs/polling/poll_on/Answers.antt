@@ -1,6 +1,7 @@
 use Rattle.std.proofs.Common.{arith}
 use Rattle.rt_worker.proofs.Along.{stays_along}
 use Rattle.rt_worker.proofs.Posted.{posts_again, posts_out, posts_named, posts_room}
+use Rattle.rt_worker.proofs.Openings.{opening_posts}
 use Rattle.rt_worker.proofs.polling.poll_on.Goals as goal
 
 pub settle_on-requires : goal.settle_on-requires
@@ -28,5 +29,5 @@ returns-clause-settles g c = record {
 pub returns-clause-stays : goal.returns-clause-stays
 returns-clause-stays g c =
     stays_along (record { recorded = c.args.recorded.now; ends = c.args.ends.now }) (record { recorded = c.post_on-ran.new.recorded; ends = c.post_on-ran.new.ends }) (record { recorded = c.settle_on.new.recorded; ends = c.settle_on.new.ends })
-    (record { seat = c.post_on-ran.ensures.seat; ends = c.post_on-ran.ensures.ends })
+    (record { seat = c.post_on-ran.ensures.seat; ends = c.post_on-ran.ensures.ends; opening = opening_posts c.args.recorded.now c.post_on-ran.new.recorded c.args.ends.now.outs c.post_on-ran.new.ends.outs c.post_on-ran.ensures.posts.posted })
     c.settle_on.ensures.stays

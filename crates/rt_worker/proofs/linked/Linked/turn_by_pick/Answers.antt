@@ -1,4 +1,4 @@
-use Rattle.std.proofs.Common.{arith, sym, subst}
+use Rattle.std.proofs.Common.{arith, ap, sym, subst}
 use Rattle.rt_link.specs.Fits.{Fits}
 use Rattle.rt_grid.proofs.Using.{ends_same}
 use Rattle.rt_worker.specs.Linked.{LinkedView, IsLinked, StaysLinked}
@@ -7,6 +7,9 @@ use Rattle.rt_worker.proofs.Along.{stays_along}
 use Rattle.rt_worker.proofs.InPlace.{pick_polls}
 use Rattle.rt_worker.specs.Rooms.{HasTurnRoom}
 use Rattle.rt_worker.proofs.Turning.{taken_out, poll_room, sender_known, stay_out, handed_back, sent_under, stay_owing, found_nothing}
+use Rattle.rt_journal.specs.Recorded.{RecordedView}
+use Rattle.rt_worker.specs.Queues.{opening_of}
+use Rattle.rt_worker.proofs.Openings.{opening_picked, opening_returned}
 use Rattle.rt_worker.proofs.linked.Linked.turn_by_pick.Goals as goal
 
 pub poll_on-requires-clause-known : goal.poll_on-requires-clause-known
@@ -50,7 +53,7 @@ returns-in-Poll g c =
       stays =
           subst (λ (old : LinkedView _ _). StaysLinked old (record { recorded = c.poll_on.new.recorded; ends = c.poll_on.new.ends })) c.self.view_is
           (stays_along (record { recorded = c.self.inside.recorded; ends = c.self.inside.ends }) (record { recorded = c.pick.new.self; ends = c.self.inside.ends }) (record { recorded = c.poll_on.new.recorded; ends = c.poll_on.new.ends })
-          (record { seat = c.pick.ensures.seat; ends = ends_same c.self.inside.ends }) c.poll_on.ensures.stays);
+          (record { seat = c.pick.ensures.seat; ends = ends_same c.self.inside.ends; opening = opening_picked c.self.inside.recorded c.pick.new.self c.in-Poll.name out.queue out.was_started c.in-Poll.job out.picks }) c.poll_on.ensures.stays);
       linked = c.poll_on.ensures.linked;
     }
 
@@ -58,3 +61,23 @@ pub returns-in-Nothing-clause-linked : goal.returns-in-Nothing-clause-linked
 returns-in-Nothing-clause-linked g c =
     subst (λ recorded. IsLinked g.J.Task.SameTask g.J.Task.made g.J.Task.Polls (Fits g.J.Task.SameTask g.J.Task.Answers) (record { recorded = recorded; ends = c.self.inside.ends }))
     (sym (found_nothing g.J.Task.SameTask c.self.inside.recorded c.pick.new.self c.pick.result c.in-Nothing.made c.pick.ensures.picks c.in-Nothing.ensures)) c.self.invariant.0
+
+pub returns-in-Give-clause-stays : goal.returns-in-Give-clause-stays
+returns-in-Give-clause-stays g c =
+    let did = handed_back g.J.Task.SameTask c.self.inside.recorded c.pick.new.self c.pick.result c.in-Give.name c.in-Give.reason c.in-Give.order c.pick.ensures.picks c.in-Give.ensures in
+    subst (λ (old : LinkedView _ _). StaysLinked old (record { recorded = c.pick.new.self; ends = c.give_on.new.ends })) c.self.view_is
+    (record {
+      seat = c.pick.ensures.seat;
+      ends = c.give_on.ensures.ends;
+      opening = opening_returned g.J.Task.SameTask c.self.inside.recorded c.pick.new.self c.in-Give.name c.in-Give.reason c.in-Give.order did;
+    })
+
+pub returns-in-Nothing-clause-stays : goal.returns-in-Nothing-clause-stays
+returns-in-Nothing-clause-stays g c =
+    let same = found_nothing g.J.Task.SameTask c.self.inside.recorded c.pick.new.self c.pick.result c.in-Nothing.made c.pick.ensures.picks c.in-Nothing.ensures in
+    subst (λ (old : LinkedView _ _). StaysLinked old (record { recorded = c.pick.new.self; ends = c.self.inside.ends })) c.self.view_is
+    (record {
+      seat = c.pick.ensures.seat;
+      ends = ends_same c.self.inside.ends;
+      opening = ap (λ (view : RecordedView _ _). opening_of view.journal.notes) same;
+    })
