@@ -32,8 +32,7 @@ loop-ends-preserved g c =
     let loop = c.loop-ends in let steps = c.in-Some.ensures.steps in
     record {
       reserved = omega (arith, loop.invariant.reserved, c.push_reserved.ensures.capacity);
-      made = subst (λ made. IsMade (IsOpenedWith c.args.config.now.cores c.args.config.now.cap c.args.config.now.room c.args.config.now.queues.items) c.args.all.items (into_iter_items c.next.new.self) (into_iter_len c.next.new.self) made)
-          (sym c.push_reserved.ensures.items)
+      made = rw c.push_reserved.ensures.items
           (made_more (IsOpenedWith c.args.config.now.cores c.args.config.now.cap c.args.config.now.room c.args.config.now.queues.items) c.args.all.items (into_iter_items loop.ends-iterator) (into_iter_items c.next.new.self)
           (into_iter_len loop.ends-iterator) (into_iter_len c.next.new.self) loop.workers.items c.in-Some.ends c.in_ok-open_worker.field-0 loop.invariant.made steps.0 steps.1
           (record { over = c.in_ok-open_worker.ensures.over; queues_are = c.in_ok-open_worker.ensures.queues }));
