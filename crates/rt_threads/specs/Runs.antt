@@ -1,5 +1,5 @@
 -- A whole run of a script on threads.
-use Rattle.std.specs.Prelude.{◌≡◌, ◌++◌, ℕ, Bool, List, Option, Some, Ok}
+use Rattle.std.specs.Prelude.{◌≡◌, ◌<◌, ◌++◌, ℕ, Bool, List, Option, Some, Ok}
 use Rattle.std.specs.Option.{IfSome}
 use Rattle.rt_ids.specs.Assembly.{Assembly, journal_of}
 use Rattle.rt_jobs.specs.Scripts.{Script}
