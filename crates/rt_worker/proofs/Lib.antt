@@ -1,5 +1,6 @@
 pub mod Along
 pub mod Openings
+mod QueuesRefused
 pub mod Stepping
 pub mod Delivered
 pub mod Polled

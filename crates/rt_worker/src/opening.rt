@@ -52,9 +52,8 @@ fn open_core<J: Task<Out = u64>>(
 {
     let mut recorded = Recorded::open(alloc, alloc, CoreNo(core), cores, cap, room)?;
     for index in 0..queues.len() {
-        let of = queues[index].0;
+        let (of, shares) = queues[index];
         if of.0 == core {
-            let shares = queues[index].1;
             create_one(&mut recorded, shares)?;
         }
     }

@@ -15,5 +15,6 @@ of-requires-2-clause-closes g c =
 
 pub returns-clause-queues : goal.returns-clause-queues
 returns-clause-queues g c =
-    ap (λ linked. linked.recorded.journal.notes) c.of.ensures ∙ (c.in_ok-recorded.ensures.noted
-    ∙ ap (λ core. creations core c.args.config.now.queues.items) (sym (ap (λ ends. ends.number) (sym c.ends.view_is) ∙ sym c.number.view_is)))
+    ap (λ served. served.linked.recorded.journal.notes) c.of-2.ensures ∙ (ap (λ linked. linked.recorded.journal.notes) c.of.ensures ∙ (c.in_ok-recorded.ensures.noted
+    ∙ (ap (λ core. creations core c.deref.result.now) (sym (ap (λ ends. ends.number) (sym c.ends.view_is) ∙ sym c.number.view_is))
+    ∙ ap (creations c.args.ends.number) c.deref.ensures.value)))
