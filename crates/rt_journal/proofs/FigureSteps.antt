@@ -11,7 +11,7 @@ use Rattle.rt_ids.specs.Journal.{Journal}
 use Rattle.rt_ids.specs.Names.{is_number}
 use Rattle.rt_ids.specs.Work.{queue_of, number_if}
 use Rattle.rt_core.specs.declared.tally.Tally.{Tally}
-use Rattle.rt_core.specs.State.{CoreView, no_tally, tally_of}
+use Rattle.rt_core.specs.State.{CoreView, no_tally}
 use Rattle.rt_journal.specs.Figures.{Figures, no_figures, plus, figures_in, figures_of, figures_told, figures_noted}
 
 pub plus-none : (some : Figures) → plus some no_figures ≡ some

@@ -25,6 +25,7 @@ pub mod Quiet
 pub mod Opened
 pub mod QuietSteps
 pub mod QueuesCreated
+pub mod Ahead
 pub mod Picked
 pub mod SettledPolls
 pub mod SettledEnds

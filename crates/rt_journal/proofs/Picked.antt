@@ -11,12 +11,10 @@ use Rattle.rt_ids.specs.declared.note.Note.TheVariants.{Pick, Returned}
 use Rattle.rt_ids.specs.declared.order.Order.TheVariants.{Job}
 use Rattle.rt_ids.specs.declared.order.Reason.{Reason}
 use Rattle.rt_ids.specs.Journal.{Journal, is_told}
-use Rattle.rt_ids.specs.Lines.{line}
 use Rattle.rt_ids.specs.Picks.{turns, pick_count}
-use Rattle.rt_ids.specs.Work.{has_work, number_if}
+use Rattle.rt_ids.specs.Work.{number_if}
 use Rattle.rt_ids.proofs.Told.{length-with_last_if}
 use Rattle.rt_ids.specs.Filters.{if_from, name_ended, given_outcomes}
-use Rattle.rt_ids.proofs.WorkOfLines.{no_work, work_of_line}
 use Rattle.rt_jobs.specs.Steps.{Owed}
 use Rattle.rt_taskqueue.specs.Queues.{waiting_of, held_count, ChangesLine}
 use Rattle.rt_core.specs.declared.turn.Turn.{Turn}
@@ -27,11 +25,12 @@ use Rattle.rt_core.specs.State.{CoreView, runtime_of, inside_count}
 use Rattle.rt_core.specs.Closing as core_says
 use Rattle.rt_core.specs.Turns.{TakesOut, HandsBack}
 use Rattle.rt_core.specs.Turns.{Picks as CorePicks}
-use Rattle.rt_journal.specs.Agreement.{IsJobOut, names_of}
+use Rattle.rt_journal.specs.Agreement.{names_of}
 use Rattle.rt_journal.specs.Polls.{polls_made, poll_note}
 use Rattle.rt_journal.specs.Recorded.{RecordedView, terms_at, IsRecorded, HasTask, note_taken, sum_upto, given_count}
 use Rattle.rt_journal.specs.Turns.{Picks, IsPick, IsHandBack}
 use Rattle.rt_journal.specs.Owed.{owed_back}
+use Rattle.rt_journal.proofs.Ahead.{idle, works}
 use Rattle.rt_journal.proofs.KeptReturns.{kept-returned, right_return, returns_told}
 use Rattle.rt_journal.proofs.KeptReturns as returned
 use Rattle.rt_journal.proofs.KeptPicks.{kept-picked, right_pick, first_in_line, not_returning, start_told}
@@ -238,22 +237,6 @@ module _ {J T : Type 0} {same : J → J → Type 0} {made : J → ℕ} {polls : 
   step-picked (Err Busy) notes does = nothing notes does.1 does.2
   step-picked (Err Spent) notes does = nothing notes does.3 does.4
 
-  lines : (queue : ℕ) → names_of (waiting_of queue old.core.queues) ≡ line queue old.journal.notes
-  lines = recorded.kept.agrees.lines
-
-  idle : old.core.out ≡ None → ((queue : ℕ) → waiting_of queue old.core.queues ≡ []) → (queue : ℕ) → has_work queue old.journal.notes ≡ false
-  idle free empty queue =
-      no_work (terms_at old) queue old.journal.notes recorded.kept.notes (sym (lines queue) ∙ ap names_of (empty queue))
-      (subst (λ out. IsJobOut out old.journal.notes) free recorded.kept.agrees.out)
-
-  works : (queue : ℕ) → (waiting_of queue old.core.queues ≡ [] → ⊥) → has_work queue old.journal.notes ≡ true
-  works queue some = by_line (waiting_of queue old.core.queues) refl
-    where
-      by_line : (waiting : List (JobId × Bool × J)) → waiting_of queue old.core.queues ≡ waiting → has_work queue old.journal.notes ≡ true
-      by_line [] none = absurd (some none)
-      by_line (entry ∷ others) first =
-          work_of_line (terms_at old) queue old.journal.notes recorded.kept.notes entry.0 (names_of others) (sym (lines queue) ∙ ap names_of first)
-
   pub picks-now : (answer : Result (Turn J) PickError) (notes : List (Note T)) → CorePicks old.core answer core notes → Picks same old answer (stepped old core (reverse notes))
   picks-now (Ok (Start name queue job)) notes does =
       subst (λ list. IsPick old name queue false job (stepped old core (reverse list))) (sym does.2) (pick_is name queue false job does.0 does.1)
@@ -262,7 +245,7 @@ module _ {J T : Type 0} {same : J → J → Type 0} {made : J → ℕ} {polls : 
   picks-now (Ok (Back name reason (Job queue job))) notes does =
       subst (λ list. IsHandBack same old name reason (Job queue job) (stepped old core (reverse list))) (sym does.2) (handed_is name queue job reason does.0 does.1)
   picks-now (Ok (Back name reason _)) notes does = absurd does
-  picks-now (Ok Idle) notes does = (idle does.0 does.1, nothing_stepped old recorded core does.2 (reverse notes) (ap reverse does.3))
+  picks-now (Ok Idle) notes does = (idle old recorded does.0 does.1, nothing_stepped old recorded core does.2 (reverse notes) (ap reverse does.3))
   picks-now (Err Busy) notes does = (does.0, nothing_stepped old recorded core does.1 (reverse notes) (ap reverse does.2))
   picks-now (Err Spent) notes does =
-      (sym recorded.kept.agrees.turns ∙ does.1, (does.2.0, works does.2.0 does.2.1), nothing_stepped old recorded core does.3 (reverse notes) (ap reverse does.4))
+      (sym recorded.kept.agrees.turns ∙ does.1, (does.2.0, works old recorded does.2.0 does.2.1), nothing_stepped old recorded core does.3 (reverse notes) (ap reverse does.4))

@@ -23,9 +23,9 @@ use Rattle.rt_journal.specs.Ends.{KeepsSent, KeepsIn, LeavesOwed, IsSameSeat, to
 use Rattle.rt_journal.specs.Owed.{OwesSettled, outcome_settled}
 use Rattle.rt_journal.specs.Posts.{PostView, AreOutsOf, HasPosted}
 use Rattle.rt_journal.specs.Turns.{IsPolled, Settles}
-use Rattle.rt_journal.specs.Whole.{post_of, IsPostingTurn, MayAnswer}
+use Rattle.rt_journal.specs.Whole.{post_of, StaysPut, IsPostingTurn, MayAnswer}
 use Rattle.rt_journal.proofs.PolledDesks.{posted_rest, posted_silent}
-use Rattle.rt_journal.proofs.PostingTurn.{went_out, is_picked, picks_it, keeps_in, seat_picked, outs_kept, owes_then}
+use Rattle.rt_journal.proofs.PostingTurn.{went_out, is_picked, picks_it, keeps_in, stays_picked, outs_kept, owes_then}
 use Rattle.rt_journal.proofs.Quiet.{given_settled}
 use Rattle.rt_journal.proofs.QuietSteps.{IsQuietStep, everyone}
 use Rattle.rt_journal.proofs.SentNotes.{desk_sound, desk_is_its, desk_ins}
@@ -116,6 +116,16 @@ module _ {J T E : Type 0} {same : J → J → Type 0} {done : J → Bool} {can_p
       keeps_picked : (sender : ℕ) → KeepsIn sender old picked
       keeps_picked = keeps_in core took said invariant few_turns queue vr name started whole.ran.before whole.mid whole.picks slice slice_is noted wrote
 
+      stays_picked_it : StaysPut old picked
+      stays_picked_it = stays_picked core took said invariant few_turns queue vr name started whole.ran.before whole.mid whole.picks slice slice_is noted wrote
+
+      stays_it : StaysPut polled_view new
+      stays_it = record {
+        seat = quiet_seat whole.mid took left at_poll core_now told last last_is last_step said_now wrote_it;
+        outs = quiet_outs whole.mid took left at_poll core_now told last last_is last_step said_now wrote_it;
+        lanes = ap (λ desk. desk.lanes) wrote_it;
+      }
+
       pub turned : {does : Doing (PostView J T E) J T} {tells : ℕ → Type 0} → tells spent → Makes does calls (record { desk = noted; ends = ends }) (record { desk = left; ends = later }) →
           IsPostingTurn same made polls answers does out untouched tells old ends name queue started (settled_of step) new later
       turned {does} told_it makes = record {
@@ -125,6 +135,8 @@ module _ {J T E : Type 0} {same : J → J → Type 0} {done : J → Bool} {can_p
         spent = spent;
         told = told_it;
         picks = picks_it core took said invariant few_turns queue vr name started whole.ran.before whole.mid whole.picks slice slice_is noted wrote;
+        sound = at_pick.0;
+        stays = stays_picked_it;
         keeps = keeps_picked;
         owed = record { calls = calls; owed = whole.polled.owed; makes = posts_of (Makes does calls) makes };
         posted = posts_of (HasPosted out untouched) posted;
@@ -132,6 +144,7 @@ module _ {J T E : Type 0} {same : J → J → Type 0} {done : J → Bool} {can_p
         silent = silent;
         polled = polled;
         settles = settles_it;
+        stays_settled = stays_it;
         owes = owes_it;
       }
 
@@ -147,18 +160,15 @@ module _ {J T E : Type 0} {same : J → J → Type 0} {done : J → Bool} {can_p
           (its_answer answers took settles_it.out.name settles_it.out.queue settles_it.sent settles_it.task whole.ran.step (settled_of step) settles_it.tells settles_it.answered)
 
       pub turned_outs : {fits : Order J → Outcome J T → Type 0} {credited : E → ℕ} → AreOutsOf fits out credited left later → AreOutsOf fits out credited (desk_of new) later
-      turned_outs {fits} {credited} outs =
-          outs_kept (desk_of polled_view) (desk_of new) later (quiet_outs whole.mid took left at_poll core_now told last last_is last_step said_now wrote_it) (ap (λ desk. desk.lanes) wrote_it)
-          (quiet_seat whole.mid took left at_poll core_now told last last_is last_step said_now wrote_it).cores
-          (subst (λ desk. AreOutsOf fits out credited desk later) at_poll.1 outs)
+      turned_outs {fits} {credited} outs = outs_kept polled_view new stays_it later (subst (λ desk. AreOutsOf fits out credited desk later) at_poll.1 outs)
 
       pub turned_rest : core_now.out ≡ None
       turned_rest = settles_it.out_now
 
       pub turned_seat : IsSameSeat old new
       turned_seat =
-          let one = seat_picked core took said invariant few_turns queue vr name started whole.ran.before whole.mid whole.picks slice slice_is noted wrote in
-          let other = quiet_seat whole.mid took left at_poll core_now told last last_is last_step said_now wrote_it in
+          let one = stays_picked_it.seat in
+          let other = stays_it.seat in
           record {
             number = other.number ∙ one.number;
             cores = other.cores ∙ one.cores;

@@ -19,21 +19,22 @@ use Rattle.rt_core.proofs.AheadTaken.{ahead_picks}
 use Rattle.rt_link.specs.declared.ends.Outward.{Outward}
 use Rattle.rt_journal.specs.Submissions.{DeskView, IsWritten, terms_of_desk, desk_with}
 use Rattle.rt_journal.specs.Recorded.{RecordedView, IsRecorded, desk_of}
-use Rattle.rt_journal.specs.Ends.{KeepsSent, KeepsOuts, KeepsIn, LeavesOwed, IsSameSeat}
+use Rattle.rt_journal.specs.Ends.{KeepsSent, KeepsIn, LeavesOwed}
 use Rattle.rt_journal.specs.Posts.{AreOutsOf}
 use Rattle.rt_journal.specs.Turns.{IsPick}
+use Rattle.rt_journal.specs.Whole.{StaysPut}
 use Rattle.rt_journal.proofs.Picked.{step-picked, picks-now}
 use Rattle.rt_journal.proofs.Quiet.{nobody}
 use Rattle.rt_journal.proofs.QuietSteps.{stepped, IsQuietStep, everyone}
 use Rattle.rt_journal.proofs.Wrote.{view_of, quiet_written, quiet_sent, now_is, quiet_invariant, quiet_seat, quiet_ins, quiet_outs}
 
--- ends that stay beside a desk whose lanes stay
-pub outs_kept : {J T E : Type 0} {fits : Order J → Outcome J T → Type 0} {out : E → Outward J T} {credited : E → ℕ} (old new : DeskView J T) (ends : List E) → KeepsOuts old new → new.lanes ≡ old.lanes → new.cores ≡ old.cores →
-    AreOutsOf fits out credited old ends → AreOutsOf fits out credited new ends
-outs_kept old new ends keeps lanes cores outs = record {
-  count = outs.count ∙ sym cores;
-  beside = λ core end there. (keeps core).each _ _ (outs.beside core end there);
-  lanes = λ core end there. let had = outs.lanes core end there in record { lane = had.lane; is = ap (λ lanes. slice_get lanes core) lanes ∙ had.is; lane_of = had.lane_of };
+-- ends that stay beside a core whose lanes stay
+pub outs_kept : {J T E : Type 0} {fits : Order J → Outcome J T → Type 0} {out : E → Outward J T} {credited : E → ℕ} (old new : RecordedView J T) → StaysPut old new → (ends : List E) →
+    AreOutsOf fits out credited (desk_of old) ends → AreOutsOf fits out credited (desk_of new) ends
+outs_kept old new stays ends outs = record {
+  count = outs.count ∙ sym stays.seat.cores;
+  beside = λ core end there. (stays.outs core).each _ _ (outs.beside core end there);
+  lanes = λ core end there. let had = outs.lanes core end there in record { lane = had.lane; is = ap (λ lanes. slice_get lanes core) stays.lanes ∙ had.is; lane_of = had.lane_of };
 }
 
 -- one step after another leaves owed what the last one leaves
@@ -78,14 +79,17 @@ module _ {J T : Type 0} {same : J → J → Type 0} {made : J → ℕ} {polls : 
       pub keeps_in : (sender : ℕ) → KeepsIn sender (view_of core took said) (view_of mid took noted)
       keeps_in sender = quiet_ins core took said invariant mid picked slice slice_is (quiet started picked picks) noted wrote sender tt
 
-      pub seat_picked : IsSameSeat (view_of core took said) (view_of mid took noted)
-      seat_picked = quiet_seat core took said invariant mid picked slice slice_is (quiet started picked picks) noted wrote
+      pub stays_picked : StaysPut (view_of core took said) (view_of mid took noted)
+      stays_picked = record {
+        seat = quiet_seat core took said invariant mid picked slice slice_is (quiet started picked picks) noted wrote;
+        outs = quiet_outs core took said invariant mid picked slice slice_is (quiet started picked picks) noted wrote;
+        lanes = ap (λ desk. desk.lanes) wrote;
+      }
 
       outs_picked : {E : Type 0} {fits : Order J → Outcome J T → Type 0} {out : E → Outward J T} {credited : E → ℕ} (ends : List E) → AreOutsOf fits out credited (desk_of (view_of core took said)) ends → AreOutsOf fits out credited noted ends
       outs_picked {E} {fits} {out} {credited} ends outs =
           subst (λ desk. AreOutsOf fits out credited desk ends) (sym is_picked.1)
-          (outs_kept (desk_of (view_of core took said)) (desk_of (view_of mid took noted)) ends (quiet_outs core took said invariant mid picked slice slice_is (quiet started picked picks) noted wrote)
-          (ap (λ desk. desk.lanes) wrote) seat_picked.cores outs)
+          (outs_kept (view_of core took said) (view_of mid took noted) stays_picked ends outs)
 
 -- the same, told before the pick
 module _ {J T : Type 0} {same : J → J → Type 0} {made : J → ℕ} {polls : Owed J T}

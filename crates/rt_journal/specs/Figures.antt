@@ -1,5 +1,5 @@
 -- What is counted of a queue: as its core counts it, and as a journal tells it.
-use Rattle.std.specs.Prelude.{ℕ, ◌+◌, if◌then◌else◌}
+use Rattle.std.specs.Prelude.{ℕ, ◌+◌}
 use Rattle.rt_ids.specs.declared.note.Note.{Note}
 use Rattle.rt_ids.specs.Filters.{name_finished}
 use Rattle.rt_ids.specs.HandBacks.{picks_of, queue_picked}

@@ -63,3 +63,8 @@ module _ {J T : Type 0} where
     Picks old (Ok Idle) new = ((queue : ℕ) → has_work queue old.journal.notes ≡ false) × (new ≡ old)
     Picks old (Err Busy) new = (old.core.out ≢ None) × (new ≡ old)
     Picks old (Err Spent) new = (turns old.journal.notes ≡ 2 ^ 64 - 1) × ((queue : ℕ) × (has_work queue old.journal.notes ≡ true)) × (new ≡ old)
+
+-- the pick handed a job back
+abbrev pub IsBack : {J : Type 0} → Result (Turn J) PickError → Type 0
+IsBack (Ok (Back name reason order)) = Unit {0}
+IsBack _ = ⊥

@@ -8,8 +8,8 @@ use Rattle.rt_core.specs.declared.turn.Settled.{Settled}
 use Rattle.rt_core.specs.declared.turn.Settled.TheVariants.{Yielded, Finished}
 use Rattle.rt_link.specs.declared.ends.Outward.{Outward}
 use Rattle.rt_ids.specs.declared.order.Envelope.{Envelope}
-use Rattle.rt_journal.specs.Recorded.{RecordedView, desk_of, order_taken}
-use Rattle.rt_journal.specs.Ends.{KeepsIn}
+use Rattle.rt_journal.specs.Recorded.{RecordedView, IsRecorded, desk_of, order_taken}
+use Rattle.rt_journal.specs.Ends.{KeepsIn, KeepsOuts, IsSameSeat}
 use Rattle.rt_journal.specs.Owed.{OwesSettled}
 use Rattle.rt_journal.specs.Posts.{PostView, HasPosted}
 use Rattle.rt_journal.specs.Turns.{IsPick, IsPolled, Settles}
@@ -17,6 +17,12 @@ use Rattle.rt_journal.specs.Turns.{IsPick, IsPolled, Settles}
 -- the desk of a core, and its ends
 abbrev pub post_of : {J T E : Type 0} → RecordedView J T → List E → PostView J T E
 post_of view ends = record { desk = desk_of view; ends = ends }
+
+-- a step that submits nothing leaves the seat, the ends on which this actor sends, and its lanes as they are
+pub record StaysPut {J T : Type 0} (old new : RecordedView J T) : Type 0 where
+  pub seat : IsSameSeat old new
+  pub outs : KeepsOuts (desk_of old) (desk_of new)
+  pub lanes : new.lanes ≡ old.lanes
 
 module _ {J T E : Type 0} (same : J → J → Type 0) (made : J → ℕ) (polls : Owed J T) (answers : J → T → Type 0) (does : Doing (PostView J T E) J T) (out : E → Outward J T) (untouched : E → List ℕ) (tells : ℕ → Type 0) where
   -- the job is picked, polled once while the desk and its ends are its post, and settled, with a time that the meter may tell; no value is ever what stands between
@@ -27,6 +33,8 @@ module _ {J T E : Type 0} (same : J → J → Type 0) (made : J → ℕ) (polls 
     pub spent : ℕ
     pub told : tells spent
     pub picks : IsPick old name queue started ran.before picked
+    pub sound : IsRecorded same made polls picked
+    pub stays : StaysPut old picked
     pub keeps : (sender : ℕ) → KeepsIn sender old picked
     pub owed : OwesAt polls does ran.before (made ran.before) (post_of picked ends) (post_of left later) ran.step ran.told
     pub posted : HasPosted out untouched (post_of picked ends) (post_of left later)
@@ -34,6 +42,7 @@ module _ {J T E : Type 0} (same : J → J → Type 0) (made : J → ℕ) (polls 
     pub silent : (sender : ℕ) → KeepsIn sender picked left
     pub polled : IsPolled same made polls answers ran
     pub settles : Settles made polls answers left ran spent settled new
+    pub stays_settled : StaysPut left new
     pub owes : OwesSettled left settled new
 
 module _ {J T : Type 0} (answers : J → T → Type 0) where

@@ -1,10 +1,12 @@
 //! A core beside its journal, over any ends of links.
 
-ghost use Rattle.std.specs.Prelude.{◌≡◌, ℕ, ◌+◌, ◌<◌, ◌≤◌, ◌≢◌, ◌↔◌, false, length, Some, None, is_some, IsSome, IsTrue, IfOk, IfSome};
+ghost use Rattle.std.specs.Prelude.{◌≡◌, ℕ, ◌+◌, ◌<◌, ◌≤◌, ◌≢◌, ◌↔◌, false, length, Ok, Some, None, is_some, IsSome, IsTrue, IfOk, IfSome};
 ghost use Rattle.rt_ids.specs.Closing.{IsDrained, core_mode, final_count};
 ghost use Rattle.rt_ids.specs.Commands.{IsOpening};
 ghost use Rattle.rt_jobs.specs.Ready.{HasReadyJob};
+ghost use Rattle.rt_core.specs.declared.turn.Ahead.TheVariants as tells;
 ghost use Rattle.rt_core.specs.Answers.{IsReadyTurn};
+ghost use Rattle.rt_core.specs.Whole.{TellsAhead};
 ghost use Rattle.std.specs.Option.{option_map};
 ghost use Rattle.rt_ids.specs.declared.note.OutcomeNote.TheVariants.{Returned};
 ghost use Rattle.rt_ids.specs.declared.order.Outcome.TheVariants as outcome;
@@ -15,7 +17,7 @@ ghost use Rattle.rt_journal.specs.Submissions.{Submits, numbered};
 ghost use Rattle.rt_journal.specs.Recorded.{IsRecorded, desk_of, order_taken};
 ghost use Rattle.rt_journal.specs.Ends.{IsOutOf, IsInOf, IsInOwing, Gives, GivesMore, told_under, LeavesOwed, KeepsIn, KeepsOuts, IsSameSeat};
 ghost use Rattle.rt_journal.specs.Steps.{opened_beside, IsNextIn, Receives, Delivers, CreatesQueue, TellsShut, ClosesItself};
-ghost use Rattle.rt_journal.specs.Turns.{Picks, IsOut, IsOutUnder, IsPolled, Settles};
+ghost use Rattle.rt_journal.specs.Turns.{Picks, IsBack, IsOut, IsOutUnder, IsPolled, Settles};
 ghost use Rattle.rt_desk.specs.Lanes.{IsGot, FitsSent};
 ghost use Rattle.rt_ids.specs.Outstanding.{outstanding_count};
 ghost use Rattle.rt_ids.specs.declared.names.TicketError.TheVariants.{Unknown};
@@ -252,7 +254,7 @@ impl<J: Task<Out = u64>, A: Allocator + Clone> Recorded<J, A> {
     }
 
     /// Picks the queue of least virtual runtime, then least number, and takes its first job out, or hands it back if the queue or the
-    /// core is closed so.
+    /// core is closed so. A job that `ahead` told to go back is handed back.
     ///
     /// # Errors
     ///
@@ -261,6 +263,7 @@ impl<J: Task<Out = u64>, A: Allocator + Clone> Recorded<J, A> {
         requires room { length self.old.journal.notes + 2 ≤ self.old.journal.room }
         ensures picks { Picks J.SameTask self.old result self.new }
         ensures ready { IsReadyTurn J.done J.CanPoll result }
+        ensures back { TellsAhead self.old.core (Ok tells.Back) → IsBack result }
         ensures ins { (sender : ℕ) → LeavesOwed sender (owed_back result sender) self.old self.new }
         ensures outs { KeepsOuts (desk_of self.old) (desk_of self.new) }
         ensures seat { IsSameSeat self.old self.new }

@@ -20,6 +20,7 @@ use Rattle.rt_workers.specs.Works.{Together}
 use Rattle.rt_workers.proofs.Lists.{together_length}
 use Rattle.rt_worker.specs.Linked.{LinkedView, StaysLinked}
 use Rattle.rt_worker.specs.Ended.{HasEnded}
+use Rattle.rt_worker.specs.Queues.{opening_of}
 use Rattle.rt_worker.specs.Rooms.{ClosesRightly, least_free}
 use Rattle.rt_worker.specs.Together.{HaveEnded, EndedAreJoined, no_linked, worker_at, desk_among, all_ends}
 use Rattle.rt_worker.proofs.Ending.{before_last, at_last}
@@ -148,6 +149,7 @@ module _ {J : Type 0} {fits : Order J → Outcome J ℕ → Type 0} (view : Runt
           outside = outside_here;
           drained = law.1;
           closes = closes_here;
+          openings = λ core low. ap opening_of (here core low) ∙ (stays core low).opening;
         }
 
     -- the same of the assembly as the code has it

@@ -23,23 +23,24 @@ use Rattle.rt_grid.specs.Ends.{EndsView, AreFresh, out_at}
 use Rattle.rt_grid.specs.Grid.{IsGrid, AreAllFresh, ends_at, no_ends}
 use Rattle.rt_grid.proofs.Parts.{at_end}
 use Rattle.rt_worker.specs.Linked.{LinkedView}
-use Rattle.rt_worker.specs.Opening.{IsWorkerOf, IsOpenedOver}
+use Rattle.rt_worker.specs.Opening.{IsWorkerOf}
+use Rattle.rt_worker.specs.Queues.{creations}
 use Rattle.rt_worker.specs.Together.{IsOutside, no_linked, worker_at}
 use Rattle.rt_worker.proofs.Opened.{fresh_out}
 use Rattle.rt_runtime.specs.State.{IsRuntime}
-use Rattle.rt_runtime.specs.Starting.{AreOpening, IsHouse}
+use Rattle.rt_runtime.specs.Starting.{AreOpening, IsHouse, IsOpenedWith}
 use Rattle.rt_runtime.proofs.Finished.{together_at}
 
 all_from : {A : Type 0} (P : A → Type 0) (xs : List A) (d : A) → ((i : ℕ) → i < length xs → P (get_or xs i d)) → All P xs
 all_from P xs d each place other low = subst P (sym (get_or_default xs place other d low)) (each place low)
 
-module _ {J T : Type 0} (cores cap room : ℕ) where
+module _ {J T : Type 0} (cores cap room : ℕ) (queues : List Entry) where
   -- the workers have the ends over which they were opened
-  over_same : (front : List (EndsView J T)) (workers : List (LinkedView J T)) → Together (IsOpenedOver cores cap room) front workers → map (λ worker. worker.ends) workers ≡ front
+  over_same : (front : List (EndsView J T)) (workers : List (LinkedView J T)) → Together (IsOpenedWith cores cap room queues) front workers → map (λ worker. worker.ends) workers ≡ front
   over_same [] [] both = refl
   over_same [] (worker ∷ workers) both = absurd both
   over_same (ends ∷ front) [] both = absurd both
-  over_same (ends ∷ front) (worker ∷ workers) both = ap (λ ends. ends ∷ map (λ (worker : LinkedView J T). worker.ends) workers) both.0.ends_are ∙ ap (λ front. ends ∷ front) (over_same front workers both.1)
+  over_same (ends ∷ front) (worker ∷ workers) both = ap (λ ends. ends ∷ map (λ (worker : LinkedView J T). worker.ends) workers) both.0.over.ends_are ∙ ap (λ front. ends ∷ front) (over_same front workers both.1)
 
   module _ (all front : List (EndsView J T)) (outside : EndsView J T) (is : all ≡ front ++ outside ∷ []) (grid : IsGrid cores all) (are_fresh : AreAllFresh cores cap all) where
     front_count : length front ≡ cores
@@ -55,8 +56,8 @@ module _ {J T : Type 0} (cores cap room : ℕ) where
     fresh_front core low = subst (AreFresh cap core) (at_front core low) (are_fresh core (omega (arith, low, front_count)))
 
     -- each of the first ends may be opened
-    pub may_open : (queues : List Entry) (clocks gates : ℕ) → IsGood cores cap room queues clocks gates → All (AreOpening cores cap room queues) front
-    may_open queues clocks gates good = all_from (AreOpening cores cap room queues) front no_ends (λ core low.
+    pub may_open : (clocks gates : ℕ) → IsGood cores cap room queues clocks gates → All (AreOpening cores cap room queues) front
+    may_open clocks gates good = all_from (AreOpening cores cap room queues) front no_ends (λ core low.
         let there : core < cores = omega (arith, low, front_count) in
         let fresh = fresh_front core low in
         record {
@@ -69,24 +70,28 @@ module _ {J T : Type 0} (cores cap room : ℕ) where
           enough = (good.each (get_or front core no_ends).number (omega (arith, fresh.number_is, there))).room_least;
         })
 
-    pub opened_house : (workers : List (LinkedView J T)) → Together (IsOpenedOver cores cap room) front workers → IsHouse cores cap room workers outside
+    pub opened_house : (workers : List (LinkedView J T)) → Together (IsOpenedWith cores cap room queues) front workers → IsHouse cores cap room queues workers outside
     opened_house workers both = record {
-      count = sym (together_length (IsOpenedOver cores cap room) front workers both) ∙ front_count;
+      count = sym (together_length (IsOpenedWith cores cap room queues) front workers both) ∙ front_count;
       each = λ core low.
           let there : core < length front = omega (arith, low, front_count) in
-          let opened = together_at (IsOpenedOver cores cap room) front workers no_ends no_linked core both there in
-          subst (λ number. IsWorkerOf number cores cap room (worker_at core workers)) (fresh_front core there).number_is opened.of;
+          let opened = together_at (IsOpenedWith cores cap room queues) front workers no_ends no_linked core both there in
+          subst (λ number. IsWorkerOf number cores cap room (worker_at core workers)) (fresh_front core there).number_is opened.over.of;
       grid = subst (IsGrid cores) (is ∙ ap (λ front. front ++ outside ∷ []) (sym (over_same front workers both))) grid;
       outs = subst (λ ends. length ends.outs ≡ cores) at_outside (grid.outs cores (omega arith));
       fresh = subst (AreFresh cap cores) at_outside (are_fresh cores (omega arith));
+      have_queues = λ core low.
+          let there : core < length front = omega (arith, low, front_count) in
+          let opened = together_at (IsOpenedWith cores cap room queues) front workers no_ends no_linked core both there in
+          subst (λ number. (worker_at core workers).recorded.journal.notes ≡ creations number queues) (fresh_front core there).number_is opened.queues_are;
     }
 
   -- no order was submitted
-  pub none_submitted : (workers : List (LinkedView J T)) (ends : EndsView J T) → IsHouse cores cap room workers ends → (core : ℕ) → core < cores → (out_at core ends).out.sent ≡ []
+  pub none_submitted : (workers : List (LinkedView J T)) (ends : EndsView J T) → IsHouse cores cap room queues workers ends → (core : ℕ) → core < cores → (out_at core ends).out.sent ≡ []
   none_submitted workers ends house core low = ap (λ out. out.sent) (house.fresh.outs core (omega (arith, low, house.outs))).out
 
   -- a runtime in which nothing has happened
-  module _ (workers : List (LinkedView J T)) (ends : EndsView J T) (desk : DeskView J T) (closing : List Bool) (house : IsHouse cores cap room workers ends) (opened : desk ≡ opened_desk cores cores cap room)
+  module _ (workers : List (LinkedView J T)) (ends : EndsView J T) (desk : DeskView J T) (closing : List Bool) (house : IsHouse cores cap room queues workers ends) (opened : desk ≡ opened_desk cores cores cap room)
       (written : IsWritten (terms_of_desk desk) desk.journal.notes) (none : closing ≡ replicate cores false) (limits : IsWithinLimits cores cap) where
     outs_opened : (core : ℕ) → core < cores → IsOutOf core (opened_desk cores cores cap room) (out_at core ends).out (out_at core ends).credited
     outs_opened core low =

@@ -7,21 +7,25 @@ use Rattle.rt_ids.specs.Joining.{AreJoined}
 use Rattle.rt_ids.specs.Sound.{IsSound}
 use Rattle.rt_ids.specs.Spelled.{IsSpelled}
 use Rattle.rt_journal.specs.Submissions.{opened_desk}
+use Rattle.rt_worker.specs.Queues.{opening_of}
 use Rattle.rt_worker.specs.Rooms.{ClosesRightly, least_free}
+use Rattle.rt_worker.specs.Together.{worker_at}
 use Rattle.rt_runtime.specs.declared.error.FinishError.{FinishError}
 use Rattle.rt_runtime.specs.declared.error.FinishError.TheVariants.{NotClosed}
 use Rattle.rt_runtime.specs.declared.error.StartError.{StartError}
 use Rattle.rt_runtime.specs.declared.error.StartError.TheVariants.{BadConfig, Memory, Thread}
 use Rattle.rt_settings.specs.Configs.{Entry, IsGood}
+use Rattle.rt_runtime.specs.Starting.{HaveQueues}
 use Rattle.rt_runtime.specs.State.{RuntimeView, closing_at, submitted}
 
 module _ {J T : Type 0} where
-  -- a runtime that was just started
-  pub record IsStarted (cores cap room : ℕ) (view : RuntimeView J T) : Type 0 where
+  -- A runtime that was just started. Each core has the queues that the configuration names for it, in their order.
+  pub record IsStarted (cores cap room : ℕ) (queues : List Entry) (view : RuntimeView J T) : Type 0 where
     pub desk : view.desk ≡ opened_desk cores cores cap room
     pub closing : view.closing ≡ replicate cores false
     pub room_is : view.room ≡ room
     pub none : (core : ℕ) → core < cores → submitted core view ≡ []
+    pub have_queues : HaveQueues cores queues view.workers
 
   -- this is the first core that the caller didn't close
   pub record IsFirstOpen (core : ℕ) (view : RuntimeView J T) : Type 0 where
@@ -30,21 +34,21 @@ module _ {J T : Type 0} where
     pub before : (other : ℕ) → other < core → closing_at other view ≡ true
 
   -- a start with a good configuration
-  abbrev pub Begins : ℕ → ℕ → ℕ → Result (RuntimeView J T) StartError → Type 0
-  Begins cores cap room (Ok view) = IsStarted cores cap room view
-  Begins cores cap room (Err BadConfig) = ⊥
-  Begins cores cap room (Err _) = Unit {0}
+  abbrev pub Begins : ℕ → ℕ → ℕ → List Entry → Result (RuntimeView J T) StartError → Type 0
+  Begins cores cap room queues (Ok view) = IsStarted cores cap room queues view
+  Begins cores cap room queues (Err BadConfig) = ⊥
+  Begins cores cap room queues (Err _) = Unit {0}
 
   -- a start: the configuration is not good, or there was no memory or no thread, or nothing has happened yet
   abbrev pub Starts : ℕ → ℕ → ℕ → List Entry → ℕ → ℕ → Result (RuntimeView J T) StartError → Type 0
-  Starts cores cap room queues clocks gates (Ok view) = IsGood cores cap room queues clocks gates × IsStarted cores cap room view
+  Starts cores cap room queues clocks gates (Ok view) = IsGood cores cap room queues clocks gates × IsStarted cores cap room queues view
   Starts cores cap room queues clocks gates (Err BadConfig) = IsGood cores cap room queues clocks gates → ⊥
   Starts cores cap room queues clocks gates (Err Memory) = IsGood cores cap room queues clocks gates
   Starts cores cap room queues clocks gates (Err Thread) = IsGood cores cap room queues clocks gates
 
 module _ {J : Type 0} where
   -- The journals are joined, so they are sound, and they have a text. The outside journal is that of the caller's calls. Each core is drained,
-  -- and closed by itself only where its journal was short.
+  -- and closed by itself only where its journal was short. Its journal begins with what its worker began with.
   pub record HasFinished (view : RuntimeView J ℕ) (assembly : Assembly ℕ) : Type 0 where
     pub closed : (core : ℕ) → core < view.desk.cores → closing_at core view ≡ true
     pub cores : assembly.cores ≡ view.desk.cores
@@ -55,6 +59,7 @@ module _ {J : Type 0} where
     pub outside : journal_of view.desk.cores assembly ≡ view.desk.journal.notes
     pub drained : (core : ℕ) → core < view.desk.cores → IsDrained view.desk.cores (journal_of core assembly)
     pub closes : (core : ℕ) → core < view.desk.cores → EachNote (ClosesRightly (least_free view.desk.cores view.desk.cap) view.room) (journal_of core assembly)
+    pub openings : (core : ℕ) → core < view.desk.cores → opening_of (journal_of core assembly) ≡ opening_of (worker_at core view.workers).recorded.journal.notes
 
   -- a finish: a core is still open and the runtime comes back, or all workers have ended
   abbrev pub Finishes : RuntimeView J ℕ → Result (Assembly ℕ) (FinishError (RuntimeView J ℕ)) → Type 0

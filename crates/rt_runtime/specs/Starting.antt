@@ -4,7 +4,8 @@ use Rattle.rt_settings.specs.Configs.{Entry, least_room, queues_of}
 use Rattle.rt_grid.specs.Ends.{EndsView, AreFresh}
 use Rattle.rt_grid.specs.Grid.{IsGrid}
 use Rattle.rt_worker.specs.Linked.{LinkedView}
-use Rattle.rt_worker.specs.Opening.{AreEndsOf, IsWorkerOf}
+use Rattle.rt_worker.specs.Opening.{AreEndsOf, IsOpenedOver, IsWorkerOf}
+use Rattle.rt_worker.specs.Queues.{creations}
 use Rattle.rt_worker.specs.Together.{worker_at}
 
 -- a journal has room for the queues that a core is to have, and for what a worker needs
@@ -17,10 +18,20 @@ module _ {J T : Type 0} where
     pub ends_of : AreEndsOf cores cap ends
     pub enough : IsRoomFor cores cap room queues ends.number
 
+  -- a worker over these ends, whose journal tells of the queues of its core and of nothing else
+  pub record IsOpenedWith (cores cap room : ℕ) (queues : List Entry) (ends : EndsView J T) (worker : LinkedView J T) : Type 0 where
+    pub over : IsOpenedOver cores cap room ends worker
+    pub queues_are : worker.recorded.journal.notes ≡ creations ends.number queues
+
+  -- the journal of each worker tells of the queues of its core and of nothing else
+  abbrev pub HaveQueues : ℕ → List Entry → List (LinkedView J T) → Type 0
+  HaveQueues cores queues workers = (core : ℕ) → core < cores → (worker_at core workers).recorded.journal.notes ≡ creations core queues
+
   -- the workers of a house that was just opened, one for each core, and the outside actor's ends
-  pub record IsHouse (cores cap room : ℕ) (workers : List (LinkedView J T)) (outside : EndsView J T) : Type 0 where
+  pub record IsHouse (cores cap room : ℕ) (queues : List Entry) (workers : List (LinkedView J T)) (outside : EndsView J T) : Type 0 where
     pub count : length workers ≡ cores
     pub each : (core : ℕ) → core < cores → IsWorkerOf core cores cap room (worker_at core workers)
     pub grid : IsGrid cores (map (λ worker. worker.ends) workers ++ outside ∷ [])
     pub outs : length outside.outs ≡ cores
     pub fresh : AreFresh cap cores outside
+    pub have_queues : HaveQueues cores queues workers

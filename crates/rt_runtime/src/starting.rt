@@ -4,9 +4,10 @@ ghost use Rattle.std.specs.Prelude.{◌≡◌, ◌+◌, ◌≤◌, All, false, I
 ghost use Rattle.rt_settings.specs.Configs.{IsGood};
 ghost use Rattle.rt_workers.specs.Works.{Together};
 ghost use Rattle.rt_worker.specs.Opening.{AreEndsOf, IsOpenedOver};
+ghost use Rattle.rt_worker.specs.Queues.{creations};
 ghost use Rattle.rt_journal.specs.Submissions.{IsWritten, opened_desk, terms_of_desk};
 ghost use Rattle.rt_runtime.specs.Calls.{Begins, Starts};
-ghost use Rattle.rt_runtime.specs.Starting.{AreOpening, IsHouse, IsRoomFor};
+ghost use Rattle.rt_runtime.specs.Starting.{AreOpening, IsHouse, IsOpenedWith, IsRoomFor};
 
 use crate::error::StartError;
 use crate::runtime::Runtime;
@@ -54,7 +55,8 @@ fn open_worker<J: Task<Out = u64>, C: Drop, G: Drop>(
     requires ends { AreEndsOf config.now.cores config.now.cap ends }
     requires room { IsRoomFor config.now.cores config.now.cap config.now.room config.now.queues.items ends.number }
     requires bells { length bells.now ≡ config.now.cores }
-    ensures { IfOk result (λ worker. IsOpenedOver config.now.cores config.now.cap config.now.room ends worker) }
+    ensures over { IfOk result (λ worker. IsOpenedOver config.now.cores config.now.cap config.now.room ends worker) }
+    ensures queues { IfOk result (λ worker. worker.recorded.journal.notes ≡ creations ends.number config.now.queues.items) }
 {
     let number = ends.number;
     let its_own = Arc::try_clone(&bells[number.0 as usize])?;
@@ -76,7 +78,7 @@ fn open_workers<J: Task<Out = u64>, C: Drop, G: Drop>(
     requires bells { length bells.now ≡ config.now.cores }
     requires clocks { length clocks.items ≡ length all.items }
     requires gates { length gates.items ≡ length all.items }
-    ensures { IfOk result (λ opened. Together (IsOpenedOver config.now.cores config.now.cap config.now.room) all.items opened.items) }
+    ensures { IfOk result (λ opened. Together (IsOpenedWith config.now.cores config.now.cap config.now.room config.now.queues.items) all.items opened.items) }
 {
     let mut workers = Vec::with_capacity(alloc, all.len())?;
     let (mut clocks, mut gates) = (clocks, gates);
@@ -95,7 +97,7 @@ fn open_house<J: Task<Out = u64>, C: Drop, G: Drop>(
     gates: Vec<G>,
 ) -> Result<(Vec<Worker<J, C, G>>, Vec<Bell>, Ends<J>), AllocError>
     requires { IsGood config.now.cores config.now.cap config.now.room config.now.queues.items (length clocks.items) (length gates.items) }
-    ensures house { IfOk result (λ house. IsHouse config.now.cores config.now.cap config.now.room house.0.items house.2) }
+    ensures house { IfOk result (λ house. IsHouse config.now.cores config.now.cap config.now.room config.now.queues.items house.0.items house.2) }
     ensures bells { IfOk result (λ house. length house.1.items ≡ config.now.cores) }
 {
     let bells = open_bells(alloc, config.cores)?;
@@ -145,7 +147,7 @@ impl<J: Task<Out = u64>, C: Drop, G: Drop> Runtime<J, C, G> {
         G: Gate + Send + 'static,
         R: Threads + Wait + Copy + Drop + Send + 'static,
         requires { IsGood config.now.cores config.now.cap config.now.room config.now.queues.items (length clocks.items) (length gates.items) }
-        ensures { Begins config.now.cores config.now.cap config.now.room result }
+        ensures { Begins config.now.cores config.now.cap config.now.room config.now.queues.items result }
     {
         let actors = config.cores as usize + 1;
         let Ok((workers, bells, ends)) = open_house(alloc, config, clocks, gates) else {

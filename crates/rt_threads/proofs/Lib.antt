@@ -4,3 +4,4 @@ pub mod Good
 pub mod Walking
 pub mod Running
 pub mod Ready
+pub mod Opened

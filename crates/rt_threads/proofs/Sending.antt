@@ -17,6 +17,7 @@ use Rattle.rt_journal.specs.Submissions.{DeskView, Submits}
 use Rattle.rt_notes.specs.Journals.{JournalView}
 use Rattle.rt_runtime.specs.Calls.{IsStarted}
 use Rattle.rt_script.specs.Limits.{IsSize}
+use Rattle.rt_settings.specs.Configs.{Entry}
 use Rattle.rt_threads.specs.Rooms.{room_of}
 use Rattle.rt_jobs.specs.Scripts.{Script}
 use Rattle.rt_runtime.specs.declared.error.SubmitError.{SubmitError}
@@ -88,6 +89,7 @@ pub record Grows (orders : List Told) (old new : View) : Type 0 where
   pub cap : new.desk.cap ≡ old.desk.cap
   pub room : new.desk.journal.room ≡ old.desk.journal.room
   pub closings : length new.closing ≡ length old.closing
+  pub workers : new.workers ≡ old.workers
   pub notes : length new.desk.journal.notes ≤ length old.desk.journal.notes + length orders
   pub each : (core : ℕ) → sent_to core new ≤ sent_to core old + orders_to core orders
 
@@ -97,6 +99,7 @@ grows [] old new same = record {
   cap = ap (λ (view : View). view.desk.cap) same;
   room = ap (λ (view : View). view.desk.journal.room) same;
   closings = ap (λ (view : View). length view.closing) same;
+  workers = ap (λ (view : View). view.workers) same;
   notes = let e = ap (λ (view : View). length view.desk.journal.notes) same in omega (arith, e);
   each = λ core. let e = ap (λ (view : View). sent_to core view) same in omega (arith, e);
 }
@@ -108,6 +111,7 @@ grows (told ∷ rest) old new (between, one, others) =
       cores = later.cores ∙ ap (λ (desk : DeskView Script ℕ). desk.cores) sends.stays.desk;
       cap = later.cap ∙ ap (λ (desk : DeskView Script ℕ). desk.cap) sends.stays.desk;
       room = later.room ∙ ap (λ (desk : DeskView Script ℕ). desk.journal.room) sends.stays.desk;
+      workers = later.workers ∙ sends.stays.workers;
       closings = later.closings ∙ (ap length sends.closing ∙ length-set old.closing told.0 _);
       notes = let a = first.notes in let b = later.notes in omega (arith, a, b);
       each = λ core. let a = first.each core in let b = later.each core in let c = sum_by-cons (λ t. cond (t.0 == core) 1 0) told rest in omega (arith, a, b, c);
@@ -133,8 +137,8 @@ offers_both [] second old between new same later = subst (λ (view : View). Offe
 offers_both (told ∷ rest) second old between new (next, done, others) later = (next, done, offers_both rest second next between new others later)
 
 -- a runtime that was just started
-pub started_of : (cores cap : ℕ) (view : View) → IsStarted cores cap (room_of cores cap) view → IsSize cores cap → IsOfScript view × (length view.desk.journal.notes ≡ 0) × ((core : ℕ) → sent_to core view ≡ 0) × (view.desk.cap ≡ cap)
-started_of cores cap view started size =
+pub started_of : (cores cap : ℕ) (queues : List Entry) (view : View) → IsStarted cores cap (room_of cores cap) queues view → IsSize cores cap → IsOfScript view × (view.desk.journal.notes ≡ [])
+started_of cores cap queues view started size =
     let cores_are : view.desk.cores ≡ cores = ap (λ (desk : DeskView Script ℕ). desk.cores) started.desk in
     let cap_is : view.desk.cap ≡ cap = ap (λ (desk : DeskView Script ℕ). desk.cap) started.desk in (
       record {
@@ -144,10 +148,12 @@ started_of cores cap view started size =
         room = rw (cores_are, cap_is) (ap (λ (desk : DeskView Script ℕ). desk.journal.room) started.desk);
         closings = ap length started.closing ∙ (length-replicate cores false ∙ sym cores_are);
       },
-      ap (λ (desk : DeskView Script ℕ). length desk.journal.notes) started.desk,
-      (λ core. ap (λ (desk : DeskView Script ℕ). length (accepted_orders core desk.journal.notes)) started.desk),
-      cap_is,
+      ap (λ (desk : DeskView Script ℕ). desk.journal.notes) started.desk,
     )
+
+-- a runtime of whose journal nothing is noted
+pub nothing_sent : (view : View) → IsOfScript view → view.desk.journal.notes ≡ [] → IsOfScript view × (length view.desk.journal.notes ≡ 0) × ((core : ℕ) → sent_to core view ≡ 0) × (view.desk.cap ≡ view.desk.cap)
+nothing_sent view script none = (script, ap length none, (λ core. ap (λ (notes : Journal ℕ). length (accepted_orders core notes)) none), refl)
 
 one_self : (core : ℕ) → ◌≡◌ {A = ℕ} (cond (eqb core core) 1 0) 1
 one_self core = let same : eqb core core ≡ true = grind (arith, nat_tests) in rw same refl

@@ -1,29 +1,33 @@
 -- A whole run of a script on threads.
-use Rattle.std.specs.Prelude.{◌≡◌, ◌++◌, ℕ, Bool, List, Option, Some, Ok}
+use Rattle.std.specs.Prelude.{◌≡◌, ◌<◌, ◌++◌, ℕ, Bool, List, Option, Some, Ok}
 use Rattle.std.specs.Option.{IfSome}
-use Rattle.rt_ids.specs.Assembly.{Assembly}
+use Rattle.rt_ids.specs.Assembly.{Assembly, journal_of}
 use Rattle.rt_jobs.specs.Scripts.{Script}
 use Rattle.rt_outcomes.specs.Writing as writing
 use Rattle.rt_runtime.specs.Calls.{IsStarted, HasFinished}
 use Rattle.rt_runtime.specs.State.{RuntimeView}
+use Rattle.rt_settings.specs.Configs.{Entry}
 use Rattle.rt_threads_script.specs.declared.fault.ThreadsFault.{ThreadsFault}
 use Rattle.rt_threads_script.specs.declared.fault.ThreadsFault.TheVariants.{Write}
 use Rattle.rt_threads_script.specs.Drafts.{Drafted, Told}
 use Rattle.rt_threads_script.specs.Scripts.{threads_script_of}
 use Rattle.rt_threads.specs.Offers.{OffersAll, closings}
 use Rattle.rt_threads.specs.Rooms.{room_of}
+use Rattle.rt_worker.specs.Queues.{creations, opening_of}
 
--- A runtime of these numbers is started, the orders are sent, each core is closed from 0 upwards, and the runtime is finished.
-pub record RunsOrders (cores cap : ℕ) (orders : List Told) (assembly : Assembly ℕ) : Type 0 where
+-- A runtime of these numbers and queues is started, the orders are sent, each core is closed from 0 upwards, and the runtime is finished. The
+-- journal of each core begins with the creation of its queues.
+pub record RunsOrders (cores cap : ℕ) (queues : List Entry) (orders : List Told) (assembly : Assembly ℕ) : Type 0 where
   pub started : RuntimeView Script ℕ
   pub ended : RuntimeView Script ℕ
-  pub starts : IsStarted cores cap (room_of cores cap) started
+  pub starts : IsStarted cores cap (room_of cores cap) queues started
   pub offers : OffersAll (orders ++ closings cores) started ended
   pub finishes : HasFinished ended assembly
+  pub opened : (core : ℕ) → core < cores → opening_of (journal_of core assembly) ≡ creations core queues
 
 -- the same of a script that told its size
 abbrev pub RunsScript : Drafted → Assembly ℕ → Type 0
-RunsScript draft assembly = (size : ℕ × ℕ) × (draft.size ≡ Some size) × RunsOrders size.0 size.1 draft.orders assembly
+RunsScript draft assembly = (size : ℕ × ℕ) × (draft.size ≡ Some size) × RunsOrders size.0 size.1 draft.queues draft.orders assembly
 
 -- the journals are those of a run of the script that the source tells
 abbrev pub TellsRun : Option (List ℕ) → Assembly ℕ → Type 0

@@ -1,14 +1,11 @@
 //! The orders of a script's outside actor.
 
-ghost use Rattle.std.specs.Prelude.{◌≡◌, ◌<◌, ◌≤◌, length, Some};
+ghost use Rattle.std.specs.Prelude.{◌≡◌, ◌<◌, ◌≤◌, [], length, Some};
 ghost use Rattle.rt_ids.specs.declared.order.Mode.TheVariants as mode;
 ghost use Rattle.rt_ids.specs.declared.order.Order.TheVariants as order;
-ghost use Rattle.rt_runtime.specs.Calls.{IsStarted};
-ghost use Rattle.rt_script.specs.Limits.{IsSize};
 ghost use Rattle.rt_threads_script.specs.Limits.{IsToldOf, AreTold, HasSpare};
-ghost use Rattle.rt_threads.specs.Counting.{HasPlace, CanClose, AreClosedBelow};
+ghost use Rattle.rt_threads.specs.Counting.{IsOfScript, HasPlace, CanClose, AreClosedBelow};
 ghost use Rattle.rt_threads.specs.Offers.{Offers, OffersAll, closings};
-ghost use Rattle.rt_threads.specs.Rooms.{room_of};
 
 use crate::house::House;
 use rt_ids::{CoreNo, Mode, Order};
@@ -25,8 +22,8 @@ fn offer(house: &mut House, core: CoreNo, order: Order<ScriptJob>)
 
 /// Sends all orders, each to its core, in this order.
 pub(crate) fn offer_all(house: &mut House, orders: Vec<(CoreNo, Order<ScriptJob>)>)
-    requires started { IsStarted house.old.desk.cores house.old.desk.cap (room_of house.old.desk.cores house.old.desk.cap) house.old }
-    requires size { IsSize house.old.desk.cores house.old.desk.cap }
+    requires script { IsOfScript house.old }
+    requires none { house.old.desk.journal.notes ≡ [] }
     requires told { AreTold (Some (house.old.desk.cores, house.old.desk.cap)) orders.items }
     requires spare { HasSpare (Some (house.old.desk.cores, house.old.desk.cap)) orders.items }
     requires short { length orders.items ≤ 4096 }

@@ -64,7 +64,7 @@ where
     requires size { IsSize cores cap }
     requires placed { ArePlaced (Some (cores, cap)) queues.items }
     requires few { HasFewQueues queues.items }
-    ensures ok { IfOk result (IsStarted cores cap (spec.room_of cores cap)) }
+    ensures ok { IfOk result (IsStarted cores cap (spec.room_of cores cap) queues.items) }
     ensures fault { IfErr result IsOfStart }
 {
     let clocks = clocks_of(alloc, cores)?;

@@ -23,7 +23,7 @@ use std::thread::Threads;
 fn run_orders<H>(rt: H, alloc: Global, script: ThreadsScript) -> Result<Assembly, ThreadsFault>
 where
     H: Threads + Wait + Copy + Drop + Send + 'static,
-    ensures ok { IfOk result (RunsOrders script.cores script.cap script.orders.items) }
+    ensures ok { IfOk result (RunsOrders script.cores script.cap script.queues.items script.orders.items) }
     ensures fault { IfErr result IsOfStart }
 {
     let ThreadsScript {

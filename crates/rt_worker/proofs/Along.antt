@@ -25,10 +25,11 @@ module _ {J T : Type 0} where
   seat_same view = record { number = refl; cores = refl; cap = refl; room = refl }
 
   pub stays_same : (view : LinkedView J T) → StaysLinked view view
-  stays_same view = record { seat = seat_same view.recorded; ends = ends_same view.ends }
+  stays_same view = record { seat = seat_same view.recorded; ends = ends_same view.ends; opening = refl }
 
   pub stays_along : (old middle new : LinkedView J T) → StaysLinked old middle → StaysLinked middle new → StaysLinked old new
   stays_along old middle new one two = record {
     seat = seat_along old.recorded middle.recorded new.recorded one.seat two.seat;
     ends = ends_along old.ends middle.ends new.ends one.ends two.ends;
+    opening = two.opening ∙ one.opening;
   }

@@ -1,5 +1,5 @@
 -- A core and its ends after the outcomes of one link were collected.
-use Rattle.std.proofs.Common.{◌≡◌, ◌≢◌, inl, inr, ℕ, ◌+◌, ◌<◌, ◌≤◌, get_or, length, set, get_or-set_same, length-set, refl, sym, ◌∙◌, ap, subst, arith}
+use Rattle.std.proofs.Common.{◌≡◌, inl, inr, ℕ, ◌+◌, ◌<◌, ◌≤◌, get_or, length, set, get_or-set_same, length-set, refl, sym, ◌∙◌, ap, subst, arith}
 use Rattle.std.specs.Prelude.{Some, slice_get}
 use Rattle.std.proofs.lemmas.Bool.Decides.{eqb_tells}
 use Rattle.std.proofs.lemmas.List.{get_or_default, length-append}
@@ -17,6 +17,9 @@ use Rattle.rt_grid.specs.Ends.{EndsView, out_at, no_out, SameEnds}
 use Rattle.rt_grid.proofs.Using.{out_used}
 use Rattle.rt_worker.specs.Linked.{AreBeside, IsLinked}
 use Rattle.rt_worker.specs.Steps.{CollectsOf}
+use Rattle.rt_notes.specs.Journals.{JournalView}
+use Rattle.rt_worker.specs.Queues.{opening_of}
+use Rattle.rt_worker.proofs.Openings.{opening_collected}
 use Rattle.rt_worker.proofs.Stepping.{Opens}
 use Rattle.rt_worker.proofs.Posted.{resent_beside}
 
@@ -87,5 +90,6 @@ module _ {J T : Type 0} {fits : Order J → Outcome J T → Type 0} (core : ℕ)
       stays = record {
         seat = seat;
         ends = subst (SameEnds ends) put_seen (out_used ends core after out_in_place (link ∙ ap (λ (end : Sending J T). end.link) out_here));
+        opening = ap (λ (journal : JournalView T). opening_of journal.notes) collects.3 ∙ opening_collected core collects.0 recorded.journal.notes collects.1;
       };
     }

@@ -12,6 +12,8 @@ use Rattle.rt_journal.specs.Steps.{Delivers, TellsShut}
 use Rattle.rt_grid.specs.Ends.{EndsView, in_at}
 use Rattle.rt_worker.specs.Linked.{IsLinked, StaysLinked}
 use Rattle.rt_worker.specs.Steps.{ShutsGate, DeliversFrom}
+use Rattle.rt_worker.specs.Queues.{opening_of}
+use Rattle.rt_worker.proofs.Openings.{opening_delivers, opening_shut}
 use Rattle.rt_worker.proofs.Stepping.{StepsOn, Opens, lent, lent_beside, lent_here, put_back, same_ends, put_beside, end_put}
 
 module _ {J T : Type 0} {same : J → J → Type 0} {made : J → ℕ} {polls : Owed J T} {fits : Order J → Outcome J T → Type 0} where
@@ -24,8 +26,8 @@ module _ {J T : Type 0} {same : J → J → Type 0} {made : J → ℕ} {polls : 
     from_is = (lent_beside sender recorded ends at inside before opens linked.beside known is).from
 
     stepped : IsInOf sender now after.inward → ((other : ℕ) → other ≢ sender → KeepsIn other recorded now) → KeepsOuts (desk_of recorded) (desk_of now) → now.lanes ≡ recorded.lanes → IsSameSeat recorded now →
-        after.link ≡ before.link → StepsOn fits sender recorded now ends after
-    stepped its_own others outs lanes seat link = record {
+        after.link ≡ before.link → opening_of now.journal.notes ≡ opening_of recorded.journal.notes → StepsOn fits sender recorded now ends after
+    stepped its_own others outs lanes seat link opening = record {
       beside = linked.beside;
       known = known;
       seat = seat;
@@ -34,6 +36,7 @@ module _ {J T : Type 0} {same : J → J → Type 0} {made : J → ℕ} {polls : 
       outs = outs;
       lanes = lanes;
       link = link ∙ ap (λ end. end.link) before_is;
+      opening = opening;
     }
 
     module _ (step : StepsOn fits sender recorded now ends after) where
@@ -41,7 +44,7 @@ module _ {J T : Type 0} {same : J → J → Type 0} {made : J → ℕ} {polls : 
       linked_here at_rest sound = record { recorded = sound; at_rest = at_rest; beside = put_beside sender recorded now ends at inside after opens step }
 
       pub stays_here : StaysLinked (record { recorded = recorded; ends = ends }) (record { recorded = now; ends = put_back at inside after })
-      stays_here = record { seat = step.seat; ends = same_ends sender recorded now ends at inside after opens step }
+      stays_here = record { seat = step.seat; ends = same_ends sender recorded now ends at inside after opens step; opening = step.opening }
 
     at_rest_after : (found : Bool) → Delivers recorded before.inward now after.inward found → now.core.out ≡ None
     at_rest_after true does = does.2.out ∙ linked.at_rest
@@ -52,6 +55,7 @@ module _ {J T : Type 0} {same : J → J → Type 0} {made : J → ℕ} {polls : 
       delivered_step : StepsOn fits sender recorded now ends after
       delivered_step =
           stepped (subst (λ from. IsInOf from now after.inward) from_is its_own) (λ other away. others other (λ one. away (one ∙ from_is))) outs lanes seat link
+          (opening_delivers recorded now before.inward after.inward found does)
 
       pub delivers_linked : IsRecorded same made polls now → IsLinked same made polls fits (record { recorded = now; ends = put_back at inside after })
       delivers_linked sound = linked_here delivered_step (at_rest_after found does) sound
@@ -67,7 +71,7 @@ module _ {J T : Type 0} {same : J → J → Type 0} {made : J → ℕ} {polls : 
     module _ (count : ℕ) (shuts : Shuts before.inward after.inward count) (tells : TellsShut recorded sender count now) (its_own : IsInOf sender now after.inward)
         (others : (other : ℕ) → other ≢ sender → KeepsIn other recorded now) (outs : KeepsOuts (desk_of recorded) (desk_of now)) (lanes : now.lanes ≡ recorded.lanes) (seat : IsSameSeat recorded now) (link : after.link ≡ before.link) where
       shut_step : StepsOn fits sender recorded now ends after
-      shut_step = stepped its_own others outs lanes seat link
+      shut_step = stepped its_own others outs lanes seat link (opening_shut recorded now sender count tells)
 
       pub shuts_linked : IsRecorded same made polls now → IsLinked same made polls fits (record { recorded = now; ends = put_back at inside after })
       shuts_linked sound = linked_here shut_step (tells.out ∙ linked.at_rest) sound

@@ -1,5 +1,5 @@
 -- A turn of the job that was told ahead, with its place and its room.
-use Rattle.std.proofs.Common.{◌≡◌, ◌≢◌, inr, ℕ, suc, ◌+◌, ◌*◌, ◌≤◌, Bool, cond, List, ◌∷◌, length, refl, sym, ◌∙◌, ap, subst, arith}
+use Rattle.std.proofs.Common.{◌≡◌, ◌≢◌, inr, ℕ, ◌+◌, ◌*◌, ◌≤◌, Bool, cond, List, ◌∷◌, length, refl, sym, ◌∙◌, ap, subst, arith}
 use Rattle.std.specs.Prelude.{Option, Some, None, All}
 use Rattle.std.proofs.lemmas.Bool.{ne_eqb}
 use Rattle.std.proofs.lemmas.List.Elements.{All-head}
@@ -21,13 +21,11 @@ use Rattle.rt_journal.specs.Calls.{Does}
 use Rattle.rt_journal.specs.Recorded.{RecordedView, IsRecorded, HasTask, desk_of}
 use Rattle.rt_journal.specs.Ends.{IsInOwing, IsSameSeat, LeavesOwed, told_under}
 use Rattle.rt_journal.specs.Posts.{AreOutsOf}
-use Rattle.rt_journal.specs.Turns.{IsPick}
 use Rattle.rt_journal.specs.Whole.{IsPostingTurn}
 use Rattle.rt_grid.specs.Ends.{EndsView, in_at}
 use Rattle.rt_worker.specs.Linked.{AreBeside, AreOwing}
 use Rattle.rt_worker.specs.Rooms.{HasPollRoom, HasTurnRoom}
-use Rattle.rt_worker.specs.Steps.{PollsOne, SettlesPoll}
-use Rattle.rt_worker.proofs.Turning.{IsTakenOut}
+use Rattle.rt_worker.specs.Steps.{PollsOne}
 
 module _ {J T : Type 0} {same : J → J → Type 0} {made : J → ℕ} {polls : Owed J T} (old : RecordedView J T) (recorded : IsRecorded same made polls old)
     (queue vr : ℕ) (name : JobId) (started : Bool) (is : IsAhead old.core queue vr name started) where
@@ -98,29 +96,3 @@ module _ {J T : Type 0} where
         settles = turn.settles;
         few = few;
       })
-
-  -- so does a pick, a poll and its settling
-  pub pick_polls : {made : J → ℕ} {polls : Owed J T} {answers : J → T → Type 0} {fits : Order J → Outcome J T → Type 0} {tells : ℕ → Type 0}
-      (old picked new : RecordedView J T) (ends later : EndsView J T) (name : JobId) (job : J) → IsTakenOut old name job picked → IsSameSeat old picked →
-      SettlesPoll made polls answers fits tells job (record { recorded = picked; ends = ends }) (record { recorded = new; ends = later }) →
-      PollsOne made polls answers fits tells (record { recorded = old; ends = ends }) (record { recorded = new; ends = later })
-  pick_polls old picked new ends later name job out seat did = record {
-    name = name;
-    queue = out.queue;
-    was_started = out.was_started;
-    picked = picked;
-    left = did.left;
-    ran = did.ran;
-    spent = did.spent;
-    settled = did.settled;
-    picks = subst (λ job. IsPick old name out.queue out.was_started job picked) (sym did.its_job) out.picks;
-    owed = did.posts.owed;
-    posted = did.posts.posted;
-    told = did.told;
-    settles = did.settles;
-    few =
-        let longer : length picked.journal.notes ≡ suc (suc (length old.journal.notes)) = ap (λ journal. length journal.notes) out.picks.journal in
-        let settled : length new.journal.notes ≡ suc (length did.left.journal.notes) = ap (λ journal. length journal.notes) did.settles.journal in
-        let places : picked.core.cores * (3 * picked.cap) ≡ old.core.cores * (3 * old.cap) = ap (λ cores. cores * (3 * picked.cap)) seat.cores ∙ ap (λ cap. old.core.cores * (3 * cap)) seat.cap in
-        omega (arith, longer, settled, places, did.posts.few);
-  }

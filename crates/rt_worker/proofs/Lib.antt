@@ -1,11 +1,12 @@
 pub mod Along
+pub mod Openings
+mod QueuesRefused
 pub mod Stepping
 pub mod Delivered
-pub mod Polled
 pub mod Posted
 pub mod InPlace
 pub mod Collected
-pub mod Turning
+pub mod HandedBack
 pub mod Noted
 pub mod Spare
 pub mod Gated

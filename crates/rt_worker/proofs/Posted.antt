@@ -1,20 +1,18 @@
 -- A core and its ends after a poll that submitted, redeemed and detached on them.
-use Rattle.std.proofs.Common.{◌≡◌, ℕ, suc, ◌+◌, ◌*◌, ◌<◌, ◌≤◌, List, [], ◌∷◌, length, map, Some, refl, sym, ◌∙◌, ap, subst, arith}
+use Rattle.std.proofs.Common.{◌≡◌, ℕ, suc, ◌+◌, List, [], ◌∷◌, length, map, Some, refl, sym, ◌∙◌, ap, subst, arith}
 use Rattle.std.specs.Prelude.{slice_get}
-use Rattle.rt_ids.specs.declared.names.JobId.{JobId}
 use Rattle.rt_ids.specs.declared.order.Order.{Order}
 use Rattle.rt_ids.specs.declared.order.Outcome.{Outcome}
-use Rattle.rt_jobs.specs.Steps.{AfterPoll, Owed, OwesAt}
+use Rattle.rt_jobs.specs.Steps.{Owed, OwesAt}
 use Rattle.rt_ring.specs.declared.ring_out.Sending.{Sending}
 use Rattle.rt_journal.specs.Calls.{Does}
 use Rattle.rt_journal.specs.Recorded.{RecordedView, desk_of}
 use Rattle.rt_journal.specs.Ends.{IsSameSeat, KeepsIn}
-use Rattle.rt_journal.specs.Turns.{IsOut, IsOutUnder}
 use Rattle.rt_journal.specs.Posts.{AreOutsOf, HasPosted}
 use Rattle.rt_journal.specs.Whole.{post_of}
 use Rattle.rt_grid.specs.Ends.{EndsView, SameEnds}
 use Rattle.rt_worker.specs.Linked.{LinkedView, AreBeside}
-use Rattle.rt_worker.specs.Steps.{Posts, PollsOne}
+use Rattle.rt_worker.specs.Steps.{PollsOne}
 
 module _ {J T : Type 0} where
   -- ends of the same links, place by place
@@ -50,42 +48,6 @@ module _ {J T : Type 0} where
         outs = outs;
         ins = λ sender known. (ins sender).each _ (beside.ins sender (omega (arith, known, seat.cores)));
       })
-
-  module _ {made : J → ℕ} {polls : Owed J T} {fits : Order J → Outcome J T → Type 0} (ran : AfterPoll J T) where
-    -- what a poll did, where the ends are as the code has them
-    pub posts_made : (old new : RecordedView J T) (ends inside : EndsView J T) → inside ≡ ends → (later : List (Sending J T)) →
-        OwesAt polls (Does fits (λ (end : Sending J T). end.out) (λ (end : Sending J T). end.credited) (λ (end : Sending J T). end.link)) ran.before (made ran.before) (post_of old inside.outs) (post_of new later) ran.step ran.told →
-        HasPosted (λ (end : Sending J T). end.out) (λ (end : Sending J T). end.link) (post_of old inside.outs) (post_of new later) →
-        length new.journal.notes ≤ length old.journal.notes + old.core.cores * (3 * old.cap) → new ≡ record old { journal = new.journal; lanes = new.lanes } →
-        Posts made polls fits ran (record { recorded = old; ends = ends }) (record { recorded = new; ends = record inside { outs = later } })
-    posts_made old new ends inside seen later owed posted few rest =
-        subst (λ ends. Posts made polls fits ran (record { recorded = old; ends = ends }) (record { recorded = new; ends = record inside { outs = later } })) seen
-        (record { owed = owed; posted = posted; few = few; rest = rest })
-
-    -- its job is still out, and there is room for its settling
-    module _ (old new : LinkedView J T) (posts : Posts made polls fits ran old new) where
-      still_out : new.recorded.core.out ≡ old.recorded.core.out
-      still_out = ap (λ (view : RecordedView J T). view.core.out) posts.rest
-
-      pub posts_out : (job : J) → ran.before ≡ job → IsOut old.recorded.core.out job → IsOut new.recorded.core.out ran.before
-      posts_out job is out = subst (λ now. IsOut now ran.before) (sym still_out) (subst (IsOut old.recorded.core.out) (sym is) out)
-
-      pub posts_named : (name : JobId) → IsOutUnder old.recorded.core.out name → IsOutUnder new.recorded.core.out name
-      posts_named name named = subst (λ now. IsOutUnder now name) (sym still_out) named
-
-      pub posts_room : IsSameSeat old.recorded new.recorded → length old.recorded.journal.notes + old.recorded.core.cores * (3 * old.recorded.cap) < old.recorded.journal.room →
-          length new.recorded.journal.notes < new.recorded.journal.room
-      posts_room seat room = omega (arith, room, posts.few, seat.room)
-
-    -- what is done to the other ends afterwards leaves it
-    pub posts_again : (old : LinkedView J T) (left : RecordedView J T) (ends later : EndsView J T) → later.outs ≡ ends.outs → Posts made polls fits ran old (record { recorded = left; ends = ends }) →
-        Posts made polls fits ran old (record { recorded = left; ends = later })
-    posts_again old left ends later same posts = record {
-      owed = subst (λ outs. OwesAt polls (Does fits (λ (end : Sending J T). end.out) (λ (end : Sending J T). end.credited) (λ (end : Sending J T). end.link)) ran.before (made ran.before) (post_of old.recorded old.ends.outs) (post_of left outs) ran.step ran.told) (sym same) posts.owed;
-      posted = subst (λ outs. HasPosted (λ (end : Sending J T). end.out) (λ (end : Sending J T). end.link) (post_of old.recorded old.ends.outs) (post_of left outs)) (sym same) posts.posted;
-      few = posts.few;
-      rest = posts.rest;
-    }
 
   module _ {made : J → ℕ} {polls : Owed J T} {answers : J → T → Type 0} {fits : Order J → Outcome J T → Type 0} {tells : ℕ → Type 0} where
     pub polls_again : (old : LinkedView J T) (new : RecordedView J T) (ends later : EndsView J T) → later.outs ≡ ends.outs → PollsOne made polls answers fits tells old (record { recorded = new; ends = ends }) →

@@ -1,5 +1,5 @@
 -- What a stopwatch may tell once its clock was read.
-use Rattle.std.proofs.Common.{inl, inr, ℕ, zero, suc}
+use Rattle.std.proofs.Common.{inl, inr, ℕ, suc}
 use Rattle.rt_worker.specs.Readings.{MayTell}
 
 module _ {C : Type 0} (reads : C → ℕ → C → Type 0) where

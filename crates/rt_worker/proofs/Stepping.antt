@@ -13,6 +13,7 @@ use Rattle.rt_journal.specs.Ends.{IsInOf, IsInOwing, IsSameSeat, KeepsIn, KeepsO
 use Rattle.rt_grid.specs.Ends.{EndsView, in_at, no_in, SameEnds}
 use Rattle.rt_grid.proofs.Using.{in_used}
 use Rattle.rt_worker.specs.Linked.{AreBeside, AreOwing, SendsOn}
+use Rattle.rt_worker.specs.Queues.{opening_of}
 
 module _ {J T : Type 0} where
   -- the end in its place
@@ -52,6 +53,7 @@ module _ {J T : Type 0} (fits : Order J → Outcome J T → Type 0) where
     pub outs : KeepsOuts (desk_of recorded) (desk_of now)
     pub lanes : now.lanes ≡ recorded.lanes
     pub link : end.link ≡ (in_at sender ends).link
+    pub opening : opening_of now.journal.notes ≡ opening_of recorded.journal.notes
 
 module _ {J T : Type 0} {fits : Order J → Outcome J T → Type 0} where
   -- a step that leaves the ends on which the actor sends, and their lanes

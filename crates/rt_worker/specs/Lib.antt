@@ -1,6 +1,6 @@
+pub mod Queues
 pub mod Linked
 pub mod Steps
-pub mod Next
 pub mod Rooms
 pub mod Gates
 pub mod Ended

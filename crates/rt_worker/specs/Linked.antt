@@ -9,6 +9,7 @@ use Rattle.rt_journal.specs.Recorded.{RecordedView, IsRecorded, desk_of}
 use Rattle.rt_journal.specs.Ends.{IsInOf, IsInOwing, IsSameSeat}
 use Rattle.rt_journal.specs.Posts.{AreOutsOf}
 use Rattle.rt_grid.specs.Ends.{EndsView, in_at, SameEnds}
+use Rattle.rt_worker.specs.Queues.{opening_of}
 
 -- the core and its journal, and the ends
 pub record LinkedView (J T : Type 0) : Type 0 where
@@ -36,10 +37,11 @@ module _ {J T : Type 0} (fits : Order J → Outcome J T → Type 0) where
     pub ins : (sender : ℕ) → sender ≤ recorded.core.cores → sender ≢ from → IsInOf sender recorded (in_at sender ends).inward
 
 module _ {J T : Type 0} where
-  -- what no step changes: whose core it is, and which links its ends are of
+  -- what no step changes: whose core it is, which links its ends are of, and what was created at its opening
   pub record StaysLinked (old new : LinkedView J T) : Type 0 where
     pub seat : IsSameSeat old.recorded new.recorded
     pub ends : SameEnds old.ends new.ends
+    pub opening : opening_of new.recorded.journal.notes ≡ opening_of old.recorded.journal.notes
 
 module _ {J T : Type 0} (same : J → J → Type 0) (made : J → ℕ) (polls : Owed J T) (fits : Order J → Outcome J T → Type 0) where
   -- the core is recorded and no job is out, and the ends are beside it

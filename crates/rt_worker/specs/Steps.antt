@@ -50,26 +50,7 @@ module _ {J T : Type 0} (same : J → J → Type 0) where
     pub order : Order J
     pub did : IsHandBack same old name reason order new
 
-module _ {J T : Type 0} (made : J → ℕ) (polls : Owed J T) (fits : Order J → Outcome J T → Type 0) where
-  -- a job that is out was polled, and its post was this actor's desk over its own ends
-  pub record Posts (ran : AfterPoll J T) (old new : LinkedView J T) : Type 0 where
-    pub owed : OwesAt polls (Does fits (λ end. end.out) (λ end. end.credited) (λ end. end.link)) ran.before (made ran.before) (post_of old.recorded old.ends.outs) (post_of new.recorded new.ends.outs) ran.step ran.told
-    pub posted : HasPosted (λ end. end.out) (λ end. end.link) (post_of old.recorded old.ends.outs) (post_of new.recorded new.ends.outs)
-    pub few : length new.recorded.journal.notes ≤ length old.recorded.journal.notes + old.recorded.core.cores * (3 * old.recorded.cap)
-    pub rest : new.recorded ≡ record old.recorded { journal = new.recorded.journal; lanes = new.recorded.lanes }
-
 module _ {J T : Type 0} (made : J → ℕ) (polls : Owed J T) (answers : J → T → Type 0) (fits : Order J → Outcome J T → Type 0) (tells : ℕ → Type 0) where
-  -- this job, which is out, is polled once, and its poll is settled, with a time that may be told
-  pub record SettlesPoll (job : J) (old new : LinkedView J T) : Type 0 where
-    pub left : RecordedView J T
-    pub ran : AfterPoll J T
-    pub spent : ℕ
-    pub settled : Settled T
-    pub its_job : ran.before ≡ job
-    pub posts : Posts made polls fits ran old (record { recorded = left; ends = new.ends })
-    pub told : tells spent
-    pub settles : Settles made polls answers left ran spent settled new.recorded
-
   -- the first job of the right pick is polled once, its post is this actor's desk over its own ends, and its poll is settled, with a time that may be told
   pub record PollsOne (old new : LinkedView J T) : Type 0 where
     pub name : JobId

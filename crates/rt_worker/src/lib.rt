@@ -4,12 +4,11 @@
 pub mod bell;
 pub mod ended;
 mod gates;
+mod handing;
 pub mod laws;
 mod lent;
 pub mod linked;
-mod next;
 mod opening;
-mod polling;
 mod posting;
 pub mod served;
 pub mod stopwatch;

@@ -1,10 +1,12 @@
 //! How a worker is opened over the ends of its actor.
 
-ghost use Rattle.std.specs.Prelude.{◌≡◌, ◌+◌, ◌<◌, ◌≤◌, IfOk, OnOk, length};
-ghost use Rattle.rt_ids.specs.Commands.{IsOpening};
+ghost use Rattle.std.specs.Prelude.{◌≡◌, ◌+◌, ◌<◌, ◌≤◌, ◌∷◌, IfOk, OnOk, length};
+ghost use Rattle.rt_ids.specs.declared.note.Note.TheVariants.{Created};
+ghost use Rattle.rt_ids.specs.Commands.{IsOpening, created_count};
 ghost use Rattle.rt_settings.specs.Configs.{least_room, queues_of};
 ghost use Rattle.rt_journal.specs.Steps.{opened_beside};
 ghost use Rattle.rt_worker.specs.Opening.{AreEndsOf, CreatesSince, IsOpenedOver};
+ghost use Rattle.rt_worker.specs.Queues.{creations};
 
 use crate::bell::Bell;
 use crate::linked::Linked;
@@ -25,7 +27,8 @@ fn create_one<J: Task<Out = u64>>(
 ) -> Result<(), AllocError>
     requires opening { IsOpening recorded.old.journal.notes }
     requires room { length recorded.old.journal.notes < recorded.old.journal.room }
-    ensures { OnOk result (CreatesSince J.SameTask J.made J.Polls 1 recorded.old recorded.new) }
+    ensures since { OnOk result (CreatesSince J.SameTask J.made J.Polls 1 recorded.old recorded.new) }
+    ensures noted { OnOk result (recorded.new.journal.notes ≡ Created (created_count recorded.old.journal.notes + 1) shares ∷ recorded.old.journal.notes) }
 {
     match recorded.create(shares) {
         Ok(_) => Ok(()),
@@ -44,13 +47,13 @@ fn open_core<J: Task<Out = u64>>(
 ) -> Result<Recorded<J>, AllocError>
     requires known { core < cores }
     requires room { queues_of core queues.now ≤ room }
-    ensures { IfOk result (λ recorded. CreatesSince J.SameTask J.made J.Polls (queues_of core queues.now) (opened_beside core cores cap room) recorded) }
+    ensures since { IfOk result (λ recorded. CreatesSince J.SameTask J.made J.Polls (queues_of core queues.now) (opened_beside core cores cap room) recorded) }
+    ensures noted { IfOk result (λ recorded. recorded.journal.notes ≡ creations core queues.now) }
 {
     let mut recorded = Recorded::open(alloc, alloc, CoreNo(core), cores, cap, room)?;
     for index in 0..queues.len() {
-        let of = queues[index].0;
+        let (of, shares) = queues[index];
         if of.0 == core {
-            let shares = queues[index].1;
             create_one(&mut recorded, shares)?;
         }
     }
@@ -65,7 +68,8 @@ fn serve_core<J: Task<Out = u64>>(
 ) -> Result<Served<J>, AllocError>
     requires ends { AreEndsOf config.now.cores config.now.cap ends }
     requires room { least_room config.now.cores config.now.cap + queues_of ends.number config.now.queues.items ≤ config.now.room }
-    ensures { IfOk result (λ served. IsOpenedOver config.now.cores config.now.cap config.now.room ends served.linked) }
+    ensures over { IfOk result (λ served. IsOpenedOver config.now.cores config.now.cap config.now.room ends served.linked) }
+    ensures queues { IfOk result (λ served. served.linked.recorded.journal.notes ≡ creations ends.number config.now.queues.items) }
 {
     let number = ends.number;
     let recorded = open_core(
@@ -95,7 +99,8 @@ impl<J: Task<Out = u64>, C: Drop, G: Drop> Worker<J, C, G> {
     ) -> Result<Self, AllocError>
         requires ends { AreEndsOf config.now.cores config.now.cap ends }
         requires room { least_room config.now.cores config.now.cap + queues_of ends.number config.now.queues.items ≤ config.now.room }
-        ensures { IfOk result (λ worker. IsOpenedOver config.now.cores config.now.cap config.now.room ends worker) }
+        ensures over { IfOk result (λ worker. IsOpenedOver config.now.cores config.now.cap config.now.room ends worker) }
+        ensures queues { IfOk result (λ worker. worker.recorded.journal.notes ≡ creations ends.number config.now.queues.items) }
     {
         let served = serve_core(alloc, config, ends)?;
         Ok(Worker::of(alloc, served, clock, gate, bell))

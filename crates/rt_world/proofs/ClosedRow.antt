@@ -1,6 +1,5 @@
 -- A core closes, hands its job back and shuts its gates.
-use Rattle.std.proofs.Common.{◌≡◌, ℕ, ◌≤◌, false, [], ◌∷◌, refl, inr, arith}
-use Rattle.std.specs.Prelude.{◌==◌}
+use Rattle.std.proofs.Common.{ℕ, ◌≤◌, [], ◌∷◌, refl, inr, arith}
 use Rattle.rt_ids.specs.declared.note.Note.TheVariants as writes
 use Rattle.rt_ids.specs.declared.order.Answer.TheVariants as answers
 use Rattle.rt_ids.specs.declared.order.Mode.TheVariants.{Return}
@@ -9,7 +8,6 @@ use Rattle.rt_ids.specs.declared.order.Reason.TheVariants.{CoreReturned}
 use Rattle.rt_ids.specs.declared.order.SendError.TheVariants.{Closed}
 use Rattle.rt_ids.specs.Journal.{Journal}
 use Rattle.rt_ids.specs.Picks.{IsRightPick}
-use Rattle.rt_ids.specs.Work.{has_work}
 use Rattle.rt_jobs.specs.Scripts.{Script}
 use Rattle.rt_world.specs.declared.event.Event.{Event}
 use Rattle.rt_world.specs.declared.event.Event.TheVariants.{Send, Deliver, Turn, Shut}

@@ -1,10 +1,7 @@
 -- What a journal told of a refusal, each longer one tells.
-use Rattle.std.proofs.Common.{append_assoc, ◌≡◌, ℕ, Bool, true, false, List, [], ◌∷◌, ◌++◌, length, refl, sym, ◌∙◌, ap, subst, ⊎_elim, get_or, set}
+use Rattle.std.proofs.Common.{append_assoc, ◌≡◌, ℕ, Bool, true, false, List, [], ◌∷◌, ◌++◌, refl, sym, ◌∙◌, ap, get_or}
 use Rattle.std.specs.Prelude.{◌||◌}
 use Rattle.std.proofs.Math.Bool.{or-true}
-use Rattle.std.proofs.lemmas.Bool.{cases_eq, cases_lt}
-use Rattle.std.proofs.lemmas.List.{get_or-set_same, get_or-set_other, set_past}
-use Rattle.rt_ids.specs.declared.note.Note.{Note}
 use Rattle.rt_ids.specs.Journal.{Journal}
 use Rattle.rt_jobs.specs.Steps.{Owed}
 use Rattle.rt_world.specs.declared.event.Event.{Event}

@@ -17,6 +17,7 @@ use Rattle.rt_ids.specs.Work.{has_work}
 use Rattle.rt_jobs.specs.Calls.{Makes}
 use Rattle.rt_jobs.specs.declared.job.Step.{Step}
 use Rattle.rt_jobs.specs.Steps.{Owed}
+use Rattle.rt_journal.proofs.Ahead.{one_key}
 use Rattle.rt_world.specs.declared.event.Reply.{Reply}
 use Rattle.rt_world.specs.declared.event.Reply.TheVariants as reply
 use Rattle.rt_world.specs.State.{WorldView, journal_at, order_under, noted}
@@ -25,12 +26,6 @@ use Rattle.rt_world.specs.Turns.{polls_made, pick_notes, settle_note, IsPoll, Is
 use Rattle.rt_world.specs.Determined.{OwesOne}
 use Rattle.rt_world.proofs.DeterminedCalls.{calls_once}
 use Rattle.rt_world.proofs.KeptLists.{back_notes}
-
--- of two pairs that are each at most the other, the numbers are the same
-one_key : (runtime queue other_runtime other : ℕ) → KeyAtMost runtime queue other_runtime other → KeyAtMost other_runtime other runtime queue → queue ≡ other
-one_key runtime queue other_runtime other first second =
-    ⊎_elim (λ less. absurd (⊎_elim (λ more. omega (arith, less, more)) (λ same. omega (arith, less, same.0)) second))
-    (λ same. ⊎_elim (λ more. absurd (omega (arith, same.0, more))) (λ back. omega (arith, same.1, back.1)) second) first
 
 -- a journal has one right pick
 one_pick : {T : Type 0} (journal : Journal T) (queue runtime other other_runtime : ℕ) → IsRightPick queue runtime journal → IsRightPick other other_runtime journal → queue ≡ other

@@ -1,7 +1,7 @@
 -- A core's turn in its world: a job is picked, it is polled with its post, and the poll is settled; or it is handed back.
-use Rattle.std.proofs.Common.{◌≡◌, ℕ, ◌+◌, ◌-◌, ◌^◌, ◌<◌, ◌≤◌, List, [], ◌∷◌, ◌++◌, refl, sym, ◌∙◌, ap, subst, inl, inr, arith, set, map, get_or-set_same}
+use Rattle.std.proofs.Common.{◌≡◌, ℕ, ◌+◌, ◌-◌, ◌^◌, ◌<◌, ◌≤◌, List, [], ◌∷◌, refl, sym, ◌∙◌, ap, subst, inl, inr, arith, set, get_or-set_same}
 use Rattle.std.specs.Prelude.{Some, unwrap_or, slice_get}
-use Rattle.std.proofs.lemmas.List.{set-set, set-get_or, length-set}
+use Rattle.std.proofs.lemmas.List.{set-set, set-get_or}
 use Rattle.std.proofs.lemmas.Option.{same_Some}
 use Rattle.rt_ids.specs.declared.names.JobId.{JobId}
 use Rattle.rt_ids.specs.declared.note.Note.TheVariants as writes
@@ -15,12 +15,11 @@ use Rattle.rt_ids.specs.Picks.{IsRightPick, turns}
 use Rattle.rt_ids.specs.Work.{has_work}
 use Rattle.rt_jobs.specs.Calls.{Makes}
 use Rattle.rt_jobs.specs.Steps.{Owed}
-use Rattle.rt_core.specs.State.{JobOut}
 use Rattle.rt_link.specs.declared.plain.Whole.{Whole}
 use Rattle.rt_link.specs.Whole.{out_of}
 use Rattle.rt_journal.specs.Ends.{IsOutOf}
 use Rattle.rt_journal.specs.Polls.{polls_made, poll_note, settle_note}
-use Rattle.rt_journal.specs.Recorded.{RecordedView, desk_of, order_taken}
+use Rattle.rt_journal.specs.Recorded.{RecordedView, order_taken}
 use Rattle.rt_journal.specs.Steps.{opened_beside, with_notes}
 use Rattle.rt_journal.specs.Whole.{post_of}
 use Rattle.rt_journal.proofs.SentNotes.{all_posted}
@@ -28,9 +27,9 @@ use Rattle.rt_world.specs.declared.event.Reply.{Reply}
 use Rattle.rt_world.specs.declared.event.Reply.TheVariants as reply
 use Rattle.rt_world.specs.Calls.{CallsAt}
 use Rattle.rt_world.specs.Links.{row_of, link_at}
-use Rattle.rt_world.specs.Inside.{Parts, core_at, desk_at, world_of, IsWorld, IsAtRest}
+use Rattle.rt_world.specs.Inside.{Parts, core_at, world_of, IsWorld, IsAtRest}
 use Rattle.rt_world.specs.OneTurn as one
-use Rattle.rt_world.specs.State.{WorldView, journal_at, order_under, noted}
+use Rattle.rt_world.specs.State.{journal_at, order_under, noted}
 use Rattle.rt_world.specs.Turns.{pick_notes, IsPoll, Turns}
 use Rattle.rt_world.proofs.CoreSteps.{cores_are, number_is, desk_is, parts_now, lanes_kept, rests, journal_is, journals_now}
 use Rattle.rt_world.proofs.Desks.{sent_at-world}
@@ -64,122 +63,132 @@ module _ {J : Type 0} {same : J → J → Type 0} {made : J → ℕ} {polls : Ow
 
     module _ (did : one.PollsOne same made polls answers number spent view new old.links after) where
       abbrev first : Post J
-      first = post_of did.picked (row_of number old.links)
+      first = post_of did.turn.picked (row_of number old.links)
 
       abbrev last : Post J
-      last = post_of did.posted (row_of number did.links)
+      last = post_of did.turn.left did.row
 
       -- the world after the pick
-      picked_world : IsWorld same made polls answers (parts_now world number there did.picked old.links)
-      picked_world = rests world number there did.picked old.links (record {
-        recorded = did.keeps.sound;
-        seat = did.keeps.seat;
+      picked_world : IsWorld same made polls answers (parts_now world number there did.turn.picked old.links)
+      picked_world = rests world number there did.turn.picked old.links (record {
+        recorded = did.turn.sound;
+        seat = did.turn.stays.seat;
         rows_are = refl;
         links_are = λ sender. refl;
         received = λ sender to away. received-same (link_at sender to old.links);
         sent = λ sender to away. sent-same (link_at sender to old.links);
-        outs = λ to known. (did.keeps.outs to).each _ _ (subst (λ desk. IsOutOf to desk (out_of (link_at number to old.links)) (link_at number to old.links).credited) (desk_is world number there) (world.beside.outs number to (omega (arith, there)) known));
-        lanes = lanes_kept world number there did.picked old.links did.keeps.lanes (λ to. received-same (link_at number to old.links));
-        ins = λ sender known. (did.keeps.ins sender).each _ (world.beside.ins sender number known there);
+        outs = λ to known. (did.turn.stays.outs to).each _ _ (subst (λ desk. IsOutOf to desk (out_of (link_at number to old.links)) (link_at number to old.links).credited) (desk_is world number there) (world.beside.outs number to (omega (arith, there)) known));
+        lanes = lanes_kept world number there did.turn.picked old.links did.turn.stays.lanes (λ to. received-same (link_at number to old.links));
+        ins = λ sender known. (did.turn.keeps sender).each _ (world.beside.ins sender number known there);
       })
 
-      first_is : parts_at old number did.picked first ≡ parts_now world number there did.picked old.links
-      first_is = λ i. record old { inside = set old.inside number did.picked; links = set-get_or old.links number [] i }
+      first_is : parts_at old number did.turn.picked first ≡ parts_now world number there did.turn.picked old.links
+      first_is = λ i. record old { inside = set old.inside number did.turn.picked; links = set-get_or old.links number [] i }
 
-      called : IsAt same made polls answers old number did.picked last
-          × Makes (CallsAt same answers number) did.posts.owed.calls (world_of (parts_at old number did.picked first)) (world_of (parts_at old number did.picked last))
-      called = calls_now same made polls answers old number there did.picked did.posts.owed.calls first last (record { world = subst (IsWorld same made polls answers) (sym first_is) picked_world; desk = refl }) did.posts.owed.makes
+      called : IsAt same made polls answers old number did.turn.picked last
+          × Makes (CallsAt same answers number) did.turn.owed.calls (world_of (parts_at old number did.turn.picked first)) (world_of (parts_at old number did.turn.picked last))
+      called = calls_now same made polls answers old number there did.turn.picked did.turn.owed.calls first last (record { world = subst (IsWorld same made polls answers) (sym first_is) picked_world; desk = refl }) did.turn.owed.makes
 
       -- the world after the poll
       abbrev mid : Parts J ℕ
-      mid = record old { inside = set old.inside number did.posted; links = did.links }
+      mid = record old { inside = set old.inside number did.turn.left; links = set old.links number did.row }
 
-      last_is : parts_at old number did.picked last ≡ mid
-      last_is = λ i. record old { inside = set old.inside number (sym did.posts.rest i); links = sym did.posts.links i }
+      last_is : parts_at old number did.turn.picked last ≡ mid
+      last_is = λ i. record old { inside = set old.inside number (sym did.turn.rest i); links = set old.links number did.row }
 
       mid_world : IsWorld same made polls answers mid
       mid_world = subst (IsWorld same made polls answers) last_is called.0.world
 
-      mid_core : core_at number mid ≡ did.posted
-      mid_core = get_or-set_same old.inside number did.posted (opened_beside 0 0 0 0) (omega (arith, there, world.all_there.cores_are))
+      mid_core : core_at number mid ≡ did.turn.left
+      mid_core = get_or-set_same old.inside number did.turn.left (opened_beside 0 0 0 0) (omega (arith, there, world.all_there.cores_are))
 
-      stays : one.StaysBeside same made polls number (core_at number mid) new did.links after
-      stays = subst (λ at. one.StaysBeside same made polls number at new did.links after) (sym mid_core) did.stays
+      stays : one.StaysBeside same made polls number (core_at number mid) new mid.links after
+      stays = subst (λ at. one.StaysBeside same made polls number at new mid.links after) (sym mid_core)
+          (record {
+            recorded = did.recorded;
+            at_rest = did.turn.settles.out_now;
+            seat = did.turn.stays_settled.seat;
+            outs = did.turn.stays_settled.outs;
+            lanes = did.turn.stays_settled.lanes;
+            links = did.links;
+            ins = did.ins;
+          })
 
       settled_is : quiet mid_world number there new after stays ≡ turned
-      settled_is = λ i. record old { inside = set-set old.inside number did.posted new i; links = after }
+      settled_is = λ i. record old { inside = set-set old.inside number did.turn.left new i; links = after }
 
       polled_rests : IsWorld same made polls answers turned
       polled_rests = subst (IsWorld same made polls answers) settled_is (quiet_rests mid_world number there new after stays)
 
       -- the job that is settled is the one that was picked
-      out_is : did.settles.out ≡ record { name = did.name; queue = did.queue; job = did.job }
-      out_is = same_Some _ _ (sym did.settles.was_out ∙ (ap (λ view. view.core.out) did.posts.rest ∙ did.picks.out))
+      out_is : did.turn.settles.out ≡ record { name = did.name; queue = did.queue; job = did.turn.ran.before }
+      out_is = same_Some _ _ (sym did.turn.settles.was_out ∙ (ap (λ view. view.core.out) did.turn.rest ∙ did.turn.picks.out))
 
-      took_is : did.posted.took ≡ view.took
-      took_is = ap (λ view. view.took) did.posts.rest ∙ did.picks.took
+      took_is : did.turn.left.took ≡ view.took
+      took_is = ap (λ view. view.took) did.turn.rest ∙ did.turn.picks.took
 
-      counted : polls_made did.settles.out.name did.posted.journal.notes ≡ polls_made did.name (journal_at number (world_of old))
+      counted : polls_made did.turn.settles.out.name did.turn.left.journal.notes ≡ polls_made did.name (journal_at number (world_of old))
       counted =
-          ap (λ out. polls_made out.name did.posted.journal.notes) out_is
-          ∙ (ap (λ desk. polls_made did.name desk.journal.notes) did.posts.posted.desk
-          ∙ ((all_posted did.posts.posted.notes did.picked.journal.notes did.posts.posted.posts).polls did.name
-          ∙ (ap (λ journal. polls_made did.name journal.notes) did.picks.journal
-          ∙ (polls_made-picked did.name did.name did.queue did.picks.runtime did.started view.journal.notes ∙ ap (polls_made did.name) (sym here)))))
+          ap (λ out. polls_made out.name did.turn.left.journal.notes) out_is
+          ∙ (ap (λ desk. polls_made did.name desk.journal.notes) did.turn.posted.desk
+          ∙ ((all_posted did.turn.posted.notes did.turn.picked.journal.notes did.turn.posted.posts).polls did.name
+          ∙ (ap (λ journal. polls_made did.name journal.notes) did.turn.picks.journal
+          ∙ (polls_made-picked did.name did.name did.queue did.turn.picks.runtime did.started view.journal.notes ∙ ap (polls_made did.name) (sym here)))))
 
       -- what the poll owed of the job that was in the core, it owes of the one that was sent
-      owed : polls did.settles.sent (made did.settles.sent + polls_made did.name (journal_at number (world_of old))) did.posts.owed.calls did.ran.step did.ran.told
+      owed : polls did.turn.settles.sent (made did.turn.settles.sent + polls_made did.name (journal_at number (world_of old))) did.turn.owed.calls did.turn.ran.step did.turn.ran.told
       owed =
-          subst (λ count. polls did.settles.sent (made did.settles.sent + count) did.posts.owed.calls did.ran.step did.ran.told) counted
-          (did.settles.owed did.posts.owed.calls (subst (λ job. polls job (made job) did.posts.owed.calls did.ran.step did.ran.told) (sym did.posts.was) did.posts.owed.owed))
+          subst (λ count. polls did.turn.settles.sent (made did.turn.settles.sent + count) did.turn.owed.calls did.turn.ran.step did.turn.ran.told) counted
+          (did.turn.settles.owed did.turn.owed.calls did.turn.owed.owed)
 
-      task : order_taken view.took did.name ≡ Some (Job did.queue did.settles.sent)
+      task : order_taken view.took did.name ≡ Some (Job did.queue did.turn.settles.sent)
       task =
           ap (λ took. order_taken took did.name) (sym took_is)
-          ∙ (ap (λ out. order_taken did.posted.took out.name) (sym out_is) ∙ (did.settles.task ∙ ap (λ out. Some (Job out.queue did.settles.sent)) out_is))
+          ∙ (ap (λ out. order_taken did.turn.left.took out.name) (sym out_is) ∙ (did.turn.settles.task ∙ ap (λ out. Some (Job out.queue did.turn.settles.sent)) out_is))
 
       abbrev before : Journal ℕ
       before = journal_at number (world_of old)
 
-      picked_noted : world_of (parts_at old number did.picked first) ≡ noted number (pick_notes did.name did.queue did.picks.runtime before) (world_of old)
+      picked_noted : world_of (parts_at old number did.turn.picked first) ≡ noted number (pick_notes did.name did.queue did.turn.picks.runtime before) (world_of old)
       picked_noted =
           ap world_of first_is
           ∙ ((λ i. record {
             cores = old.cores;
             cap = old.cap;
             room = old.room;
-            journals = journals_now world number there did.picked old.links (poll_note did.name did.started ∷ writes.Pick did.queue did.picks.runtime ∷ []) did.picks.journal i;
+            journals = journals_now world number there did.turn.picked old.links (poll_note did.name did.started ∷ writes.Pick did.queue did.turn.picks.runtime ∷ []) did.turn.picks.journal i;
             sent = (world_of old).sent;
           })
-          ∙ ap (λ started. noted number (poll_note did.name started ∷ writes.Pick did.queue did.picks.runtime ∷ []) (world_of old)) (did.picks.started ∙ ap (is_told name_started did.name) (sym here)))
+          ∙ ap (λ started. noted number (poll_note did.name started ∷ writes.Pick did.queue did.turn.picks.runtime ∷ []) (world_of old)) (did.turn.picks.started ∙ ap (is_told name_started did.name) (sym here)))
 
-      settled_noted : world_of turned ≡ noted number (settle_note did.name (unwrap_or did.ran.told spent) did.ran.step ∷ []) (world_of mid)
+      settled_noted : world_of turned ≡ noted number (settle_note did.name (unwrap_or did.turn.ran.told spent) did.turn.ran.step ∷ []) (world_of mid)
       settled_noted =
           ap world_of (sym settled_is)
-          ∙ (quiet_noted mid_world number there new after stays (settle_note did.settles.out.name (unwrap_or did.ran.told spent) did.ran.step ∷ [])
-          (did.settles.journal ∙ ap (λ view. with_notes (settle_note did.settles.out.name (unwrap_or did.ran.told spent) did.ran.step ∷ []) view.journal) (sym mid_core))
-          ∙ ap (λ out. noted number (settle_note out.name (unwrap_or did.ran.told spent) did.ran.step ∷ []) (world_of mid)) out_is)
+          ∙ (quiet_noted mid_world number there new after stays (settle_note did.turn.settles.out.name (unwrap_or did.turn.ran.told spent) did.turn.ran.step ∷ [])
+          (did.turn.settles.journal
+          ∙ λ i. with_notes (settle_note did.turn.settles.out.name (unwrap_or did.turn.ran.told (did.turn.told i)) did.turn.ran.step ∷ []) (sym mid_core i).journal)
+          ∙ ap (λ out. noted number (settle_note out.name (unwrap_or did.turn.ran.told spent) did.turn.ran.step ∷ []) (world_of mid)) out_is)
 
       polled : IsPoll same made polls answers number spent (world_of old) (world_of turned)
       polled = record {
-        turn_left = subst (λ journal. turns journal < 2 ^ 64 - 1) (sym here) did.picks.turn_left;
+        turn_left = subst (λ journal. turns journal < 2 ^ 64 - 1) (sym here) did.turn.picks.turn_left;
         queue = did.queue;
-        runtime = did.picks.runtime;
-        right = subst (IsRightPick did.queue did.picks.runtime) (sym here) did.picks.right;
+        runtime = did.turn.picks.runtime;
+        right = subst (IsRightPick did.queue did.turn.picks.runtime) (sym here) did.turn.picks.right;
         name = did.name;
-        others = did.picks.others;
-        first = ap (line did.queue) here ∙ did.picks.first;
-        kept = ap (return_reason did.queue) here ∙ did.picks.kept;
-        job = did.settles.sent;
-        task = task_sent did.name (Job did.queue did.settles.sent) task;
-        calls = did.posts.owed.calls;
-        step = did.ran.step;
-        told = did.ran.told;
+        others = did.turn.picks.others;
+        first = ap (line did.queue) here ∙ did.turn.picks.first;
+        kept = ap (return_reason did.queue) here ∙ did.turn.picks.kept;
+        job = did.turn.settles.sent;
+        task = task_sent did.name (Job did.queue did.turn.settles.sent) task;
+        calls = did.turn.owed.calls;
+        step = did.turn.ran.step;
+        told = did.turn.ran.told;
         owed = owed;
-        answered = did.settles.answered;
+        answered = did.turn.settles.answered;
         posted = world_of mid;
-        posts = subst (λ start. Makes (CallsAt same answers number) did.posts.owed.calls start (world_of mid)) picked_noted
-            (subst (λ parts. Makes (CallsAt same answers number) did.posts.owed.calls (world_of (parts_at old number did.picked first)) (world_of parts)) last_is called.1);
+        posts = subst (λ start. Makes (CallsAt same answers number) did.turn.owed.calls start (world_of mid)) picked_noted
+            (subst (λ parts. Makes (CallsAt same answers number) did.turn.owed.calls (world_of (parts_at old number did.turn.picked first)) (world_of parts)) last_is called.1);
         notes = settled_noted;
       }
 
@@ -194,7 +203,7 @@ module _ {J : Type 0} {same : J → J → Type 0} {made : J → ℕ} {polls : Ow
       without_poll answer turns = record { holds = quiet_rests world number there new after stays; at_rest = quiet_at_rest world number there new after stays; does = turns }
 
     pub turns_now : (answer : Reply J) → one.Turns same made polls answers number spent view new old.links after answer → IsTurned answer
-    turns_now reply.Noted (inl poll) = record { holds = polled_rests poll; at_rest = λ rest. rest_after old number new after rest poll.stays.at_rest; does = inl (polled poll) }
+    turns_now reply.Noted (inl poll) = record { holds = polled_rests poll; at_rest = λ rest. rest_after old number new after rest poll.turn.settles.out_now; does = inl (polled poll) }
     turns_now reply.Noted (inr back) = without_poll back.1 reply.Noted (inr (handed_back world number there new after back.1 back.0))
     turns_now reply.Idle did = without_poll did.2 reply.Idle ((λ queue. ap (has_work queue) here ∙ did.0 queue), unchanged world number there new after did.2 did.1)
     turns_now reply.Spent did =

@@ -1,21 +1,19 @@
--- The links of a core after a poll that called its post.
-use Rattle.std.proofs.Common.{◌≡◌, ◌≢◌, ℕ, ◌<◌, ◌≤◌, List, [], length, sym, ◌∙◌, ap, subst, ⊎_elim, arith, get_or, set, get_or-set_same, get_or-set_other}
-use Rattle.std.specs.Prelude.{Some, slice_get}
+-- The links of a core after a turn whose job called its post.
+use Rattle.std.proofs.Common.{◌≡◌, ◌≢◌, ℕ, ◌≤◌, List, [], length, sym, ap, subst, ⊎_elim, arith, get_or, set, get_or-set_same, get_or-set_other}
+use Rattle.std.specs.Prelude.{Option}
 use Rattle.std.proofs.lemmas.Bool.{cases_eq}
 use Rattle.std.proofs.lemmas.List.{length-set}
 use Rattle.std.proofs.lemmas.Option.{slice_get-get_or}
-use Rattle.rt_jobs.specs.Steps.{AfterPoll, Owed, OwesAt}
+use Rattle.rt_ids.specs.declared.names.JobId.{JobId}
+use Rattle.rt_ids.specs.declared.note.OutcomeNote.{OutcomeNote}
 use Rattle.rt_link.specs.declared.plain.Whole.{Whole}
-use Rattle.rt_link.specs.Fits.{Fits}
 use Rattle.rt_link.specs.Whole.{out_of, inward_of, kept_by_sender}
-use Rattle.rt_journal.specs.Calls.{Does}
-use Rattle.rt_journal.specs.Ends.{IsInOf, KeepsIn, IsSameSeat}
+use Rattle.rt_journal.specs.Ends.{IsInOwing, LeavesOwed, IsSameSeat}
 use Rattle.rt_journal.specs.Posts.{SendsMore, HasPosted}
-use Rattle.rt_journal.specs.Recorded.{RecordedView, IsRecorded}
-use Rattle.rt_journal.specs.Turns.{IsPolled}
+use Rattle.rt_journal.specs.Recorded.{RecordedView}
 use Rattle.rt_journal.specs.Whole.{post_of}
 use Rattle.rt_world.specs.Links.{no_link, row_of, link_at}
-use Rattle.rt_world.specs.OneTurn.{none_owed, IsBesideAll, IsPosted}
+use Rattle.rt_world.specs.OneTurn.{none_owed, IsBesideAll}
 use Rattle.rt_world.proofs.LinkSteps.{OnlySent, in_stays}
 use Rattle.rt_world.proofs.SentLinks.{one_gate}
 
@@ -38,13 +36,13 @@ posts_only link after untouched more = record {
   gate = λ shut. ap (λ out. out.sent) (more.2 shut);
 }
 
-module _ {J T : Type 0} (number : ℕ) (view now : RecordedView J T) (links : List (List (Whole J T))) (row : List (Whole J T))
-    (beside : IsBesideAll number none_owed view links) (known : number ≤ view.core.cores) (seat : IsSameSeat view now) (keeps : (sender : ℕ) → KeepsIn sender view now)
-    (posted : HasPosted out_of kept_by_sender (post_of view (row_of number links)) (post_of now row)) where
+module _ {J T : Type 0} (number : ℕ) (view now picked left : RecordedView J T) (links : List (List (Whole J T))) (row : List (Whole J T)) (owed : ℕ → Option (JobId × OutcomeNote T))
+    (beside : IsBesideAll number none_owed view links) (known : number ≤ view.core.cores) (seat : IsSameSeat view now) (owes : (sender : ℕ) → LeavesOwed sender (owed sender) view now)
+    (posted : HasPosted out_of kept_by_sender (post_of picked (row_of number links)) (post_of left row)) where
   abbrev later : List (List (Whole J T))
   later = set links number row
 
-  pub row_now : row_of number later ≡ row
+  row_now : row_of number later ≡ row
   row_now = get_or-set_same links number row [] (beside.rows number known)
 
   row_elsewhere : (sender : ℕ) → sender ≢ number → row_of sender later ≡ row_of sender links
@@ -59,49 +57,26 @@ module _ {J T : Type 0} (number : ℕ) (view now : RecordedView J T) (links : Li
   abbrev new_end : Whole J T
   new_end = get_or row number (no_link number number)
 
-  own : IsInOf number now (inward_of (link_at number number later))
+  own : IsInOwing number (owed number) now (inward_of (link_at number number later))
   own =
       let was = slice_get-get_or (row_of number links) number (no_link number number) (beside.cores number known) in
       let is = slice_get-get_or row number (no_link number number) (omega (arith, beside.cores number known, posted.count)) in
       let did = posted.ends number old_end new_end was is in
-      subst (λ link. IsInOf number now (inward_of link)) (ap (λ row. get_or row number (no_link number number)) (sym row_now))
-      (in_stays number now old_end new_end (posts_only old_end new_end did.0 did.1) ((keeps number).each _ (beside.ins number known)))
+      subst (λ link. IsInOwing number (owed number) now (inward_of link)) (ap (λ row. get_or row number (no_link number number)) (sym row_now))
+      ((owes number).each _ (in_stays number view old_end new_end (posts_only old_end new_end did.0 did.1) (beside.ins number known)))
 
-  -- each end is beside the core
-  pub beside_posted : IsBesideAll number none_owed now later
+  -- each end is beside the core, except for what is owed
+  pub beside_posted : IsBesideAll number owed now later
   beside_posted = record {
     rows = λ sender there. omega (arith, beside.rows sender (its sender there), length-set links number row);
     cores = λ sender there.
         ⊎_elim (λ one. omega (arith, ap (λ at. length (row_of at later)) one, ap length row_now, posted.count, beside.cores number known))
         (λ away. omega (arith, ap length (row_elsewhere sender away), beside.cores sender (its sender there))) (cases_eq sender number);
     ins = λ sender there.
-        ⊎_elim (λ one. subst (λ at. IsInOf at now (inward_of (link_at at number later))) (sym one) own)
+        ⊎_elim (λ one. subst (λ at. IsInOwing at (owed at) now (inward_of (link_at at number later))) (sym one) own)
         (
         λ away.
-        subst (λ link. IsInOf sender now (inward_of link)) (ap (λ row. get_or row number (no_link sender number)) (sym (row_elsewhere sender away)))
-        ((keeps sender).each _ (beside.ins sender (its sender there)))
+        subst (λ link. IsInOwing sender (owed sender) now (inward_of link)) (ap (λ row. get_or row number (no_link sender number)) (sym (row_elsewhere sender away)))
+        ((owes sender).each _ (beside.ins sender (its sender there)))
         ) (cases_eq sender number);
   }
-
-module _ {J : Type 0} {same : J → J → Type 0} {made : J → ℕ} {polls : Owed J ℕ} {answers : J → ℕ → Type 0}
-    (number : ℕ) (view now : RecordedView J ℕ) (links : List (List (Whole J ℕ))) (row : List (Whole J ℕ))
-    (beside : IsBesideAll number none_owed view links) (known : number ≤ view.core.cores) (seat : IsSameSeat view now) (keeps : (sender : ℕ) → KeepsIn sender view now)
-    (posted : HasPosted out_of kept_by_sender (post_of view (row_of number links)) (post_of now row)) where
-  pub is_posted : (job : J) (ran : AfterPoll J ℕ) → ran.before ≡ job →
-      OwesAt polls (Does (Fits same answers) out_of (λ link. link.credited) kept_by_sender) job (made job) (post_of view (row_of number links)) (post_of now row) ran.step ran.told →
-      IsPolled same made polls answers ran → now ≡ record view { journal = now.journal; lanes = now.lanes } → IsRecorded same made polls now → length now.journal.notes < now.journal.room →
-      IsPosted same made polls answers number view job ran now links (set links number row)
-  is_posted job ran was owed polled rest sound spare =
-      let row_is = sym (row_now number view now links row beside known seat keeps posted) in
-      record {
-        was = was;
-        owed = subst (λ at. OwesAt polls (Does (Fits same answers) out_of (λ link. link.credited) kept_by_sender) job (made job) (post_of view (row_of number links)) (post_of now at) ran.step ran.told) row_is owed;
-        polled = polled;
-        posted = subst (λ at. HasPosted out_of kept_by_sender (post_of view (row_of number links)) (post_of now at)) row_is posted;
-        rest = rest;
-        seat = seat;
-        sound = sound;
-        spare = spare;
-        links = ap (set links number) row_is;
-        beside = beside_posted number view now links row beside known seat keeps posted;
-      }

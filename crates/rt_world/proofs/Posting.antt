@@ -1,6 +1,6 @@
 -- What a job's calls of its post do in the world, while its core polls it.
-use Rattle.std.proofs.Common.{◌≡◌, ℕ, ◌<◌, ◌≤◌, List, [], ◌∷◌, length, refl, sym, ◌∙◌, ap, subst, ⊎_elim, inl, inr, arith, get_or, set, map, get_or-set_same}
-use Rattle.std.specs.Prelude.{Some, Result, Ok, Err, slice_get, IfOk}
+use Rattle.std.proofs.Common.{◌≡◌, ℕ, ◌<◌, ◌≤◌, List, [], ◌∷◌, refl, sym, ◌∙◌, ap, subst, inl, inr, arith, get_or, set, map, get_or-set_same}
+use Rattle.std.specs.Prelude.{Result, IfOk}
 use Rattle.std.proofs.lemmas.List.{set-set, length-set}
 use Rattle.std.proofs.lemmas.Option.{get_or_from_slice_get}
 use Rattle.rt_ids.specs.declared.names.JobId.{JobId}
@@ -9,7 +9,6 @@ use Rattle.rt_ids.specs.declared.names.TicketError.TheVariants.{Unknown}
 use Rattle.rt_ids.specs.declared.order.Order.{Order}
 use Rattle.rt_ids.specs.declared.order.Outcome.{Outcome}
 use Rattle.rt_ids.specs.declared.order.SendError.{SendError}
-use Rattle.rt_ids.specs.Journal.{Journal}
 use Rattle.rt_jobs.specs.Calls.{Call, Makes}
 use Rattle.rt_jobs.specs.Calls.Call.{Submit, Redeem, Detach}
 use Rattle.rt_jobs.specs.Steps.{Owed}
@@ -17,12 +16,12 @@ use Rattle.rt_link.specs.declared.plain.Whole.{Whole}
 use Rattle.rt_link.specs.Fits.{Fits}
 use Rattle.rt_link.specs.Whole.{out_of, kept_by_sender}
 use Rattle.rt_desk.specs.Lanes.{IsGot, FitsSent}
-use Rattle.rt_journal.specs.Calls.{Does, LendsEnd, SubmitsOn, RedeemsOn, DetachesOn, RefusesUnknown}
+use Rattle.rt_journal.specs.Calls.{Does, LendsEnd, SubmitsOn, RedeemsOn, DetachesOn}
 use Rattle.rt_journal.specs.Ends.{KeepsIn}
 use Rattle.rt_journal.specs.Posts.{PostView}
 use Rattle.rt_journal.specs.Recorded.{RecordedView, IsRecorded, desk_of}
 use Rattle.rt_journal.specs.Steps.{opened_beside}
-use Rattle.rt_journal.specs.Submissions.{DeskView, IsWritten, Submits, terms_of_desk}
+use Rattle.rt_journal.specs.Submissions.{IsWritten, terms_of_desk}
 use Rattle.rt_journal.specs.Tickets.{RefusesTicket, RedeemsTicket, DetachesTicket, StaysBeside}
 use Rattle.rt_journal.proofs.SentNotes.{SaysNoMore, recorded_silent, ins_silent, submitted_silent, redeemed_silent, detached_silent}
 use Rattle.rt_world.specs.Calls.{CallsAt}
@@ -30,8 +29,7 @@ use Rattle.rt_world.specs.Collections.{Redeems, Detaches, redeemed_reply, detach
 use Rattle.rt_world.specs.Sends.{Sends, sent_reply}
 use Rattle.rt_world.specs.Links.{no_link, row_of, link_at}
 use Rattle.rt_world.specs.Inside.{Parts, core_at, desks, desk_at, world_of, IsWorld}
-use Rattle.rt_world.specs.State.{WorldView, journal_at}
-use Rattle.rt_world.proofs.LinkRows.{with_link}
+use Rattle.rt_world.specs.State.{journal_at}
 use Rattle.rt_world.proofs.LinkSteps.{OnlySent}
 use Rattle.rt_world.proofs.CoreSteps.{cores_are, desk_is, journal_is}
 use Rattle.rt_world.proofs.CoreSending.{IsDoneBy, core_done, core_sent, core_desks, core_rests}

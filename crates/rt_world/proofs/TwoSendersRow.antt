@@ -1,12 +1,11 @@
 -- Two senders of one core: each has its own link, and their jobs are polled in the order in which they came.
-use Rattle.std.proofs.Common.{◌≡◌, ℕ, ◌≤◌, false, [], ◌∷◌, refl, inl, inr, arith}
-use Rattle.std.specs.Prelude.{Some, ◌==◌}
+use Rattle.std.proofs.Common.{ℕ, ◌≤◌, [], ◌∷◌, refl, inl, inr, arith}
+use Rattle.std.specs.Prelude.{Some}
 use Rattle.rt_ids.specs.declared.note.Note.TheVariants.{Sent, Took, Pick, Start, Done}
 use Rattle.rt_ids.specs.declared.order.Order.TheVariants.{Job}
 use Rattle.rt_ids.specs.declared.order.SendError.TheVariants.{Full}
 use Rattle.rt_ids.specs.Journal.{Journal}
 use Rattle.rt_ids.specs.Picks.{IsRightPick}
-use Rattle.rt_ids.specs.Work.{has_work}
 use Rattle.rt_jobs.specs.declared.job.Step.TheVariants as steps
 use Rattle.rt_jobs.specs.Scripts.{Script}
 use Rattle.rt_world.specs.declared.event.Event.{Event}

@@ -8,7 +8,6 @@ pub mod Calls
 pub mod Beside
 pub mod OneTurn
 pub mod Turns
-pub mod PickedJobs
 pub mod Runs
 pub mod Links
 pub mod Inside

@@ -45,20 +45,8 @@ impl Polled for Countdown {
     }
 }
 
-/// Submits a box that yields so often, and closes its core. Whether it was accepted: its core may be closed by then.
-fn submit_box(alloc: Global, house: &mut House<AnyJob>, yields: u32) -> Result<bool, AllocError> {
-    let work = Countdown {
-        yields,
-        ended: false,
-    };
-    let inside: Box<dyn Polled + Send> = Box::new(alloc, work)?;
-    let sent = house.submit(CoreNo(0), Order::Job(QueueNo(0), polled_job(inside)));
-    let accepted = sent.is_ok();
-    let _closed = house.close_core(CoreNo(0), Mode::Finish);
-    Ok(accepted)
-}
-
-/// What the journals are after such a box, and how often its gate was asked. None if no house was started.
+/// Submits a box that yields so often, and closes its core. What the journals are then, and how often the gate was asked. None if no house
+/// was started, or the box was refused.
 fn run_box<R>(
     rt: R,
     alloc: Global,
@@ -73,9 +61,17 @@ where
     let Ok(mut house) = begin::<AnyJob, R>(rt, alloc, config, 1, &asked)? else {
         return Ok(None);
     };
-    if !submit_box(alloc, &mut house, yields)? {
+    let work = Countdown {
+        yields,
+        ended: false,
+    };
+    let inside: Box<dyn Polled + Send> = Box::new(alloc, work)?;
+    let sent = house.submit(CoreNo(0), Order::Job(QueueNo(0), polled_job(inside)));
+    if sent.is_err() {
         return Ok(None);
     }
+    // Its core may have closed by itself, and shut its gates: then this is refused.
+    let _closed = house.close_core(CoreNo(0), Mode::Finish);
     match house.finish(&rt) {
         Ok(assembly) => Ok(Some((assembly, asked.load(Ordering::SeqCst)))),
         Err(_) => Ok(None),

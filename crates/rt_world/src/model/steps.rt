@@ -1,13 +1,16 @@
 //! The steps: an order is sent, the next one is delivered, a core makes a turn.
 
-ghost use Rattle.std.specs.Prelude.{◌≡◌, ◌≢◌, ◌≤◌, ◌<◌, ◌+◌, ◌*◌, false, length, map, vec_items, Some, None, Err};
+ghost use Rattle.std.specs.Prelude.{◌≡◌, ◌≤◌, ◌<◌, ◌+◌, ◌*◌, length, map, vec_items, Some, None, Ok};
 ghost use Rattle.rt_ids.specs.declared.note.OutcomeNote.TheVariants.{Returned};
-ghost use Rattle.rt_core.specs.declared.turn.PickError.TheVariants.{Busy};
+ghost use Rattle.rt_core.specs.declared.turn.Ahead.TheVariants as told;
+ghost use Rattle.rt_core.specs.declared.turn.Turn.TheVariants.{Back};
+ghost use Rattle.rt_core.specs.Whole.{IsAhead, TellsAhead};
 ghost use Rattle.rt_jobs.specs.Ready.{HasReadyJob};
-ghost use Rattle.rt_journal.specs.Recorded.{IsRecorded, desk_of};
-ghost use Rattle.rt_journal.specs.Ends.{KeepsOuts, IsSameSeat, told_under};
+ghost use Rattle.rt_journal.specs.Recorded.{IsRecorded};
+ghost use Rattle.rt_journal.specs.Ends.{told_under};
 ghost use Rattle.rt_journal.specs.Owed.{IsSentUnder};
-ghost use Rattle.rt_journal.specs.Turns.{IsOut, IsOutUnder, IsPolled, Settles};
+ghost use Rattle.rt_journal.specs.Turns.{IsBack};
+ghost use Rattle.rt_journal.specs.Whole.{MayAnswer};
 ghost use Rattle.rt_link.specs.Fits.{Fits};
 ghost use Rattle.rt_world.specs.State.{journal_at};
 ghost use Rattle.rt_world.specs.Sends.{Sends, sent_reply};
@@ -15,13 +18,12 @@ ghost use Rattle.rt_world.specs.Deliveries.{Delivers, taken_reply};
 ghost use Rattle.rt_world.specs.Links.{GivesOnOne};
 ghost use Rattle.rt_world.specs.Turns.{Turns};
 ghost use Rattle.rt_world.specs.OneTurn as one;
-ghost use Rattle.rt_world.specs.PickedJobs.{IsPicked};
 
 use super::World;
 use crate::event::Reply;
-use rt_core::{PickError, Settled, Turn};
+use rt_core::{Ahead, Next, PickError, Settled, Turn};
 use rt_ids::{ActorNo, CoreNo, JobId, Order, Reason, SendError, Ticket};
-use rt_jobs::{Job, Ran, Task};
+use rt_jobs::{Job, Task};
 use rt_journal::Recorded;
 use rt_link::PlainLink;
 use std::alloc::Allocator;
@@ -79,71 +81,94 @@ fn turn_of<J: Job + Task<Out = u64>, A: Allocator + Clone>(
 ) -> Reply<J>
     requires number { number < core.old.core.cores }
     requires free { core.old.core.out ≡ None }
-    requires room { length core.old.journal.notes + (core.old.core.cores * (3 * core.old.cap) + 2) < core.old.journal.room }
+    requires room { length core.old.journal.notes + core.old.core.cores * (3 * core.old.cap) + 3 ≤ core.old.journal.room }
     requires sound { IsRecorded J.SameTask J.made J.Polls core.old }
     requires outs { one.HasOuts (Fits J.SameTask J.Answers) number core.old (map vec_items links.old.items) }
     requires beside { one.IsBesideAll number one.none_owed core.old (map vec_items links.old.items) }
     ensures { one.Turns J.SameTask J.made J.Polls J.Answers number spent core.old core.new (map vec_items links.old.items) (map vec_items links.new.items) result }
 {
-    match picked_of(core.pick()) {
-        Picked::Job(name, job) => {
-            let ran = poll_on(core, links, number, job);
-            drop(settle_on(core, links, number, name, ran, spent));
+    match core.ahead() {
+        Ok(Ahead::Job(next)) => {
+            let settled = post_turn(core, links, number, &next, spent);
+            give_done_on(core, links, number, next.name, &settled);
             Reply::Noted
         }
-        Picked::Returned(name, reason, order) => {
-            give_back_on(core, links, number, name, reason, order);
+        Ok(Ahead::Back) => {
+            hand_back(core, links, number);
             Reply::Noted
         }
-        Picked::Nothing(reply) => reply,
+        Ok(Ahead::Idle) => Reply::Idle,
+        Err(PickError::Spent) => Reply::Spent,
+        Err(PickError::Busy) => unreachable!(),
     }
 }
 
-// Polls the job that is out, and lends it the links on which the core sends.
-fn poll_on<J: Job + Task<Out = u64>, A: Allocator + Clone>(
+// Makes the turn of the job that was told ahead, with the job in its place. Its post has the links on which the core sends. What the
+// turn owes to the job's sender isn't given yet.
+fn post_turn<J: Job + Task<Out = u64>, A: Allocator + Clone>(
     core: &mut Recorded<J, A>,
     links: &mut Vec<Vec<PlainLink<J>>>,
     number: usize,
-    job: J,
-) -> Ran<J>
+    next: &Next,
+    spent: u64,
+) -> Settled<u64>
     requires number { number < core.old.core.cores }
-    requires room { length core.old.journal.notes + core.old.core.cores * (3 * core.old.cap) < core.old.journal.room }
+    requires ahead { IsAhead core.old.core next.now.queue next.now.vr next.now.name next.now.started }
+    requires room { length core.old.journal.notes + core.old.core.cores * (3 * core.old.cap) + 3 ≤ core.old.journal.room }
     requires outs { one.HasOuts (Fits J.SameTask J.Answers) number core.old (map vec_items links.old.items) }
     requires beside { one.IsBesideAll number one.none_owed core.old (map vec_items links.old.items) }
-    requires open { J.done job ≡ false }
-    requires ready { J.CanPoll job }
-    ensures { one.IsPosted J.SameTask J.made J.Polls J.Answers number core.old job result core.new (map vec_items links.old.items) (map vec_items links.new.items) }
+    ensures turns { one.TurnsOwing J.SameTask J.made J.Polls J.Answers number spent next.now.name next.now.queue next.now.started result core.old core.new (map vec_items links.old.items) (map vec_items links.new.items) }
+    ensures may_answer { MayAnswer J.Answers core.new.took next.now.name result }
 {
     let alloc = *links.allocator();
-    core.poll(alloc, &mut links[number], job)
+    let mut meter = spent;
+    core.turn_posting(alloc, &mut links[number], next, &mut meter)
 }
 
-// Settles the poll of the job that is out. Its outcome, if it is done, is given on the link of its sender.
-fn settle_on<J: Task<Out = u64>, A: Allocator + Clone>(
-    core: &mut Recorded<J, A>,
+// Gives the outcome of a turn on the link of the job's sender, if the job is done.
+fn give_done_on<J: Job + Task<Out = u64>, A: Allocator + Clone>(
+    core: &Recorded<J, A>,
     links: &mut Vec<Vec<PlainLink<J>>>,
     number: usize,
     name: JobId,
-    ran: Ran<J>,
-    spent: u64,
-) -> Settled<u64>
-    requires out { IsOut core.old.core.out ran.before }
-    requires named { IsOutUnder core.old.core.out name }
-    requires sender { name.from ≤ core.old.core.cores }
-    requires polled { IsPolled J.SameTask J.made J.Polls J.Answers ran }
-    requires room { length core.old.journal.notes < core.old.journal.room }
-    requires beside { one.IsBesideAll number one.none_owed core.old (map vec_items links.old.items) }
-    ensures settles { Settles J.made J.Polls J.Answers core.old ran spent result core.new }
+    settled: &Settled<u64>,
+)
+    requires sender { name.from ≤ core.now.core.cores }
+    requires may_answer { MayAnswer J.Answers core.now.took name settled.now }
+    requires owed { one.IsBesideAll number (one.owed_settled J name settled.now) core.now (map vec_items links.old.items) }
     ensures links { GivesOnOne number (map vec_items links.old.items) (map vec_items links.new.items) }
-    ensures beside { one.IsBesideAll number one.none_owed core.new (map vec_items links.new.items) }
-    ensures outs { KeepsOuts (desk_of core.old) (desk_of core.new) }
-    ensures seat { IsSameSeat core.old core.new }
-    ensures lanes { core.new.lanes ≡ core.old.lanes }
-    ensures sound { IsRecorded J.SameTask J.made J.Polls core.new }
+    ensures beside { one.IsBesideAll number one.none_owed core.now (map vec_items links.new.items) }
 {
     let row = &mut links[name.from.0 as usize];
     let link = &mut row[number];
-    core.settle(link, name, ran, spent)
+    core.give_done(link, name, settled);
+}
+
+// Hands back the job that was told to go back. Its outcome is given on the link of its sender.
+fn hand_back<J: Task<Out = u64>, A: Allocator + Clone>(
+    core: &mut Recorded<J, A>,
+    links: &mut Vec<Vec<PlainLink<J>>>,
+    number: usize,
+)
+    requires ahead { TellsAhead core.old.core (Ok told.Back) }
+    requires room { length core.old.journal.notes + 2 ≤ core.old.journal.room }
+    requires beside { one.IsBesideAll number one.none_owed core.old (map vec_items links.old.items) }
+    ensures back { one.HandsOneBack J.SameTask core.old core.new }
+    ensures stays { one.StaysBeside J.SameTask J.made J.Polls number core.old core.new (map vec_items links.old.items) (map vec_items links.new.items) }
+{
+    let (name, reason, order) = back_of(core.pick());
+    give_back_on(core, links, number, name, reason, order);
+}
+
+// The job that a pick handed back.
+fn back_of<J: Drop>(picked: Result<Turn<J>, PickError>) -> (JobId, Reason, Order<J>)
+    requires { IsBack picked }
+    ensures { picked ≡ Ok (Back result.0 result.1 result.2) }
+{
+    match picked {
+        Ok(Turn::Back(name, reason, order)) => (name, reason, order),
+        Ok(_) | Err(_) => unreachable!(),
+    }
 }
 
 // Gives the outcome of a job that the core handed back, on the link of its sender.
@@ -180,30 +205,5 @@ fn reply_to<J: Drop>(sent: Result<Ticket, SendError<J>>) -> Reply<J>
     match sent {
         Ok(ticket) => Reply::Sent(ticket),
         Err(error) => Reply::NotSent(error),
-    }
-}
-
-// What a pick came to.
-#[derive(Drop)]
-enum Picked<J> {
-    // The job is out, and is to be polled.
-    Job(JobId, J),
-    // The job goes back to its sender.
-    Returned(JobId, Reason, Order<J>),
-    // Nothing was picked, and this is what the actor is told.
-    Nothing(Reply<J>),
-}
-
-fn picked_of<J: Drop>(picked: Result<Turn<J>, PickError>) -> Picked<J>
-    requires free { picked ≢ Err Busy }
-    ensures { IsPicked picked result }
-{
-    match picked {
-        Ok(Turn::Start(name, _, job)) => Picked::Job(name, job),
-        Ok(Turn::Resume(name, _, job)) => Picked::Job(name, job),
-        Ok(Turn::Back(name, reason, order)) => Picked::Returned(name, reason, order),
-        Ok(Turn::Idle) => Picked::Nothing(Reply::Idle),
-        Err(PickError::Spent) => Picked::Nothing(Reply::Spent),
-        Err(PickError::Busy) => unreachable!(),
     }
 }

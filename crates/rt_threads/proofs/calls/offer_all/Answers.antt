@@ -4,7 +4,7 @@ use Rattle.std.proofs.lemmas.Iterator.Consumers.{YieldsList-so_far, YieldsList-t
 use Rattle.std.proofs.lemmas.List.{map-id}
 use Rattle.rt_threads_script.specs.Limits.{IsToldOf}
 use Rattle.rt_threads.specs.Offers.{OffersAll}
-use Rattle.rt_threads.proofs.Sending.{started_of, place_of_order, can_close, offers_more, grows}
+use Rattle.rt_threads.proofs.Sending.{nothing_sent, place_of_order, can_close, offers_more, grows}
 use Rattle.rt_threads.proofs.Walking.{parts}
 use Rattle.rt_threads.proofs.calls.offer_all.Goals as goal
 
@@ -17,7 +17,7 @@ offer-requires c =
     let so_far = YieldsList-so_far all c.loop-told.yielded c.loop-told.told-iterator c.loop-told.yielded_by in
     let turn = YieldsList-turn all c.loop-told.yielded c.loop-told.told-iterator c.loop-told.yielded_by _ c.next.new.self c.in-Some.told c.in-Some.is c.next.ensures.steps in
     let whole = parts c.args.orders.items c.loop-told.yielded c.in-Some.told so_far turn.0 turn.1 in
-    let started = started_of _ _ c.args.house.now c.requires.started c.requires.size in
+    let started = nothing_sent c.args.house.now c.requires.script c.requires.none in
     let more = grows c.loop-told.yielded c.args.house.now c.loop-told.house c.loop-told.invariant in
     record {
       told = subst (λ cores. IsToldOf cores c.in-Some.told) (sym more.cores) (subst (IsToldOf c.args.house.now.desk.cores) (sym turn.1) (c.requires.told _ c.in-Some.told turn.0));
@@ -32,7 +32,7 @@ returns c =
     let all = YieldsList-from_vec {s = c.into_iter-told-iterator.result} c.args.orders.items c.into_iter-told-iterator.ensures.into_iter_gives.0 (c.into_iter-told-iterator.ensures.into_iter_gives.1 ∙ c.args.orders.ok.0) in
     let end = YieldsList-end all c.loop-told.yielded c.loop-told.told-iterator c.loop-told.yielded_by _ c.next.new.self c.in-None.is c.next.ensures.steps in
     let offers = subst (λ orders. OffersAll orders c.args.house.now c.loop-told.house) (sym (map-id c.loop-told.yielded) ∙ end.0) c.loop-told.invariant in
-    let started = started_of _ _ c.args.house.now c.requires.started c.requires.size in
+    let started = nothing_sent c.args.house.now c.requires.script c.requires.none in
     record {
       offers = offers;
       ready = can_close c.args.orders.items _ c.args.house.now c.loop-told.house c.requires.short c.requires.spare started offers;

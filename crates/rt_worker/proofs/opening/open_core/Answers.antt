@@ -1,7 +1,10 @@
-use Rattle.std.proofs.Common.{◌+◌, ◌∙◌, sym, subst, arith}
-use Rattle.rt_ids.specs.Commands.{IsOpening}
+use Rattle.std.proofs.Common.{◌+◌, ◌∷◌, ◌∙◌, sym, ap, subst, arith}
+use Rattle.std.proofs.lemmas.List.{get_or_default}
+use Rattle.rt_ids.specs.declared.note.Note.TheVariants.{Created}
+use Rattle.rt_ids.specs.Commands.{IsOpening, created_count}
+use Rattle.rt_settings.specs.Configs.{Entry}
 use Rattle.rt_journal.specs.Steps.{opened_beside}
-use Rattle.rt_worker.proofs.Creating.{IsCreating, creating_first, creating_left, creating_more, creating_on}
+use Rattle.rt_worker.proofs.Creating.{IsCreating, creating_first, creating_left, creating_more, creating_on, creating_noted}
 use Rattle.rt_worker.proofs.opening.open_core.Goals.{then-of-core+in_ok-create_one, else-of-core}
 use Rattle.rt_worker.proofs.opening.open_core.Goals as goal
 
@@ -24,9 +27,15 @@ loop-index-preserved g c =
       | then-of-core+in_ok-create_one w ↦
           subst (λ view. IsCreating g.J.Task.SameTask g.J.Task.made g.J.Task.Polls c.args.core c.args.queues.now (c.loop-index.index + 1) (opened_beside c.args.core c.args.cores c.args.cap c.args.room) view) (sym w.recorded-is)
           (creating_more c.args.core c.args.queues.now c.loop-index.index (c.loop-index.index + 1) (omega arith) c.loop-index-test.true c.index-queues-index.result _ c.loop-index.recorded c.loop-index.invariant
-          (sym c.of.view_is ∙ w.if-of-core.true) w.create_one.new.recorded w.in_ok-create_one.ensures)
+          (sym c.of.view_is ∙ w.if-of-core.true) w.create_one.new.recorded w.in_ok-create_one.ensures.since
+          (w.in_ok-create_one.ensures.noted
+          ∙ ap (λ (entry : Entry). Created (created_count c.loop-index.recorded.journal.notes + 1) entry.1 ∷ c.loop-index.recorded.journal.notes)
+          (get_or_default c.args.queues.now c.loop-index.index c.index-queues-index-in-loop-index.result c.index-queues-index.result c.loop-index-test.true)))
       | else-of-core w ↦
           subst (λ view. IsCreating g.J.Task.SameTask g.J.Task.made g.J.Task.Polls c.args.core c.args.queues.now (c.loop-index.index + 1) (opened_beside c.args.core c.args.cores c.args.cap c.args.room) view) (sym w.recorded-is)
           (creating_on c.args.core c.args.queues.now c.loop-index.index (c.loop-index.index + 1) (omega arith) c.loop-index-test.true c.index-queues-index.result _ c.loop-index.recorded c.loop-index.invariant
           (λ one. w.if-of-core.false (c.of.view_is ∙ one)))
     ]
+
+pub returns-clause-noted : goal.returns-clause-noted
+returns-clause-noted g c = creating_noted c.args.core c.args.queues.now c.loop-index.index _ c.loop-index.recorded c.loop-index-test.false c.loop-index.invariant

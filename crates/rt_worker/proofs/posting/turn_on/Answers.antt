@@ -1,6 +1,7 @@
 use Rattle.std.proofs.Common.{arith}
 use Rattle.rt_grid.proofs.Using.{ends_along}
 use Rattle.rt_worker.proofs.Posted.{polls_again}
+use Rattle.rt_worker.proofs.Openings.{opening_polled}
 use Rattle.rt_worker.proofs.posting.turn_on.Goals as goal
 
 pub done_on-requires-clause-known : goal.done_on-requires-clause-known
@@ -14,4 +15,5 @@ pub returns-clause-stays : goal.returns-clause-stays
 returns-clause-stays g c = record {
   seat = c.post_turn-settled.ensures.seat;
   ends = ends_along c.args.ends.now c.post_turn-settled.new.ends c.done_on.new.ends c.post_turn-settled.ensures.ends c.done_on.ensures.ends;
+  opening = opening_polled _ _ c.post_turn-settled.ensures.polls;
 }

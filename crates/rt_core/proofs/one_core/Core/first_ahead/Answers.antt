@@ -32,7 +32,7 @@ returns-then-is_some g c =
     let later = first_of inside.ready.keys key c.in-Some.ensures in (
       key.queue,
       rw (← c.self.view_is) (first_is_next view inside.ready.keys key later.0 later.1 c.self.invariant.listed free c.len-count.ensures.rising),
-      some_from_is_any (waiting_of key.queue c.self.now.queues)
+      some_from_is_any (waiting_of key.queue c.args.self.now.queues)
         (rw (← c.self.view_is) (first_waits view inside.ready.keys key later.0 later.1 c.self.invariant.listed free)),
       λ none. true≢false (sym c.if-is_some.true ∙ c.is_some.ensures ∙ ap is_some (c.return_reason.ensures ∙ none)),
       c.requires.turns,

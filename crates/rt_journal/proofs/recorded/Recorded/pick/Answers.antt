@@ -2,6 +2,7 @@ use Rattle.std.proofs.Common.{◌<◌, length, sym, subst, ap, arith}
 use Rattle.rt_ids.specs.Limits.{most_turns}
 use Rattle.rt_ids.specs.Picks.{turns}
 use Rattle.rt_journal.specs.Turns.{Picks}
+use Rattle.rt_journal.proofs.Ahead.{is_back}
 use Rattle.rt_journal.proofs.Picked.{turns-within, few-picked, step-picked, picks-now}
 use Rattle.rt_journal.proofs.Wrote.{view_of, quiet_written, quiet_sent, now_is, quiet_sound, quiet_invariant, quiet_seat, quiet_ins, quiet_outs}
 use Rattle.rt_journal.proofs.recorded.Recorded.pick.Goals as goal
@@ -68,3 +69,7 @@ returns-clause-sound g c =
     let step = step-picked (view_of c.self.inside.core c.self.inside.took.items c.self.inside.said) c.self.invariant.0 left c.pick-picked.new.self c.pick-picked.result.0 c.pick-picked.result.1.items c.pick-picked.ensures.picks in
     quiet_sound c.self.inside.core c.self.inside.took.items c.self.inside.said c.self.invariant c.pick-picked.new.self c.pick-picked.result.1.items c.as_slice.result.now c.as_slice.ensures.value
     step c.write.new.self c.write.ensures
+
+pub returns-clause-back : goal.returns-clause-back
+returns-clause-back g c =
+    rw (← c.self.view_is) (λ told. is_back c.self.inside.core c.pick-picked.new.self told c.pick-picked.result.0 c.pick-picked.result.1.items c.pick-picked.ensures.picks)

@@ -4,7 +4,7 @@ use denote.Param.Send.{IsSend, arg_send, param_send}
 use denote.Exit.{no}
 use Rattle.rt_runtime.proofs.Crosses.{worker_send, ended_send}
 use Rattle.rt_link.specs.Fits.{Fits}
-use Rattle.rt_runtime.specs.Starting.{IsHouse}
+use Rattle.rt_runtime.specs.Starting.{HaveQueues, IsHouse}
 use Rattle.rt_runtime.proofs.Started.{none_submitted, started}
 use Rattle.rt_runtime.proofs.runtime.Runtime.begin.Goals as goal
 
@@ -24,8 +24,8 @@ pub invariant_of-result : goal.invariant_of-result
 invariant_of-result g c =
     let desk = c.in-Ok-open_outside.ensures.desk in
     let numbers = c.requires.numbers in (
-      started c.args.config.now.cores c.args.config.now.cap c.args.config.now.room c.in-Ok-start.team c.in-Ok.ends c.in-Ok-open_outside.desk c.in-Ok-open_outside.closing.items
-          (subst (λ workers. IsHouse c.args.config.now.cores c.args.config.now.cap c.args.config.now.room workers c.in-Ok.ends) (sym c.in-Ok-start.ensures.ok) c.in-Ok.ensures.house) desk
+      started c.args.config.now.cores c.args.config.now.cap c.args.config.now.room c.args.config.now.queues.items c.in-Ok-start.team c.in-Ok.ends c.in-Ok-open_outside.desk c.in-Ok-open_outside.closing.items
+          (subst (λ workers. IsHouse c.args.config.now.cores c.args.config.now.cap c.args.config.now.room c.args.config.now.queues.items workers c.in-Ok.ends) (sym c.in-Ok-start.ensures.ok) c.in-Ok.ensures.house) desk
           c.in-Ok-open_outside.ensures.written c.in-Ok-open_outside.ensures.closing
           (record {
             some_core = omega (arith, numbers.some_core);
@@ -50,5 +50,6 @@ returns-in-Ok-start g c = record {
   desk = c.in-Ok-open_outside.ensures.desk;
   closing = c.in-Ok-open_outside.ensures.closing;
   room_is = refl;
-  none = none_submitted c.args.config.now.cores c.args.config.now.cap c.args.config.now.room c.in-Ok.workers.items c.in-Ok.ends c.in-Ok.ensures.house;
+  none = none_submitted c.args.config.now.cores c.args.config.now.cap c.args.config.now.room c.args.config.now.queues.items c.in-Ok.workers.items c.in-Ok.ends c.in-Ok.ensures.house;
+  have_queues = subst (HaveQueues c.args.config.now.cores c.args.config.now.queues.items) (sym c.in-Ok-start.ensures.ok) c.in-Ok.ensures.house.have_queues;
 }

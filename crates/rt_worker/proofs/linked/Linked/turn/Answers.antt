@@ -1,6 +1,13 @@
-use Rattle.std.proofs.Common.{sym, subst}
+use Rattle.std.proofs.Common.{◌≡◌, ℕ, ◌-◌, ◌^◌, false, true, refl, sym, subst}
+use Rattle.std.specs.Prelude.{Ok, Err}
+use Rattle.rt_ids.specs.Picks.{turns}
+use Rattle.rt_ids.specs.Work.{has_work}
+use Rattle.rt_core.specs.declared.turn.Ahead.{Ahead}
+use Rattle.rt_core.specs.declared.turn.PickError.{PickError}
+use Rattle.rt_core.specs.Whole.{TellsAhead}
 use Rattle.rt_link.specs.Fits.{Fits}
-use Rattle.rt_worker.specs.Linked.{LinkedView}
+use Rattle.rt_worker.specs.Linked.{LinkedView, IsLinked}
+use Rattle.rt_journal.proofs.Ahead.{idle, all_used}
 use Rattle.rt_worker.specs.Steps.{PollsOne}
 use Rattle.rt_worker.specs.Rooms.{HasTurnRoom}
 use Rattle.rt_worker.proofs.InPlace.{ahead_known, ahead_room}
@@ -21,3 +28,26 @@ pub returns-in-Ok-Job-clause-makes : goal.returns-in-Ok-Job-clause-makes
 returns-in-Ok-Job-clause-makes g c =
     subst (λ (old : LinkedView _ _). PollsOne g.J.Task.made g.J.Task.Polls g.J.Task.Answers (Fits g.J.Task.SameTask g.J.Task.Answers) (g.M.Meter.Tells c.args.meter.now) old (record { recorded = c.turn_on.new.recorded; ends = c.turn_on.new.ends })) c.self.view_is
     c.turn_on.ensures.polls
+
+pub hand_back-requires-clause-room : goal.hand_back-requires-clause-room
+hand_back-requires-clause-room g c = (subst (λ (view : LinkedView _ _). HasTurnRoom view.recorded) (sym c.self.view_is) c.requires.room).back
+
+pub returns-in-Ok-Idle-clause-makes : goal.returns-in-Ok-Idle-clause-makes
+returns-in-Ok-Idle-clause-makes g c =
+    let told = subst (λ (one : Ahead). TellsAhead c.self.inside.recorded.core (Ok one)) c.in-Ok-Idle.field-0-is c.in-Ok-Idle.ensures in (
+      subst (λ (view : LinkedView _ _). (queue : ℕ) → has_work queue view.recorded.journal.notes ≡ false) c.self.view_is (idle c.self.inside.recorded c.self.invariant.0.recorded told.0 told.1),
+      refl,
+    )
+
+pub returns-in-Ok-Idle-clause-linked : goal.returns-in-Ok-Idle-clause-linked
+returns-in-Ok-Idle-clause-linked g c = subst (IsLinked g.J.Task.SameTask g.J.Task.made g.J.Task.Polls (Fits g.J.Task.SameTask g.J.Task.Answers)) c.self.view_is c.self.invariant.0
+
+pub returns-in-Err-Spent-clause-makes : goal.returns-in-Err-Spent-clause-makes
+returns-in-Err-Spent-clause-makes g c =
+    let told = subst (λ (one : PickError). TellsAhead c.self.inside.recorded.core (Err one)) c.in-Err-Spent.field-0-is c.in-Err-Spent.ensures in
+    let used = subst (λ (view : LinkedView _ _). (turns view.recorded.journal.notes ≡ 2 ^ 64 - 1) × ((queue : ℕ) × (has_work queue view.recorded.journal.notes ≡ true))) c.self.view_is
+    (all_used c.self.inside.recorded c.self.invariant.0.recorded told) in
+    (used.0, used.1, refl)
+
+pub returns-in-Err-Spent-clause-linked : goal.returns-in-Err-Spent-clause-linked
+returns-in-Err-Spent-clause-linked g c = subst (IsLinked g.J.Task.SameTask g.J.Task.made g.J.Task.Polls (Fits g.J.Task.SameTask g.J.Task.Answers)) c.self.view_is c.self.invariant.0

@@ -1,6 +1,6 @@
 use Rattle.std.proofs.Common.{◌∙◌, ap}
 use Rattle.rt_worker.proofs.Stepping.{owing_here, owing_end, given_beside, given_ends}
-use Rattle.rt_worker.proofs.turn.give_on.Goals as goal
+use Rattle.rt_worker.proofs.handing.give_on.Goals as goal
 
 pub give_back-requires-clause-owed : goal.give_back-requires-clause-owed
 give_back-requires-clause-owed g c =
