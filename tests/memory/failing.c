@@ -4,7 +4,7 @@
 //
 // With FAILING_IN_TURN the calls of further numbers fail too: after the first failure the second call from there, then the third from
 // there, and so on. So where a step asks for memory again from its beginning whenever it was refused, each of its calls fails in turn
-// until the step succeeds. This is for programs with one thread.
+// until the step succeeds. Only calls of one thread are counted so: those of others may fall between.
 #define _GNU_SOURCE
 #include <dlfcn.h>
 #include <fcntl.h>
