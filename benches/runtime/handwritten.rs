@@ -1,10 +1,10 @@
 // A job submitted from one thread to a worker on another, polled there once and redeemed, by hand in Rust, as one writes it without
 // proofs. The two threads are joined by a link of two words (as benches/ring has it, sequentially consistent), or by two of std's
-// bounded channels. The worker takes what there is, puts it into a queue, polls the first of the queue, gives its answer, and parks
-// after so many rounds in which nothing was done. Its turns are bare, or they are those of the runtime's worker: it reads the clock
-// before each poll and after it, and writes notes.
+// bounded channels. The worker takes what there is, puts it into a queue, makes one turn, gives the answer, and parks after so many
+// rounds in which nothing was done. Its turns are bare: the first of one queue is polled. Or they are those of the runtime's worker:
+// it picks the queue of least virtual runtime, reads the clock before the poll and after it, charges the queue, and writes notes.
 use std::cell::UnsafeCell;
-use std::collections::VecDeque;
+use std::collections::{BTreeSet, VecDeque};
 use std::hint::{black_box, spin_loop};
 use std::mem::MaybeUninit;
 use std::sync::atomic::{AtomicBool, AtomicU64, Ordering::SeqCst};
@@ -24,15 +24,20 @@ const PATIENCE: u64 = 256;
 // A worker that never parks.
 const NEVER: u64 = u64::MAX;
 
+// A job that yields so often, and then answers.
 #[derive(Clone, Copy)]
 struct Job {
     value: u64,
+    yields: u64,
 }
 
 impl Job {
-    fn poll(&mut self) -> u64 {
-        self.value = black_box(self.value) + 1;
-        self.value
+    fn poll(&mut self) -> Option<u64> {
+        if self.yields > 0 {
+            self.yields -= 1;
+            return None;
+        }
+        Some(black_box(self.value) + 1)
     }
 }
 
@@ -212,60 +217,125 @@ fn channels() -> (Front, Back) {
     (Front { orders: Some(orders), outcomes, sent: 0 }, Back { orders: orders_there, outcomes: outcomes_there })
 }
 
-// What a worker does beside its polls.
+// What a worker does with the jobs that it took: one turn polls one of them, and tells the number and the answer of one that is done.
 trait Turns: Send + 'static {
-    fn took(&mut self, number: u64);
-    fn poll(&mut self, number: u64, job: &mut Job) -> u64;
+    fn put(&mut self, number: u64, job: Job);
+    fn turn(&mut self) -> Option<Turn>;
 }
 
-struct Bare;
+enum Turn {
+    Yielded,
+    Done(u64, u64),
+}
 
-impl Turns for Bare {
-    fn took(&mut self, _number: u64) {}
+// One queue, and its first is polled.
+struct Bare {
+    jobs: VecDeque<(u64, Job)>,
+}
 
-    fn poll(&mut self, _number: u64, job: &mut Job) -> u64 {
-        job.poll()
+impl Bare {
+    fn new() -> Self {
+        Bare { jobs: VecDeque::with_capacity(PLACES) }
     }
 }
 
-// A journal and a clock, as a worker has them: a note for what was taken, and three for a poll.
-struct Noted {
-    journal: Vec<[u64; 5]>,
-    base: Instant,
+impl Turns for Bare {
+    fn put(&mut self, number: u64, job: Job) {
+        self.jobs.push_back((number, job));
+    }
+
+    fn turn(&mut self) -> Option<Turn> {
+        let (number, mut job) = self.jobs.pop_front()?;
+        Some(match job.poll() {
+            Some(answer) => Turn::Done(number, answer),
+            None => {
+                self.jobs.push_back((number, job));
+                Turn::Yielded
+            }
+        })
+    }
+}
+
+// A note takes as many bytes as the runtime's.
+type Note = [u64; 6];
+
+struct Queue {
+    jobs: VecDeque<(u64, Job)>,
+    shares: u64,
     runtime: u64,
 }
 
-impl Noted {
-    fn new(jobs: u64) -> Self {
-        Noted { journal: Vec::with_capacity(4 * jobs as usize), base: Instant::now(), runtime: 0 }
+// Queues with shares, of which the one of least virtual runtime, then least number, is picked; a clock; and a journal, with a note for
+// what was taken and three for a poll.
+struct Fair {
+    queues: Vec<Queue>,
+    active: BTreeSet<(u64, usize)>,
+    floor: u64,
+    journal: Vec<Note>,
+    base: Instant,
+}
+
+impl Fair {
+    // The pages of the journal are written to before the measure begins, as the runtime's are.
+    fn new(notes: u64) -> Self {
+        let mut journal = vec![[7; 6]; notes as usize];
+        black_box(&mut journal).clear();
+        let queue = Queue { jobs: VecDeque::with_capacity(PLACES), shares: 1000, runtime: 0 };
+        Fair { queues: vec![queue], active: BTreeSet::new(), floor: 0, journal, base: Instant::now() }
+    }
+
+    fn now(&self) -> u64 {
+        self.base.elapsed().as_nanos() as u64
     }
 }
 
-impl Turns for Noted {
-    fn took(&mut self, number: u64) {
-        self.journal.push([3, number, 0, 0, 0]);
+impl Turns for Fair {
+    fn put(&mut self, number: u64, job: Job) {
+        self.journal.push([3, number, 0, 0, 0, 0]);
+        let queue = &mut self.queues[0];
+        if queue.jobs.is_empty() {
+            queue.runtime = queue.runtime.max(self.floor);
+            self.active.insert((queue.runtime, 0));
+        }
+        queue.jobs.push_back((number, job));
     }
 
-    fn poll(&mut self, number: u64, job: &mut Job) -> u64 {
-        self.journal.push([0, self.runtime, 0, 0, 0]);
-        self.journal.push([1, number, 0, 0, 0]);
-        let before = self.base.elapsed().as_nanos() as u64;
+    fn turn(&mut self) -> Option<Turn> {
+        let (runtime, place) = self.active.pop_first()?;
+        self.floor = self.floor.max(runtime);
+        let (number, mut job) = self.queues[place].jobs.pop_front()?;
+        self.journal.push([0, place as u64, runtime, 0, 0, 0]);
+        self.journal.push([1, number, 0, 0, 0, 0]);
+        let before = self.now();
         let answer = job.poll();
-        let spent = self.base.elapsed().as_nanos() as u64 - before;
-        self.runtime += spent.max(1);
-        self.journal.push([2, number, spent, answer, 0]);
-        answer
+        let spent = (self.now() - before).max(1);
+        let queue = &mut self.queues[place];
+        queue.runtime = runtime + (spent * 1000).div_ceil(queue.shares);
+        let turn = match answer {
+            Some(answer) => {
+                self.journal.push([2, number, spent, answer, 0, 0]);
+                Turn::Done(number, answer)
+            }
+            None => {
+                self.journal.push([4, number, spent, 0, 0, 0]);
+                queue.jobs.push_back((number, job));
+                Turn::Yielded
+            }
+        };
+        if !queue.jobs.is_empty() {
+            self.active.insert((queue.runtime, place));
+        }
+        Some(turn)
     }
 }
 
-// One round: all that is there is taken, and one job polled. Whether anything was done, and whether no more comes.
-fn round(end: &mut impl Receiving, queue: &mut VecDeque<(u64, Job)>, turns: &mut impl Turns) -> (bool, bool) {
+// One round: all that is there is taken, and one turn made. Whether anything was done, and whether no more comes.
+fn round(end: &mut impl Receiving, turns: &mut impl Turns) -> (bool, bool) {
     let (mut done, mut shut) = (false, false);
     for _ in 0..PLACES {
         match end.take() {
             Taken::Job(number, job) => {
-                turns.took(number);
-                queue.push_back((number, job));
+                turns.put(number, job);
                 done = true;
             }
             Taken::Nothing => break,
@@ -275,19 +345,19 @@ fn round(end: &mut impl Receiving, queue: &mut VecDeque<(u64, Job)>, turns: &mut
             }
         }
     }
-    if let Some((number, mut job)) = queue.pop_front() {
-        let answer = turns.poll(number, &mut job);
-        end.give(number, answer);
+    if let Some(turn) = turns.turn() {
+        if let Turn::Done(number, answer) = turn {
+            end.give(number, answer);
+        }
         done = true;
     }
     (done, shut)
 }
 
 fn work(mut end: impl Receiving, mut turns: impl Turns, patience: u64) {
-    let mut queue = VecDeque::with_capacity(PLACES);
     let mut idle = 0;
     loop {
-        let (done, shut) = round(&mut end, &mut queue, &mut turns);
+        let (done, shut) = round(&mut end, &mut turns);
         if done {
             idle = 0;
         } else if shut {
@@ -297,8 +367,7 @@ fn work(mut end: impl Receiving, mut turns: impl Turns, patience: u64) {
             spin_loop();
         } else {
             if let Taken::Job(number, job) = end.park() {
-                turns.took(number);
-                queue.push_back((number, job));
+                turns.put(number, job);
             }
             idle = 0;
         }
@@ -322,7 +391,7 @@ fn trips(mut out: impl Sending, worker: JoinHandle<()>, jobs: u64, outstanding: 
         if value >= outstanding {
             sum += wait_for(&mut out);
         }
-        out.send(Job { value });
+        out.send(Job { value, yields: 0 });
     }
     for _ in 0..outstanding.min(jobs) {
         sum += wait_for(&mut out);
@@ -343,7 +412,7 @@ fn paused(mut out: impl Sending, worker: JoinHandle<()>, jobs: u64, pause: Durat
             spin_loop();
         }
         let start = Instant::now();
-        out.send(Job { value });
+        out.send(Job { value, yields: 0 });
         black_box(wait_for(&mut out));
         taken += start.elapsed();
     }
@@ -357,9 +426,9 @@ fn over_words(turns: impl Turns, patience: u64) -> (Out, JoinHandle<()>) {
     (out, thread::spawn(move || work(inward, turns, patience)))
 }
 
-fn over_channels(patience: u64) -> (Front, JoinHandle<()>) {
+fn over_channels(turns: impl Turns, patience: u64) -> (Front, JoinHandle<()>) {
     let (front, back) = channels();
-    (front, thread::spawn(move || work(back, Bare, patience)))
+    (front, thread::spawn(move || work(back, turns, patience)))
 }
 
 fn middle(rounds: usize, measure: impl Fn() -> f64) -> f64 {
@@ -368,17 +437,13 @@ fn middle(rounds: usize, measure: impl Fn() -> f64) -> f64 {
     times[rounds / 2]
 }
 
-// One job polled so often on one thread, with two readings of the clock round each poll and three notes in a journal for it, as a
-// worker makes them. Nanoseconds for each poll.
+// One job polled so often on one thread, by the turns of a worker. Nanoseconds for each poll.
 fn polls(count: u64) -> f64 {
-    let mut turns = Noted::new(count);
-    let mut queue = VecDeque::with_capacity(PLACES);
-    queue.push_back((1, Job { value: 0 }));
+    let mut turns = Fair::new(4 * count);
+    turns.put(1, Job { value: 0, yields: count });
     let start = Instant::now();
     for _ in 0..count {
-        let Some((number, mut job)) = queue.pop_front() else { break };
-        black_box(turns.poll(number, &mut job));
-        queue.push_back((number, job));
+        black_box(turns.turn());
     }
     let taken = start.elapsed().as_nanos() as f64 / count as f64;
     black_box(&turns.journal);
@@ -390,7 +455,7 @@ fn table(rounds: usize) {
     for patience in [0, 10, 30, 100, 300, 1000, 3000, 10_000, 30_000, NEVER] {
         for pause in [0, 1, 10, 100] {
             let taken = middle(rounds, || {
-                let (out, worker) = over_words(Bare, patience);
+                let (out, worker) = over_words(Bare::new(), patience);
                 paused(out, worker, 1000, Duration::from_micros(pause))
             });
             let rounds_of_idleness = if patience == NEVER { "never".to_string() } else { patience.to_string() };
@@ -401,9 +466,10 @@ fn table(rounds: usize) {
 
 // One measure over each kind of link and turn: a line with its name and the nanoseconds of a job.
 fn each(name: &str, jobs: u64, over: impl Fn((Out, JoinHandle<()>)) -> f64, beside: impl Fn((Front, JoinHandle<()>)) -> f64) {
-    println!("turns {name} {:.1}", over(over_words(Noted::new(jobs), PATIENCE)));
-    println!("words {name} {:.1}", over(over_words(Bare, PATIENCE)));
-    println!("channels {name} {:.1}", beside(over_channels(PATIENCE)));
+    println!("turns {name} {:.1}", over(over_words(Fair::new(4 * jobs), PATIENCE)));
+    println!("words {name} {:.1}", over(over_words(Bare::new(), PATIENCE)));
+    println!("turned {name} {:.1}", beside(over_channels(Fair::new(4 * jobs), PATIENCE)));
+    println!("channels {name} {:.1}", beside(over_channels(Bare::new(), PATIENCE)));
 }
 
 fn main() {

@@ -1,6 +1,8 @@
 //! Links whose opening is refused for want of memory, and tried again. tests/memory/again lets each growth fail.
 
-use crate::life::{Link, ONE_PLACE, Ring, Step, first_wrong};
+ghost use Rattle.std.specs.Prelude.{◌^◌, ◌<◌};
+
+use crate::life::{COMMANDS, Link, ONE_PLACE, Ring, Step, first_wrong};
 use crate::numbers::{FROM, Number, TO, Told};
 use rt_link::PlainLink;
 use rt_ring::{OpenError, RingLink};
@@ -27,10 +29,16 @@ const AFTER: [(Step, Told); 6] = [
     (Step::Shut, Told::Count(3)),
 ];
 
-/// A ring, opened until it isn't refused.
-fn ring(alloc: Global, capacity: u16) -> Option<Ring> {
+/// A ring behind this number, opened until it isn't refused.
+fn ring(alloc: Global, capacity: u16, accepted: u64) -> Option<Ring>
+    requires { accepted < 2 ^ 63 }
+{
     for _ in 0..TRIES {
-        match RingLink::open::<Number>(alloc, FROM, TO, capacity) {
+        let opened = match accepted {
+            0 => RingLink::open::<Number>(alloc, FROM, TO, capacity),
+            _ => RingLink::open_after::<Number>(alloc, FROM, TO, capacity, accepted),
+        };
+        match opened {
             Ok((out, inward)) => return Some(Ring { out, inward }),
             Err(OpenError::Memory) => {}
         }
@@ -38,10 +46,16 @@ fn ring(alloc: Global, capacity: u16) -> Option<Ring> {
     None
 }
 
-/// A plain link, opened until it isn't refused.
-fn plain(alloc: Global, capacity: u16) -> Option<PlainLink<Number>> {
+/// A plain link behind this number, opened until it isn't refused.
+fn plain(alloc: Global, capacity: u16, accepted: u64) -> Option<PlainLink<Number>>
+    requires { accepted < 2 ^ 63 }
+{
     for _ in 0..TRIES {
-        if let Ok(link) = PlainLink::open(alloc, FROM, TO, capacity) {
+        let opened = match accepted {
+            0 => PlainLink::open(alloc, FROM, TO, capacity),
+            _ => PlainLink::open_after(alloc, FROM, TO, capacity, accepted),
+        };
+        if let Ok(link) = opened {
             return Some(link);
         }
     }
@@ -55,11 +69,11 @@ fn lives<L: Link>(link: &mut L, rows: &[(Step, Told)]) -> bool {
 
 /// Whether a ring is as before when another one was opened, and the other one has its whole life.
 fn rings_live(alloc: Global) -> bool {
-    let Some(mut first) = ring(alloc, 2) else {
+    let Some(mut first) = ring(alloc, 2, 0) else {
         return false;
     };
     let begun = lives(&mut first, &BEFORE);
-    let Some(mut second) = ring(alloc, 1) else {
+    let Some(mut second) = ring(alloc, 1, 0) else {
         return false;
     };
     begun && lives(&mut first, &AFTER) && lives(&mut second, &ONE_PLACE)
@@ -67,11 +81,11 @@ fn rings_live(alloc: Global) -> bool {
 
 /// The same of plain links.
 fn plain_links_live(alloc: Global) -> bool {
-    let Some(mut first) = plain(alloc, 2) else {
+    let Some(mut first) = plain(alloc, 2, 0) else {
         return false;
     };
     let begun = lives(&mut first, &BEFORE);
-    let Some(mut second) = plain(alloc, 1) else {
+    let Some(mut second) = plain(alloc, 1, 0) else {
         return false;
     };
     begun && lives(&mut first, &AFTER) && lives(&mut second, &ONE_PLACE)
@@ -85,4 +99,16 @@ fn rings_are_opened_again(rt: HostRuntime) {
 #[test]
 fn plain_links_are_opened_again(rt: HostRuntime) {
     assert!(rt; plain_links_live(rt.alloc()));
+}
+
+#[test]
+fn rings_behind_a_number_are_opened_again(rt: HostRuntime) {
+    let ring = ring(rt.alloc(), 3, 7);
+    assert!(rt; ring.is_some_and(|mut ring| lives(&mut ring, &COMMANDS)));
+}
+
+#[test]
+fn plain_links_behind_a_number_are_opened_again(rt: HostRuntime) {
+    let plain = plain(rt.alloc(), 3, 7);
+    assert!(rt; plain.is_some_and(|mut plain| lives(&mut plain, &COMMANDS)));
 }

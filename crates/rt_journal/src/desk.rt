@@ -96,6 +96,13 @@ impl<J: Task<Out = u64>> RecordedDesk<J> {
         &self.journal
     }
 
+    /// Writes to the memory of all notes that there may be. Nothing is noted.
+    pub fn prefault(&mut self)
+        ensures { self.new ≡ self.old }
+    {
+        self.journal.prefault();
+    }
+
     /// The notes alone.
     pub fn into_journal(self) -> Journal<u64>
         ensures { result ≡ self.journal }

@@ -49,6 +49,17 @@ impl<T: Copy> Journal<T> {
         Journal { notes, room }
     }
 
+    /// Writes to the memory of all notes that there may be, so that none of them is the first to touch its page. No note is added.
+    pub fn prefault(&mut self)
+        ensures { self.new ≡ self.old }
+    {
+        let count = self.notes.len();
+        let Ok(()) = self.notes.resize(self.room as usize, Note::default()) else {
+            unreachable!()
+        };
+        self.notes.truncate(count);
+    }
+
     /// Adds the newest note.
     pub fn push(&mut self, note: Note<T>)
         requires free { length self.old.notes < self.old.room }

@@ -120,13 +120,14 @@ fn open_outside<J: Task<Out = u64>>(
     ensures written { IfOk result (λ outside. IsWritten (terms_of_desk outside.0) outside.0.journal.notes) }
     ensures closing { IfOk result (λ outside. outside.1.items ≡ replicate config.now.cores false) }
 {
-    let desk = RecordedDesk::open(
+    let mut desk = RecordedDesk::open(
         alloc,
         ActorNo(config.cores),
         config.cores,
         config.cap,
         config.room,
     )?;
+    desk.prefault();
     let mut closing = Vec::new(alloc);
     closing.resize(config.cores as usize, false)?;
     Ok((desk, closing))

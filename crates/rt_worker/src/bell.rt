@@ -5,32 +5,36 @@ use std::alloc::Global;
 use std::sync::atomic::{AtomicU64, Ordering};
 use std::sync::{Arc, Wait};
 
-/// A thread parks on the low half of its bell.
-const BELL_TURNS: u64 = 1 << 32;
+/// The worker is at work, or it was rung since it lay down.
+const AWAKE: u64 = 0;
 
-/// The top bit of a bell: its worker is parked, or about to park. The bits below count the rings.
-const ASLEEP: u64 = 1 << 63;
+/// The worker is parked, or it looks a last time before it parks.
+const ASLEEP: u64 = 1;
 
-/// The word that an idle worker parks on. Whoever has something for it adds one, and wakes it if it is asleep.
+/// The word that an idle worker parks on. Whoever has something for it rings. That changes the word only if the worker lay down.
 pub type Bell = Arc<AtomicU64, Global>;
 
-/// Tells a worker that there is something for it. No system call is made unless it is asleep.
+/// Tells a worker that there is something for it. The bell of a worker that is awake is only read, and no system call is made.
 pub fn ring(bell: &Bell) {
-    if bell.fetch_add(1, Ordering::SeqCst) >= ASLEEP {
+    // Of all who find the worker asleep, the one that changes the word wakes it.
+    if bell.load(Ordering::SeqCst) == ASLEEP && bell.swap(AWAKE, Ordering::SeqCst) == ASLEEP {
         bell.wake_one();
     }
 }
 
-/// Parks until this bell rings. It has rung already if it is not as it was heard.
-pub(crate) fn sleep<R: Wait>(rt: &R, bell: &Bell, heard: u64) {
-    let asleep = heard | ASLEEP;
-    if bell
-        .compare_exchange(heard, asleep, Ordering::SeqCst, Ordering::SeqCst)
-        .is_ok()
-    {
-        bell.park(rt, (heard % BELL_TURNS) as u32);
-        bell.fetch_sub(ASLEEP, Ordering::SeqCst);
-    }
+/// From here on a ring ends the sleep. What came before it is seen by the look that follows.
+pub(crate) fn lie_down(bell: &Bell) {
+    bell.store(ASLEEP, Ordering::SeqCst);
+}
+
+/// Parks until this bell rings. It doesn't if it has rung since the worker lay down.
+pub(crate) fn sleep<R: Wait>(rt: &R, bell: &Bell) {
+    bell.park(rt, ASLEEP as u32);
+}
+
+/// Nobody needs to ring from here on.
+pub(crate) fn get_up(bell: &Bell) {
+    bell.store(AWAKE, Ordering::SeqCst);
 }
 
 /// Rings the bell at this place, if there is one.

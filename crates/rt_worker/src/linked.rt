@@ -61,6 +61,13 @@ impl<J: Task<Out = u64>> Linked<J> {
         (recorded, ends)
     }
 
+    /// Writes to the memory of all notes that there may be. Nothing is noted.
+    pub(crate) fn prefault(&mut self)
+        ensures { self.new ≡ self.old }
+    {
+        self.recorded.prefault();
+    }
+
     /// Whether the core is closed, in either mode.
     pub fn is_closed(&self) -> bool
         ensures { result ≡ is_some (core_mode self.now.recorded.journal.notes) }

@@ -60,6 +60,13 @@ impl<J: Task<Out = u64>> Served<J> {
         self.linked.is_drained()
     }
 
+    /// Writes to the memory of all notes that there may be. Nothing is noted.
+    pub(crate) fn prefault(&mut self)
+        ensures { self.new ≡ self.old }
+    {
+        self.linked.prefault();
+    }
+
     /// What a drained core leaves.
     pub(crate) fn into_ended(self) -> Ended<J>
         requires { IsDrained self.linked.recorded.core.cores self.linked.recorded.journal.notes }

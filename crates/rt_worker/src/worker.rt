@@ -3,7 +3,7 @@
 ghost use Rattle.std.specs.Prelude.{◌≡◌, ◌≤◌, length};
 ghost use Rattle.rt_worker.specs.Linked.{StaysLinked};
 
-use crate::bell::{Bell, ring_for, sleep};
+use crate::bell::{Bell, get_up, lie_down, ring_for, sleep};
 use crate::ended::Ended;
 use crate::served::Served;
 use crate::stopwatch::Stopwatch;
@@ -13,7 +13,6 @@ use rt_workers::{Promised, Work};
 use std::alloc::Global;
 use std::marker::Model;
 use std::sync::Wait;
-use std::sync::atomic::Ordering;
 
 /// How many rounds in which nothing was done a worker makes before it parks.
 const TRIES: u32 = 256;
@@ -96,17 +95,6 @@ impl<J: Task<Out = u64>, C: Drop, G: Drop> Worker<J, C, G> {
         }
     }
 
-    /// What to do after a round in which nothing was done: it tries some more, and then parks until its bell rings.
-    fn rest<R: Wait>(&mut self, rt: &R, heard: u64)
-        ensures { self.new ≡ self.old }
-    {
-        if self.idle < self.tries {
-            self.idle += 1;
-        } else {
-            sleep(rt, &self.bell, heard);
-        }
-    }
-
     /// Plans the turns until the next look at the links: some if the links had nothing while there was work, else none.
     fn plan(&mut self, quiet: bool)
         ensures { self.new ≡ self.old }
@@ -175,16 +163,29 @@ impl<J: Job + Task<Out = u64>, C: Clock + Drop, G: Gate + Drop> Worker<J, C, G> 
         }
     }
 
-    /// One round, and a rest if nothing was to be done.
+    /// Lies down, looks once more, and parks until its bell rings if there was nothing.
+    fn rest<R: Wait>(&mut self, rt: &R)
+        ensures { StaysLinked self.old self.new }
+    {
+        lie_down(&self.bell);
+        if self.look() {
+            self.idle = 0;
+        } else {
+            sleep(rt, &self.bell);
+        }
+        get_up(&self.bell);
+    }
+
+    /// One round, and a rest if nothing was to be done in it and in so many rounds before it.
     fn serve<R: Wait>(&mut self, rt: &R)
         ensures { StaysLinked self.old self.new }
     {
-        // The bell is read before the round: a ring during the round ends the sleep at once.
-        let heard = self.bell.load(Ordering::SeqCst);
         if self.round() {
             self.idle = 0;
+        } else if self.idle < self.tries {
+            self.idle += 1;
         } else {
-            self.rest(rt, heard);
+            self.rest(rt);
         }
     }
 }
@@ -198,6 +199,8 @@ impl<J: Task<Out = u64>, C: Drop, G: Drop> Promised for Worker<J, C, G> {
 impl<J: Job + Task<Out = u64>, C: Clock + Drop, G: Gate + Drop> Work for Worker<J, C, G> {
     fn run<R: Wait>(self, rt: &R) -> Ended<J> {
         let mut worker = self;
+        // On the thread that writes the notes, so that their pages come from memory that is near to it.
+        worker.served.prefault();
         for _ in rt.forever() {
             if worker.served.is_drained() {
                 let Worker { served, .. } = worker;
