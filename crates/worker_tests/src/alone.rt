@@ -47,24 +47,33 @@ impl Clock for Still {
     }
 }
 
-/// A gate that counts how often it is asked.
+/// What a bell says whose worker sleeps. A ring changes it.
+const ASLEEP: u64 = 1;
+
+/// A gate that counts how often it is asked, and how often it finds the bell rung. It lays the bell's worker to sleep again, so that the
+/// next ring is seen, too.
 #[derive(Drop)]
 struct Counter {
     asked: Arc<AtomicU64, Global>,
+    rung: Bell,
+    rings: Arc<AtomicU64, Global>,
 }
 
 impl Gate for Counter {
     fn before_poll(&mut self, _core: CoreNo, _job: JobId) {
         self.asked.fetch_add(1, Ordering::SeqCst);
+        if self.rung.swap(ASLEEP, Ordering::SeqCst) != ASLEEP {
+            self.rings.fetch_add(1, Ordering::SeqCst);
+        }
     }
 }
 
-/// What a worker shares with its test: its bell, the bell that it rings, the readings of its clock, and how often its gate was asked.
+/// What a worker shares with its test: the bell that it parks on, the one that it rings, and what its clock and its gate counted.
 #[derive(Drop)]
 struct Shared {
     bell: Bell,
-    /// It stands at 1, as if a worker slept on it, until it is rung.
     rung: Bell,
+    rings: Arc<AtomicU64, Global>,
     readings: Arc<AtomicU64, Global>,
     asked: Arc<AtomicU64, Global>,
 }
@@ -73,16 +82,20 @@ impl Shared {
     fn new(alloc: Global) -> Result<Self, AllocError> {
         Ok(Shared {
             bell: Arc::new(alloc, AtomicU64::new(0))?,
-            rung: Arc::new(alloc, AtomicU64::new(1))?,
+            rung: Arc::new(alloc, AtomicU64::new(ASLEEP))?,
+            rings: Arc::new(alloc, AtomicU64::new(0))?,
             readings: Arc::new(alloc, AtomicU64::new(0))?,
             asked: Arc::new(alloc, AtomicU64::new(0))?,
         })
     }
 
-    /// What the bell that is rung stands at, and how often the clock was read and the gate asked.
+    /// Behind how many turns the bell was rung, and how often the clock was read and the gate asked.
     fn counts(&self) -> (u64, u64, u64) {
+        let rings = self.rings.load(Ordering::SeqCst);
+        // No gate looked behind the last turn.
+        let is_rung = self.rung.load(Ordering::SeqCst) != ASLEEP;
         (
-            self.rung.load(Ordering::SeqCst),
+            rings.saturating_add(is_rung as u64),
             self.readings.load(Ordering::SeqCst),
             self.asked.load(Ordering::SeqCst),
         )
@@ -168,6 +181,8 @@ fn open(
     };
     let gate = Counter {
         asked: Arc::try_clone(&shared.asked)?,
+        rung: Arc::try_clone(&shared.rung)?,
+        rings: Arc::try_clone(&shared.rings)?,
     };
     let bell = Arc::try_clone(&shared.bell)?;
     let worker = Worker::open(alloc, &config, own, clock, gate, bell)?;
@@ -236,7 +251,7 @@ fn an_order_closes_a_worker(rt: HostRuntime) -> Result<(), Fail> {
     ];
     assert!(rt; sent && journal.len() == notes.len() && begins(&journal, &notes));
     // No bell rang, and there was one poll.
-    assert!(rt; shared.counts() == (1, 2, 1));
+    assert!(rt; shared.counts() == (0, 2, 1));
     Ok(())
 }
 
@@ -267,8 +282,8 @@ fn a_job_submits_until_the_journal_is_short(rt: HostRuntime) -> Result<(), Fail>
     let closed = says(&journal, Note::CoreClosed(Mode::Return));
     let returned = says(&journal, Note::Returned(long, Reason::CoreReturned));
     assert!(rt; sent && begins(&journal, &notes) && closed && returned);
-    // It rang for what its own job sent. The clock is read twice a poll.
+    // It rang once for the order, and once for the outcome. The clock is read twice a poll.
     let polls = count_polls(&journal);
-    assert!(rt; shared.counts() == (0, 2 * polls, polls));
+    assert!(rt; shared.counts() == (2, 2 * polls, polls));
     Ok(())
 }
