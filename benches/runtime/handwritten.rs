@@ -383,8 +383,15 @@ fn wait_for(out: &mut impl Sending) -> u64 {
     }
 }
 
+// Makes one job that isn't measured, so that the worker's thread is at work, as the runtime's measures do.
+fn warm(out: &mut impl Sending) {
+    out.send(Job { value: 0, yields: 0 });
+    black_box(wait_for(out));
+}
+
 // Nanoseconds for each of so many jobs, with so many outstanding.
 fn trips(mut out: impl Sending, worker: JoinHandle<()>, jobs: u64, outstanding: u64) -> f64 {
+    warm(&mut out);
     let start = Instant::now();
     let mut sum = 0;
     for value in 0..jobs {
@@ -405,6 +412,7 @@ fn trips(mut out: impl Sending, worker: JoinHandle<()>, jobs: u64, outstanding: 
 
 // Nanoseconds that each of so many jobs took, submitted one by one with a pause before each.
 fn paused(mut out: impl Sending, worker: JoinHandle<()>, jobs: u64, pause: Duration) -> f64 {
+    warm(&mut out);
     let mut taken = Duration::ZERO;
     for value in 0..jobs {
         let begin = Instant::now();
@@ -466,9 +474,9 @@ fn table(rounds: usize) {
 
 // One measure over each kind of link and turn: a line with its name and the nanoseconds of a job.
 fn each(name: &str, jobs: u64, over: impl Fn((Out, JoinHandle<()>)) -> f64, beside: impl Fn((Front, JoinHandle<()>)) -> f64) {
-    println!("turns {name} {:.1}", over(over_words(Fair::new(4 * jobs), PATIENCE)));
+    println!("turns {name} {:.1}", over(over_words(Fair::new(4 * (jobs + 1)), PATIENCE)));
     println!("words {name} {:.1}", over(over_words(Bare::new(), PATIENCE)));
-    println!("turned {name} {:.1}", beside(over_channels(Fair::new(4 * jobs), PATIENCE)));
+    println!("turned {name} {:.1}", beside(over_channels(Fair::new(4 * (jobs + 1)), PATIENCE)));
     println!("channels {name} {:.1}", beside(over_channels(Bare::new(), PATIENCE)));
 }
 
