@@ -21,6 +21,8 @@ struct Watch {
 impl Meter for Watch {
     ghost Tells = { λ _ _. Unit {0} };
 
+    ghost TellsBegun = { λ _ _. Unit {0} };
+
     fn start(&mut self) {
         self.begun = true;
     }

@@ -1,7 +1,7 @@
 -- A whole turn with posts, from the desk that noted the pick, by the desk that came back from the job, to the desk that noted the settling.
 use Rattle.std.specs.Prelude.{None}
 use Rattle.std.specs.Option.{option_map}
-use Rattle.std.proofs.Common.{◌≡◌, ℕ, ◌<◌, Bool, List, ◌++◌, reverse, sym, ◌∙◌, ap, subst}
+use Rattle.std.proofs.Common.{◌≡◌, ℕ, ◌+◌, ◌*◌, ◌<◌, ◌≤◌, Bool, List, ◌++◌, length, reverse, refl, sym, ◌∙◌, ap, subst}
 use Rattle.std.proofs.lemmas.Option.{same_Some}
 use Rattle.rt_ids.specs.Limits.{most_turns}
 use Rattle.rt_ids.specs.declared.names.JobId.{JobId}
@@ -21,9 +21,10 @@ use Rattle.rt_journal.specs.Submissions.{DeskView, IsWritten, terms_of_desk, des
 use Rattle.rt_journal.specs.Recorded.{RecordedView, IsRecorded, desk_of}
 use Rattle.rt_journal.specs.Ends.{KeepsSent, KeepsIn, LeavesOwed, IsSameSeat, told_under}
 use Rattle.rt_journal.specs.Owed.{OwesSettled, outcome_settled}
-use Rattle.rt_journal.specs.Posts.{PostView, AreOutsOf, HasPosted}
+use Rattle.rt_journal.specs.Posts.{PostView, AreOutsOf, HasPosted, lends}
+use Rattle.rt_journal.specs.Calls.{Does}
 use Rattle.rt_journal.specs.Turns.{IsPolled, Settles}
-use Rattle.rt_journal.specs.Whole.{post_of, StaysPut, IsPostingTurn, MayAnswer}
+use Rattle.rt_journal.specs.Whole.{post_of, StaysPut, IsPostingTurn, MayAnswer, TurnsNoted}
 use Rattle.rt_journal.proofs.PolledDesks.{posted_rest, posted_silent}
 use Rattle.rt_journal.proofs.PostingTurn.{went_out, is_picked, picks_it, keeps_in, stays_picked, outs_kept, owes_then}
 use Rattle.rt_journal.proofs.Quiet.{given_settled}
@@ -126,7 +127,7 @@ module _ {J T E : Type 0} {same : J → J → Type 0} {done : J → Bool} {can_p
         lanes = ap (λ desk. desk.lanes) wrote_it;
       }
 
-      pub turned : {does : Doing (PostView J T E) J T} {tells : ℕ → Type 0} → tells spent → Makes does calls (record { desk = noted; ends = ends }) (record { desk = left; ends = later }) →
+      turned : {does : Doing (PostView J T E) J T} {tells : ℕ → Type 0} → tells spent → Makes does calls (record { desk = noted; ends = ends }) (record { desk = left; ends = later }) →
           IsPostingTurn same made polls answers does out untouched tells old ends name queue started (settled_of step) new later
       turned {does} told_it makes = record {
         picked = picked;
@@ -148,24 +149,24 @@ module _ {J T E : Type 0} {same : J → J → Type 0} {done : J → Bool} {can_p
         owes = owes_it;
       }
 
-      pub turned_owes : (sender : ℕ) → LeavesOwed sender (told_under name (option_map outcome_note (outcome_settled {J = J} (settled_of step))) sender) old new
+      turned_owes : (sender : ℕ) → LeavesOwed sender (told_under name (option_map outcome_note (outcome_settled {J = J} (settled_of step))) sender) old new
       turned_owes sender =
           subst (λ name. LeavesOwed sender (told_under name (option_map outcome_note (outcome_settled {J = J} (settled_of step))) sender) old new) its_name
           (owes_then old picked polled_view new sender (keeps_picked sender) (silent sender) (owes_it whole.settles.0 whole.settles.1 sender))
 
-      pub turned_answer : MayAnswer answers took name (settled_of step)
+      turned_answer : MayAnswer answers took name (settled_of step)
       turned_answer =
           let job_is = same_Some _ _ (sym settles_it.was_out ∙ went_out core took said invariant few_turns queue vr name started whole.ran.before whole.mid started (pick_notes queue vr name started) whole.picks) in
           subst (λ name. MayAnswer answers took name (settled_of step)) (ap (λ (job : JobOut J). job.name) job_is)
           (its_answer answers took settles_it.out.name settles_it.out.queue settles_it.sent settles_it.task whole.ran.step (settled_of step) settles_it.tells settles_it.answered)
 
-      pub turned_outs : {fits : Order J → Outcome J T → Type 0} {credited : E → ℕ} → AreOutsOf fits out credited left later → AreOutsOf fits out credited (desk_of new) later
+      turned_outs : {fits : Order J → Outcome J T → Type 0} {credited : E → ℕ} → AreOutsOf fits out credited left later → AreOutsOf fits out credited (desk_of new) later
       turned_outs {fits} {credited} outs = outs_kept polled_view new stays_it later (subst (λ desk. AreOutsOf fits out credited desk later) at_poll.1 outs)
 
-      pub turned_rest : core_now.out ≡ None
+      turned_rest : core_now.out ≡ None
       turned_rest = settles_it.out_now
 
-      pub turned_seat : IsSameSeat old new
+      turned_seat : IsSameSeat old new
       turned_seat =
           let one = stays_picked_it.seat in
           let other = stays_it.seat in
@@ -175,3 +176,18 @@ module _ {J T E : Type 0} {same : J → J → Type 0} {done : J → Bool} {can_p
             cap = other.cap ∙ (ap (λ desk. desk.cap) rest ∙ one.cap);
             room = other.room ∙ (ap (λ desk. desk.journal.room) rest ∙ one.room);
           }
+
+      pub turned_noted : {fits : Order J → Outcome J T → Type 0} {credited : E → ℕ} {tells : ℕ → Type 0} → tells spent → Makes (Does fits out credited untouched) calls (lends noted ends) (lends left later) →
+          AreOutsOf fits out credited left later → length said_now.journal.notes ≤ length said.journal.notes + core.cores * (3 * said.cap) + 3 →
+          TurnsNoted same made polls answers fits out credited untouched tells old ends name queue started (settled_of step) new later
+      turned_noted told_it makes outs few = record {
+        turns = turned told_it makes;
+        owes = turned_owes;
+        may_answer = turned_answer;
+        outs = turned_outs outs;
+        few = few;
+        at_rest = turned_rest;
+        took = refl;
+        seat = turned_seat;
+        sound = turned_invariant.0;
+      }

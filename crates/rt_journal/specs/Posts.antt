@@ -16,6 +16,10 @@ pub record PostView (J T E : Type 0) : Type 0 where
   pub desk : DeskView J T
   pub ends : List E
 
+-- this desk and these ends, lent to a job
+abbrev pub lends : {J T E : Type 0} → DeskView J T → List E → PostView J T E
+lends desk ends = record { desk = desk; ends = ends }
+
 -- these notes submit, redeem and detach
 abbrev pub ArePosts : {T : Type 0} → List (Note T) → Type 0
 ArePosts [] = Unit {0}

@@ -1,7 +1,11 @@
 -- What a whole turn in place does, with a post of this actor: the pick of the job that was told ahead, one poll of it, and the settling of that poll.
-use Rattle.std.specs.Prelude.{◌≡◌, ℕ, Bool, List, Some}
+use Rattle.std.specs.Prelude.{◌≡◌, ℕ, ◌+◌, ◌*◌, ◌≤◌, Bool, List, length, Some, None}
+use Rattle.std.specs.Option.{option_map}
 use Rattle.rt_ids.specs.declared.names.JobId.{JobId}
+use Rattle.rt_ids.specs.declared.order.Order.{Order}
 use Rattle.rt_ids.specs.declared.order.Order.TheVariants.{Job}
+use Rattle.rt_ids.specs.declared.order.Outcome.{Outcome}
+use Rattle.rt_ids.specs.Outcomes.{outcome_note}
 use Rattle.rt_jobs.specs.Calls.{Doing}
 use Rattle.rt_jobs.specs.Steps.{AfterPoll, Owed, OwesAt}
 use Rattle.rt_core.specs.declared.turn.Settled.{Settled}
@@ -9,9 +13,10 @@ use Rattle.rt_core.specs.declared.turn.Settled.TheVariants.{Yielded, Finished}
 use Rattle.rt_link.specs.declared.ends.Outward.{Outward}
 use Rattle.rt_ids.specs.declared.order.Envelope.{Envelope}
 use Rattle.rt_journal.specs.Recorded.{RecordedView, IsRecorded, desk_of, order_taken}
-use Rattle.rt_journal.specs.Ends.{KeepsIn, KeepsOuts, IsSameSeat}
-use Rattle.rt_journal.specs.Owed.{OwesSettled}
-use Rattle.rt_journal.specs.Posts.{PostView, HasPosted}
+use Rattle.rt_journal.specs.Ends.{KeepsIn, KeepsOuts, LeavesOwed, IsSameSeat, told_under}
+use Rattle.rt_journal.specs.Owed.{OwesSettled, outcome_settled}
+use Rattle.rt_journal.specs.Posts.{PostView, AreOutsOf, HasPosted}
+use Rattle.rt_journal.specs.Calls.{Does}
 use Rattle.rt_journal.specs.Turns.{IsPick, IsPolled, Settles}
 
 -- the desk of a core, and its ends
@@ -50,3 +55,16 @@ module _ {J T : Type 0} (answers : J → T → Type 0) where
   abbrev pub MayAnswer : List (Envelope J) → JobId → Settled T → Type 0
   MayAnswer took name Yielded = Unit {0}
   MayAnswer took name (Finished answer) = (queue : ℕ) × (sent : J) × (order_taken took name ≡ Some (Job queue sent)) × answers sent answer
+
+module _ {J T E : Type 0} (same : J → J → Type 0) (made : J → ℕ) (polls : Owed J T) (answers : J → T → Type 0) (fits : Order J → Outcome J T → Type 0) (out : E → Outward J T) (credited : E → ℕ) (untouched : E → List ℕ) (tells : ℕ → Type 0) where
+  -- a whole turn with its notes: what it owes to the job's sender, what it leaves beside the desk, how many notes it may take, and that nothing is out behind it
+  pub record TurnsNoted (old : RecordedView J T) (ends : List E) (name : JobId) (queue : ℕ) (started : Bool) (settled : Settled T) (new : RecordedView J T) (later : List E) : Type 0 where
+    pub turns : IsPostingTurn same made polls answers (Does fits out credited untouched) out untouched tells old ends name queue started settled new later
+    pub owes : (sender : ℕ) → LeavesOwed sender (told_under name (option_map outcome_note (outcome_settled {J = J} settled)) sender) old new
+    pub may_answer : MayAnswer answers new.took name settled
+    pub outs : AreOutsOf fits out credited (desk_of new) later
+    pub few : length new.journal.notes ≤ length old.journal.notes + old.core.cores * (3 * old.cap) + 3
+    pub at_rest : new.core.out ≡ None
+    pub took : new.took ≡ old.took
+    pub seat : IsSameSeat old new
+    pub sound : IsRecorded same made polls new

@@ -87,9 +87,9 @@ impl<T: Copy> Journal<T> {
         ensures notes { self.new ≡ record self.old { notes = reverse notes.now ++ self.old.notes } }
         ensures limits { IsWithinRoom self.new }
     {
-        let Ok(()) = self.notes.extend_from_slice(notes) else {
-            unreachable!()
-        };
+        for note in notes {
+            self.notes.push_reserved(*note);
+        }
     }
 
     /// How many notes there may be in all.

@@ -14,4 +14,3 @@ pub mod Serving
 pub mod Opened
 pub mod Creating
 pub mod Ending
-pub mod Readings

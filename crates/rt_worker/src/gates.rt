@@ -55,6 +55,9 @@ impl<J: Task<Out = u64>> Linked<J> {
     }
 
     /// Closes the core in mode `Return` and shuts each gate, where the journal is short.
+    ///
+    /// Once in a worker's life: it stands apart, so that the look at the room before each step stays short.
+    #[cold]
     pub(crate) fn end(&mut self)
         requires spare { HasSpare self.old.recorded }
         requires short { IsShort self.old.recorded }

@@ -43,9 +43,11 @@ impl<C> Stopwatch<C> {
 
 /// It is read just before a poll and just after it, and at no other time. A poll took what lies between two readings in a row.
 impl<C: Clock> Meter for Stopwatch<C> {
-    ghost use Rattle.rt_worker.specs.Readings.{MayTell};
+    ghost use Rattle.rt_worker.specs.Readings.{EndsNext, BeginsNext};
 
-    ghost Tells = { λ watch spent. MayTell C.Reads watch.clock watch.began spent };
+    ghost Tells = { λ watch spent. BeginsNext C.Reads watch.clock spent };
+
+    ghost TellsBegun = { λ watch spent. EndsNext C.Reads watch.clock watch.began spent };
 
     fn start(&mut self) {
         self.began = self.clock.now();

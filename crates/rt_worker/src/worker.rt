@@ -7,6 +7,7 @@ use crate::bell::{Bell, get_up, lie_down, ring_for, sleep};
 use crate::ended::Ended;
 use crate::served::Served;
 use crate::stopwatch::Stopwatch;
+use rt_ids::Note;
 use rt_jobs::{Job, Task};
 use rt_settings::{Clock, Gate};
 use rt_workers::{Promised, Work};
@@ -22,6 +23,11 @@ const MOST_TURNS: u32 = 16;
 
 /// It looks again at once after polls that took so many nanoseconds together.
 const MOST_TIME: u64 = 2_000;
+
+/// Whether the newest note is that of a job that wants another poll.
+fn ends_in_yield(notes: &[Note<u64>]) -> bool {
+    matches!(notes.last(), Some(Note::Yield(_, _)))
+}
 
 /// A core beside its journal, over its actor's ends of the links, with a clock, a gate and a bell of its own.
 #[derive(Drop)]
@@ -95,6 +101,16 @@ impl<J: Task<Out = u64>, C: Drop, G: Drop> Worker<J, C, G> {
         }
     }
 
+    /// Wakes the workers that have something from a turn, whose notes stand behind the first `count`.
+    fn ring_since_turn(&self, count: usize) {
+        let notes = self.served.journal().as_slice();
+        // Of a job that posted nothing and isn't done there are a pick, a start and a yield, which are for nobody.
+        if notes.len().saturating_sub(count) <= 3 && ends_in_yield(notes) {
+            return;
+        }
+        self.ring_since(count);
+    }
+
     /// Plans the turns until the next look at the links: some if the links had nothing while there was work, else none.
     fn plan(&mut self, quiet: bool)
         ensures { self.new ≡ self.old }
@@ -135,7 +151,7 @@ impl<J: Job + Task<Out = u64>, C: Clock + Drop, G: Gate + Drop> Worker<J, C, G> 
         let turned = self
             .served
             .take_turn(self.alloc, &mut self.watch, &mut self.gate);
-        self.ring_since(before);
+        self.ring_since_turn(before);
         turned
     }
 

@@ -1,21 +1,24 @@
 //! A whole turn with the job in its place, beside its journal. The job may submit, redeem and detach.
-ghost use Rattle.std.specs.Prelude.{◌≡◌, ℕ, ◌+◌, ◌*◌, ◌≤◌, None, length};
+ghost use Rattle.std.specs.Prelude.{◌≡◌, ℕ, ◌+◌, ◌*◌, ◌<◌, ◌≤◌, None, length, sum_by};
 ghost use Rattle.std.specs.Option.{option_map};
-ghost use Rattle.rt_core.specs.Whole.{IsAhead, TellsAhead, pick_notes, settled_of, settle_notes};
+ghost use Rattle.rt_taskqueue.specs.Fronts.{MakesCalls};
+ghost use Rattle.rt_core.specs.Whole.{IsAhead, TellsAhead, TurnsWhole, pick_notes, settled_of, settle_notes};
 ghost use Rattle.rt_ids.specs.Outcomes.{outcome_note};
 ghost use Rattle.rt_link.specs.Fits.{Fits};
+ghost use Rattle.rt_journal.specs.Submissions.{IsWritten, terms_of_desk};
 ghost use Rattle.rt_journal.specs.Recorded.{IsRecorded, desk_of};
 ghost use Rattle.rt_journal.specs.Ends.{IsInOf, IsInOwing, Gives, LeavesOwed, told_under, IsSameSeat};
 ghost use Rattle.rt_journal.specs.Owed.{outcome_settled};
-ghost use Rattle.rt_journal.specs.Posts.{AreOutsOf};
+ghost use Rattle.rt_journal.specs.Posts.{AreOutsOf, lends};
 ghost use Rattle.rt_journal.specs.Calls.{Does};
-ghost use Rattle.rt_journal.specs.Whole.{IsPostingTurn, MayAnswer};
+ghost use Rattle.rt_journal.specs.Spending.{left_of};
+ghost use Rattle.rt_journal.specs.Whole.{IsPostingTurn, MayAnswer, TurnsNoted};
 
 use super::Recorded;
 use crate::desk::RecordedDesk;
 use crate::given::{give_if, outcome_done};
 use crate::post::RecordedPost;
-use rt_core::{Ahead, Next, PickError, Settled};
+use rt_core::{Ahead, Core, Next, PickError, Settled};
 use rt_ids::{JobId, Note};
 use rt_jobs::{Job, Step, Task};
 use rt_link::{InEnd, OutEnd};
@@ -52,6 +55,39 @@ fn settled(step: &Step<u64>) -> Settled<u64>
         Step::Yield => Settled::Yielded,
         Step::Done(answer) => Settled::Finished(*answer),
     }
+}
+
+/// Polls the job that is told ahead where it stands, and settles its poll. The desk and the ends are lent to it for that long. The
+/// answer: what the poll came to, and the time that counts.
+fn turn_lent<J: Job<Out = u64>, A: Allocator + Clone, O: OutEnd<J> + Drop, M: Meter>(
+    alloc: Global,
+    core: &mut Core<J, A>,
+    said: &mut RecordedDesk<J>,
+    ends: &mut Vec<O, Global>,
+    next: &Next,
+    meter: &mut M,
+) -> (Step<u64>, u64)
+    requires ahead { IsAhead core.old next.now.queue next.now.vr next.now.name next.now.started }
+    requires outs { AreOutsOf (Fits J.SameTask J.Answers) O.out O.credited said.old ends.old.items }
+    requires room { length said.old.journal.notes + said.old.cores * (3 * said.old.cap) < said.old.journal.room }
+    ensures whole { MakesCalls (Does (Fits J.SameTask J.Answers) O.out O.credited O.untouched) (lends said.old ends.old.items) (lends said.new ends.new.items) (λ calls.
+        (spent : ℕ) × M.Tells meter.old spent × TurnsWhole J.SameTask J.done J.CanPoll J.made J.Polls J.Answers core.old spent calls next.now.name next.now.queue next.now.started
+        (pick_notes next.now.queue next.now.vr next.now.name next.now.started) (settled_of result.0) (settle_notes next.now.name result.1 result.0) core.new) }
+    ensures outs { AreOutsOf (Fits J.SameTask J.Answers) O.out O.credited said.new ends.new.items }
+    ensures few { sum_by left_of said.old.lanes ≤ said.old.cores * (3 * said.old.cap) }
+    ensures room { length said.new.journal.notes < said.new.journal.room }
+    ensures written { IsWritten (terms_of_desk said.new) said.new.journal.notes }
+{
+    // What stays in their places owns no memory, and nothing is dropped when they come back.
+    let desk = mem::replace(said, RecordedDesk::nothing(alloc));
+    let lent = mem::replace(ends, Vec::new(alloc));
+    let mut post = RecordedPost::lend(desk, lent);
+    let (step, time) = core.turn_metered(next, &mut post, meter);
+    let (desk, lent) = post.into_parts();
+    desk.see_lanes();
+    mem::forget(mem::replace(said, desk));
+    mem::forget(mem::replace(ends, lent));
+    (step, time)
 }
 
 impl<J: Task<Out = u64>, A: Allocator + Clone> Recorded<J, A> {
@@ -92,18 +128,28 @@ impl<J: Job<Out = u64>, A: Allocator + Clone> Recorded<J, A> {
         ensures seat { IsSameSeat self.old self.new }
         ensures sound { IsRecorded J.SameTask J.made J.Polls self.new }
     {
+        self.turn_noted(alloc, ends, next, meter)
+    }
+
+    /// Notes the pick, makes the turn, and notes its settling.
+    fn turn_noted<O: OutEnd<J> + Drop, M: Meter>(
+        &mut self,
+        alloc: Global,
+        ends: &mut Vec<O, Global>,
+        next: &Next,
+        meter: &mut M,
+    ) -> Settled<u64>
+        requires ahead { IsAhead self.old.core next.now.queue next.now.vr next.now.name next.now.started }
+        requires outs { AreOutsOf (Fits J.SameTask J.Answers) O.out O.credited (desk_of self.old) ends.old.items }
+        requires room { length self.old.journal.notes + self.old.core.cores * (3 * self.old.cap) + 3 ≤ self.old.journal.room }
+        ensures { TurnsNoted J.SameTask J.made J.Polls J.Answers (Fits J.SameTask J.Answers) O.out O.credited O.untouched (M.Tells meter.old)
+            self.old ends.old.items next.now.name next.now.queue next.now.started result self.new ends.new.items }
+    {
         // There are fewer notes than turns that a core can make.
         let _room = self.said.journal().room();
         let picked = picked_notes(next);
         self.said.write(&picked);
-        let desk = mem::replace(&mut self.said, RecordedDesk::nothing(alloc));
-        let lent = mem::replace(ends, Vec::new(alloc));
-        let mut post = RecordedPost::lend(desk, lent);
-        let (step, time) = self.core.turn_metered(next, &mut post, meter);
-        let (desk, lent) = post.into_parts();
-        desk.see_lanes();
-        self.said = desk;
-        *ends = lent;
+        let (step, time) = turn_lent(alloc, &mut self.core, &mut self.said, ends, next, meter);
         let told = settled_notes(&next.name, time, &step);
         self.said.write(&told);
         settled(&step)
