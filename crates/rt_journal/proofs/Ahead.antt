@@ -1,28 +1,15 @@
 -- What a core tells ahead of a pick is what its journal says, and the pick of a job that is told to go back hands it back.
-use Rattle.std.proofs.Common.{◌≡◌, ℕ, ◌-◌, ◌^◌, Bool, true, false, List, [], ◌∷◌, refl, sym, ◌∙◌, ap, subst, ⊎_elim, arith}
-use Rattle.std.specs.Prelude.{None, Result, Ok, Err}
-use Rattle.rt_ids.specs.declared.names.JobId.{JobId}
-use Rattle.rt_ids.specs.declared.note.Note.{Note}
-use Rattle.rt_ids.specs.Keys.{KeyAtMost}
-use Rattle.rt_ids.specs.Lines.{line}
-use Rattle.rt_ids.specs.Picks.{turns}
-use Rattle.rt_ids.specs.Work.{has_work}
-use Rattle.rt_ids.proofs.WorkOfLines.{no_work, work_of_line}
-use Rattle.rt_jobs.specs.Steps.{Owed}
-use Rattle.rt_taskqueue.specs.Queues.{waiting_of}
+use Rattle.rt_journal.proofs.Names.{◌≡◌, ℕ, ◌-◌, ◌^◌, Bool, true, false, List, [], ◌∷◌, refl, sym, ◌∙◌, ap, subst}
+use Rattle.rt_journal.proofs.Names.{⊎_elim, arith, None, Result, Ok, Err, JobId, Note, KeyAtMost, line, turns, has_work}
+use Rattle.rt_journal.proofs.Names.{no_work, work_of_line, Owed, waiting_of, Turn, Start, Resume, Idle, PickError, Busy}
+use Rattle.rt_journal.proofs.Names.{CoreView, runtime_of, TakesOut, TellsAhead, some_front, IsJobOut, RecordedView}
+use Rattle.rt_journal.proofs.Names.{IsRecorded, terms_at, IsBack}
 use Rattle.rt_core.specs.declared.turn.Ahead.TheVariants as ahead
-use Rattle.rt_core.specs.declared.turn.Turn.{Turn}
-use Rattle.rt_core.specs.declared.turn.Turn.TheVariants.{Start, Resume, Back, Idle}
-use Rattle.rt_core.specs.declared.turn.PickError.{PickError}
-use Rattle.rt_core.specs.declared.turn.PickError.TheVariants.{Busy, Spent}
+use Rattle.rt_core.specs.declared.turn.Turn.TheVariants.{Back}
+use Rattle.rt_core.specs.declared.turn.PickError.TheVariants.{Spent}
 use Rattle.rt_core.specs.Closing.{return_reason}
-use Rattle.rt_core.specs.State.{CoreView, runtime_of}
-use Rattle.rt_core.specs.Turns.{TakesOut, Picks}
-use Rattle.rt_core.specs.Whole.{TellsAhead}
-use Rattle.rt_core.proofs.Turned.{some_front}
-use Rattle.rt_journal.specs.Agreement.{IsJobOut, names_of}
-use Rattle.rt_journal.specs.Recorded.{RecordedView, IsRecorded, terms_at}
-use Rattle.rt_journal.specs.Turns.{IsBack}
+use Rattle.rt_core.specs.Turns.{Picks}
+use Rattle.rt_journal.specs.Agreement.{names_of}
 
 -- of two pairs that are each at most the other, the numbers are the same
 pub one_key : (runtime queue other_runtime other : ℕ) → KeyAtMost runtime queue other_runtime other → KeyAtMost other_runtime other runtime queue → queue ≡ other

@@ -1,15 +1,7 @@
 -- Names that aren't one, and how many names of a link pass a test.
-use Rattle.std.proofs.Common.{◌≡◌, ◌≢◌, inl, inr, ℕ, ◌+◌, ◌<◌, ◌≤◌, Bool, true, false, List, [], ◌∷◌, ◌++◌, length, refl, sym, ◌∙◌, ap, arith, cond}
-use Rattle.std.specs.Prelude.{count_by}
-use Rattle.std.proofs.lemmas.Bool.Decides.{eqb_tells}
-use Rattle.std.proofs.lemmas.List.Sums.{sum_by-append}
-use Rattle.rt_ids.specs.declared.names.JobId.{JobId}
-use Rattle.rt_ids.specs.declared.order.Order.{Order}
-use Rattle.rt_ids.specs.Names.{same_name}
-use Rattle.rt_ids.specs.Orders.{without_job}
-use Rattle.rt_ids.proofs.NameLemmas.{one_name}
-use Rattle.rt_journal.specs.Orders.{numbered_orders}
-use Rattle.rt_journal.specs.Ends.{name_of}
+use Rattle.rt_journal.proofs.Names.{◌≡◌, ◌≢◌, inl, inr, ℕ, ◌+◌, ◌<◌, ◌≤◌, Bool, true, false, List, [], ◌∷◌, ◌++◌}
+use Rattle.rt_journal.proofs.Names.{length, refl, sym, ◌∙◌, ap, arith, cond, count_by, eqb_tells, sum_by-append, JobId}
+use Rattle.rt_journal.proofs.Names.{Order, same_name, without_job, one_name, numbered_orders, name_of}
 
 -- the test tells names apart that aren't one
 pub other_name : (a b : JobId) → (a ≡ b → ⊥) → same_name a b ≡ false

@@ -1,27 +1,12 @@
 -- What a core does with an order that closes a queue or the core.
-use Rattle.std.proofs.Common.{◌≡◌, ℕ, ◌+◌, ◌≤◌, true, [], ◌∷◌, refl, sym, ◌∙◌, ap, arith, add-zero}
-use Rattle.std.specs.Prelude.{Some, is_some}
-use Rattle.std.proofs.lemmas.Bool.{le-leb}
-use Rattle.std.proofs.lemmas.List.{append-nil}
-use Rattle.std.proofs.lemmas.List.Elements.{All-nil}
-use Rattle.rt_ids.specs.declared.names.JobId.{JobId}
+use Rattle.rt_journal.proofs.Names.{◌≡◌, ℕ, ◌+◌, ◌≤◌, true, [], ◌∷◌, refl, sym, ◌∙◌, ap, arith, add-zero, Some, is_some}
+use Rattle.rt_journal.proofs.Names.{le-leb, append-nil, All-nil, JobId, Close, CloseCore, Mode, Journal, number_if}
+use Rattle.rt_journal.proofs.Names.{closes, queue_mode, core_mode, created_count, IsAnswer, IsNextDelivered, waiting_of}
+use Rattle.rt_journal.proofs.Names.{mode_of, held_count, CoreView, inside_count, counted, HasClosed, polls_made, IsKept}
+use Rattle.rt_journal.proofs.Names.{Agrees, RecordedView, terms_at}
 use Rattle.rt_ids.specs.declared.note.Note.TheVariants as writes
-use Rattle.rt_ids.specs.declared.order.Order.TheVariants.{Close, CloseCore}
-use Rattle.rt_ids.specs.declared.order.Mode.{Mode}
 use Rattle.rt_ids.specs.declared.order.Answer.TheVariants as answers
 use Rattle.rt_ids.specs.declared.note.OutcomeNote.TheVariants as outcome
-use Rattle.rt_ids.specs.Journal.{Journal}
-use Rattle.rt_ids.specs.Work.{number_if}
-use Rattle.rt_ids.specs.Closing.{closes, queue_mode, core_mode}
-use Rattle.rt_ids.specs.Commands.{created_count, IsAnswer}
-use Rattle.rt_ids.specs.Lawful.{IsNextDelivered}
-use Rattle.rt_taskqueue.specs.Queues.{waiting_of, mode_of, held_count}
-use Rattle.rt_core.specs.State.{CoreView, inside_count}
-use Rattle.rt_core.specs.Deliveries.{counted}
-use Rattle.rt_core.specs.Closing.{HasClosed}
-use Rattle.rt_journal.specs.Polls.{polls_made}
-use Rattle.rt_journal.specs.Agreement.{IsKept, Agrees}
-use Rattle.rt_journal.specs.Recorded.{RecordedView, terms_at}
 use Rattle.rt_journal.proofs.CarriedOut.{IsCarriedOut, IsOf, answered_more, counted_one}
 use Rattle.rt_journal.proofs.KeptAnswers.{agrees-answered, answered_stands}
 use Rattle.rt_journal.proofs.KeptClosings.{agrees-core_closed, agrees-queue_closed}

@@ -1,37 +1,17 @@
 -- What a core does with an order that is delivered to it, case by case, told in one form.
-use Rattle.std.proofs.Common.{◌≡◌, ℕ, ◌+◌, ◌≤◌, Bool, true, false, List, [], ◌∷◌, ◌++◌, length, refl, sym, ◌∙◌, ap, subst, arith, add-zero, cond}
-use Rattle.std.specs.Prelude.{◌==◌, Option, Some, None, is_some, All}
-use Rattle.std.proofs.lemmas.Bool.{eqb-true, eqb-false}
-use Rattle.std.proofs.lemmas.List.{append-nil, length-append}
-use Rattle.std.proofs.lemmas.List.Elements.{All-cons, All-nil}
-use Rattle.rt_shares.specs.Charge.{InRange}
-use Rattle.rt_ids.specs.declared.names.JobId.{JobId}
-use Rattle.rt_ids.specs.declared.note.Note.{Note}
+use Rattle.rt_journal.proofs.Names.{◌≡◌, ℕ, ◌+◌, ◌≤◌, Bool, true, false, List, [], ◌∷◌, ◌++◌, length, refl, sym, ◌∙◌}
+use Rattle.rt_journal.proofs.Names.{ap, subst, arith, add-zero, cond, ◌==◌, Option, Some, None, is_some, All, eqb-true}
+use Rattle.rt_journal.proofs.Names.{eqb-false, append-nil, length-append, All-cons, All-nil, InRange, JobId, Note}
+use Rattle.rt_journal.proofs.Names.{Order, Job, Create, SetShares, Reason, Answer, Journal, EachNote, with_last}
+use Rattle.rt_journal.proofs.Names.{delivered_names, given_outcomes, number_if, refusal, IsAnswer, has_effect}
+use Rattle.rt_journal.proofs.Names.{IsNextDelivered, length-with_last_if, queue_count, waiting_of, held_count, CoreView}
+use Rattle.rt_journal.proofs.Names.{inside_count, Enters, Creates, Weighs, CountsAlone, counted, without_job}
+use Rattle.rt_journal.proofs.Names.{polls_made, IsDelivery, entry_note, IsKept, DeliversAs, GivesMore, told_under}
+use Rattle.rt_journal.proofs.Names.{OutcomeNote, RecordedView, terms_at, sum_upto, delivered_count, given_count}
 use Rattle.rt_ids.specs.declared.note.Note.TheVariants as writes
-use Rattle.rt_ids.specs.declared.order.Order.{Order}
-use Rattle.rt_ids.specs.declared.order.Order.TheVariants.{Job, Create, SetShares}
-use Rattle.rt_ids.specs.declared.order.Reason.{Reason}
-use Rattle.rt_ids.specs.declared.order.Answer.{Answer}
 use Rattle.rt_ids.specs.declared.order.Answer.TheVariants as answers
-use Rattle.rt_ids.specs.Journal.{Journal, EachNote, with_last}
-use Rattle.rt_ids.specs.Filters.{delivered_names, given_outcomes}
-use Rattle.rt_ids.specs.Work.{number_if}
-use Rattle.rt_ids.specs.Commands.{refusal, IsAnswer, has_effect}
-use Rattle.rt_ids.specs.Lawful.{IsNextDelivered}
-use Rattle.rt_ids.proofs.Told.{length-with_last_if}
-use Rattle.rt_taskqueue.specs.Queues.{queue_count, waiting_of, held_count}
-use Rattle.rt_core.specs.State.{CoreView, inside_count}
-use Rattle.rt_core.specs.Deliveries.{Enters, Creates, Weighs, CountsAlone, counted}
-use Rattle.rt_ids.specs.Orders.{without_job}
-use Rattle.rt_journal.specs.Polls.{polls_made}
-use Rattle.rt_journal.specs.Deliveries.{IsDelivery, entry_note}
-use Rattle.rt_journal.specs.Agreement.{IsKept}
-use Rattle.rt_ids.specs.Joining.{DeliversAs}
 pub use Rattle.rt_journal.specs.Ends.{KeepsLists}
-use Rattle.rt_journal.specs.Ends.{GivesMore, told_under}
-use Rattle.rt_ids.specs.declared.note.OutcomeNote.{OutcomeNote}
 use Rattle.rt_ids.specs.declared.note.OutcomeNote.TheVariants as outcome
-use Rattle.rt_journal.specs.Recorded.{RecordedView, terms_at, sum_upto, delivered_count, given_count}
 use Rattle.rt_journal.proofs.KeptDeliveries.{kept-took}
 use Rattle.rt_journal.proofs.KeptAnswers.{kept-back, kept-answered}
 use Rattle.rt_journal.proofs.KeptCommands.{kept-created, kept-weighed}

@@ -1,32 +1,15 @@
 -- Whatever a core does with an order that is delivered to it is carried out.
-use Rattle.std.proofs.Common.{◌≡◌, inl, ℕ, ◌+◌, ◌<◌, ◌≤◌, false, List, ◌∷◌, refl, sym, ◌∙◌, ap, subst, arith}
-use Rattle.std.specs.Prelude.{◌≢◌, Option, Some, None, IfSome, reverse, nat_le}
+use Rattle.rt_journal.proofs.Names.{◌≡◌, inl, ℕ, ◌+◌, ◌<◌, ◌≤◌, false, List, ◌∷◌, refl, sym, ◌∙◌, ap, subst, arith, ◌≢◌}
+use Rattle.rt_journal.proofs.Names.{Option, Some, None, IfSome, reverse, nat_le, IsSameTask, Fits, option_map}
+use Rattle.rt_journal.proofs.Names.{outcome_note, outcome_delivered, le-leb, lt-leb, JobId, Note, Order, Job, Create}
+use Rattle.rt_journal.proofs.Names.{SetShares, Close, CloseCore, Mode, Journal, closes, core_mode, created_count}
+use Rattle.rt_journal.proofs.Names.{IsAnswer, IsCreationAnswer, IsNextDelivered, IsSpelledOrder, without_job}
+use Rattle.rt_journal.proofs.Names.{queue_count, mode_of, CoreView, Delivered, Took, IsKept, RecordedView, terms_at}
 use Rattle.rt_ids.specs.declared.order.Outcome.TheVariants as outcome
-use Rattle.rt_jobs.specs.Steps.{IsSameTask}
-use Rattle.rt_link.specs.Fits.{Fits}
-use Rattle.std.specs.Option.{option_map}
-use Rattle.rt_ids.specs.Outcomes.{outcome_note}
-use Rattle.rt_journal.specs.Deliveries.{outcome_delivered}
-use Rattle.std.proofs.lemmas.Bool.{le-leb, lt-leb}
-use Rattle.rt_ids.specs.declared.names.JobId.{JobId}
-use Rattle.rt_ids.specs.declared.note.Note.{Note}
 use Rattle.rt_ids.specs.declared.note.Note.TheVariants as writes
-use Rattle.rt_ids.specs.declared.order.Order.{Order}
-use Rattle.rt_ids.specs.declared.order.Order.TheVariants.{Job, Create, SetShares, Close, CloseCore}
-use Rattle.rt_ids.specs.declared.order.Mode.{Mode}
 use Rattle.rt_ids.specs.declared.order.Answer.TheVariants as answers
-use Rattle.rt_ids.specs.Journal.{Journal}
-use Rattle.rt_ids.specs.Closing.{closes, core_mode}
-use Rattle.rt_ids.specs.Commands.{created_count, IsAnswer, IsCreationAnswer}
-use Rattle.rt_ids.specs.Lawful.{IsNextDelivered}
-use Rattle.rt_ids.specs.Orders.{IsSpelledOrder, without_job}
-use Rattle.rt_taskqueue.specs.Queues.{queue_count, mode_of}
-use Rattle.rt_core.specs.State.{CoreView}
 use Rattle.rt_core.specs.Deliveries.{Delivers as CarriesOut}
-use Rattle.rt_core.specs.declared.delivery.Delivered.{Delivered}
-use Rattle.rt_core.specs.declared.delivery.Delivered.TheVariants.{Took, Back, Answered}
-use Rattle.rt_journal.specs.Agreement.{IsKept}
-use Rattle.rt_journal.specs.Recorded.{RecordedView, terms_at}
+use Rattle.rt_core.specs.declared.delivery.Delivered.TheVariants.{Back, Answered}
 use Rattle.rt_journal.proofs.KeptModes.{refusal-agrees}
 use Rattle.rt_journal.proofs.CarriedOut as by
 use Rattle.rt_journal.proofs.CarriedOut.{IsCarriedOut}
@@ -75,8 +58,6 @@ module _ {J T : Type 0} (old : RecordedView J T) (name : JobId)
   carries_out (Job queue job) spelled (Back reason back) written does =
       subst (Done (Job queue job) (Back reason back)) (sym does.3) (by.goes_back old name kept next sender core does.2 queue job reason (sym (refusal-agrees old.core journal kept.agrees.closing kept.agrees.last queue) ∙ does.0))
   carries_out (Job queue job) spelled (Answered answer) written does = absurd does
-  carries_out (Create weight) spelled Took written does = absurd does
-  carries_out (Create weight) spelled (Back reason back) written does = absurd does
   carries_out (Create weight) spelled (Answered (answers.Created queue)) written does =
       subst (Done (Create weight) (Answered (answers.Created queue))) (sym does.3) (by.creates_queue old name kept next sender core queue weight spelled does.0 does.1 does.2)
   carries_out (Create weight) spelled (Answered answers.CoreClosing) written does =
@@ -88,17 +69,13 @@ module _ {J T : Type 0} (old : RecordedView J T) (name : JobId)
   carries_out (Create weight) spelled (Answered answers.NoMemory) written does =
       let right = memory_answer does.0 does.1 weight in
       subst (Done (Create weight) (Answered answers.NoMemory)) (sym does.3) (by.answers_alone old name kept next sender core does.2 (Create weight) answers.NoMemory right refl (answers.NoMemory, right, refl))
-  carries_out (Create weight) spelled (Answered _) written does = absurd does
-  carries_out (SetShares queue weight) spelled Took written does = absurd does
-  carries_out (SetShares queue weight) spelled (Back reason back) written does = absurd does
+  carries_out (Create weight) spelled _ written does = absurd does
   carries_out (SetShares queue weight) spelled (Answered answers.SharesSet) written does =
       subst (Done (SetShares queue weight) (Answered answers.SharesSet)) (sym does.2) (by.sets_shares old name kept next sender core queue weight spelled.1 does.0 does.1)
   carries_out (SetShares queue weight) spelled (Answered answers.NoQueue) written does =
       let right = missing_answer queue weight does.0 in
       subst (Done (SetShares queue weight) (Answered answers.NoQueue)) (sym does.2) (by.answers_alone old name kept next sender core does.1 (SetShares queue weight) answers.NoQueue right refl (answers.NoQueue, right, refl))
-  carries_out (SetShares queue weight) spelled (Answered _) written does = absurd does
-  carries_out (Close queue mode) spelled Took written does = absurd does
-  carries_out (Close queue mode) spelled (Back reason back) written does = absurd does
+  carries_out (SetShares queue weight) spelled _ written does = absurd does
   carries_out (Close queue mode) spelled (Answered answers.Closed) written does =
       subst (Done (Close queue mode) (Answered answers.Closed)) (sym (does.2 ∙ ap (λ effect. writes.Answered name answers.Closed ∷ effect) does.1.2)) (closes_queue old name kept next sender core queue mode does.1.0 does.1.1)
   carries_out (Close queue mode) spelled (Answered answers.AlreadyClosed) written does =
@@ -110,15 +87,14 @@ module _ {J T : Type 0} (old : RecordedView J T) (name : JobId)
       subst (Done (Close queue mode) (Answered answers.NoQueue)) (sym (does.2 ∙ ap (λ effect. writes.Answered name answers.NoQueue ∷ effect) does.1.2))
       (by.answers_alone old name kept next sender core does.1.1 (Close queue mode) answers.NoQueue right refl (answers.NoQueue, right, refl))
   carries_out (Close queue mode) spelled (Answered _) written does = absurd does.1
-  carries_out (CloseCore mode) spelled Took written does = absurd does
-  carries_out (CloseCore mode) spelled (Back reason back) written does = absurd does
+  carries_out (Close queue mode) spelled _ written does = absurd does
   carries_out (CloseCore mode) spelled (Answered answers.Closed) written does =
       subst (Done (CloseCore mode) (Answered answers.Closed)) (sym (does.2 ∙ ap (λ effect. writes.Answered name answers.Closed ∷ effect) does.1.2)) (closes_core old name kept next sender core mode does.1.0 does.1.1)
   carries_out (CloseCore mode) spelled (Answered answers.AlreadyClosed) written does =
       let right = core_closed_before mode does.1.0 in
       subst (Done (CloseCore mode) (Answered answers.AlreadyClosed)) (sym (does.2 ∙ ap (λ effect. writes.Answered name answers.AlreadyClosed ∷ effect) does.1.2))
       (by.answers_alone old name kept next sender core does.1.1 (CloseCore mode) answers.AlreadyClosed right refl (answers.AlreadyClosed, right, refl))
-  carries_out (CloseCore mode) spelled (Answered _) written does = absurd does
+  carries_out (CloseCore mode) spelled _ written does = absurd does
 
 -- the outcome of a delivery fits its order
 module _ {J T : Type 0} {same : J → J → Type 0} (answers_are : J → T → Type 0) (is_same : IsSameTask same) (old core : CoreView J) (name : JobId) (written : List (Note T)) where
@@ -126,22 +102,19 @@ module _ {J T : Type 0} {same : J → J → Type 0} (answers_are : J → T → T
   fits_delivered order Took does = tt
   fits_delivered (Job queue job) (Back reason back) does = subst (λ back. Fits same answers_are (Job queue job) (outcome.Returned reason back)) (sym does.1) (refl, is_same.itself job)
   fits_delivered (Job queue job) (Answered answer) does = absurd does
-  fits_delivered (Create weight) (Back reason back) does = absurd does
   fits_delivered (Create weight) (Answered (answers.Created queue)) does = tt
   fits_delivered (Create weight) (Answered answers.CoreClosing) does = tt
   fits_delivered (Create weight) (Answered answers.TooMany) does = tt
   fits_delivered (Create weight) (Answered answers.NoMemory) does = tt
-  fits_delivered (Create weight) (Answered _) does = absurd does
-  fits_delivered (SetShares queue weight) (Back reason back) does = absurd does
+  fits_delivered (Create weight) _ does = absurd does
   fits_delivered (SetShares queue weight) (Answered answers.SharesSet) does = tt
   fits_delivered (SetShares queue weight) (Answered answers.NoQueue) does = tt
-  fits_delivered (SetShares queue weight) (Answered _) does = absurd does
+  fits_delivered (SetShares queue weight) _ does = absurd does
   fits_delivered (Close queue mode) (Back reason back) does = absurd does
   fits_delivered (Close queue mode) (Answered answers.Closed) does = tt
   fits_delivered (Close queue mode) (Answered answers.AlreadyClosed) does = tt
   fits_delivered (Close queue mode) (Answered answers.NoQueue) does = tt
   fits_delivered (Close queue mode) (Answered _) does = absurd does.1
-  fits_delivered (CloseCore mode) (Back reason back) does = absurd does
   fits_delivered (CloseCore mode) (Answered answers.Closed) does = tt
   fits_delivered (CloseCore mode) (Answered answers.AlreadyClosed) does = tt
-  fits_delivered (CloseCore mode) (Answered _) does = absurd does
+  fits_delivered (CloseCore mode) _ does = absurd does

@@ -1,23 +1,10 @@
 -- A core beside its journal closes by itself.
-use Rattle.std.proofs.Common.{◌≡◌, ℕ, Bool, true, false, List, [], ◌∷◌, length, reverse, refl, sym, ◌∙◌, ap, subst, arith, add-zero, cond}
-use Rattle.std.specs.Prelude.{Option, Some, None, All, ◌≤◌}
-use Rattle.rt_ids.specs.declared.names.JobId.{JobId}
-use Rattle.rt_ids.specs.declared.note.Note.{Note}
+use Rattle.rt_journal.proofs.Names.{◌≡◌, ℕ, Bool, true, false, List, [], ◌∷◌, length, reverse, refl, sym, ◌∙◌, ap}
+use Rattle.rt_journal.proofs.Names.{subst, arith, add-zero, cond, Option, Some, None, All, ◌≤◌, JobId, Note, Answer}
+use Rattle.rt_journal.proofs.Names.{Mode, Order, closes, core_mode, effect_awaited, has_effect, CarriesOut, Journal}
+use Rattle.rt_journal.proofs.Names.{Owed, waiting_of, CoreView, inside_count, ClosesCore, polls_made, RecordedView}
+use Rattle.rt_journal.proofs.Names.{terms_at, IsRecorded, HasTask, ClosesItself, with_notes}
 use Rattle.rt_ids.specs.declared.note.Note.TheVariants as writes
-use Rattle.rt_ids.specs.declared.order.Answer.{Answer}
-use Rattle.rt_ids.specs.declared.order.Mode.{Mode}
-use Rattle.rt_ids.specs.declared.order.Order.{Order}
-use Rattle.rt_ids.specs.Closing.{closes, core_mode}
-use Rattle.rt_ids.specs.Commands.{effect_awaited, has_effect}
-use Rattle.rt_ids.specs.Joining.{CarriesOut}
-use Rattle.rt_ids.specs.Journal.{Journal}
-use Rattle.rt_jobs.specs.Steps.{Owed}
-use Rattle.rt_taskqueue.specs.Queues.{waiting_of}
-use Rattle.rt_core.specs.State.{CoreView, inside_count}
-use Rattle.rt_core.specs.Closing.{ClosesCore}
-use Rattle.rt_journal.specs.Polls.{polls_made}
-use Rattle.rt_journal.specs.Recorded.{RecordedView, terms_at, IsRecorded, HasTask}
-use Rattle.rt_journal.specs.Steps.{ClosesItself, with_notes}
 use Rattle.rt_journal.proofs.Kept.{plainly_stands}
 use Rattle.rt_journal.proofs.KeptClosings.{agrees-core_closed}
 use Rattle.rt_journal.proofs.Received.{task_stays}
@@ -64,26 +51,17 @@ module _ {J T : Type 0} {same : J → J → Type 0} {made : J → ℕ} {polls : 
     out = λ job at. task_stays (λ order at. at) (add-zero (polls_made job.name old.journal.notes)) (recorded.out job (sym (ap (λ core. core.out) is) ∙ at));
   }
 
-  module _ (closed : Bool) (core : CoreView J) (notes : List (Note T)) (did : ClosesCore old.core mode closed core notes) where
-    pub few_closed : length notes ≤ 1
-    few_closed = by_answer closed did
-      where
-        by_answer : (closed : Bool) → ClosesCore old.core mode closed core notes → length notes ≤ 1
-        by_answer true did = omega (arith, ap length did.2)
-        by_answer false did = omega (arith, ap length did.2)
+  abbrev Stepped : CoreView J → List (Note T) → Type 0
+  Stepped core notes = IsQuietStep old core (reverse notes) same made polls everyone nobody
 
-    pub step_closed : IsQuietStep old core (reverse notes) same made polls everyone nobody
-    step_closed = by_answer closed did
-      where
-        by_answer : (closed : Bool) → ClosesCore old.core mode closed core notes → IsQuietStep old core (reverse notes) same made polls everyone nobody
-        by_answer true did = subst (λ notes. IsQuietStep old core (reverse notes) same made polls everyone nobody) (sym did.2) (close_step core did.0 did.1)
-        by_answer false did =
-            subst (λ notes. IsQuietStep old core (reverse notes) same made polls everyone nobody) (sym did.2)
-            (subst (λ core. IsQuietStep old core [] same made polls everyone nobody) (sym did.1) (nothing_done old recorded))
+  pub few_closed : (closed : Bool) (core : CoreView J) (notes : List (Note T)) → ClosesCore old.core mode closed core notes → length notes ≤ 1
+  few_closed true core notes did = omega (arith, ap length did.2)
+  few_closed false core notes did = omega (arith, ap length did.2)
 
-    pub closes_itself : ClosesItself old mode closed (stepped old core (reverse notes))
-    closes_itself = by_answer closed did
-      where
-        by_answer : (closed : Bool) → ClosesCore old.core mode closed core notes → ClosesItself old mode closed (stepped old core (reverse notes))
-        by_answer true did = (closes_told true did.0, ap (λ notes. with_notes (reverse notes) old.journal) did.2, ap (λ core. core.out) did.1, refl)
-        by_answer false did = (closes_told false did.0, nothing_stepped old recorded core did.1 (reverse notes) (ap reverse did.2))
+  pub step_closed : (closed : Bool) (core : CoreView J) (notes : List (Note T)) → ClosesCore old.core mode closed core notes → Stepped core notes
+  step_closed true core notes did = subst (Stepped core) (sym did.2) (close_step core did.0 did.1)
+  step_closed false core notes did = subst (Stepped core) (sym did.2) (subst (λ core. Stepped core []) (sym did.1) (nothing_done old recorded))
+
+  pub closes_itself : (closed : Bool) (core : CoreView J) (notes : List (Note T)) → ClosesCore old.core mode closed core notes → ClosesItself old mode closed (stepped old core (reverse notes))
+  closes_itself true core notes did = (closes_told true did.0, ap (λ notes. with_notes (reverse notes) old.journal) did.2, ap (λ core. core.out) did.1, refl)
+  closes_itself false core notes did = (closes_told false did.0, nothing_stepped old recorded core did.1 (reverse notes) (ap reverse did.2))

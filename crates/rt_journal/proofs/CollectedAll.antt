@@ -1,13 +1,8 @@
 -- All outcomes that an end shows are collected, one after another.
-use Rattle.std.proofs.Common.{◌≡◌, ℕ, ◌+◌, true, false, List, ◌∷◌, ◌++◌, append_assoc, sym, ◌∙◌, ap, subst, arith}
+use Rattle.rt_journal.proofs.Names.{◌≡◌, ℕ, ◌+◌, true, false, List, ◌∷◌, ◌++◌, append_assoc, sym, ◌∙◌, ap, subst, arith}
+use Rattle.rt_journal.proofs.Names.{Order, Outcome, Outward, StartsWith, JournalView, DeskView, StaysBeside}
+use Rattle.rt_journal.proofs.Names.{CollectsFrom, GetsAll, GetsNext}
 use Rattle.rt_ids.specs.declared.note.Note.TheVariants as writes
-use Rattle.rt_ids.specs.declared.order.Order.{Order}
-use Rattle.rt_ids.specs.declared.order.Outcome.{Outcome}
-use Rattle.rt_link.specs.declared.ends.Outward.{Outward}
-use Rattle.rt_link.specs.Ends.{StartsWith}
-use Rattle.rt_notes.specs.Journals.{JournalView}
-use Rattle.rt_journal.specs.Submissions.{DeskView}
-use Rattle.rt_journal.specs.Tickets.{StaysBeside, CollectsFrom, GetsAll, GetsNext}
 
 -- what begins a beginning
 pub starts_then : {A : Type 0} (whole middle front : List A) → StartsWith whole middle → StartsWith middle front → StartsWith whole front

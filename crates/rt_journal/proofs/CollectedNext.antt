@@ -1,43 +1,27 @@
 -- The next outcome of a core is collected, and noted.
-use Rattle.std.proofs.Common.{◌≡◌, ◌≢◌, inl, inr, ℕ, ◌+◌, ◌-◌, ◌<◌, ◌≤◌, Bool, true, false, List, [], ◌∷◌, ◌++◌, length, Some, None, refl, sym, ◌∙◌, ap, subst, arith, cond, set}
-use Rattle.std.specs.Prelude.{Option, unwrap_or, ◌&&◌, ◌||◌, not, is_some, slice_get, take, IfSome}
-use Rattle.std.proofs.lemmas.Bool.{eq-eqb}
-use Rattle.std.proofs.lemmas.List.{take_more, take-append-le, map-append}
-use Rattle.std.proofs.lemmas.Option.{slice_get_within, get_or_from_slice_get}
-use Rattle.rt_ids.specs.declared.names.JobId.{JobId}
+use Rattle.rt_journal.proofs.Names.{◌≡◌, ◌≢◌, inl, inr, ℕ, ◌+◌, ◌-◌, ◌<◌, ◌≤◌, Bool, true, false, List, [], ◌∷◌, ◌++◌}
+use Rattle.rt_journal.proofs.Names.{length, Some, None, refl, sym, ◌∙◌, ap, subst, arith, cond, set, Option, unwrap_or}
+use Rattle.rt_journal.proofs.Names.{◌&&◌, ◌||◌, not, is_some, slice_get, take, IfSome, eq-eqb, take_more}
+use Rattle.rt_journal.proofs.Names.{take-append-le, map-append, slice_get_within, get_or_from_slice_get, JobId}
+use Rattle.rt_journal.proofs.Names.{OutcomeNote, Answer, Order, Job, Create, SetShares, Close, CloseCore, Outcome}
+use Rattle.rt_journal.proofs.Names.{IsNextCollected, collected_outcomes, Journal, is_told, with_last, without_job}
+use Rattle.rt_journal.proofs.Names.{outcome_note, FitsOrder, IsSpelledOutcome, IsSpelledAnswer, outstanding_count}
+use Rattle.rt_journal.proofs.Names.{is_gone, is_outstanding, name_redeemed, name_detached, name_collected}
+use Rattle.rt_journal.proofs.Names.{same_as_itself, Outward, StartsWith, Fits, AnswersCreation, AnswersShares}
+use Rattle.rt_journal.proofs.Names.{JournalView, at, Lane, IsLaneOf, IsAwaited, IsSent, CollectsNext, told_of}
+use Rattle.rt_journal.proofs.Names.{taken-get, DeskView, IsWritten, terms_of_desk, IsOutOf, ShowsMore, name_of}
+use Rattle.rt_journal.proofs.Names.{named_outcomes, KnowsLane, KnowsLanes, StaysBeside, is_let_go, booked}
 use Rattle.rt_ids.specs.declared.note.Note.TheVariants as writes
-use Rattle.rt_ids.specs.declared.note.OutcomeNote.{OutcomeNote}
-use Rattle.rt_ids.specs.declared.order.Answer.{Answer}
 use Rattle.rt_ids.specs.declared.order.Answer.TheVariants as answer
-use Rattle.rt_ids.specs.declared.order.Order.{Order}
-use Rattle.rt_ids.specs.declared.order.Order.TheVariants.{Job, Create, SetShares, Close, CloseCore}
-use Rattle.rt_ids.specs.declared.order.Outcome.{Outcome}
 use Rattle.rt_ids.specs.declared.order.Outcome.TheVariants.{Finished, Returned, Answered}
-use Rattle.rt_ids.specs.Collecting.{IsNextCollected}
-use Rattle.rt_ids.specs.Filters.{collected_outcomes}
-use Rattle.rt_ids.specs.Journal.{Journal, is_told, with_last}
-use Rattle.rt_ids.specs.Orders.{without_job}
 use Rattle.rt_ids.specs.Outcomes as ids
-use Rattle.rt_ids.specs.Outcomes.{outcome_note, FitsOrder, IsSpelledOutcome, IsSpelledAnswer}
-use Rattle.rt_ids.specs.Outstanding.{outstanding_count, is_gone, is_outstanding, name_redeemed, name_detached, name_collected}
-use Rattle.rt_ids.proofs.NameLemmas.{same_as_itself}
-use Rattle.rt_link.specs.declared.ends.Outward.{Outward}
-use Rattle.rt_link.specs.Ends.{StartsWith}
-use Rattle.rt_link.specs.Fits.{Fits, AnswersCreation, AnswersShares}
-use Rattle.rt_notes.specs.Journals.{JournalView}
-use Rattle.rt_desk.specs.Held.{at}
-use Rattle.rt_desk.specs.Lanes.{Lane, IsLaneOf, IsAwaited, IsSent}
-use Rattle.rt_desk.specs.Steps.{CollectsNext}
-use Rattle.rt_desk.specs.Told.{told_of}
 use Rattle.rt_desk.specs.declared.entry.Entry.TheVariants as entry
-use Rattle.rt_desk.proofs.Taken.{taken-get}
-use Rattle.rt_journal.specs.Submissions.{DeskView, IsWritten, terms_of_desk}
-use Rattle.rt_journal.specs.Ends.{IsOutOf, ShowsMore, name_of, named_outcomes}
-use Rattle.rt_journal.specs.Tickets.{KnowsLane, KnowsLanes, StaysBeside, is_let_go}
-use Rattle.rt_journal.proofs.Desked.{stays_refused}
+use Rattle.rt_journal.proofs.Desked.{desk_same}
 use Rattle.rt_journal.proofs.EndsKept.{sees_more_out}
 use Rattle.rt_journal.proofs.LaneNotes.{stays_noted, as_many, one_less}
 use Rattle.rt_journal.proofs.Refused.{accepted_at, awaited}
+use Rattle.rt_journal.proofs.Spending.{due_collected, booked_noted}
+use Rattle.rt_journal.proofs.TakenLanes.{HasTaken, carry, refused_stays}
 use Rattle.rt_journal.proofs.TicketNotes.{collected_note, neither, detached_only}
 
 -- an outcome that fits an order, and can be spelled, fits it as notes tell both
@@ -57,19 +41,11 @@ module _ {J T : Type 0} (same : J → J → Type 0) (answers : J → T → Type 
   pub fits_noted : (order : Order J) (outcome : Outcome J T) → Fits same answers order outcome → IsSpelledOutcome (outcome_note outcome) → FitsOrder (without_job order) (outcome_note outcome)
   fits_noted (Job queue job) (Finished out) fits spelled = tt
   fits_noted (Job queue job) (Returned reason back) fits spelled = tt
-  fits_noted (Job queue job) (Answered what) fits spelled = absurd fits
   fits_noted (Create shares) (Answered what) fits spelled = creation_fits what fits spelled
   fits_noted (SetShares queue shares) (Answered what) fits spelled = shares_fit what fits
   fits_noted (Close queue mode) (Answered what) fits spelled = fits
   fits_noted (CloseCore mode) (Answered what) fits spelled = fits
-  fits_noted (Create shares) (Finished out) fits spelled = absurd fits
-  fits_noted (Create shares) (Returned reason back) fits spelled = absurd fits
-  fits_noted (SetShares queue shares) (Finished out) fits spelled = absurd fits
-  fits_noted (SetShares queue shares) (Returned reason back) fits spelled = absurd fits
-  fits_noted (Close queue mode) (Finished out) fits spelled = absurd fits
-  fits_noted (Close queue mode) (Returned reason back) fits spelled = absurd fits
-  fits_noted (CloseCore mode) (Finished out) fits spelled = absurd fits
-  fits_noted (CloseCore mode) (Returned reason back) fits spelled = absurd fits
+  fits_noted _ _ fits spelled = absurd fits
 
 and-true : (test : Bool) → (test && true) ≡ test
 and-true true = refl
@@ -175,28 +151,37 @@ module _ {J T : Type 0} (same : J → J → Type 0) (answers : J → T → Type 
   ]
 
 -- what a call that collected knows, by what it was told
-module _ {J T : Type 0} (same : J → J → Type 0) (answers : J → T → Type 0) (desk : DeskView J T) (written : IsWritten (terms_of_desk desk) desk.journal.notes) (known : KnowsLanes desk) (core : ℕ)
-    (out : Outward J T) (credited : ℕ) (beside : IsOutOf core desk out credited) (lane later : Lane J T) (there : slice_get desk.lanes core ≡ Some lane) (lane_of : IsLaneOf (Fits same answers) lane out credited)
-    (now : Outward J T) (after : ℕ) (later_of : IsLaneOf (Fits same answers) later now after) where
-  pub gets_some : (found : Option (ℕ × Outcome J T)) → CollectsNext lane later out now credited after found → (name : JobId) (told : OutcomeNote T) → Some (name, told) ≡ told_of desk.actor core found → IsSpelledOutcome told →
-      (page : JournalView T) → page ≡ record desk.journal { notes = writes.Collected name told ∷ desk.journal.notes } →
-      StaysBeside (Fits same answers) core desk (record desk { journal = page; lanes = set desk.lanes core later }) now after
+module _ {J T : Type 0} (same : J → J → Type 0) (answers : J → T → Type 0) {desk was : DeskView J T} {core to : ℕ} {lane : Lane J T} {out : Outward J T} {credited : ℕ}
+    (taken : HasTaken (Fits same answers) desk was core to lane out credited) {later : Lane J T} {now : Outward J T} {after : ℕ} (later_of : IsLaneOf (Fits same answers) later now after) where
+  -- an outcome, under this name
+  pub gets_some : (found : Option (ℕ × Outcome J T)) → CollectsNext lane later out now credited after found → (name : JobId) (told : OutcomeNote T) → Some (name, told) ≡ told_of desk.actor to found →
+      IsSpelledOutcome told → (page : JournalView T) → page ≡ record desk.journal { notes = writes.Collected name told ∷ desk.journal.notes } →
+      StaysBeside (Fits same answers) to was (record desk { journal = page; lanes = set desk.lanes core later }) now after
+      × (booked (record desk { journal = page; lanes = set desk.lanes core later }) ≡ booked was)
   gets_some None next name told is spelled page page_is = absurd cc
   gets_some (Some found) next noted what is spelled page page_is =
-      let name_is : noted ≡ name_of desk.actor core found.0 = ap (λ (option : Option (JobId × OutcomeNote T)). (unwrap_or option (noted, what)).0) is in
+      let name_is : noted ≡ name_of desk.actor to found.0 = ap (λ (option : Option (JobId × OutcomeNote T)). (unwrap_or option (noted, what)).0) is in
       let told_is : what ≡ outcome_note found.1 = ap (λ (option : Option (JobId × OutcomeNote T)). (unwrap_or option (noted, what)).1) is in
-      subst (λ page. StaysBeside (Fits same answers) core desk (record desk { journal = page; lanes = set desk.lanes core later }) now after)
-      (sym (page_is ∙ (λ i. record desk.journal { notes = writes.Collected (name_is i) (told_is i) ∷ desk.journal.notes })))
-      (collected_stays same answers desk written known core out credited beside lane later there lane_of now after later_of found.0 found.1 (subst IsSpelledOutcome told_is spelled) next)
+      let its_name : noted ≡ name_of desk.actor core found.0 = name_is ∙ ap (λ core. name_of desk.actor core found.0) (sym taken.core_is) in (
+        carry taken (λ at before. StaysBeside (Fits same answers) at before (record desk { journal = page; lanes = set desk.lanes core later }) now after)
+            (subst (λ page. StaysBeside (Fits same answers) core desk (record desk { journal = page; lanes = set desk.lanes core later }) now after)
+            (sym (page_is ∙ (λ i. record desk.journal { notes = writes.Collected (its_name i) (told_is i) ∷ desk.journal.notes })))
+            (collected_stays same answers desk taken.written taken.known core out credited taken.beside lane later taken.there taken.lane_of now after later_of found.0 found.1
+            (subst IsSpelledOutcome told_is spelled) next)),
+        booked_noted desk core lane later taken.there (due_collected lane later found.0 found.1 credited after next.2) (record desk { journal = page; lanes = set desk.lanes core later })
+            (omega (arith, ap (λ (journal : JournalView T). length journal.notes) page_is)) refl
+            ∙ ap booked taken.is,
+      )
 
-  pub gets_none : (found : Option (ℕ × Outcome J T)) → CollectsNext lane later out now credited after found → None ≡ told_of desk.actor core found →
-      (later ≡ lane) × StaysBeside (Fits same answers) core desk (record desk { lanes = set desk.lanes core later }) now after
+  -- nothing
+  pub gets_none : (found : Option (ℕ × Outcome J T)) → CollectsNext lane later out now credited after found → None ≡ told_of desk.actor to found →
+      StaysBeside (Fits same answers) to was (record desk { lanes = set desk.lanes core later }) now after × (booked (record desk { lanes = set desk.lanes core later }) ≡ booked was)
   gets_none None next is =
       let more : ShowsMore out now = record {
         rest = next.0.0 ∙ ap (λ closed. record out { seen = now.seen; closed = closed }) (sym (ap (λ end. end.closed) next.0.0));
         seen = next.0.1;
       } in (
-        next.1,
-        stays_refused desk known core lane later there next.1 now after written (sees_more_out core desk out now after more (subst (IsOutOf core desk out) (sym next.2) beside)) later_of,
+        refused_stays taken later_of next.1 (sees_more_out core desk out now after more (subst (IsOutOf core desk out) (sym next.2) taken.beside)),
+        ap booked (desk_same desk taken.known core lane later taken.there next.1 ∙ taken.is),
       )
   gets_none (Some found) next is = absurd cc

@@ -1,27 +1,13 @@
 -- The ends of links stay beside a core and its journal as an order is delivered.
-use Rattle.std.proofs.Common.{◌≡◌, ℕ, suc, ◌+◌, ◌<◌, Bool, true, false, cond, List, [], ◌∷◌, length, refl, sym, ◌∙◌, ap, subst, ◌⊎◌, ⊎_elim, arith}
-use Rattle.std.specs.Prelude.{◌==◌, Option, Some, None, slice_get}
-use Rattle.std.specs.Option.{option_map}
-use Rattle.std.proofs.lemmas.Bool.{eq-eqb, ne_eqb}
-use Rattle.rt_ids.specs.declared.names.JobId.{JobId}
-use Rattle.rt_ids.specs.declared.order.Envelope.{Envelope}
-use Rattle.rt_ids.specs.declared.order.Order.{Order}
-use Rattle.rt_ids.specs.declared.order.Outcome.{Outcome}
-use Rattle.rt_ids.specs.declared.note.OutcomeNote.{OutcomeNote}
-use Rattle.rt_ids.specs.Journal.{with_last}
-use Rattle.rt_ids.specs.Outcomes.{outcome_note}
-use Rattle.rt_ids.specs.Closing.{IsCounted, final_count}
-use Rattle.rt_ids.specs.Filters.{given_outcomes}
-use Rattle.rt_ids.specs.Work.{number_if}
-use Rattle.rt_link.specs.declared.ends.Inward.{Inward}
-use Rattle.rt_link.specs.Ends.{SoundIn, AreNamed}
-use Rattle.rt_link.specs.Calls.{Takes, final_of}
-use Rattle.rt_journal.specs.Recorded.{RecordedView, desk_of, order_taken, delivered_count, given_count}
-use Rattle.rt_journal.specs.Ends.{IsInOf, IsInOwing, IsUngiven, GivesMore, told_under, KeepsIn, IsSameSeat, named_outcomes}
-use Rattle.rt_journal.specs.Steps.{IsNextIn, Receives}
+use Rattle.rt_journal.proofs.Names.{◌≡◌, ℕ, suc, ◌+◌, ◌<◌, Bool, true, false, cond, List, [], ◌∷◌, length, refl, sym}
+use Rattle.rt_journal.proofs.Names.{◌∙◌, ap, subst, ◌⊎◌, ⊎_elim, arith, ◌==◌, Option, Some, None, slice_get, option_map}
+use Rattle.rt_journal.proofs.Names.{eq-eqb, ne_eqb, JobId, Envelope, Order, Outcome, OutcomeNote, with_last}
+use Rattle.rt_journal.proofs.Names.{outcome_note, IsCounted, final_count, given_outcomes, number_if, Inward, SoundIn}
+use Rattle.rt_journal.proofs.Names.{AreNamed, Takes, final_of, RecordedView, desk_of, order_taken, delivered_count}
+use Rattle.rt_journal.proofs.Names.{given_count, IsInOf, IsInOwing, IsUngiven, GivesMore, told_under, KeepsIn}
+use Rattle.rt_journal.proofs.Names.{IsSameSeat, named_outcomes, IsNextIn, Receives, KeepsOuts}
 use Rattle.rt_journal.proofs.TakenOrders.{order_taken-parts}
 use Rattle.rt_journal.proofs.EndsKept.{keeps_in, slice_get-seen}
-use Rattle.rt_journal.specs.Ends.{KeepsOuts}
 use Rattle.rt_journal.proofs.EndsKept.{keeps_outs, sees_more_in, final_of-more}
 
 length-named : {J T : Type 0} (sender core : ℕ) (outcomes : List (ℕ × Outcome J T)) → length (named_outcomes sender core outcomes) ≡ length outcomes

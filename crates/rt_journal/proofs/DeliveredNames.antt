@@ -1,19 +1,10 @@
 -- The names of one link are numbered on both ends: those that were delivered, and those that were accepted.
-use Rattle.std.proofs.Common.{◌≡◌, ℕ, zero, suc, ◌+◌, ◌-◌, ◌≤◌, Bool, true, false, List, [], ◌∷◌, ◌++◌, length, refl, sym, ◌∙◌, ap, subst, arith, cond}
-use Rattle.std.specs.Prelude.{◌==◌, Some, None}
-use Rattle.std.proofs.lemmas.Bool.{eqb-true}
-use Rattle.std.proofs.lemmas.List.{length-append}
-use Rattle.rt_ids.specs.Terms.{Terms}
-use Rattle.rt_ids.specs.declared.names.JobId.{JobId}
-use Rattle.rt_ids.specs.declared.note.Note.{Note}
+use Rattle.rt_journal.proofs.Names.{◌≡◌, ℕ, zero, suc, ◌+◌, ◌-◌, ◌≤◌, Bool, true, false, List, [], ◌∷◌, ◌++◌, length}
+use Rattle.rt_journal.proofs.Names.{refl, sym, ◌∙◌, ap, subst, arith, cond, ◌==◌, Some, None, eqb-true, length-append}
+use Rattle.rt_journal.proofs.Names.{Terms, JobId, Note, Order, IsPrefix, Journal, EachNote, with_last, delivered_names}
+use Rattle.rt_journal.proofs.Names.{if_from, MayFollow, MayStand, IsNextDelivered, numbered_orders, name_of}
 use Rattle.rt_ids.specs.declared.note.Note.TheVariants as writes
-use Rattle.rt_ids.specs.declared.order.Order.{Order}
-use Rattle.rt_ids.specs.Assembly.{IsPrefix, names_of}
-use Rattle.rt_ids.specs.Journal.{Journal, EachNote, with_last}
-use Rattle.rt_ids.specs.Filters.{delivered_names, if_from}
-use Rattle.rt_ids.specs.Lawful.{MayFollow, MayStand, IsNextDelivered}
-use Rattle.rt_journal.specs.Orders.{numbered_orders}
-use Rattle.rt_journal.specs.Ends.{name_of}
+use Rattle.rt_ids.specs.Assembly.{names_of}
 
 -- so many names of one link, which count from the number behind this one
 abbrev pub names_from : ℕ → ℕ → ℕ → ℕ → List JobId

@@ -1,20 +1,9 @@
 -- What a call of a recorded desk knows of the lane that it took, and a call that changed nothing.
-use Rattle.std.proofs.Common.{◌≡◌, ℕ, ◌<◌, Bool, true, false, List, ◌∷◌, length, Some, refl, sym, ◌∙◌, ap, subst, arith, set, get_or}
-use Rattle.std.specs.Prelude.{◌==◌, not, slice_get}
-use Rattle.std.proofs.lemmas.Bool.{eqb-true, eq-eqb, true≢false}
-use Rattle.std.proofs.lemmas.List.{set-get_or}
-use Rattle.std.proofs.lemmas.Option.{get_or_from_slice_get}
-use Rattle.rt_ids.specs.declared.names.JobId.{JobId}
-use Rattle.rt_ids.specs.declared.note.Note.{Note}
-use Rattle.rt_ids.specs.declared.order.Order.{Order}
-use Rattle.rt_ids.specs.declared.order.Outcome.{Outcome}
-use Rattle.rt_link.specs.declared.ends.Outward.{Outward}
-use Rattle.rt_notes.specs.Journals.{JournalView}
-use Rattle.rt_desk.specs.Lanes.{Lane, IsLaneOf}
-use Rattle.rt_desk.proofs.Cores.{found}
-use Rattle.rt_journal.specs.Submissions.{DeskView, IsWritten, terms_of_desk}
-use Rattle.rt_journal.specs.Ends.{IsOutOf, name_of}
-use Rattle.rt_journal.specs.Tickets.{KnowsLanes, HasLane, StaysBeside}
+use Rattle.rt_journal.proofs.Names.{◌≡◌, ℕ, ◌<◌, Bool, true, false, List, ◌∷◌, length, Some, refl, sym, ◌∙◌, ap, subst}
+use Rattle.rt_journal.proofs.Names.{arith, set, get_or, ◌==◌, not, slice_get, eqb-true, eq-eqb, true≢false, set-get_or}
+use Rattle.rt_journal.proofs.Names.{get_or_from_slice_get, JobId, Note, Order, Outcome, Outward, JournalView, Lane}
+use Rattle.rt_journal.proofs.Names.{IsLaneOf, found, DeskView, IsWritten, terms_of_desk, IsOutOf, KnowsLanes, HasLane}
+use Rattle.rt_journal.proofs.Names.{StaysBeside}
 
 -- the name of a number, by its core
 abbrev pub name_at : ℕ → ℕ → ℕ → JobId
@@ -60,10 +49,6 @@ module _ {J T : Type 0} {fits : Order J → Outcome J T → Type 0} (desk : Desk
   stays_refused lane later lane_is same now after written beside lane_of =
       subst (λ new. StaysBeside fits core desk new now after) (sym (desk_same desk known core lane later lane_is same))
       (stays_nothing now after written beside (record { lane = lane; is = lane_is; lane_of = subst (λ lane. IsLaneOf fits lane now after) same lane_of }))
-
--- the name of these parts is the ticket's
-pub names_are : (actor core number : ℕ) (ticket : JobId) → actor ≡ ticket.from → core ≡ ticket.to → number ≡ ticket.number → name_of actor core number ≡ ticket
-names_are actor core number ticket a c n = λ i. record { from = a i; to = c i; number = n i }
 
 -- what a test of two numbers tells
 pub are_same : (a b : ℕ) (result : Bool) → result ≡ not (a == b) → result ≡ false → a ≡ b

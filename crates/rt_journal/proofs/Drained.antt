@@ -1,13 +1,8 @@
 -- A core is drained where its journal says so.
-use Rattle.std.proofs.Common.{◌≡◌, ℕ, sym, ◌∙◌, ap}
-use Rattle.std.specs.Prelude.{Some}
-use Rattle.std.proofs.lemmas.Bool.{false_from_ne_true, true≢false}
-use Rattle.rt_ids.specs.Work.{has_work}
+use Rattle.rt_journal.proofs.Names.{◌≡◌, ℕ, sym, ◌∙◌, ap, Some, false_from_ne_true, true≢false, has_work, Owed}
+use Rattle.rt_journal.proofs.Names.{is_working, RecordedView, terms_at, IsRecorded}
 use Rattle.rt_ids.specs.Closing as told
-use Rattle.rt_jobs.specs.Steps.{Owed}
-use Rattle.rt_core.specs.State.{is_working}
 use Rattle.rt_core.specs.Closing as core
-use Rattle.rt_journal.specs.Recorded.{RecordedView, terms_at, IsRecorded}
 use Rattle.rt_journal.proofs.Kept.{working}
 
 module _ {J T : Type 0} {same : J → J → Type 0} {made : J → ℕ} {polls : Owed J T} (view : RecordedView J T) (recorded : IsRecorded same made polls view) where

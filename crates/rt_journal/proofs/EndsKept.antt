@@ -1,22 +1,10 @@
 -- The ends of links beside a journal that grows.
-use Rattle.std.proofs.Common.{◌≡◌, ℕ, zero, suc, ◌+◌, ◌≤◌, List, [], ◌∷◌, ◌++◌, length, append_assoc, refl, sym, ◌∙◌, ap, arith}
-use Rattle.std.specs.Prelude.{Option, Some, slice_get, take, Bool, true, false}
-use Rattle.std.proofs.lemmas.List.{length-append, take-append-le}
-use Rattle.rt_ids.specs.declared.names.JobId.{JobId}
-use Rattle.rt_ids.specs.declared.note.OutcomeNote.{OutcomeNote}
-use Rattle.rt_ids.specs.Journal.{with_last}
-use Rattle.rt_ids.specs.declared.order.Order.{Order}
-use Rattle.rt_ids.specs.Assembly.{IsPrefix}
-use Rattle.rt_ids.specs.Filters.{given_outcomes}
-use Rattle.rt_link.specs.declared.ends.Inward.{Inward}
-use Rattle.rt_ids.specs.Closing.{final_count}
-use Rattle.rt_link.specs.declared.ends.Outward.{Outward}
-use Rattle.rt_link.specs.Ends.{StartsWith}
-use Rattle.rt_link.specs.Calls.{SeesMore, final_of}
-use Rattle.rt_journal.specs.Orders.{numbered_orders}
-use Rattle.rt_journal.specs.Submissions.{DeskView}
-use Rattle.rt_journal.specs.Recorded.{RecordedView, order_taken, delivered_count}
-use Rattle.rt_journal.specs.Ends.{IsOutOf, IsInOf, KeepsSent, KeepsOuts, LeavesOwed, IsUngiven, ShowsMore, IsSameSeat, named_outcomes}
+use Rattle.rt_journal.proofs.Names.{◌≡◌, ℕ, zero, suc, ◌+◌, ◌≤◌, List, [], ◌∷◌, ◌++◌, length, append_assoc, refl, sym}
+use Rattle.rt_journal.proofs.Names.{◌∙◌, ap, arith, Option, Some, slice_get, take, Bool, true, false, length-append}
+use Rattle.rt_journal.proofs.Names.{take-append-le, JobId, OutcomeNote, with_last, Order, IsPrefix, given_outcomes}
+use Rattle.rt_journal.proofs.Names.{Inward, final_count, Outward, StartsWith, SeesMore, final_of, numbered_orders}
+use Rattle.rt_journal.proofs.Names.{DeskView, RecordedView, order_taken, delivered_count, IsOutOf, IsInOf, KeepsSent}
+use Rattle.rt_journal.proofs.Names.{KeepsOuts, LeavesOwed, IsUngiven, ShowsMore, IsSameSeat, named_outcomes}
 
 pub prefix-along : {A : Type 0} (a b c : List A) → IsPrefix a b → IsPrefix b c → IsPrefix a c
 prefix-along a b c one two = (one.0 ++ two.0, sym (append_assoc a one.0 two.0) ∙ (ap (λ front. front ++ two.0) one.1 ∙ two.1))

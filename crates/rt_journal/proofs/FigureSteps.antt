@@ -1,18 +1,11 @@
 -- What is counted of a queue stays what the journal tells, as a note is written.
-use Rattle.std.proofs.Common.{◌≡◌, ℕ, ◌+◌, ◌<◌, Bool, true, false, ◌∷◌, length, refl, sym, ◌∙◌, ap, subst, cond, add-zero, get_or, set, get_or-set_same, get_or-set_other}
-use Rattle.std.specs.Prelude.{◌==◌, Some}
-use Rattle.std.proofs.lemmas.Bool.{eqb-true, eqb-false}
-use Rattle.rt_shares.specs.Charge.{clamped}
-use Rattle.rt_ids.specs.declared.names.JobId.{JobId}
-use Rattle.rt_ids.specs.declared.note.Note.{Note}
+use Rattle.rt_journal.proofs.Names.{◌≡◌, ℕ, ◌+◌, ◌<◌, Bool, true, false, ◌∷◌, List, length, refl, sym, ◌∙◌, ap, subst}
+use Rattle.rt_journal.proofs.Names.{cond, add-zero, get_or, set, get_or-set_same, get_or-set_other, ◌==◌, Some}
+use Rattle.rt_journal.proofs.Names.{eqb-true, eqb-false, clamped, JobId, Note, Reason, Journal, is_number, queue_of}
+use Rattle.rt_journal.proofs.Names.{number_if, Tally, CoreView, no_tally, Figures, no_figures, plus, figures_in}
+use Rattle.rt_journal.proofs.Names.{figures_of, figures_told, figures_noted}
 use Rattle.rt_ids.specs.declared.note.Note.TheVariants as writes
-use Rattle.rt_ids.specs.declared.order.Reason.{Reason}
-use Rattle.rt_ids.specs.Journal.{Journal}
-use Rattle.rt_ids.specs.Names.{is_number}
-use Rattle.rt_ids.specs.Work.{queue_of, number_if}
-use Rattle.rt_core.specs.declared.tally.Tally.{Tally}
-use Rattle.rt_core.specs.State.{CoreView, no_tally}
-use Rattle.rt_journal.specs.Figures.{Figures, no_figures, plus, figures_in, figures_of, figures_told, figures_noted}
+use Rattle.rt_journal.proofs.Everywhere.{everywhere}
 
 pub plus-none : (some : Figures) → plus some no_figures ≡ some
 plus-none some = λ i. record {
@@ -144,3 +137,11 @@ module _ {J : Type 0} (old new : CoreView J) (queue : ℕ) (tally : Tally) (ther
       (other : ℕ) → figures_of other new ≡ figures_told other longer
   figures-grow journal longer adds counts were told other =
       figures-set adds counts other ∙ (ap (λ some. plus some (cond (other == queue) adds no_figures)) (were other) ∙ sym (told other))
+
+-- a tally that is set at the same runtime leaves each runtime
+pub set_runtime : (tallies : List Tally) (queue : ℕ) (tally : Tally) → queue < length tallies → tally.runtime ≡ (get_or tallies queue no_tally).runtime → (other : ℕ) →
+    (get_or (set tallies queue tally) other no_tally).runtime ≡ (get_or tallies other no_tally).runtime
+set_runtime tallies queue tally there same =
+    everywhere (λ at. (get_or (set tallies queue tally) at no_tally).runtime ≡ (get_or tallies at no_tally).runtime) queue
+    (ap (λ tally. tally.runtime) (get_or-set_same tallies queue tally no_tally there) ∙ same)
+    (λ other away. ap (λ tally. tally.runtime) (get_or-set_other tallies queue other tally no_tally away))

@@ -1,27 +1,12 @@
 -- An outcome that is owed may be given on the end of its sender, and is owed no more then.
-use Rattle.std.proofs.Common.{◌≡◌, ℕ, ◌+◌, ◌-◌, [], ◌∷◌, ◌++◌, refl, sym, ◌∙◌, ap, subst, arith, cond}
-use Rattle.std.specs.Prelude.{Option, Some, None, IfSome, slice_get}
-use Rattle.std.specs.Option.{option_map}
-use Rattle.std.proofs.lemmas.Bool.{eq-eqb}
-use Rattle.std.proofs.lemmas.List.{map-append}
-use Rattle.rt_ids.specs.declared.names.JobId.{JobId}
-use Rattle.rt_ids.specs.declared.order.Order.{Order}
-use Rattle.rt_ids.specs.declared.order.Order.TheVariants.{Job}
-use Rattle.rt_ids.specs.declared.order.Outcome.{Outcome}
+use Rattle.rt_journal.proofs.Names.{◌≡◌, ℕ, ◌+◌, ◌-◌, [], ◌∷◌, ◌++◌, refl, sym, ◌∙◌, ap, subst, arith, cond, Option}
+use Rattle.rt_journal.proofs.Names.{Some, None, IfSome, slice_get, option_map, eq-eqb, map-append, JobId, Order, Job}
+use Rattle.rt_journal.proofs.Names.{Outcome, Reason, outcome_note, Owed, Inward, MayGive, Fits, Settled, Yielded}
+use Rattle.rt_journal.proofs.Names.{IsSentUnder, outcome_settled, MayAnswer, RecordedView, IsRecorded, IsTaken}
+use Rattle.rt_journal.proofs.Names.{order_taken, IsInOf, IsInOwing, Gives, told_under, name_of, named_outcomes}
 use Rattle.rt_ids.specs.declared.order.Outcome.TheVariants as outcome
-use Rattle.rt_ids.specs.declared.order.Reason.{Reason}
 use Rattle.rt_ids.specs.declared.note.OutcomeNote.TheVariants as note
-use Rattle.rt_ids.specs.Outcomes.{outcome_note}
-use Rattle.rt_jobs.specs.Steps.{Owed}
-use Rattle.rt_link.specs.declared.ends.Inward.{Inward}
-use Rattle.rt_link.specs.Calls.{MayGive}
-use Rattle.rt_link.specs.Fits.{Fits}
-use Rattle.rt_core.specs.declared.turn.Settled.{Settled}
-use Rattle.rt_core.specs.declared.turn.Settled.TheVariants.{Yielded, Finished}
-use Rattle.rt_journal.specs.Owed.{IsSentUnder, outcome_settled}
-use Rattle.rt_journal.specs.Whole.{MayAnswer}
-use Rattle.rt_journal.specs.Recorded.{RecordedView, IsRecorded, IsTaken, order_taken}
-use Rattle.rt_journal.specs.Ends.{IsInOf, IsInOwing, Gives, told_under, name_of, named_outcomes}
+use Rattle.rt_core.specs.declared.turn.Settled.TheVariants.{Finished}
 
 module _ {J T : Type 0} (view : RecordedView J T) (name : JobId) (order : Order J) (took : order_taken view.took name ≡ Some order) (inward : Inward J T) where
   -- what is told under a name, for its own sender

@@ -1,36 +1,19 @@
 -- A core that agrees with a journal in which each note may stand, and what follows for a note that changes nothing of the core.
-use Rattle.std.proofs.Common.{◌≡◌, ℕ, ◌+◌, ◌≤◌, Bool, true, false, List, [], ◌∷◌, length, refl, sym, ◌∙◌, ap, subst, arith, add-zero}
-use Rattle.std.specs.Prelude.{Option, Some, None, nat_lt, slice_index_or, ◌||◌}
-use Rattle.std.proofs.lemmas.Bool.{lt-ltb}
-use Rattle.rt_ids.specs.Terms.{Terms}
-use Rattle.rt_ids.specs.declared.names.JobId.{JobId}
-use Rattle.rt_ids.specs.declared.note.Note.{Note}
+use Rattle.rt_journal.proofs.Names.{◌≡◌, ℕ, ◌+◌, ◌≤◌, Bool, true, false, List, [], ◌∷◌, length, refl, sym, ◌∙◌, ap}
+use Rattle.rt_journal.proofs.Names.{subst, arith, add-zero, Option, Some, None, nat_lt, slice_index_or, ◌||◌, lt-ltb}
+use Rattle.rt_journal.proofs.Names.{Terms, JobId, Note, Mode, Journal, EachNote, name_started, delivered_names}
+use Rattle.rt_journal.proofs.Names.{virtual_runtime, shares, floor, charge_noted, runtime_picked, is_number, has_work}
+use Rattle.rt_journal.proofs.Names.{number_if, queue_entered, queue_joined, line, queue_out, name_joining, name_leaving}
+use Rattle.rt_journal.proofs.Names.{name_polled, name_settled, queue_just_picked, created_count, effect_awaited}
+use Rattle.rt_journal.proofs.Names.{pick_count, turns, MayFollow, MayWrite, MayStand, takes_turn, IsEffectDue}
+use Rattle.rt_journal.proofs.Names.{has_work-line, virtual_runtime-stays, floor-stays, line-stays, queue_out-alone}
+use Rattle.rt_journal.proofs.Names.{queue_out-nobody, waiting_of, CoreView, JobOut, is_working, is_any, runtime_of}
+use Rattle.rt_journal.proofs.Names.{Agrees, AgreesOnClosing, IsJobOut, AreMarked, Figures, figures_of, figures_told}
+use Rattle.rt_journal.proofs.Names.{figures_noted}
 use Rattle.rt_ids.specs.declared.note.Note.TheVariants as writes
-use Rattle.rt_ids.specs.declared.note.OutcomeNote.{OutcomeNote}
-use Rattle.rt_ids.specs.declared.order.Order.{Order}
-use Rattle.rt_ids.specs.declared.order.Mode.{Mode}
-use Rattle.rt_ids.specs.declared.order.Reason.{Reason}
-use Rattle.rt_ids.specs.declared.order.Answer.{Answer}
-use Rattle.rt_ids.specs.Journal.{Journal, EachNote}
-use Rattle.rt_ids.specs.Filters.{name_started, delivered_names}
-use Rattle.rt_ids.specs.Runtimes.{virtual_runtime, shares, floor, charge_noted, runtime_picked}
-use Rattle.rt_ids.specs.Names.{is_number}
-use Rattle.rt_ids.specs.Work.{has_work, number_if, queue_entered, queue_joined}
-use Rattle.rt_ids.specs.Lines.{line, queue_out, name_joining, name_leaving, name_polled, name_settled}
-use Rattle.rt_ids.specs.Clauses.{queue_just_picked}
-use Rattle.rt_ids.specs.Commands.{created_count, effect_awaited}
-use Rattle.rt_ids.specs.Picks.{pick_count, turns}
-use Rattle.rt_ids.specs.Lawful.{MayFollow, MayWrite, MayStand, takes_turn, IsEffectDue}
-use Rattle.rt_ids.proofs.WorkOfLines.{has_work-line}
-use Rattle.rt_ids.proofs.RuntimeSteps.{virtual_runtime-stays, floor-stays}
-use Rattle.rt_ids.proofs.LineSteps.{line-stays}
-use Rattle.rt_ids.proofs.Counts.{queue_out-alone, queue_out-nobody}
-use Rattle.rt_taskqueue.specs.Queues.{waiting_of}
-use Rattle.rt_core.specs.State.{CoreView, JobOut, is_working, is_any, runtime_of}
 use Rattle.rt_core.specs.State as state
 pub use Rattle.rt_journal.specs.Agreement.{IsKept}
-use Rattle.rt_journal.specs.Agreement.{Agrees, AgreesOnClosing, IsJobOut, AreMarked, names_of}
-use Rattle.rt_journal.specs.Figures.{no_figures, figures_of, figures_told, figures_noted}
+use Rattle.rt_journal.specs.Agreement.{names_of}
 use Rattle.rt_journal.proofs.FigureSteps.{figures-stays}
 
 -- a note that takes no turn and is no effect may stand where nothing is awaited
@@ -62,19 +45,38 @@ module _ {J T : Type 0} (core : CoreView J) (journal : Journal T) where
       rw (has_work-line terms queue journal notes, ← queue_out-agrees agrees.out, ← agrees.lines queue)
       (sym (nat_lt-line (waiting_of queue core.queues) (is_number queue (state.queue_out core.out))))
 
--- a note by which no job comes, goes, starts or costs anything
-pub record IsCalm {T : Type 0} (note : Note T) (before : Journal T) : Type 0 where
-  pub joins : (queue : ℕ) → name_joining queue note before ≡ None
-  pub leaves : name_leaving note ≡ None
-  pub polls : name_polled note ≡ None
-  pub settles : name_settled note ≡ None
-  pub enters : queue_joined note ≡ None
-  pub takes : (name : JobId) → queue_entered name note ≡ None
-  pub costs : (queue : ℕ) → charge_noted queue note before ≡ 0
-  pub picks : runtime_picked note ≡ 0
-  pub no_turn : pick_count note ≡ 0
-  pub starts : name_started note ≡ None
-  pub counts : (queue : ℕ) → figures_noted queue note before ≡ no_figures
+-- what a note tells of jobs: who comes, goes, is polled, settled and started, where one enters, what that costs, and what is counted of it
+pub record JobsTold : Type 0 where
+  pub joins : ℕ → Option JobId
+  pub leaves : Option JobId
+  pub polls : Option JobId
+  pub settles : Option JobId
+  pub starts : Option JobId
+  pub enters : Option ℕ
+  pub takes : JobId → Option ℕ
+  pub costs : ℕ → ℕ
+  pub picks : ℕ
+  pub turns : ℕ
+  pub counts : ℕ → Figures
+
+abbrev pub jobs_told : {T : Type 0} → Note T → Journal T → JobsTold
+jobs_told note before = record {
+  joins = λ queue. name_joining queue note before;
+  leaves = name_leaving note;
+  polls = name_polled note;
+  settles = name_settled note;
+  starts = name_started note;
+  enters = queue_joined note;
+  takes = λ name. queue_entered name note;
+  costs = λ queue. charge_noted queue note before;
+  picks = runtime_picked note;
+  turns = pick_count note;
+  counts = λ queue. figures_noted queue note before;
+}
+
+-- a note that tells nothing of jobs, as that of a gate that is shut
+abbrev pub IsCalm : {T : Type 0} → Note T → Journal T → Type 0
+IsCalm {T} note before = jobs_told note before ≡ jobs_told {T = T} (writes.Shut 0 0) []
 
 -- what a calm note leaves as it was
 pub record StaysCalm {J T : Type 0} (core : CoreView J) (journal : Journal T) : Type 0 where
@@ -101,65 +103,24 @@ turns-stays note before none = ap (λ count. turns before + count) none ∙ add-
 
 module _ {J T : Type 0} (note : Note T) (before : Journal T) (calm : IsCalm note before) where
   marks-calm : (waiting : List (JobId × Bool × J)) → AreMarked before waiting → AreMarked (note ∷ before) waiting
-  marks-calm waiting marked = rw calm.starts marked
+  marks-calm waiting marked = rw (ap (λ told. told.starts) calm) marked
 
   out-calm : (out : Option (JobOut J)) → IsJobOut out before → IsJobOut out (note ∷ before)
-  out-calm None nobody = rw (calm.settles, calm.polls) nobody
-  out-calm (Some job) alone = (rw (calm.settles, calm.polls) alone.0, rw (calm.takes job.name) alone.1)
+  out-calm None nobody = rw (ap (λ told. told.settles) calm, ap (λ told. told.polls) calm) nobody
+  out-calm (Some job) alone = (rw (ap (λ told. told.settles) calm, ap (λ told. told.polls) calm) alone.0, rw (ap (λ told. told.takes job.name) calm) alone.1)
 
   pub stays_calm : (old new : CoreView J) → SameJobs old new → Agrees old before → StaysCalm new (note ∷ before)
   stays_calm old new same agrees = record {
     lines = λ queue.
-        ap names_of (same.lines queue) ∙ (agrees.lines queue ∙ sym (line-stays queue note before calm.leaves (calm.joins queue)));
+        ap names_of (same.lines queue) ∙ (agrees.lines queue ∙ sym (line-stays queue note before (ap (λ told. told.leaves) calm) (ap (λ told. told.joins queue) calm)));
     marks = λ queue.
         subst (AreMarked (note ∷ before)) (sym (same.lines queue)) (marks-calm (waiting_of queue old.queues) (agrees.marks queue));
-    runtimes = λ queue. same.runtimes queue ∙ agrees.runtimes queue ∙ sym (virtual_runtime-stays queue before note calm.enters (calm.costs queue));
-    the_floor = same.the_floor ∙ agrees.the_floor ∙ sym (floor-stays note before calm.picks);
-    turns_made = same.turns_made ∙ (agrees.turns ∙ sym (turns-stays note before calm.no_turn));
+    runtimes = λ queue. same.runtimes queue ∙ agrees.runtimes queue ∙ sym (virtual_runtime-stays queue before note (ap (λ told. told.enters) calm) (ap (λ told. told.costs queue) calm));
+    the_floor = same.the_floor ∙ agrees.the_floor ∙ sym (floor-stays note before (ap (λ told. told.picks) calm));
+    turns_made = same.turns_made ∙ (agrees.turns ∙ sym (turns-stays note before (ap (λ told. told.turns) calm)));
     out = subst (λ out. IsJobOut out (note ∷ before)) (sym same.out) (out-calm old.out agrees.out);
-    figures = λ queue. same.figures queue ∙ (agrees.figures queue ∙ sym (figures-stays queue note before (calm.counts queue)));
+    figures = λ queue. same.figures queue ∙ (agrees.figures queue ∙ sym (figures-stays queue note before (ap (λ told. told.counts queue) calm)));
   }
-
--- a note that reads so is calm
-calm_of : {T : Type 0} (note : Note T) (before : Journal T) → ((queue : ℕ) → name_joining queue note before ≡ None) → name_leaving note ≡ None → name_polled note ≡ None → name_settled note ≡ None →
-    queue_joined note ≡ None → ((name : JobId) → queue_entered name note ≡ None) → ((queue : ℕ) → charge_noted queue note before ≡ 0) → runtime_picked note ≡ 0 → pick_count note ≡ 0 → name_started note ≡ None →
-    ((queue : ℕ) → figures_noted queue note before ≡ no_figures) → IsCalm note before
-calm_of note before joins leaves polls settles enters takes costs picks no_turn starts counts =
-    record { joins = joins; leaves = leaves; polls = polls; settles = settles; enters = enters; takes = takes; costs = costs; picks = picks; no_turn = no_turn; starts = starts; counts = counts }
-
-module _ {T : Type 0} (before : Journal T) where
-  pub calm_sent : (name : JobId) (order : Order (Unit {0})) → IsCalm (writes.Sent name order) before
-  calm_sent name order = calm_of (writes.Sent name order) before (λ queue. refl) refl refl refl refl (λ which. refl) (λ queue. refl) refl refl refl (λ queue. refl)
-
-  pub calm_collected : (name : JobId) (outcome : OutcomeNote T) → IsCalm (writes.Collected name outcome) before
-  calm_collected name outcome = calm_of (writes.Collected name outcome) before (λ queue. refl) refl refl refl refl (λ which. refl) (λ queue. refl) refl refl refl (λ queue. refl)
-
-  pub calm_redeemed : (name : JobId) (outcome : OutcomeNote T) → IsCalm (writes.Redeemed name outcome) before
-  calm_redeemed name outcome = calm_of (writes.Redeemed name outcome) before (λ queue. refl) refl refl refl refl (λ which. refl) (λ queue. refl) refl refl refl (λ queue. refl)
-
-  pub calm_detached : (name : JobId) → IsCalm (writes.Detached name) before
-  calm_detached name = calm_of (writes.Detached name) before (λ queue. refl) refl refl refl refl (λ which. refl) (λ queue. refl) refl refl refl (λ queue. refl)
-
-  pub calm_back : (name : JobId) (reason : Reason) → IsCalm (writes.Back name reason) before
-  calm_back name reason = calm_of (writes.Back name reason) before (λ queue. refl) refl refl refl refl (λ which. refl) (λ queue. refl) refl refl refl (λ queue. refl)
-
-  pub calm_answered : (name : JobId) (answer : Answer) → IsCalm (writes.Answered name answer) before
-  calm_answered name answer = calm_of (writes.Answered name answer) before (λ queue. refl) refl refl refl refl (λ which. refl) (λ queue. refl) refl refl refl (λ queue. refl)
-
-  pub calm_created : (queue weight : ℕ) → IsCalm (writes.Created queue weight) before
-  calm_created queue weight = calm_of (writes.Created queue weight) before (λ queue. refl) refl refl refl refl (λ which. refl) (λ queue. refl) refl refl refl (λ queue. refl)
-
-  pub calm_weighed : (queue weight : ℕ) → IsCalm (writes.SharesSet queue weight) before
-  calm_weighed queue weight = calm_of (writes.SharesSet queue weight) before (λ queue. refl) refl refl refl refl (λ which. refl) (λ queue. refl) refl refl refl (λ queue. refl)
-
-  pub calm_core_closed : (mode : Mode) → IsCalm (writes.CoreClosed mode) before
-  calm_core_closed mode = calm_of (writes.CoreClosed mode) before (λ queue. refl) refl refl refl refl (λ which. refl) (λ queue. refl) refl refl refl (λ queue. refl)
-
-  pub calm_queue_closed : (queue : ℕ) (mode : Mode) → IsCalm (writes.QueueClosed queue mode) before
-  calm_queue_closed queue mode = calm_of (writes.QueueClosed queue mode) before (λ queue. refl) refl refl refl refl (λ which. refl) (λ queue. refl) refl refl refl (λ queue. refl)
-
-  pub calm_shut : (from count : ℕ) → IsCalm (writes.Shut from count) before
-  calm_shut from count = calm_of (writes.Shut from count) before (λ queue. refl) refl refl refl refl (λ which. refl) (λ queue. refl) refl refl refl (λ queue. refl)
 
 -- a core that has only counted a delivery, shut a gate or closed agrees with a calm note that creates nothing and sets no shares
 pub agrees_unmoved : {J T : Type 0} (old : CoreView J) (journal : Journal T) (note : Note T) → Agrees old journal → IsCalm note journal →

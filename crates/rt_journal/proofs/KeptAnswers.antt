@@ -1,21 +1,12 @@
 -- What a core tells of itself stays what its journal says, as a job goes back and as a command is answered.
-use Rattle.std.proofs.Common.{◌≡◌, ℕ, ◌≤◌, false, ◌∷◌, refl, sym, subst}
-use Rattle.std.specs.Prelude.{Some}
-use Rattle.rt_ids.specs.Terms.{Terms}
-use Rattle.rt_ids.specs.declared.names.JobId.{JobId}
+use Rattle.rt_journal.proofs.Names.{◌≡◌, ℕ, ◌≤◌, false, ◌∷◌, length, refl, sym, ◌∙◌, ap, subst, Some, Terms, JobId}
+use Rattle.rt_journal.proofs.Names.{Note, Order, Reason, Answer, Journal, with_last, delivered_names, if_from, shares}
+use Rattle.rt_journal.proofs.Names.{created_count, refusal, IsAnswer, has_effect, MayStand, IsNextDelivered, CoreView}
+use Rattle.rt_journal.proofs.Names.{CountsAlone, counted, Agrees}
 use Rattle.rt_ids.specs.declared.note.Note.TheVariants as writes
-use Rattle.rt_ids.specs.declared.order.Order.{Order}
-use Rattle.rt_ids.specs.declared.order.Reason.{Reason}
-use Rattle.rt_ids.specs.declared.order.Answer.{Answer}
-use Rattle.rt_ids.specs.Journal.{Journal}
-use Rattle.rt_ids.specs.Commands.{refusal, IsAnswer, has_effect}
-use Rattle.rt_ids.specs.Lawful.{MayStand, IsNextDelivered}
-use Rattle.rt_core.specs.State.{CoreView}
-use Rattle.rt_core.specs.Deliveries.{CountsAlone, counted}
-use Rattle.rt_journal.specs.Agreement.{Agrees}
-use Rattle.rt_journal.proofs.Kept.{IsKept, plainly_stands, agrees_unmoved, calm_back, calm_answered}
+use Rattle.rt_journal.proofs.Kept.{IsKept, plainly_stands, agrees_unmoved, IsCalm}
 use Rattle.rt_journal.proofs.KeptDeliveries.{IsCounted, senders_counted, delivered_counted}
-use Rattle.rt_journal.proofs.KeptModes.{SameModes, closing-stays}
+use Rattle.rt_journal.proofs.KeptModes.{SameModes, IsOpenNote, closing-stays}
 
 -- a delivery that changes nothing but its count
 module _ {J T : Type 0} (terms : Terms) (old new : CoreView J) (name : JobId) (journal : Journal T) (kept : IsKept terms old journal)
@@ -26,21 +17,21 @@ module _ {J T : Type 0} (terms : Terms) (old new : CoreView J) (name : JobId) (j
   was_counted : IsCounted terms old (record old { delivered = counted name old }) name journal
   was_counted = record { known = sender; next = next; now = refl; cores = refl }
 
-  pub agrees-back : (reason : Reason) → Agrees new (writes.Back name reason ∷ journal)
-  agrees-back reason =
-      subst (λ core. Agrees core (writes.Back name reason ∷ journal)) (sym counts)
-      (agrees_unmoved old journal (writes.Back name reason) kept.agrees (calm_back journal name reason) refl (λ queue. refl) (counted name old)
+  -- a calm note by which the next name is delivered, and nothing is created, weighed or closed
+  agrees-counted : (note : Note T) → IsCalm note journal → created_count (note ∷ journal) ≡ created_count journal → ((queue : ℕ) → shares queue (note ∷ journal) ≡ shares queue journal) → IsOpenNote note →
+      ((sender : ℕ) → delivered_names sender (note ∷ journal) ≡ with_last (delivered_names sender journal) (if_from sender name name)) → Agrees new (note ∷ journal)
+  agrees-counted note calm creates weighs opens delivers =
+      subst (λ core. Agrees core (note ∷ journal)) (sym counts)
+      (agrees_unmoved old journal note kept.agrees calm creates weighs (counted name old)
       (senders_counted terms old (record old { delivered = counted name old }) name journal was_counted kept.agrees)
-      (delivered_counted terms old (record old { delivered = counted name old }) name journal was_counted kept.agrees) old.gates old.mode
-      (closing-stays old (record old { delivered = counted name old }) (writes.Back name reason) journal modes_stay (record { queues = λ queue. refl; core = refl; gates = λ sender. refl }) kept.agrees.closing))
+      (λ sender known. delivered_counted terms old (record old { delivered = counted name old }) name journal was_counted kept.agrees sender known ∙ ap length (sym (delivers sender))) old.gates old.mode
+      (closing-stays old (record old { delivered = counted name old }) note journal modes_stay opens kept.agrees.closing))
+
+  pub agrees-back : (reason : Reason) → Agrees new (writes.Back name reason ∷ journal)
+  agrees-back reason = agrees-counted (writes.Back name reason) refl refl (λ queue. refl) (record { queues = λ queue. refl; core = refl; gates = λ sender. refl }) (λ sender. refl)
 
   pub agrees-answered : (answer : Answer) → Agrees new (writes.Answered name answer ∷ journal)
-  agrees-answered answer =
-      subst (λ core. Agrees core (writes.Answered name answer ∷ journal)) (sym counts)
-      (agrees_unmoved old journal (writes.Answered name answer) kept.agrees (calm_answered journal name answer) refl (λ queue. refl) (counted name old)
-      (senders_counted terms old (record old { delivered = counted name old }) name journal was_counted kept.agrees)
-      (delivered_counted terms old (record old { delivered = counted name old }) name journal was_counted kept.agrees) old.gates old.mode
-      (closing-stays old (record old { delivered = counted name old }) (writes.Answered name answer) journal modes_stay (record { queues = λ queue. refl; core = refl; gates = λ sender. refl }) kept.agrees.closing))
+  agrees-answered answer = agrees-counted (writes.Answered name answer) refl refl (λ queue. refl) (record { queues = λ queue. refl; core = refl; gates = λ sender. refl }) (λ sender. refl)
 
   -- a job that is refused goes back
   pub kept-back : (queue : ℕ) (reason : Reason) → refusal queue journal ≡ Some reason → IsKept terms new (writes.Back name reason ∷ journal)

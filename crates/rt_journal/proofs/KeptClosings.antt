@@ -1,33 +1,26 @@
 -- What a core tells of itself stays what its journal says, as a queue or the core is closed and as a gate is shut; and the notes may stand.
-use Rattle.std.proofs.Common.{◌≡◌, ℕ, ◌+◌, ◌≤◌, Bool, true, false, ◌∷◌, length, refl, sym, ◌∙◌, ap, arith, cond, get_or, get_or-set_same, get_or-set_other, length-set, subst}
-use Rattle.std.specs.Prelude.{◌==◌, Some, None, slice_set}
-use Rattle.std.proofs.lemmas.Bool.{eqb-true, eqb-false}
-use Rattle.rt_ids.specs.Terms.{Terms}
+use Rattle.rt_journal.proofs.Names.{◌≡◌, ℕ, ◌+◌, ◌≤◌, Bool, true, false, ◌∷◌, length, refl, sym, ◌∙◌, ap, arith, cond}
+use Rattle.rt_journal.proofs.Names.{get_or, get_or-set_same, get_or-set_other, subst, ◌==◌, Some, None, slice_set}
+use Rattle.rt_journal.proofs.Names.{eqb-true, eqb-false, Terms, Mode, Journal, or_else, IsNextShut, queue_mode}
+use Rattle.rt_journal.proofs.Names.{final_count, MayStand, mode_of, CoreView, runtime_of, gate_of, HasClosed, Agrees}
+use Rattle.rt_journal.proofs.Names.{figures_of}
+use Rattle.std.proofs.Common.{length-set}
 use Rattle.rt_ids.specs.declared.note.Note.TheVariants as writes
-use Rattle.rt_ids.specs.declared.order.Mode.{Mode}
-use Rattle.rt_ids.specs.Journal.{Journal, or_else}
-use Rattle.rt_ids.specs.Closing.{IsNextShut, queue_mode, final_count}
-use Rattle.rt_ids.specs.Lawful.{MayStand}
-use Rattle.rt_taskqueue.specs.Queues.{mode_of}
-use Rattle.rt_core.specs.State.{CoreView, runtime_of, gate_of}
-use Rattle.rt_core.specs.Closing.{HasClosed}
-use Rattle.rt_journal.specs.Agreement.{Agrees}
-use Rattle.rt_journal.specs.Figures.{figures_of}
-use Rattle.rt_journal.proofs.Kept.{IsKept, StaysCalm, stays_calm, agrees_unmoved, calm_core_closed, calm_queue_closed, calm_shut, plainly_stands}
+use Rattle.rt_journal.proofs.Kept.{IsKept, StaysCalm, stays_calm, agrees_unmoved, plainly_stands}
 
 module _ {J T : Type 0} (old new : CoreView J) (journal : Journal T) (agrees : Agrees old journal) where
   -- the core is closed
   pub agrees-core_closed : (mode : Mode) → new ≡ record old { mode = Some mode } → Agrees new (writes.CoreClosed mode ∷ journal)
   agrees-core_closed mode is =
       subst (λ core. Agrees core (writes.CoreClosed mode ∷ journal)) (sym is)
-      (agrees_unmoved old journal (writes.CoreClosed mode) agrees (calm_core_closed journal mode) refl (λ queue. refl) old.delivered agrees.senders agrees.delivered old.gates (Some mode)
+      (agrees_unmoved old journal (writes.CoreClosed mode) agrees refl refl (λ queue. refl) old.delivered agrees.senders agrees.delivered old.gates (Some mode)
       (record { modes = agrees.closing.modes; mode = refl; gate_places = agrees.closing.gate_places; gates = agrees.closing.gates }))
 
   -- a gate is shut
   pub agrees-shut : (from count : ℕ) → from ≤ old.cores → new ≡ record old { gates = slice_set old.gates from (Some count) } → Agrees new (writes.Shut from count ∷ journal)
   agrees-shut from count known is =
       subst (λ core. Agrees core (writes.Shut from count ∷ journal)) (sym is)
-      (agrees_unmoved old journal (writes.Shut from count) agrees (calm_shut journal from count) refl (λ queue. refl) old.delivered agrees.senders agrees.delivered
+      (agrees_unmoved old journal (writes.Shut from count) agrees refl refl (λ queue. refl) old.delivered agrees.senders agrees.delivered
       (slice_set old.gates from (Some count)) old.mode
       (record {
         modes = agrees.closing.modes;
@@ -67,7 +60,7 @@ module _ {J T : Type 0} (old new : CoreView J) (journal : Journal T) (agrees : A
   }
     where
       calm : StaysCalm new (writes.QueueClosed queue mode ∷ journal)
-      calm = stays_calm (writes.QueueClosed queue mode) journal (calm_queue_closed journal queue mode) old new (record {
+      calm = stays_calm (writes.QueueClosed queue mode) journal refl old new (record {
         lines = has.closed.same_lines;
         runtimes = λ other. ap (λ core. runtime_of other core) has.rest;
         the_floor = ap (λ core. core.floor) has.rest;

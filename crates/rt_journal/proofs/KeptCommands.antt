@@ -1,27 +1,16 @@
 -- What a core tells of itself stays what its journal says, as a queue is created and as a queue gets shares.
-use Rattle.std.proofs.Common.{◌≡◌, inr, ℕ, zero, suc, ◌+◌, ◌<◌, ◌≤◌, Bool, true, false, List, [], ◌∷◌, ◌++◌, length, refl, sym, ◌∙◌, ap, subst, arith, get_or}
-use Rattle.std.specs.Prelude.{◌==◌, None, nat_le}
-use Rattle.std.proofs.lemmas.Bool.{eqb-true, eqb-false, le-leb, lt-leb}
-use Rattle.std.proofs.lemmas.List.{length-append}
-use Rattle.rt_shares.specs.Charge.{InRange}
-use Rattle.rt_ids.specs.Terms.{Terms}
-use Rattle.rt_ids.specs.declared.names.JobId.{JobId}
+use Rattle.rt_journal.proofs.Names.{◌≡◌, inr, ℕ, zero, suc, ◌+◌, ◌<◌, ◌≤◌, Bool, false, List, [], ◌∷◌, ◌++◌, length}
+use Rattle.rt_journal.proofs.Names.{refl, sym, ◌∙◌, ap, subst, arith, get_or, None, nat_le, le-leb, lt-leb}
+use Rattle.rt_journal.proofs.Names.{length-append, InRange, Terms, JobId, Answer, Journal, list_told, shares, core_mode}
+use Rattle.rt_journal.proofs.Names.{created_count, IsAnswer, IsCreationAnswer, queue_created, IsNextDelivered}
+use Rattle.rt_journal.proofs.Names.{shares-created, shares-created_elsewhere, shares-set, shares-set_elsewhere}
+use Rattle.rt_journal.proofs.Names.{queue_count, shares_of, CoreView, no_tally, runtime_of, Creates, Weighs, counted}
+use Rattle.rt_journal.proofs.Names.{Agrees, figures_in, figures_of}
 use Rattle.rt_ids.specs.declared.note.Note.TheVariants as writes
 use Rattle.rt_ids.specs.declared.order.Order.TheVariants as orders
-use Rattle.rt_ids.specs.declared.order.Answer.{Answer}
 use Rattle.rt_ids.specs.declared.order.Answer.TheVariants as answers
-use Rattle.rt_ids.specs.Journal.{Journal, list_told}
-use Rattle.rt_ids.specs.Runtimes.{shares}
-use Rattle.rt_ids.specs.Closing.{core_mode}
-use Rattle.rt_ids.specs.Commands.{created_count, IsAnswer, IsCreationAnswer, queue_created}
-use Rattle.rt_ids.specs.Lawful.{IsNextDelivered}
-use Rattle.rt_ids.proofs.RuntimeSteps.{shares-created, shares-created_elsewhere, shares-set, shares-set_elsewhere}
-use Rattle.rt_taskqueue.specs.Queues.{queue_count, shares_of}
-use Rattle.rt_core.specs.State.{CoreView, no_tally, runtime_of}
-use Rattle.rt_core.specs.Deliveries.{Creates, Weighs, counted}
-use Rattle.rt_journal.specs.Agreement.{Agrees}
-use Rattle.rt_journal.specs.Figures.{figures_in, figures_of}
-use Rattle.rt_journal.proofs.Kept.{IsKept, stays_calm, SameJobs, calm_created, calm_weighed}
+use Rattle.rt_journal.proofs.Everywhere.{everywhere}
+use Rattle.rt_journal.proofs.Kept.{IsKept, stays_calm, SameJobs}
 use Rattle.rt_journal.proofs.KeptModes.{closing-stays}
 use Rattle.rt_journal.proofs.KeptAnswers.{agrees-answered, answered_stands}
 
@@ -36,7 +25,7 @@ module _ {J T : Type 0} (old new : CoreView J) (queue weight : ℕ) (journal : J
   -- a queue is created
   pub agrees-created : queue ≡ queue_count old.queues → Creates old weight new → new.delivered ≡ old.delivered → Agrees new (writes.Created queue weight ∷ journal)
   agrees-created next creates same =
-      let calm = stays_calm (writes.Created queue weight) journal (calm_created journal queue weight) old new jobs agrees in
+      let calm = stays_calm (writes.Created queue weight) journal refl old new jobs agrees in
       record {
         tallied = ap (λ core. length core.tallies) creates.rest
             ∙ (length-append old.tallies (no_tally ∷ []) ∙ (ap (λ count. count + 1) agrees.tallied ∙ sym creates.added.count));
@@ -66,22 +55,16 @@ module _ {J T : Type 0} (old new : CoreView J) (queue weight : ℕ) (journal : J
       }
 
       weights : (other : ℕ) → other < queue_count new.queues → shares_of other new.queues ≡ shares other (writes.Created queue weight ∷ journal)
-      weights other there = by_test (other == queue) refl
-        where
-          by_test : (test : Bool) → (other == queue) ≡ test → shares_of other new.queues ≡ shares other (writes.Created queue weight ∷ journal)
-          by_test true one =
-              let here : other ≡ queue = eqb-true other queue one in
-              subst (λ at. shares_of at new.queues ≡ shares at (writes.Created queue weight ∷ journal)) (sym here)
-              (subst (λ at. shares_of at new.queues ≡ weight) (sym next) creates.added.given ∙ sym (shares-created queue journal weight))
-          by_test false apart =
-              let away : other ≡ queue → ⊥ = eqb-false other queue apart in
-              creates.added.others other (λ last. away (last ∙ sym next))
-              ∙ (agrees.weights other (omega (arith, there, creates.added.count, next)) ∙ sym (shares-created_elsewhere other journal queue weight away))
+      weights = everywhere (λ at. at < queue_count new.queues → shares_of at new.queues ≡ shares at (writes.Created queue weight ∷ journal)) queue
+          (λ there. subst (λ at. shares_of at new.queues ≡ weight) (sym next) creates.added.given ∙ sym (shares-created queue journal weight))
+          (λ other away there.
+          creates.added.others other (λ last. away (last ∙ sym next))
+          ∙ (agrees.weights other (omega (arith, there, creates.added.count, next)) ∙ sym (shares-created_elsewhere other journal queue weight away)))
 
   -- a queue gets shares
   pub agrees-weighed : Weighs old queue weight new → new.delivered ≡ old.delivered → Agrees new (writes.SharesSet queue weight ∷ journal)
   agrees-weighed weighs same =
-      let calm = stays_calm (writes.SharesSet queue weight) journal (calm_weighed journal queue weight) old new jobs agrees in
+      let calm = stays_calm (writes.SharesSet queue weight) journal refl old new jobs agrees in
       record {
         tallied = ap (λ core. length core.tallies) weighs.rest ∙ (agrees.tallied ∙ sym weighs.shares.same_count);
         senders = ap length same ∙ (agrees.senders ∙ ap (λ cores. cores + 1) (sym (ap (λ core. core.cores) weighs.rest)));
@@ -110,17 +93,10 @@ module _ {J T : Type 0} (old new : CoreView J) (queue weight : ℕ) (journal : J
       }
 
       weights : (other : ℕ) → other < queue_count new.queues → shares_of other new.queues ≡ shares other (writes.SharesSet queue weight ∷ journal)
-      weights other there = by_test (other == queue) refl
-        where
-          by_test : (test : Bool) → (other == queue) ≡ test → shares_of other new.queues ≡ shares other (writes.SharesSet queue weight ∷ journal)
-          by_test true one =
-              let here : other ≡ queue = eqb-true other queue one in
-              subst (λ at. shares_of at new.queues ≡ shares at (writes.SharesSet queue weight ∷ journal)) (sym here)
-              (weighs.shares.changed ∙ sym (shares-set queue journal weight))
-          by_test false apart =
-              let away : other ≡ queue → ⊥ = eqb-false other queue apart in
-              weighs.shares.others other away
-              ∙ (agrees.weights other (rw (← weighs.shares.same_count) there) ∙ sym (shares-set_elsewhere other journal queue weight away))
+      weights = everywhere (λ at. at < queue_count new.queues → shares_of at new.queues ≡ shares at (writes.SharesSet queue weight ∷ journal)) queue
+          (λ there. weighs.shares.changed ∙ sym (shares-set queue journal weight))
+          (λ other away there.
+          weighs.shares.others other away ∙ (agrees.weights other (rw (← weighs.shares.same_count) there) ∙ sym (shares-set_elsewhere other journal queue weight away)))
 
 -- the commands that have an effect, with the note of the answer and that of the effect
 module _ {J T : Type 0} (terms : Terms) (old new : CoreView J) (name : JobId) (queue weight : ℕ) (journal : Journal T) (kept : IsKept terms old journal)

@@ -1,32 +1,19 @@
 -- What a core tells of itself stays what its journal says, as a submission is delivered.
-use Rattle.std.proofs.Common.{◌≡◌, ℕ, ◌+◌, ◌<◌, ◌≤◌, Bool, true, false, [], ◌∷◌, ◌++◌, length, refl, sym, ◌∙◌, ap, subst, arith, get_or, set, get_or-set_same, get_or-set_other, length-set, cond}
-use Rattle.std.specs.Prelude.{◌==◌, Option, Some, None, is_some, max}
-use Rattle.std.proofs.lemmas.Bool.{eqb-true, eqb-false, true≢false}
-use Rattle.std.proofs.lemmas.List.{map-append}
-use Rattle.std.proofs.lemmas.List.Elements.{All-append, All-cons, All-nil}
-use Rattle.rt_ids.specs.Terms.{Terms}
-use Rattle.rt_ids.specs.declared.names.JobId.{JobId}
+use Rattle.rt_journal.proofs.Names.{◌≡◌, ℕ, ◌+◌, ◌<◌, ◌≤◌, Bool, true, false, [], ◌∷◌, ◌++◌, length, refl, sym, ◌∙◌, ap}
+use Rattle.rt_journal.proofs.Names.{subst, arith, get_or, set, get_or-set_same, get_or-set_other, cond, ◌==◌, Option}
+use Rattle.rt_journal.proofs.Names.{Some, None, is_some, max, eqb-true, eqb-false, true≢false, map-append, All-append}
+use Rattle.rt_journal.proofs.Names.{All-cons, All-nil, Terms, JobId, same_name, Journal, EachNote, is_told, with_last}
+use Rattle.rt_journal.proofs.Names.{delivered_names, name_started, if_from, has_work, queue_of, virtual_runtime, line}
+use Rattle.rt_journal.proofs.Names.{refusal, MayFollow, MayStand, IsNextDelivered, one_longer, known_of, not_old}
+use Rattle.rt_journal.proofs.Names.{started_of, line-took, line-took_elsewhere, false_from_ne_true, same_as_itself}
+use Rattle.rt_journal.proofs.Names.{virtual_runtime-took_idle, virtual_runtime-took_busy}
+use Rattle.rt_journal.proofs.Names.{virtual_runtime-took_elsewhere, floor-stays, waiting_of, CoreView, JobOut, no_tally}
+use Rattle.rt_journal.proofs.Names.{tally_of, runtime_of, delivered_of, is_working, entry_runtime, Enters, counted}
+use Rattle.rt_journal.proofs.Names.{Agrees, IsJobOut, AreMarked, figures_of, figures_told}
+use Rattle.std.proofs.Common.{length-set}
 use Rattle.rt_ids.specs.declared.note.Note.TheVariants as writes
-use Rattle.rt_ids.specs.Names.{same_name}
-use Rattle.rt_ids.specs.Journal.{Journal, EachNote, is_told, with_last}
-use Rattle.rt_ids.specs.Filters.{delivered_names, name_started, if_from}
-use Rattle.rt_ids.specs.Work.{has_work, queue_of}
-use Rattle.rt_ids.specs.Runtimes.{virtual_runtime}
-use Rattle.rt_ids.specs.Lines.{line}
-use Rattle.rt_ids.specs.Commands.{refusal}
-use Rattle.rt_ids.specs.Lawful.{MayFollow, MayStand, IsNextDelivered}
-use Rattle.rt_ids.proofs.Told.{one_longer}
-use Rattle.rt_ids.proofs.Known.{known_of, not_old}
-use Rattle.rt_ids.proofs.Starts.{started_of}
-use Rattle.rt_ids.proofs.LineSteps.{line-took, line-took_elsewhere}
-use Rattle.std.proofs.lemmas.Bool.{false_from_ne_true}
-use Rattle.rt_ids.proofs.NameLemmas.{same_as_itself}
-use Rattle.rt_ids.proofs.RuntimeSteps.{virtual_runtime-took_idle, virtual_runtime-took_busy, virtual_runtime-took_elsewhere, floor-stays}
-use Rattle.rt_taskqueue.specs.Queues.{waiting_of}
-use Rattle.rt_core.specs.State.{CoreView, JobOut, no_tally, tally_of, runtime_of, delivered_of, is_working, entry_runtime}
-use Rattle.rt_core.specs.Deliveries.{Enters, counted}
-use Rattle.rt_journal.specs.Agreement.{Agrees, IsJobOut, AreMarked, names_of}
-use Rattle.rt_journal.specs.Figures.{figures_of, figures_told}
+use Rattle.rt_journal.specs.Agreement.{names_of}
+use Rattle.rt_journal.proofs.Everywhere.{everywhere}
 use Rattle.rt_journal.proofs.FigureSteps.{figures-same, figures-stays}
 use Rattle.rt_journal.proofs.Kept.{IsKept, plainly_stands, turns-stays, working}
 use Rattle.rt_journal.proofs.KeptModes.{SameModes, closing-stays}
@@ -96,37 +83,21 @@ module _ {J T : Type 0} (terms : Terms) (old new : CoreView J) (name : JobId) (q
   }
 
   took_lines : (other : ℕ) → names_of (waiting_of other new.queues) ≡ line other (writes.Took name queue ∷ journal)
-  took_lines other = by_test (other == queue) refl
-    where
-      by_test : (test : Bool) → (other == queue) ≡ test → names_of (waiting_of other new.queues) ≡ line other (writes.Took name queue ∷ journal)
-      by_test true same =
-          let one : other ≡ queue = eqb-true other queue same in
-          subst (λ at. names_of (waiting_of at new.queues) ≡ line at (writes.Took name queue ∷ journal)) (sym one)
-          (
-          ap names_of enters.line.changed
-          ∙ (map-append (λ entry. entry.0) (waiting_of queue old.queues) ((name, false, job) ∷ [])
-          ∙ (ap (λ names. names ++ name ∷ []) (kept.agrees.lines queue) ∙ sym (line-took queue name journal)))
-          )
-      by_test false apart =
-          let away : other ≡ queue → ⊥ = eqb-false other queue apart in
-          ap names_of (enters.line.others other away) ∙ (kept.agrees.lines other ∙ sym (line-took_elsewhere other queue name journal away))
+  took_lines = everywhere (λ at. names_of (waiting_of at new.queues) ≡ line at (writes.Took name queue ∷ journal)) queue
+      (ap names_of enters.line.changed
+      ∙ (map-append (λ entry. entry.0) (waiting_of queue old.queues) ((name, false, job) ∷ [])
+      ∙ (ap (λ names. names ++ name ∷ []) (kept.agrees.lines queue) ∙ sym (line-took queue name journal))))
+      (λ other away. ap names_of (enters.line.others other away) ∙ (kept.agrees.lines other ∙ sym (line-took_elsewhere other queue name journal away)))
 
   abbrev is_marked : JobId × Bool × J → Type 0
   is_marked entry = entry.1 ≡ is_told name_started entry.0 journal
 
   took_marks : (other : ℕ) → AreMarked (writes.Took name queue ∷ journal) (waiting_of other new.queues)
-  took_marks other = by_test (other == queue) refl
-    where
-      by_test : (test : Bool) → (other == queue) ≡ test → AreMarked (writes.Took name queue ∷ journal) (waiting_of other new.queues)
-      by_test true same =
-          let one : other ≡ queue = eqb-true other queue same in
-          subst (AreMarked (writes.Took name queue ∷ journal)) (sym (ap (λ at. waiting_of at new.queues) one ∙ enters.line.changed))
-          (
-          All-append is_marked (waiting_of queue old.queues) ((name, false, job) ∷ []) (kept.agrees.marks queue)
-          (All-cons is_marked (name, false, job) [] (sym (not_started terms journal kept.notes name next)) (All-nil is_marked))
-          )
-      by_test false apart =
-          subst (AreMarked (writes.Took name queue ∷ journal)) (sym (enters.line.others other (eqb-false other queue apart))) (kept.agrees.marks other)
+  took_marks = everywhere (λ at. AreMarked (writes.Took name queue ∷ journal) (waiting_of at new.queues)) queue
+      (subst (AreMarked (writes.Took name queue ∷ journal)) (sym enters.line.changed)
+      (All-append is_marked (waiting_of queue old.queues) ((name, false, job) ∷ []) (kept.agrees.marks queue)
+      (All-cons is_marked (name, false, job) [] (sym (not_started terms journal kept.notes name next)) (All-nil is_marked))))
+      (λ other away. subst (AreMarked (writes.Took name queue ∷ journal)) (sym (enters.line.others other away)) (kept.agrees.marks other))
 
   tallies_set : (other : ℕ) → tally_of other new ≡ get_or (set old.tallies queue (record (tally_of queue old) { runtime = entry_runtime queue old })) other no_tally
   tallies_set other = ap (λ core. get_or core.tallies other no_tally) enters.rest
@@ -150,17 +121,11 @@ module _ {J T : Type 0} (terms : Terms) (old new : CoreView J) (name : JobId) (q
           ∙ (ap (λ at. max (virtual_runtime queue journal) at) kept.agrees.the_floor ∙ sym (virtual_runtime-took_idle queue journal name idle)))
 
   took_runtimes : (other : ℕ) → runtime_of other new ≡ virtual_runtime other (writes.Took name queue ∷ journal)
-  took_runtimes other = by_test (other == queue) refl
-    where
-      by_test : (test : Bool) → (other == queue) ≡ test → runtime_of other new ≡ virtual_runtime other (writes.Took name queue ∷ journal)
-      by_test true same =
-          let one : other ≡ queue = eqb-true other queue same in
-          subst (λ at. runtime_of at new ≡ virtual_runtime at (writes.Took name queue ∷ journal)) (sym one)
-          (ap (λ tally. tally.runtime) (tallies_set queue ∙ get_or-set_same old.tallies queue _ no_tally tallied) ∙ entry_is)
-      by_test false apart =
-          let away : other ≡ queue → ⊥ = eqb-false other queue apart in
-          ap (λ tally. tally.runtime) (tallies_set other ∙ get_or-set_other old.tallies queue other _ no_tally away)
-          ∙ (kept.agrees.runtimes other ∙ sym (virtual_runtime-took_elsewhere other journal name queue away))
+  took_runtimes = everywhere (λ at. runtime_of at new ≡ virtual_runtime at (writes.Took name queue ∷ journal)) queue
+      (ap (λ tally. tally.runtime) (tallies_set queue ∙ get_or-set_same old.tallies queue _ no_tally tallied) ∙ entry_is)
+      (λ other away.
+      ap (λ tally. tally.runtime) (tallies_set other ∙ get_or-set_other old.tallies queue other _ no_tally away)
+      ∙ (kept.agrees.runtimes other ∙ sym (virtual_runtime-took_elsewhere other journal name queue away)))
 
   took_out : (out : Option (JobOut J)) → IsJobOut out journal → IsJobOut out (writes.Took name queue ∷ journal)
   took_out None nobody = nobody

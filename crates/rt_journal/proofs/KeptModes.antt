@@ -1,17 +1,13 @@
 -- The modes and gates that a core tells of are those of its journal, and what follows: why jobs are refused and handed back.
-use Rattle.std.proofs.Common.{◌≡◌, inl, inr, ℕ, ◌+◌, ◌<◌, ◌≤◌, Bool, true, false, [], ◌∷◌, length, refl, sym, ◌∙◌, ap, arith, cond}
-use Rattle.std.specs.Prelude.{◌⊎◌, Some, None, nat_le, nat_lt, slice_index_or}
-use Rattle.std.proofs.lemmas.Bool.{cases_lt, le-leb, lt-leb, lt-ltb, le-ltb}
-use Rattle.rt_ids.specs.declared.note.Note.{Note}
-use Rattle.rt_ids.specs.declared.note.Note.TheVariants.{Created}
+use Rattle.rt_journal.proofs.Names.{◌≡◌, inl, inr, ℕ, ◌+◌, ◌<◌, ◌≤◌, Bool, true, false, [], ◌∷◌, length, refl, sym, ◌∙◌}
+use Rattle.rt_journal.proofs.Names.{ap, arith, cond, ◌⊎◌, Some, None, nat_le, nat_lt, slice_index_or, cases_lt, le-leb}
+use Rattle.rt_journal.proofs.Names.{lt-leb, lt-ltb, le-ltb, Note, Created, Journal, or_else, mode_told, core_mode_told}
+use Rattle.rt_journal.proofs.Names.{count_told, queue_mode, core_mode, final_count, IsOpening, created_count, refusal}
+use Rattle.rt_journal.proofs.Names.{reason_if_closed, reason_if_returning, queue_count, mode_of, CoreView}
+use Rattle.rt_journal.proofs.Names.{AgreesOnClosing}
 use Rattle.rt_ids.specs.declared.order.Reason.TheVariants as why
-use Rattle.rt_ids.specs.Journal.{Journal, or_else}
-use Rattle.rt_ids.specs.Closing.{mode_told, core_mode_told, count_told, queue_mode, core_mode, final_count}
-use Rattle.rt_ids.specs.Commands.{IsOpening, created_count, refusal, return_reason, reason_if_closed, reason_if_returning}
-use Rattle.rt_taskqueue.specs.Queues.{queue_count, mode_of}
-use Rattle.rt_core.specs.State.{CoreView}
+use Rattle.rt_ids.specs.Commands.{return_reason}
 use Rattle.rt_core.specs.Closing as core
-use Rattle.rt_journal.specs.Agreement.{AgreesOnClosing}
 
 -- a note that closes no queue and no core, and shuts no gate
 pub record IsOpenNote {T : Type 0} (note : Note T) : Type 0 where

@@ -1,29 +1,20 @@
 -- What a core tells of itself stays what its journal says, as a pick hands a job back; and the notes of the pick may stand.
-use Rattle.std.proofs.Common.{◌≡◌, ℕ, ◌+◌, ◌<◌, Bool, true, false, ◌∷◌, length, refl, sym, ◌∙◌, ap, subst, arith, get_or, set, get_or-set_same, get_or-set_other, length-set}
-use Rattle.std.specs.Prelude.{◌==◌, Some, None, max}
-use Rattle.std.proofs.lemmas.Bool.{eqb-true, eqb-false}
-use Rattle.rt_ids.specs.Terms.{Terms}
-use Rattle.rt_ids.specs.declared.names.JobId.{JobId}
+use Rattle.rt_journal.proofs.Names.{◌≡◌, ℕ, ◌+◌, ◌<◌, ◌∷◌, length, refl, sym, ◌∙◌, ap, subst, arith, set, Some, None}
+use Rattle.rt_journal.proofs.Names.{max, Terms, JobId, Reason, most_turns, Journal, EachNote, line, IsRightPick, turns}
+use Rattle.rt_journal.proofs.Names.{MayStand, line-turn, line-turn_elsewhere, virtual_runtime-stays, floor-stays}
+use Rattle.rt_journal.proofs.Names.{waiting_of, CoreView, tally_of, runtime_of, delivered_of, TakesOut, HandsBack}
+use Rattle.rt_journal.proofs.Names.{Agrees, AgreesOnClosing, IsJobOut, figures_of, figures_told}
+use Rattle.std.proofs.Common.{length-set}
 use Rattle.rt_ids.specs.declared.note.Note.TheVariants as writes
-use Rattle.rt_ids.specs.declared.order.Reason.{Reason}
-use Rattle.rt_ids.specs.Limits.{most_turns}
-use Rattle.rt_ids.specs.Journal.{Journal, EachNote}
-use Rattle.rt_ids.specs.Lines.{line}
-use Rattle.rt_ids.specs.Picks.{IsRightPick, turns}
 use Rattle.rt_ids.specs.Commands.{return_reason}
-use Rattle.rt_ids.specs.Lawful.{MayStand}
-use Rattle.rt_ids.proofs.LineSteps.{line-turn, line-turn_elsewhere}
-use Rattle.rt_ids.proofs.RuntimeSteps.{virtual_runtime-stays, floor-stays}
-use Rattle.rt_taskqueue.specs.Queues.{waiting_of}
-use Rattle.rt_core.specs.State.{CoreView, no_tally, tally_of, runtime_of, delivered_of}
 use Rattle.rt_core.specs.Closing as core
-use Rattle.rt_core.specs.Turns.{TakesOut, HandsBack}
-use Rattle.rt_journal.specs.Agreement.{Agrees, AgreesOnClosing, IsJobOut, names_of}
-use Rattle.rt_journal.specs.Figures.{figures_of, figures_told}
-use Rattle.rt_journal.proofs.FigureSteps.{figures-grow, one_return, counts-return, told-returned}
+use Rattle.rt_journal.specs.Agreement.{names_of}
+use Rattle.rt_journal.proofs.Everywhere.{everywhere}
+use Rattle.rt_journal.proofs.FigureSteps.{set_runtime, figures-grow, one_return, counts-return, told-returned}
 use Rattle.rt_journal.proofs.Kept.{IsKept, plainly_stands, turns-stays}
 use Rattle.rt_journal.proofs.KeptModes.{SameModes, same_modes, closing-stays, return_reason-agrees}
 use Rattle.rt_journal.proofs.KeptPicks as kept_picks
+use Rattle.rt_journal.proofs.KeptSettles.{none≢some}
 
 module _ {J T : Type 0} (terms : Terms) (old new : CoreView J) (name : JobId) (queue : ℕ) (job : J) (reason : Reason) (journal : Journal T)
     (kept : IsKept terms old journal) (hands : HandsBack old name queue job new) (returns : core.return_reason queue old ≡ Some reason) where
@@ -56,26 +47,14 @@ module _ {J T : Type 0} (terms : Terms) (old new : CoreView J) (name : JobId) (q
   exists = let there = kept_picks.exists terms old middle name queue hands.was_started job journal kept takes in omega (arith, there, kept.agrees.tallied)
 
   lines_now : (other : ℕ) → names_of (waiting_of other new.queues) ≡ line other longer
-  lines_now other = by_test (other == queue) refl
-    where
-      by_test : (test : Bool) → (other == queue) ≡ test → names_of (waiting_of other new.queues) ≡ line other longer
-      by_test true same =
-          let left = line-turn terms journal kept.notes queue runtime name (names_of hands.others) first_in_line in
-          subst (λ at. names_of (waiting_of at new.queues) ≡ line at longer) (sym (eqb-true other queue same)) (ap names_of hands.line.changed ∙ sym (left.returned reason))
-      by_test false apart =
-          let away : other ≡ queue → ⊥ = eqb-false other queue apart in
-          let left = line-turn_elsewhere terms journal kept.notes other queue runtime name (names_of hands.others) first_in_line away in
-          ap names_of (hands.line.others other away) ∙ (kept.agrees.lines other ∙ sym (left.returned reason))
+  lines_now = everywhere (λ at. names_of (waiting_of at new.queues) ≡ line at longer) queue
+      (let left = line-turn terms journal kept.notes queue runtime name (names_of hands.others) first_in_line in ap names_of hands.line.changed ∙ sym (left.returned reason))
+      (λ other away.
+      let left = line-turn_elsewhere terms journal kept.notes other queue runtime name (names_of hands.others) first_in_line away in
+      ap names_of (hands.line.others other away) ∙ (kept.agrees.lines other ∙ sym (left.returned reason)))
 
   runtime_kept : (other : ℕ) → runtime_of other new ≡ runtime_of other old
-  runtime_kept other = ap (λ core. runtime_of other core) hands.rest ∙ by_test (other == queue) refl
-    where
-      by_test : (test : Bool) → (other == queue) ≡ test →
-          (get_or (set old.tallies queue (record (tally_of queue old) { selected = (tally_of queue old).selected + 1; returned = (tally_of queue old).returned + 1 })) other no_tally).runtime ≡ runtime_of other old
-      by_test true same =
-          subst (λ at. (get_or (set old.tallies queue (record (tally_of queue old) { selected = (tally_of queue old).selected + 1; returned = (tally_of queue old).returned + 1 })) at no_tally).runtime ≡ runtime_of at old)
-          (sym (eqb-true other queue same)) (ap (λ tally. tally.runtime) (get_or-set_same old.tallies queue _ no_tally exists))
-      by_test false apart = ap (λ tally. tally.runtime) (get_or-set_other old.tallies queue other _ no_tally (eqb-false other queue apart))
+  runtime_kept other = ap (λ core. runtime_of other core) hands.rest ∙ set_runtime old.tallies queue _ exists refl other
 
   modes_stay : SameModes old new
   modes_stay = record {
@@ -87,9 +66,6 @@ module _ {J T : Type 0} (terms : Terms) (old new : CoreView J) (name : JobId) (q
 
   nobody_out : new.out ≡ None
   nobody_out = ap (λ core. core.out) hands.rest ∙ hands.next.free
-
-  none≢some : {A : Type 0} (item : A) → None ≡ Some item → ⊥
-  none≢some item same = cc
 
   closing_now : AgreesOnClosing new longer
   closing_now =

@@ -1,28 +1,17 @@
 -- What a core tells of itself stays what its journal says, as the poll of the job that is out is settled.
-use Rattle.std.proofs.Common.{◌≡◌, ℕ, ◌+◌, ◌<◌, Bool, true, false, [], ◌∷◌, ◌++◌, length, refl, sym, ◌∙◌, ap, subst, arith, get_or-set_same, get_or-set_other, length-set}
-use Rattle.std.specs.Prelude.{◌==◌, Some, None}
-use Rattle.std.proofs.lemmas.Bool.{eqb-true, eqb-false}
-use Rattle.std.proofs.lemmas.List.{map-append}
-use Rattle.std.proofs.lemmas.List.Elements.{All-append, All-cons, All-nil}
-use Rattle.rt_shares.specs.Charge.{charge, clamped}
-use Rattle.rt_ids.specs.Terms.{Terms}
-use Rattle.rt_ids.specs.declared.names.JobId.{JobId}
+use Rattle.rt_journal.proofs.Names.{◌≡◌, ℕ, ◌+◌, ◌<◌, Bool, true, [], ◌∷◌, ◌++◌, length, refl, sym, ◌∙◌, ap, subst}
+use Rattle.rt_journal.proofs.Names.{arith, get_or-set_same, get_or-set_other, Some, None, map-append, All-append}
+use Rattle.rt_journal.proofs.Names.{All-cons, All-nil, charge, clamped, Terms, JobId, Journal, is_told, name_started}
+use Rattle.rt_journal.proofs.Names.{queue_of, virtual_runtime, shares, line, jobs_out, jobs_out-yield, jobs_out-done}
+use Rattle.rt_journal.proofs.Names.{line-yield, line-yield_elsewhere, line-done, is_told-alone, virtual_runtime-yield}
+use Rattle.rt_journal.proofs.Names.{virtual_runtime-yield_elsewhere, virtual_runtime-done}
+use Rattle.rt_journal.proofs.Names.{virtual_runtime-done_elsewhere, floor-stays, QueuesView, queue_count, waiting_of}
+use Rattle.rt_journal.proofs.Names.{shares_of, mode_of, ChangesLine, Tally, CoreView, JobOut, no_tally, tally_of}
+use Rattle.rt_journal.proofs.Names.{runtime_of, settled_view, IsJobOut, AreMarked, figures_of, figures_told}
+use Rattle.std.proofs.Common.{length-set}
 use Rattle.rt_ids.specs.declared.note.Note.TheVariants as writes
-use Rattle.rt_ids.specs.Journal.{Journal, is_told}
-use Rattle.rt_ids.specs.Filters.{name_started}
-use Rattle.rt_ids.specs.Work.{queue_of}
-use Rattle.rt_ids.specs.Runtimes.{virtual_runtime, shares}
-use Rattle.rt_ids.specs.Lines.{line, jobs_out}
-use Rattle.rt_ids.proofs.JobsOut.{jobs_out-yield, jobs_out-done}
-use Rattle.rt_ids.proofs.LineSteps.{line-yield, line-yield_elsewhere, line-done}
-use Rattle.rt_ids.proofs.Starts.{is_told-alone}
-use Rattle.rt_ids.proofs.RuntimeSteps.{virtual_runtime-yield, virtual_runtime-yield_elsewhere, virtual_runtime-done, virtual_runtime-done_elsewhere, floor-stays}
-use Rattle.rt_taskqueue.specs.Queues.{QueuesView, queue_count, waiting_of, shares_of, mode_of, ChangesLine}
-use Rattle.rt_core.specs.declared.tally.Tally.{Tally}
-use Rattle.rt_core.specs.State.{CoreView, JobOut, no_tally, tally_of, runtime_of}
-use Rattle.rt_core.specs.Turns.{settled_view}
-use Rattle.rt_journal.specs.Agreement.{IsJobOut, AreMarked, names_of}
-use Rattle.rt_journal.specs.Figures.{figures_of, figures_told}
+use Rattle.rt_journal.specs.Agreement.{names_of}
+use Rattle.rt_journal.proofs.Everywhere.{everywhere}
 use Rattle.rt_journal.proofs.FigureSteps.{figures-grow, one_yield, one_done, counts-yield, counts-done, told-yield, told-done}
 use Rattle.rt_journal.proofs.KeptModes.{closing-stays}
 use Rattle.rt_journal.proofs.Kept.{IsKept, plainly_stands, turns-stays}
@@ -101,45 +90,23 @@ module _ {J T : Type 0} (terms : Terms) (old : CoreView J) (job : JobOut J) (tim
           (λ other. told-yield other job.queue journal job.name is_out.1 time)
 
       lines : (other : ℕ) → names_of (waiting_of other queues) ≡ line other yielded
-      lines other = by_test (other == job.queue) refl
-        where
-          by_test : (test : Bool) → (other == job.queue) ≡ test → names_of (waiting_of other queues) ≡ line other yielded
-          by_test true same =
-              let one : other ≡ job.queue = eqb-true other job.queue same in
-              subst (λ place. names_of (waiting_of place queues) ≡ line place yielded) (sym one)
-              (
-              ap names_of changes.changed
-              ∙ (map-append (λ entry. entry.0) (waiting_of job.queue old.queues) ((job.name, true, back) ∷ [])
-              ∙ (ap (λ names. names ++ job.name ∷ []) (kept.agrees.lines job.queue) ∙ sym (line-yield job.queue time job.name journal is_out.1)))
-              )
-          by_test false apart =
-              let away : other ≡ job.queue → ⊥ = eqb-false other job.queue apart in
-              ap names_of (changes.others other away) ∙ (kept.agrees.lines other ∙ sym (line-yield_elsewhere other job.queue time job.name journal is_out.1 away))
+      lines = everywhere (λ at. names_of (waiting_of at queues) ≡ line at yielded) job.queue
+          (ap names_of changes.changed
+          ∙ (map-append (λ entry. entry.0) (waiting_of job.queue old.queues) ((job.name, true, back) ∷ [])
+          ∙ (ap (λ names. names ++ job.name ∷ []) (kept.agrees.lines job.queue) ∙ sym (line-yield job.queue time job.name journal is_out.1))))
+          (λ other away. ap names_of (changes.others other away) ∙ (kept.agrees.lines other ∙ sym (line-yield_elsewhere other job.queue time job.name journal is_out.1 away)))
 
       marks : (other : ℕ) → AreMarked yielded (waiting_of other queues)
-      marks other = by_test (other == job.queue) refl
-        where
-          by_test : (test : Bool) → (other == job.queue) ≡ test → AreMarked yielded (waiting_of other queues)
-          by_test true same =
-              let one : other ≡ job.queue = eqb-true other job.queue same in
-              subst (AreMarked yielded) (sym (ap (λ place. waiting_of place queues) one ∙ changes.changed))
-              (
-              All-append is_marked (waiting_of job.queue old.queues) ((job.name, true, back) ∷ []) (kept.agrees.marks job.queue)
-              (All-cons is_marked (job.name, true, back) [] (sym (is_told-alone terms job.name journal kept.notes is_out.0)) (All-nil is_marked))
-              )
-          by_test false apart = subst (AreMarked yielded) (sym (changes.others other (eqb-false other job.queue apart))) (kept.agrees.marks other)
+      marks = everywhere (λ at. AreMarked yielded (waiting_of at queues)) job.queue
+          (subst (AreMarked yielded) (sym changes.changed)
+          (All-append is_marked (waiting_of job.queue old.queues) ((job.name, true, back) ∷ []) (kept.agrees.marks job.queue)
+          (All-cons is_marked (job.name, true, back) [] (sym (is_told-alone terms job.name journal kept.notes is_out.0)) (All-nil is_marked))))
+          (λ other away. subst (AreMarked yielded) (sym (changes.others other away)) (kept.agrees.marks other))
 
       runtimes : (other : ℕ) → runtime_of other new ≡ virtual_runtime other yielded
-      runtimes other = by_test (other == job.queue) refl
-        where
-          by_test : (test : Bool) → (other == job.queue) ≡ test → runtime_of other new ≡ virtual_runtime other yielded
-          by_test true same =
-              let one : other ≡ job.queue = eqb-true other job.queue same in
-              subst (λ place. runtime_of place new ≡ virtual_runtime place yielded) (sym one)
-              (runtime_charged ∙ sym (virtual_runtime-yield job.queue journal job.name time is_out.1))
-          by_test false apart =
-              let away : other ≡ job.queue → ⊥ = eqb-false other job.queue apart in
-              runtime_same other away ∙ sym (virtual_runtime-yield_elsewhere other journal job.name time job.queue is_out.1 away)
+      runtimes = everywhere (λ at. runtime_of at new ≡ virtual_runtime at yielded) job.queue
+          (runtime_charged ∙ sym (virtual_runtime-yield job.queue journal job.name time is_out.1))
+          (λ other away. runtime_same other away ∙ sym (virtual_runtime-yield_elsewhere other journal job.name time job.queue is_out.1 away))
 
   abbrev finished : T → Journal T
   finished value = writes.Done job.name time value ∷ journal
@@ -174,13 +141,6 @@ module _ {J T : Type 0} (terms : Terms) (old : CoreView J) (job : JobOut J) (tim
           (λ other. told-done other job.queue journal job.name is_out.1 time value)
 
       runtimes : (other : ℕ) → runtime_of other new ≡ virtual_runtime other (finished value)
-      runtimes other = by_test (other == job.queue) refl
-        where
-          by_test : (test : Bool) → (other == job.queue) ≡ test → runtime_of other new ≡ virtual_runtime other (finished value)
-          by_test true one =
-              let here : other ≡ job.queue = eqb-true other job.queue one in
-              subst (λ place. runtime_of place new ≡ virtual_runtime place (finished value)) (sym here)
-              (runtime_charged ∙ sym (virtual_runtime-done job.queue journal job.name time value is_out.1))
-          by_test false apart =
-              let away : other ≡ job.queue → ⊥ = eqb-false other job.queue apart in
-              runtime_same other away ∙ sym (virtual_runtime-done_elsewhere other journal job.name time value job.queue is_out.1 away)
+      runtimes = everywhere (λ at. runtime_of at new ≡ virtual_runtime at (finished value)) job.queue
+          (runtime_charged ∙ sym (virtual_runtime-done job.queue journal job.name time value is_out.1))
+          (λ other away. runtime_same other away ∙ sym (virtual_runtime-done_elsewhere other journal job.name time value job.queue is_out.1 away))

@@ -1,16 +1,8 @@
 -- The lane of a core beside the end of its link, as the end sees more, and at the opening.
-use Rattle.std.proofs.Common.{ℕ, ◌<◌, Some, sym, ◌∙◌, ap, subst, arith}
-use Rattle.std.specs.Prelude.{replicate}
-use Rattle.std.proofs.lemmas.List.{length-replicate, get_or-replicate}
-use Rattle.std.proofs.lemmas.Option.{slice_get-get_or}
-use Rattle.rt_ids.specs.declared.order.Order.{Order}
-use Rattle.rt_ids.specs.declared.order.Outcome.{Outcome}
-use Rattle.rt_link.specs.declared.ends.Outward.{Outward}
-use Rattle.rt_desk.specs.Lanes.{IsLaneOf, IsUnused, fresh_lane}
-use Rattle.rt_desk.proofs.Lanes.{IsLaneOf-more, IsLaneOf-fresh}
-use Rattle.rt_journal.specs.Submissions.{DeskView, opened_desk}
-use Rattle.rt_journal.specs.Ends.{ShowsMore}
-use Rattle.rt_journal.specs.Tickets.{HasLane}
+use Rattle.rt_journal.proofs.Names.{ℕ, ◌<◌, Some, sym, ◌∙◌, ap, subst, arith, replicate, length-replicate}
+use Rattle.rt_journal.proofs.Names.{get_or-replicate, slice_get-get_or, Order, Outcome, Outward, IsLaneOf, IsUnused}
+use Rattle.rt_journal.proofs.Names.{fresh_lane, IsLaneOf-more, IsLaneOf-fresh, DeskView, opened_desk, ShowsMore}
+use Rattle.rt_journal.proofs.Names.{HasLane}
 
 module _ {J T : Type 0} (fits : Order J → Outcome J T → Type 0) (core : ℕ) where
   -- seeing more changes nothing

@@ -1,28 +1,13 @@
 -- A step on one submission: its lane changes at its number, its note is written, and all else of the desk stays.
-use Rattle.std.proofs.Common.{◌≡◌, ◌≢◌, inl, inr, ℕ, zero, suc, ◌+◌, ◌<◌, ◌≤◌, true, false, List, [], ◌∷◌, ◌++◌, length, reverse, Some, refl, sym, ◌∙◌, ap, subst, arith, set, get_or-set_same}
-use Rattle.std.specs.Prelude.{is_some, slice_get, take, count_by}
-use Rattle.std.proofs.lemmas.Bool.{ne_eqb}
-use Rattle.std.proofs.lemmas.Bool.Decides.{eqb_tells}
+use Rattle.rt_journal.proofs.Names.{◌≡◌, ◌≢◌, inl, inr, ℕ, zero, suc, ◌+◌, ◌<◌, ◌≤◌, true, false, List, [], ◌∷◌, ◌++◌}
+use Rattle.rt_journal.proofs.Names.{length, reverse, Some, refl, sym, ◌∙◌, ap, subst, arith, set, get_or-set_same}
+use Rattle.rt_journal.proofs.Names.{is_some, slice_get, take, count_by, ne_eqb, eqb_tells, slice_get-get_or}
+use Rattle.rt_journal.proofs.Names.{slice_get_within, JobId, Note, Order, Outcome, accepted_orders, collected_outcomes}
+use Rattle.rt_journal.proofs.Names.{Journal, MayFollow, same_name, is_gone, is_outstanding, outstanding_count, Outward}
+use Rattle.rt_journal.proofs.Names.{at, Lane, IsLaneOf, changed, unchanged, JournalView, DeskView, IsWritten}
+use Rattle.rt_journal.proofs.Names.{terms_of_desk, IsOutOf, KeepsOut, KeepsSent, name_of, named_outcomes}
+use Rattle.rt_journal.proofs.Names.{numbered_orders, KnowsLane, KnowsLanes, StaysBeside, is_let_go}
 use Rattle.std.proofs.lemmas.List.{length-set}
-use Rattle.std.proofs.lemmas.Option.{slice_get-get_or, slice_get_within}
-use Rattle.rt_ids.specs.declared.names.JobId.{JobId}
-use Rattle.rt_ids.specs.declared.note.Note.{Note}
-use Rattle.rt_ids.specs.declared.order.Order.{Order}
-use Rattle.rt_ids.specs.declared.order.Outcome.{Outcome}
-use Rattle.rt_ids.specs.Filters.{accepted_orders, collected_outcomes}
-use Rattle.rt_ids.specs.Journal.{Journal}
-use Rattle.rt_ids.specs.Lawful.{MayFollow}
-use Rattle.rt_ids.specs.Names.{same_name}
-use Rattle.rt_ids.specs.Outstanding.{is_gone, is_outstanding, outstanding_count}
-use Rattle.rt_link.specs.declared.ends.Outward.{Outward}
-use Rattle.rt_desk.specs.Held.{at}
-use Rattle.rt_desk.specs.Lanes.{Lane, IsLaneOf}
-use Rattle.rt_desk.proofs.Cores.{changed, unchanged}
-use Rattle.rt_notes.specs.Journals.{JournalView}
-use Rattle.rt_journal.specs.Submissions.{DeskView, IsWritten, terms_of_desk}
-use Rattle.rt_journal.specs.Ends.{IsOutOf, KeepsOut, KeepsSent, name_of, named_outcomes}
-use Rattle.rt_journal.specs.Orders.{numbered_orders}
-use Rattle.rt_journal.specs.Tickets.{KnowsLane, KnowsLanes, StaysBeside, is_let_go}
 use Rattle.rt_journal.proofs.Kept.{plainly_stands}
 use Rattle.rt_journal.proofs.NumberedOrders.{length-numbered}
 use Rattle.rt_journal.proofs.Apart.{other_name, counted, counted-same, counted-less}

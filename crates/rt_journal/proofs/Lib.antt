@@ -1,3 +1,5 @@
+pub mod Names
+pub mod Everywhere
 pub mod Sums
 pub mod NumberedOrders
 pub mod FigureSteps
@@ -36,6 +38,8 @@ pub mod Drained
 pub mod Apart
 pub mod Named
 pub mod TicketNotes
+pub mod TakenLanes
+pub mod TakenCalls
 pub mod LaneNotes
 pub mod Desked
 pub mod Refused

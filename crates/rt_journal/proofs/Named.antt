@@ -1,29 +1,13 @@
 -- What stands under the names of one link, among the orders that were accepted and the outcomes that were collected.
-use Rattle.std.proofs.Common.{◌≡◌, inl, inr, ℕ, zero, suc, ◌+◌, ◌-◌, ◌<◌, ◌≤◌, Bool, true, false, List, [], ◌∷◌, ◌++◌, length, Some, None, refl, sym, ◌∙◌, ap, subst, arith, cond}
-use Rattle.std.specs.Prelude.{◌==◌, ◌||◌, slice_get}
-use Rattle.std.proofs.lemmas.Bool.{eq-eqb}
-use Rattle.rt_ids.specs.declared.names.JobId.{JobId}
-use Rattle.rt_ids.specs.declared.note.Note.{Note}
-use Rattle.rt_ids.specs.declared.note.Note.TheVariants.{Sent, Collected}
-use Rattle.rt_ids.specs.declared.order.Order.{Order}
-use Rattle.rt_ids.specs.declared.order.Outcome.{Outcome}
-use Rattle.rt_ids.specs.Assembly.{first_under}
-use Rattle.rt_ids.specs.Filters.{accepted_orders, collected_outcomes, outcome_collected, order_sent}
-use Rattle.rt_ids.specs.Journal.{Journal, EachNote, with_last, is_told}
-use Rattle.rt_ids.specs.Lawful.{MayFollow, MayStand}
-use Rattle.rt_ids.specs.Names.{same_name, is_name}
-use Rattle.rt_ids.specs.Orders.{without_job}
-use Rattle.rt_ids.specs.Outcomes.{outcome_note}
-use Rattle.rt_ids.specs.Outstanding.{name_collected}
-use Rattle.rt_ids.specs.Terms.{Terms}
-use Rattle.rt_ids.proofs.NameLemmas.{one_name, same_as_itself}
-use Rattle.rt_ids.proofs.Under.{first_under-longer, first_under-came}
-use Rattle.rt_ids.proofs.Collected.{nothing_collected_under}
-use Rattle.rt_link.specs.Ends.{AreDistinct}
-use Rattle.rt_link.proofs.Lists.{slice_get-behind}
-use Rattle.rt_desk.proofs.Lanes.{option_cases}
-use Rattle.rt_journal.specs.Orders.{numbered_orders}
-use Rattle.rt_journal.specs.Ends.{name_of, named_outcomes}
+use Rattle.rt_journal.proofs.Names.{◌≡◌, inl, inr, ℕ, zero, suc, ◌+◌, ◌-◌, ◌<◌, ◌≤◌, Bool, true, false, List, [], ◌∷◌}
+use Rattle.rt_journal.proofs.Names.{◌++◌, length, Some, None, refl, sym, ◌∙◌, ap, subst, arith, cond, ◌==◌, ◌||◌}
+use Rattle.rt_journal.proofs.Names.{slice_get, eq-eqb, JobId, Note, Sent, Order, Outcome, first_under, accepted_orders}
+use Rattle.rt_journal.proofs.Names.{collected_outcomes, outcome_collected, order_sent, Journal, EachNote, with_last}
+use Rattle.rt_journal.proofs.Names.{is_told, MayFollow, MayStand, same_name, is_name, without_job, outcome_note}
+use Rattle.rt_journal.proofs.Names.{name_collected, Terms, one_name, same_as_itself, first_under-longer}
+use Rattle.rt_journal.proofs.Names.{first_under-came, nothing_collected_under, AreDistinct, slice_get-behind}
+use Rattle.rt_journal.proofs.Names.{option_cases, numbered_orders, name_of, named_outcomes}
+use Rattle.rt_ids.specs.declared.note.Note.TheVariants.{Collected}
 use Rattle.rt_journal.proofs.Apart.{other_name}
 
 -- each number that was given has an order

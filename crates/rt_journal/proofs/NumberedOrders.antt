@@ -1,13 +1,7 @@
 -- Lists by place, and the numbered orders of a link.
-use Rattle.std.proofs.Common.{◌≡◌, ℕ, zero, suc, ◌+◌, Bool, true, false, List, [], ◌∷◌, ◌++◌, length, refl, ◌∙◌, ap, subst, arith, get_or, cond}
-use Rattle.std.specs.Prelude.{Some, slice_get, map}
-use Rattle.rt_ids.specs.declared.names.JobId.{JobId}
-use Rattle.rt_ids.specs.declared.order.Order.{Order}
-use Rattle.rt_ids.specs.Assembly.{first_under}
-use Rattle.rt_ids.specs.Names.{same_name}
-use Rattle.rt_ids.proofs.NameLemmas.{one_name, same_as_itself}
-use Rattle.rt_ids.specs.Orders.{without_job}
-use Rattle.rt_journal.specs.Orders.{numbered_orders}
+use Rattle.rt_journal.proofs.Names.{◌≡◌, ℕ, zero, suc, ◌+◌, Bool, true, false, List, [], ◌∷◌, ◌++◌, length, refl, ◌∙◌}
+use Rattle.rt_journal.proofs.Names.{ap, subst, arith, get_or, cond, Some, slice_get, map, JobId, Order, first_under}
+use Rattle.rt_journal.proofs.Names.{same_name, one_name, same_as_itself, without_job, numbered_orders}
 
 -- reading a mapped list
 pub get_or-map : {A B : Type 0} (f : A → B) (items : List A) (place : ℕ) (default : A) → get_or (map f items) place (f default) ≡ f (get_or items place default)

@@ -1,21 +1,11 @@
 -- A core that was just opened, beside a journal without a note.
-use Rattle.std.proofs.Common.{false, length, take, ◌≡◌, ℕ, zero, suc, ◌+◌, ◌*◌, ◌<◌, ◌≤◌, [], refl, sym, ap, subst, arith}
-use Rattle.std.specs.Prelude.{Option, Some, None, All, replicate, slice_index_or}
-use Rattle.std.proofs.lemmas.List.{length-replicate, get_or-replicate}
-use Rattle.std.proofs.lemmas.List.Elements.{All-nil}
-use Rattle.rt_jobs.specs.Steps.{Owed}
-use Rattle.rt_taskqueue.specs.Queues.{waiting_of, shares_of, mode_of}
-use Rattle.rt_core.specs.State.{CoreView, runtime_of, opened}
-use Rattle.rt_journal.specs.Agreement.{Agrees, AreMarked, names_of}
-use Rattle.rt_journal.specs.Figures.{no_figures, figures_of}
-use Rattle.rt_journal.specs.Recorded.{IsRecorded, HasTask, sum_upto, given_count}
-use Rattle.rt_journal.specs.Steps.{opened_beside}
-use Rattle.rt_link.specs.declared.ends.Outward.{Outward}
-use Rattle.rt_link.specs.declared.ends.Inward.{Inward}
-use Rattle.rt_link.specs.Calls.{final_of}
-use Rattle.rt_journal.specs.Orders.{numbered_orders}
-use Rattle.rt_journal.specs.Submissions.{opened_desk}
-use Rattle.rt_journal.specs.Ends.{IsInOf, IsOutOf, named_outcomes}
+use Rattle.rt_journal.proofs.Names.{false, length, take, ◌≡◌, ℕ, zero, suc, ◌+◌, ◌*◌, ◌<◌, ◌≤◌, [], refl, sym, ap}
+use Rattle.rt_journal.proofs.Names.{subst, arith, Option, Some, None, All, replicate, slice_index_or, length-replicate}
+use Rattle.rt_journal.proofs.Names.{get_or-replicate, All-nil, Owed, waiting_of, shares_of, mode_of, CoreView}
+use Rattle.rt_journal.proofs.Names.{runtime_of, opened, Agrees, AreMarked, no_figures, figures_of, IsRecorded, HasTask}
+use Rattle.rt_journal.proofs.Names.{sum_upto, given_count, opened_beside, Outward, Inward, final_of, numbered_orders}
+use Rattle.rt_journal.proofs.Names.{opened_desk, IsInOf, IsOutOf, named_outcomes}
+use Rattle.rt_journal.specs.Agreement.{names_of}
 
 none≢some : {A : Type 0} (item : A) → None ≡ Some item → ⊥
 none≢some item same = cc
@@ -29,29 +19,15 @@ module _ (J : Type 0) (core cores cap : ℕ) where
   abbrev new_core : CoreView J
   new_core = opened core cores ((cores + 1) * cap) 0
 
-  pub no_line : (queue : ℕ) → waiting_of queue new_core.queues ≡ []
-  no_line zero = refl
-  no_line (suc zero) = refl
-  no_line (suc (suc queue)) = refl
-
-  no_runtime : (queue : ℕ) → runtime_of queue new_core ≡ 0
-  no_runtime zero = refl
-  no_runtime (suc zero) = refl
-  no_runtime (suc (suc queue)) = refl
+  -- no queue has a job, a runtime, a mode or a count
+  at_first : (queue : ℕ) → (waiting_of queue new_core.queues ≡ []) × (runtime_of queue new_core ≡ 0) × (mode_of queue new_core.queues ≡ None) × (figures_of queue new_core ≡ no_figures)
+  at_first zero = (refl, refl, refl, refl)
+  at_first (suc zero) = (refl, refl, refl, refl)
+  at_first (suc (suc queue)) = (refl, refl, refl, refl)
 
   first_shares : (queue : ℕ) → queue < 1 → shares_of queue new_core.queues ≡ 1000
   first_shares zero first = refl
   first_shares (suc queue) past = absurd (omega (arith, past))
-
-  no_mode : (queue : ℕ) → mode_of queue new_core.queues ≡ None
-  no_mode zero = refl
-  no_mode (suc zero) = refl
-  no_mode (suc (suc queue)) = refl
-
-  no_figure : (queue : ℕ) → figures_of queue new_core ≡ no_figures
-  no_figure zero = refl
-  no_figure (suc zero) = refl
-  no_figure (suc (suc queue)) = refl
 
   -- it agrees with a journal without a note
   pub agrees-opened : (T : Type 0) → Agrees {J = J} {T = T} new_core []
@@ -59,17 +35,17 @@ module _ (J : Type 0) (core cores cap : ℕ) where
     tallied = refl;
     senders = length-replicate (cores + 1) 0;
     last = refl;
-    lines = λ queue. ap names_of (no_line queue);
-    marks = λ queue. subst (AreMarked {J = J} {T = T} []) (sym (no_line queue)) (All-nil _);
-    runtimes = no_runtime;
+    lines = λ queue. ap names_of (at_first queue).0;
+    marks = λ queue. subst (AreMarked {J = J} {T = T} []) (sym (at_first queue).0) (All-nil _);
+    runtimes = λ queue. (at_first queue).1;
     weights = first_shares;
     the_floor = refl;
     turns = refl;
     out = refl;
     out_exists = λ out none. absurd (none≢some out none);
     delivered = λ sender known. get_or-replicate (cores + 1) sender 0 0 (omega (arith, known));
-    figures = no_figure;
-    closing = record { modes = no_mode; mode = refl; gate_places = length-replicate (cores + 1) None; gates = λ sender. none_at (cores + 1) sender };
+    figures = λ queue. (at_first queue).3;
+    closing = record { modes = λ queue. (at_first queue).2; mode = refl; gate_places = length-replicate (cores + 1) None; gates = λ sender. none_at (cores + 1) sender };
   }
 
 no_sum : (T : Type 0) (last : ℕ) → sum_upto (given_count {T = T} []) last ≡ 0
@@ -85,7 +61,7 @@ recorded-opened {J} {T} same made polls core cores cap room there = record {
   held = record { each = λ sender known. omega arith; inside = omega (arith, no_sum T cores) };
   taken = λ name order at. absurd (none≢some order at);
   as_sent = tt;
-  waiting = λ queue. subst (All (λ entry. HasTask same made polls [] [] queue entry.0 entry.2)) (sym (no_line J core cores cap queue)) (All-nil _);
+  waiting = λ queue. subst (All (λ entry. HasTask same made polls [] [] queue entry.0 entry.2)) (sym (at_first J core cores cap queue).0) (All-nil _);
   out = λ job at. absurd (none≢some job at);
 }
 

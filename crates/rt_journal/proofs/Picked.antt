@@ -1,46 +1,27 @@
 -- A core beside its journal picks: the right pick takes a job out, or the core says why there is none.
-use Rattle.std.proofs.Common.{◌≡◌, ℕ, ◌+◌, ◌<◌, ◌≤◌, Bool, true, false, List, [], ◌∷◌, ◌++◌, length, reverse, refl, sym, ◌∙◌, ap, subst, arith, add-zero}
-use Rattle.std.specs.Prelude.{◌==◌, Some, None, All, is_some, Result, Ok, Err, Option}
-use Rattle.std.proofs.lemmas.Bool.{eqb-true, eqb-false}
-use Rattle.std.proofs.lemmas.Option.{same_Some}
-use Rattle.std.proofs.lemmas.List.Elements.{All-head, All-tail}
-use Rattle.rt_ids.specs.Limits.{most_turns}
-use Rattle.rt_ids.specs.declared.names.JobId.{JobId}
-use Rattle.rt_ids.specs.declared.note.Note.{Note}
-use Rattle.rt_ids.specs.declared.note.Note.TheVariants.{Pick, Returned}
-use Rattle.rt_ids.specs.declared.order.Order.TheVariants.{Job}
-use Rattle.rt_ids.specs.declared.order.Reason.{Reason}
-use Rattle.rt_ids.specs.Journal.{Journal, is_told}
-use Rattle.rt_ids.specs.Picks.{turns, pick_count}
-use Rattle.rt_ids.specs.Work.{number_if}
-use Rattle.rt_ids.proofs.Told.{length-with_last_if}
-use Rattle.rt_ids.specs.Filters.{if_from, name_ended, given_outcomes}
-use Rattle.rt_jobs.specs.Steps.{Owed}
-use Rattle.rt_taskqueue.specs.Queues.{waiting_of, held_count, ChangesLine}
-use Rattle.rt_core.specs.declared.turn.Turn.{Turn}
-use Rattle.rt_core.specs.declared.turn.Turn.TheVariants.{Start, Resume, Back, Idle}
-use Rattle.rt_core.specs.declared.turn.PickError.{PickError}
-use Rattle.rt_core.specs.declared.turn.PickError.TheVariants.{Busy, Spent}
-use Rattle.rt_core.specs.State.{CoreView, runtime_of, inside_count}
+use Rattle.rt_journal.proofs.Names.{◌≡◌, ℕ, ◌+◌, ◌<◌, ◌≤◌, Bool, true, false, List, [], ◌∷◌, ◌++◌, length, reverse}
+use Rattle.rt_journal.proofs.Names.{refl, sym, ◌∙◌, ap, subst, arith, add-zero, ◌==◌, Some, None, All, is_some, Result}
+use Rattle.rt_journal.proofs.Names.{Ok, Err, Option, same_Some, All-head, All-tail, most_turns, JobId, Note, Pick, Job}
+use Rattle.rt_journal.proofs.Names.{Reason, Journal, is_told, turns, pick_count, number_if, length-with_last_if}
+use Rattle.rt_journal.proofs.Names.{if_from, name_ended, given_outcomes, Owed, waiting_of, held_count, ChangesLine}
+use Rattle.rt_journal.proofs.Names.{Turn, Start, Resume, Idle, PickError, Busy, CoreView, runtime_of, inside_count}
+use Rattle.rt_journal.proofs.Names.{TakesOut, HandsBack, polls_made, poll_note, RecordedView, terms_at, IsRecorded}
+use Rattle.rt_journal.proofs.Names.{HasTask, note_taken, sum_upto, given_count, IsPick, IsHandBack, owed_back, known_of}
+use Rattle.rt_journal.proofs.Names.{among, same_as_itself, without_job, option_map, OutcomeNote}
+use Rattle.rt_ids.specs.declared.note.Note.TheVariants.{Returned}
+use Rattle.rt_core.specs.declared.turn.Turn.TheVariants.{Back}
+use Rattle.rt_core.specs.declared.turn.PickError.TheVariants.{Spent}
 use Rattle.rt_core.specs.Closing as core_says
-use Rattle.rt_core.specs.Turns.{TakesOut, HandsBack}
 use Rattle.rt_core.specs.Turns.{Picks as CorePicks}
 use Rattle.rt_journal.specs.Agreement.{names_of}
-use Rattle.rt_journal.specs.Polls.{polls_made, poll_note}
-use Rattle.rt_journal.specs.Recorded.{RecordedView, terms_at, IsRecorded, HasTask, note_taken, sum_upto, given_count}
-use Rattle.rt_journal.specs.Turns.{Picks, IsPick, IsHandBack}
-use Rattle.rt_journal.specs.Owed.{owed_back}
+use Rattle.rt_journal.specs.Turns.{Picks}
+use Rattle.rt_journal.proofs.Everywhere.{everywhere}
 use Rattle.rt_journal.proofs.Ahead.{idle, works}
 use Rattle.rt_journal.proofs.KeptReturns.{kept-returned, right_return, returns_told}
 use Rattle.rt_journal.proofs.KeptReturns as returned
 use Rattle.rt_journal.proofs.KeptPicks.{kept-picked, right_pick, first_in_line, not_returning, start_told}
 use Rattle.rt_journal.proofs.Received.{task_stays}
 use Rattle.rt_journal.proofs.Ungiven.{ungiven_if, not_given}
-use Rattle.rt_ids.proofs.Known.{known_of}
-use Rattle.rt_ids.proofs.NameLemmas.{among, same_as_itself}
-use Rattle.rt_ids.specs.Orders.{without_job}
-use Rattle.std.specs.Option.{option_map}
-use Rattle.rt_ids.specs.declared.note.OutcomeNote.{OutcomeNote}
 use Rattle.rt_ids.specs.declared.note.OutcomeNote.TheVariants as outcomes
 use Rattle.rt_journal.proofs.Quiet.{nobody, quiet-picked, gates-picked, quiet-returned, as_sent-picked}
 use Rattle.rt_journal.proofs.QuietSteps.{stepped, IsQuietStep, everyone, nothing_done, nothing_stepped}
@@ -83,13 +64,9 @@ module _ {J T : Type 0} {same : J → J → Type 0} {made : J → ℕ} {polls : 
     its_task = All-head (Task queue) first others all_first
 
     still_waiting : (other : ℕ) → All (Task other) (waiting_of other core.queues)
-    still_waiting other = by_test (other == queue) refl
-      where
-        by_test : (test : Bool) → (other == queue) ≡ test → All (Task other) (waiting_of other core.queues)
-        by_test true one =
-            let here : other ≡ queue = eqb-true other queue one in
-            subst (λ at. All (Task at) (waiting_of at core.queues)) (sym here) (subst (All (Task queue)) (sym line_is.changed) (All-tail (Task queue) first others all_first))
-        by_test false apart = subst (All (Task other)) (sym (line_is.others other (eqb-false other queue apart))) (all_old other)
+    still_waiting = everywhere (λ at. All (Task at) (waiting_of at core.queues)) queue
+        (subst (All (Task queue)) (sym line_is.changed) (All-tail (Task queue) first others all_first))
+        (λ other away. subst (All (Task other)) (sym (line_is.others other away)) (all_old other))
 
     one_fewer : held_count core.queues + 1 ≡ held_count old.core.queues
     one_fewer = let line : length (waiting_of queue old.core.queues) ≡ length others + 1 = ap length line_was ∙ omega arith in omega (arith, line, line_is.held)

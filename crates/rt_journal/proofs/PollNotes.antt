@@ -1,15 +1,10 @@
 -- The note of a poll, and who is marked as started after it.
-use Rattle.std.proofs.Common.{◌≡◌, Bool, true, false, List, [], ◌∷◌, sym, ◌∙◌, subst}
-use Rattle.std.proofs.lemmas.Bool.{false_from_ne_true, true≢false, or_parts}
-use Rattle.std.proofs.lemmas.List.Elements.{All-cons, All-nil, All-head, All-tail}
-use Rattle.rt_ids.specs.declared.names.JobId.{JobId}
+use Rattle.rt_journal.proofs.Names.{◌≡◌, Bool, true, false, List, [], ◌∷◌, sym, ◌∙◌, subst, false_from_ne_true}
+use Rattle.rt_journal.proofs.Names.{true≢false, or_parts, All-cons, All-nil, All-head, All-tail, JobId, same_name}
+use Rattle.rt_journal.proofs.Names.{Journal, is_told, name_started, among, one_name, same_as_itself}
+use Rattle.rt_journal.proofs.Names.{is_told-start_elsewhere, AreMarked}
 use Rattle.rt_ids.specs.declared.note.Note.TheVariants as writes
-use Rattle.rt_ids.specs.Names.{same_name}
-use Rattle.rt_ids.specs.Journal.{Journal, is_told}
-use Rattle.rt_ids.specs.Filters.{name_started}
-use Rattle.rt_ids.proofs.NameLemmas.{among, one_name, same_as_itself}
-use Rattle.rt_ids.proofs.Starts.{is_told-start_elsewhere}
-use Rattle.rt_journal.specs.Agreement.{AreMarked, names_of}
+use Rattle.rt_journal.specs.Agreement.{names_of}
 
 -- a name that isn't among some is none of them
 pub other_way : (name other : JobId) → same_name name other ≡ false → same_name other name ≡ false

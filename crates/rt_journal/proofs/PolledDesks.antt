@@ -1,9 +1,6 @@
 -- A core beside its journal, after a poll that had its desk and its ends.
-use Rattle.std.proofs.Common.{◌≡◌, ℕ, List, sym, ◌∙◌, ap, subst}
-use Rattle.rt_jobs.specs.Calls.{Call, Doing, Makes}
-use Rattle.rt_link.specs.declared.ends.Outward.{Outward}
-use Rattle.rt_journal.specs.Submissions.{DeskView}
-use Rattle.rt_journal.specs.Posts.{PostView, HasPosted}
+use Rattle.rt_journal.proofs.Names.{◌≡◌, ℕ, List, sym, ◌∙◌, ap, subst, Call, Doing, Makes, Outward, DeskView, PostView}
+use Rattle.rt_journal.proofs.Names.{HasPosted}
 use Rattle.rt_journal.proofs.SentNotes.{SaysNoMore, all_posted}
 
 -- what was called, as the parts tell it

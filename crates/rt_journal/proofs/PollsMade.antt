@@ -1,21 +1,8 @@
 -- A job that was never delivered was never polled.
-use Rattle.std.proofs.Common.{◌≡◌, ◌+◌, true, false, [], ◌∷◌, refl, sym, ◌∙◌, ap, subst, arith}
-use Rattle.std.proofs.lemmas.Bool.{true≢false, false_from_ne_true}
-use Rattle.rt_ids.specs.Terms.{Terms}
-use Rattle.rt_ids.specs.declared.names.JobId.{JobId}
-use Rattle.rt_ids.specs.declared.note.Note.{Note}
-use Rattle.rt_ids.specs.declared.note.Note.TheVariants.{Yield, Done}
-use Rattle.rt_ids.specs.Names.{is_name}
-use Rattle.rt_ids.specs.Journal.{Journal, EachNote}
-use Rattle.rt_ids.specs.Filters.{delivered_names, name_delivered}
-use Rattle.rt_ids.specs.Work.{number_if}
-use Rattle.rt_ids.specs.Lines.{name_settled}
-use Rattle.rt_ids.specs.Lawful.{MayFollow, MayStand}
-use Rattle.rt_ids.proofs.Told.{grows}
-use Rattle.rt_ids.proofs.JobsOut.{alone_out}
-use Rattle.rt_ids.proofs.Known.{IsOld, known_of}
-use Rattle.rt_ids.proofs.NameLemmas.{one_name}
-use Rattle.rt_journal.specs.Polls.{polls_made}
+use Rattle.rt_journal.proofs.Names.{◌≡◌, ◌+◌, true, false, [], ◌∷◌, refl, sym, ◌∙◌, ap, subst, arith, true≢false}
+use Rattle.rt_journal.proofs.Names.{false_from_ne_true, Terms, JobId, Note, Yield, Done, is_name, Journal, EachNote}
+use Rattle.rt_journal.proofs.Names.{delivered_names, name_delivered, number_if, name_settled, MayFollow, MayStand}
+use Rattle.rt_journal.proofs.Names.{grows, alone_out, IsOld, known_of, one_name, polls_made}
 
 module _ {T : Type 0} (terms : Terms) where
   -- whose poll is settled was delivered before

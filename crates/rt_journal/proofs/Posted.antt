@@ -1,36 +1,16 @@
 -- What the calls of a post leave of the desk and the ends that were lent.
-use Rattle.std.proofs.Common.{◌≡◌, inl, inr, ℕ, ◌+◌, false, List, [], ◌∷◌, length, Some, None, refl, sym, ◌∙◌, ap, subst, arith, cond, set}
-use Rattle.std.specs.Prelude.{Result, Ok, Err, IfOk, slice_get}
-use Rattle.std.proofs.lemmas.Bool.{eq-eqb, true≢false}
-use Rattle.rt_ids.specs.declared.names.JobId.{JobId}
-use Rattle.rt_ids.specs.declared.names.TicketError.{TicketError}
-use Rattle.rt_ids.specs.declared.names.TicketError.TheVariants.{Unknown, Gone, Pending}
+use Rattle.rt_journal.proofs.Names.{◌≡◌, inl, inr, ℕ, ◌+◌, false, List, [], ◌∷◌, length, Some, None, refl, sym, ◌∙◌, ap}
+use Rattle.rt_journal.proofs.Names.{subst, arith, cond, set, Result, Ok, Err, IfOk, slice_get, eq-eqb, true≢false}
+use Rattle.rt_journal.proofs.Names.{JobId, TicketError, Unknown, Gone, Order, Outcome, SendError, Closed, Full, NoCore}
+use Rattle.rt_journal.proofs.Names.{first_under, IsDetachable, accepted_orders, with_last, without_job, outcome_note}
+use Rattle.rt_journal.proofs.Names.{is_gone, same_as_itself, first_under-last, Call, Makes, Submit, Redeem, Detach}
+use Rattle.rt_journal.proofs.Names.{Outward, Sends, StartsWith-self, IsGot, FitsSent, DeskView, Submits, numbered}
+use Rattle.rt_journal.proofs.Names.{IsOutOf, name_of, KnowsLanes, HasLane, StaysBeside, RedeemsTicket, DetachesTicket}
+use Rattle.rt_journal.proofs.Names.{Spends, PostView, SendsMore, IsLent, HasPosted, Knows, LendsEnd, SubmitsOn}
+use Rattle.rt_journal.proofs.Names.{RedeemsOn, DetachesOn, Does}
+use Rattle.rt_ids.specs.declared.names.TicketError.TheVariants.{Pending}
 use Rattle.rt_ids.specs.declared.note.Note.TheVariants as writes
-use Rattle.rt_ids.specs.declared.order.Order.{Order}
-use Rattle.rt_ids.specs.declared.order.Outcome.{Outcome}
-use Rattle.rt_ids.specs.declared.order.SendError.{SendError}
-use Rattle.rt_ids.specs.declared.order.SendError.TheVariants.{Closed, Full, Spent, NoCore}
-use Rattle.rt_ids.specs.Assembly.{first_under}
-use Rattle.rt_ids.specs.Collecting.{IsDetachable}
-use Rattle.rt_ids.specs.Filters.{accepted_orders}
-use Rattle.rt_ids.specs.Journal.{with_last}
-use Rattle.rt_ids.specs.Orders.{without_job}
-use Rattle.rt_ids.specs.Outcomes.{outcome_note}
-use Rattle.rt_ids.specs.Outstanding.{is_gone}
-use Rattle.rt_ids.proofs.NameLemmas.{same_as_itself}
-use Rattle.rt_ids.proofs.Under.{first_under-last}
-use Rattle.rt_jobs.specs.Calls.{Call, Makes}
-use Rattle.rt_jobs.specs.Calls.Call.{Submit, Redeem, Detach}
-use Rattle.rt_link.specs.declared.ends.Outward.{Outward}
-use Rattle.rt_link.specs.Calls.{Sends}
-use Rattle.rt_link.proofs.Lists.{StartsWith-self}
-use Rattle.rt_desk.specs.Lanes.{IsGot, FitsSent}
-use Rattle.rt_journal.specs.Submissions.{DeskView, Submits, numbered}
-use Rattle.rt_journal.specs.Ends.{IsOutOf, name_of}
-use Rattle.rt_journal.specs.Tickets.{KnowsLanes, HasLane, StaysBeside, RedeemsTicket, DetachesTicket}
-use Rattle.rt_journal.specs.Spending.{Spends}
-use Rattle.rt_journal.specs.Posts.{PostView, SendsMore, IsLent, HasPosted}
-use Rattle.rt_journal.specs.Calls.{Knows, LendsEnd, SubmitsOn, RedeemsOn, DetachesOn, Does}
+use Rattle.rt_ids.specs.declared.order.SendError.TheVariants.{Spent}
 use Rattle.rt_journal.proofs.Named.{numbered-missing}
 use Rattle.rt_journal.proofs.NumberedOrders.{length-numbered}
 use Rattle.rt_journal.proofs.Posting.{NotesOne, sends_nothing, lent_noted, posted_noted, posted_nothing, posted_then}

@@ -1,38 +1,20 @@
 -- A whole turn with posts, from the desk that noted the pick, by the desk that came back from the job, to the desk that noted the settling.
-use Rattle.std.specs.Prelude.{None}
-use Rattle.std.specs.Option.{option_map}
-use Rattle.std.proofs.Common.{◌≡◌, ℕ, ◌+◌, ◌*◌, ◌<◌, ◌≤◌, Bool, List, ◌++◌, length, reverse, refl, sym, ◌∙◌, ap, subst}
-use Rattle.std.proofs.lemmas.Option.{same_Some}
-use Rattle.rt_ids.specs.Limits.{most_turns}
-use Rattle.rt_ids.specs.declared.names.JobId.{JobId}
-use Rattle.rt_ids.specs.declared.note.Note.{Note}
-use Rattle.rt_ids.specs.declared.order.Envelope.{Envelope}
-use Rattle.rt_ids.specs.declared.order.Order.{Order}
-use Rattle.rt_ids.specs.declared.order.Outcome.{Outcome}
-use Rattle.rt_ids.specs.Outcomes.{outcome_note}
-use Rattle.rt_ids.specs.Picks.{turns}
-use Rattle.rt_jobs.specs.Calls.{Call, Doing, Makes}
-use Rattle.rt_jobs.specs.declared.job.Step.{Step}
-use Rattle.rt_jobs.specs.Steps.{Owed, IsSameTask}
-use Rattle.rt_core.specs.State.{CoreView, JobOut}
-use Rattle.rt_core.specs.Whole.{TurnsWhole, pick_notes, settled_of, settle_notes}
-use Rattle.rt_link.specs.declared.ends.Outward.{Outward}
-use Rattle.rt_journal.specs.Submissions.{DeskView, IsWritten, terms_of_desk, desk_with}
-use Rattle.rt_journal.specs.Recorded.{RecordedView, IsRecorded, desk_of}
-use Rattle.rt_journal.specs.Ends.{KeepsSent, KeepsIn, LeavesOwed, IsSameSeat, told_under}
-use Rattle.rt_journal.specs.Owed.{OwesSettled, outcome_settled}
-use Rattle.rt_journal.specs.Posts.{PostView, AreOutsOf, HasPosted, lends}
-use Rattle.rt_journal.specs.Calls.{Does}
-use Rattle.rt_journal.specs.Turns.{IsPolled, Settles}
-use Rattle.rt_journal.specs.Whole.{post_of, StaysPut, IsPostingTurn, MayAnswer, TurnsNoted}
+use Rattle.rt_journal.proofs.Names.{None, option_map, ◌≡◌, ℕ, ◌+◌, ◌*◌, ◌<◌, ◌≤◌, Bool, List, ◌++◌, length, reverse}
+use Rattle.rt_journal.proofs.Names.{refl, sym, ◌∙◌, ap, subst, same_Some, most_turns, JobId, Note, Envelope, Order}
+use Rattle.rt_journal.proofs.Names.{Outcome, outcome_note, turns, Call, Doing, Makes, Step, Owed, IsSameTask, CoreView}
+use Rattle.rt_journal.proofs.Names.{JobOut, TurnsWhole, pick_notes, settled_of, settle_notes, Outward, DeskView}
+use Rattle.rt_journal.proofs.Names.{IsWritten, terms_of_desk, desk_with, RecordedView, IsRecorded, desk_of, KeepsSent}
+use Rattle.rt_journal.proofs.Names.{KeepsIn, LeavesOwed, IsSameSeat, told_under, OwesSettled, outcome_settled, PostView}
+use Rattle.rt_journal.proofs.Names.{AreOutsOf, HasPosted, lends, Does, IsPolled, Settles, post_of, StaysPut}
+use Rattle.rt_journal.proofs.Names.{IsPostingTurn, MayAnswer, TurnsNoted}
 use Rattle.rt_journal.proofs.PolledDesks.{posted_rest, posted_silent}
 use Rattle.rt_journal.proofs.PostingTurn.{went_out, is_picked, picks_it, keeps_in, stays_picked, outs_kept, owes_then}
 use Rattle.rt_journal.proofs.Quiet.{given_settled}
 use Rattle.rt_journal.proofs.QuietSteps.{IsQuietStep, everyone}
-use Rattle.rt_journal.proofs.SentNotes.{desk_sound, desk_is_its, desk_ins}
+use Rattle.rt_journal.proofs.SentNotes.{HasSaid, has_said}
 use Rattle.rt_journal.proofs.SettledEnds.{owes_settled, its_answer}
 use Rattle.rt_journal.proofs.SettledPolls.{step-settled, settles-now}
-use Rattle.rt_journal.proofs.Wrote.{view_of, quiet_written, quiet_sent, now_is, quiet_invariant, quiet_seat, quiet_ins, quiet_outs}
+use Rattle.rt_journal.proofs.Wrote.{view_of, quiet_written, quiet_sent, quiet_invariant, seen_so, quiet_now}
 
 module _ {J T E : Type 0} {same : J → J → Type 0} {done : J → Bool} {can_poll : J → Type 0} {made : J → ℕ} {polls : Owed J T} {answers : J → T → Type 0} (is_same : IsSameTask same)
     (answers_same : (a b : J) (out : T) → same a b → answers a out → answers b out) {out : E → Outward J T} {untouched : E → List ℕ}
@@ -61,14 +43,11 @@ module _ {J T E : Type 0} {same : J → J → Type 0} {done : J → Bool} {can_p
   rest : left ≡ record noted { journal = record noted.journal { notes = left.journal.notes }; lanes = left.lanes }
   rest = posted_rest noted left ends later posted
 
-  at_poll : IsRecorded same made polls polled_view × (left ≡ desk_of polled_view)
-  at_poll = (
-    desk_sound whole.mid took noted left at_pick rest written (posted_silent noted left ends later posted),
-    desk_is_its {same = same} {made = made} {polls = polls} whole.mid took noted left at_pick rest written (posted_silent noted left ends later posted),
-  )
+  said_left : HasSaid same made polls left picked polled_view
+  said_left = has_said whole.mid took noted at_pick refl rest written (posted_silent noted left ends later posted)
 
-  silent : (sender : ℕ) → KeepsIn sender picked polled_view
-  silent = desk_ins {same = same} {made = made} {polls = polls} whole.mid took noted left at_pick rest written (posted_silent noted left ends later posted)
+  at_poll : IsRecorded same made polls polled_view × (left ≡ desk_of polled_view)
+  at_poll = (said_left.sound, said_left.is_its)
 
   polled : IsPolled same made polls answers whole.ran
   polled = record { answered = whole.polled.answered; same_task = whole.polled.task; later = whole.polled.later }
@@ -94,25 +73,25 @@ module _ {J T E : Type 0} {same : J → J → Type 0} {done : J → Bool} {can_p
 
   module _ (last : List (Note T)) (last_is : last ≡ told) where
     pub may_settle : IsWritten (terms_of_desk left) (reverse last ++ left.journal.notes)
-    may_settle = quiet_written whole.mid took left at_poll core_now told last last_is last_step
+    may_settle = quiet_written whole.mid took left at_poll last_is last_step
 
     pub sent_settled : KeepsSent left.journal.notes (reverse last ++ left.journal.notes)
-    sent_settled = quiet_sent whole.mid took left at_poll core_now told last last_is last_step
+    sent_settled = quiet_sent whole.mid took left at_poll last_is last_step
 
     module _ (said_now : DeskView J T) (wrote_it : said_now ≡ desk_with (reverse last) left) where
       abbrev new : RecordedView J T
       new = view_of core_now took said_now
 
       pub turned_invariant : IsRecorded same made polls new × (said_now ≡ desk_of new)
-      turned_invariant = quiet_invariant whole.mid took left at_poll core_now told last last_is last_step said_now wrote_it
+      turned_invariant = quiet_invariant whole.mid took left at_poll last_is last_step wrote_it
 
       settles_it : Settles made polls answers polled_view whole.ran spent (settled_of step) new
-      settles_it = subst (Settles made polls answers polled_view whole.ran spent (settled_of step)) (sym (now_is whole.mid took left at_poll core_now told last last_is last_step said_now wrote_it))
+      settles_it = seen_so whole.mid took left at_poll last_is last_step wrote_it refl (λ old new. Settles made polls answers old whole.ran spent (settled_of step) new)
           (settles-now is_same answers_same polled_view at_poll.0 whole.settles.0 whole.settles.1 core_now whole.ran its_job polled spent (settled_of step) told whole.settles.2)
 
       owes_it : OwesSettled polled_view (settled_of step) new
       owes_it = owes_settled polled_view _ whole.settles.0 whole.settles.1 whole.ran.step (settled_of step) settles_it.tells
-          (λ sender. quiet_ins whole.mid took left at_poll core_now told last last_is last_step said_now wrote_it sender tt)
+          (λ sender. (quiet_now whole.mid took left at_poll last_is last_step wrote_it refl).ins sender tt)
 
       keeps_picked : (sender : ℕ) → KeepsIn sender old picked
       keeps_picked = keeps_in core took said invariant few_turns queue vr name started whole.ran.before whole.mid whole.picks slice slice_is noted wrote
@@ -121,11 +100,7 @@ module _ {J T E : Type 0} {same : J → J → Type 0} {done : J → Bool} {can_p
       stays_picked_it = stays_picked core took said invariant few_turns queue vr name started whole.ran.before whole.mid whole.picks slice slice_is noted wrote
 
       stays_it : StaysPut polled_view new
-      stays_it = record {
-        seat = quiet_seat whole.mid took left at_poll core_now told last last_is last_step said_now wrote_it;
-        outs = quiet_outs whole.mid took left at_poll core_now told last last_is last_step said_now wrote_it;
-        lanes = ap (λ desk. desk.lanes) wrote_it;
-      }
+      stays_it = let now = quiet_now whole.mid took left at_poll last_is last_step wrote_it refl in record { seat = now.seat; outs = now.outs; lanes = now.lanes }
 
       turned : {does : Doing (PostView J T E) J T} {tells : ℕ → Type 0} → tells spent → Makes does calls (record { desk = noted; ends = ends }) (record { desk = left; ends = later }) →
           IsPostingTurn same made polls answers does out untouched tells old ends name queue started (settled_of step) new later
@@ -142,7 +117,7 @@ module _ {J T E : Type 0} {same : J → J → Type 0} {done : J → Bool} {can_p
         owed = record { calls = calls; owed = whole.polled.owed; makes = posts_of (Makes does calls) makes };
         posted = posts_of (HasPosted out untouched) posted;
         rest = λ i. record { cap = ap (λ desk. desk.cap) rest i; core = whole.mid; journal = left.journal; took = took; lanes = left.lanes };
-        silent = silent;
+        silent = said_left.ins;
         polled = polled;
         settles = settles_it;
         stays_settled = stays_it;
@@ -152,7 +127,7 @@ module _ {J T E : Type 0} {same : J → J → Type 0} {done : J → Bool} {can_p
       turned_owes : (sender : ℕ) → LeavesOwed sender (told_under name (option_map outcome_note (outcome_settled {J = J} (settled_of step))) sender) old new
       turned_owes sender =
           subst (λ name. LeavesOwed sender (told_under name (option_map outcome_note (outcome_settled {J = J} (settled_of step))) sender) old new) its_name
-          (owes_then old picked polled_view new sender (keeps_picked sender) (silent sender) (owes_it whole.settles.0 whole.settles.1 sender))
+          (owes_then old picked polled_view new sender (keeps_picked sender) (said_left.ins sender) (owes_it whole.settles.0 whole.settles.1 sender))
 
       turned_answer : MayAnswer answers took name (settled_of step)
       turned_answer =

@@ -1,25 +1,13 @@
 -- What a desk that is lent with its ends does for a job, and that there is room for it.
-use Rattle.std.proofs.Common.{◌≡◌, ◌⊎◌, inl, inr, ℕ, ◌+◌, ◌*◌, ◌<◌, ◌≤◌, List, [], ◌∷◌, ◌++◌, length, append_assoc, Some, refl, sym, ◌∙◌, ap, subst, arith, set, get_or}
-use Rattle.std.specs.Prelude.{sum_by, slice_get}
-use Rattle.std.proofs.lemmas.Bool.Decides.{eqb_tells}
-use Rattle.std.proofs.lemmas.List.{length-append, length-set}
-use Rattle.std.proofs.lemmas.List.Sums.{sum_by-le, sum_by-set}
-use Rattle.std.proofs.lemmas.Option.{slice_get-get_or, slice_get_within, get_or_from_slice_get}
-use Rattle.rt_ids.specs.declared.note.Note.{Note}
-use Rattle.rt_ids.specs.declared.note.Note.TheVariants.{Sent, Redeemed, Detached}
-use Rattle.rt_ids.specs.declared.order.Order.{Order}
-use Rattle.rt_ids.specs.declared.order.Outcome.{Outcome}
-use Rattle.rt_link.specs.declared.ends.Outward.{Outward}
-use Rattle.rt_link.proofs.Lists.{StartsWith-self, slice_get-behind}
-use Rattle.rt_desk.specs.Lanes.{Lane}
-use Rattle.rt_desk.proofs.Cores.{changed, unchanged}
-use Rattle.rt_desk.proofs.Lanes.{option_cases}
-use Rattle.rt_journal.specs.Submissions.{DeskView}
-use Rattle.rt_journal.specs.Ends.{IsOutOf}
-use Rattle.rt_journal.specs.Tickets.{KnowsLanes, HasLane}
-use Rattle.rt_journal.specs.Spending.{left_of, Spends}
-use Rattle.rt_journal.specs.Posts.{PostView, ArePosts, SendsMore, AreOutsOf, IsLent, HasPosted}
-use Rattle.rt_journal.specs.Calls.{LendsEnd}
+use Rattle.rt_journal.proofs.Names.{◌≡◌, ◌⊎◌, inl, inr, ℕ, ◌+◌, ◌*◌, ◌<◌, ◌≤◌, List, [], ◌∷◌, ◌++◌, length}
+use Rattle.rt_journal.proofs.Names.{append_assoc, Some, refl, sym, ◌∙◌, ap, subst, arith, set, get_or, sum_by}
+use Rattle.rt_journal.proofs.Names.{slice_get, eqb_tells, length-append, sum_by-le, sum_by-set, slice_get-get_or}
+use Rattle.rt_journal.proofs.Names.{slice_get_within, get_or_from_slice_get, Note, Sent, Redeemed, Order, Outcome}
+use Rattle.rt_journal.proofs.Names.{Outward, StartsWith-self, slice_get-behind, Lane, changed, unchanged, option_cases}
+use Rattle.rt_journal.proofs.Names.{DeskView, IsOutOf, KnowsLanes, HasLane, left_of, Spends, PostView, ArePosts}
+use Rattle.rt_journal.proofs.Names.{SendsMore, AreOutsOf, IsLent, HasPosted, LendsEnd}
+use Rattle.std.proofs.lemmas.List.{length-set}
+use Rattle.rt_ids.specs.declared.note.Note.TheVariants.{Detached}
 use Rattle.rt_journal.proofs.CollectedAll.{starts_then}
 use Rattle.rt_journal.proofs.Spending.{left_within}
 

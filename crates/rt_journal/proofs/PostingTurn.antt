@@ -1,32 +1,16 @@
 -- A whole turn with posts, beside its journal: the notes of the pick are written behind the old ones, then what is posted, then the note of the settling.
-use Rattle.std.specs.Prelude.{Some, Ok, Option, slice_get}
-use Rattle.std.proofs.Common.{◌≡◌, ℕ, ◌+◌, ◌<◌, Bool, true, false, List, ◌++◌, length, reverse, sym, ◌∙◌, ap, subst, arith}
-use Rattle.rt_ids.specs.Limits.{most_turns}
-use Rattle.rt_ids.specs.declared.names.JobId.{JobId}
-use Rattle.rt_ids.specs.declared.note.Note.{Note}
-use Rattle.rt_ids.specs.declared.order.Envelope.{Envelope}
-use Rattle.rt_ids.specs.declared.order.Order.{Order}
-use Rattle.rt_ids.specs.declared.order.Outcome.{Outcome}
-use Rattle.rt_ids.specs.Picks.{turns}
-use Rattle.rt_jobs.specs.declared.job.Step.{Step}
+use Rattle.rt_journal.proofs.Names.{Some, Ok, Option, slice_get, ◌≡◌, refl, ℕ, ◌+◌, ◌<◌, Bool, true, false, List, ◌++◌}
+use Rattle.rt_journal.proofs.Names.{length, reverse, sym, ◌∙◌, ap, subst, arith, most_turns, JobId, Note, Envelope}
+use Rattle.rt_journal.proofs.Names.{Order, Outcome, turns, Step, Owed, Start, Resume, CoreView, IsAhead, goes_out}
+use Rattle.rt_journal.proofs.Names.{pick_notes, settle_notes, ahead_picks, Outward, DeskView, IsWritten, terms_of_desk}
+use Rattle.rt_journal.proofs.Names.{desk_with, RecordedView, IsRecorded, desk_of, KeepsSent, KeepsIn, LeavesOwed}
+use Rattle.rt_journal.proofs.Names.{AreOutsOf, IsPick, StaysPut}
 use Rattle.rt_jobs.specs.declared.job.Step.TheVariants as steps
-use Rattle.rt_jobs.specs.Steps.{Owed}
-use Rattle.rt_core.specs.declared.turn.Turn.TheVariants.{Start, Resume}
-use Rattle.rt_core.specs.State.{CoreView}
 use Rattle.rt_core.specs.Turns.{Picks as CorePicks}
-use Rattle.rt_core.specs.Whole.{IsAhead, goes_out, pick_notes, settle_notes}
-use Rattle.rt_core.proofs.AheadTaken.{ahead_picks}
-use Rattle.rt_link.specs.declared.ends.Outward.{Outward}
-use Rattle.rt_journal.specs.Submissions.{DeskView, IsWritten, terms_of_desk, desk_with}
-use Rattle.rt_journal.specs.Recorded.{RecordedView, IsRecorded, desk_of}
-use Rattle.rt_journal.specs.Ends.{KeepsSent, KeepsIn, LeavesOwed}
-use Rattle.rt_journal.specs.Posts.{AreOutsOf}
-use Rattle.rt_journal.specs.Turns.{IsPick}
-use Rattle.rt_journal.specs.Whole.{StaysPut}
 use Rattle.rt_journal.proofs.Picked.{step-picked, picks-now}
 use Rattle.rt_journal.proofs.Quiet.{nobody}
 use Rattle.rt_journal.proofs.QuietSteps.{stepped, IsQuietStep, everyone}
-use Rattle.rt_journal.proofs.Wrote.{view_of, quiet_written, quiet_sent, now_is, quiet_invariant, quiet_seat, quiet_ins, quiet_outs}
+use Rattle.rt_journal.proofs.Wrote.{view_of, quiet_written, quiet_sent, quiet_invariant, seen_so, quiet_now}
 
 -- ends that stay beside a core whose lanes stay
 pub outs_kept : {J T E : Type 0} {fits : Order J → Outcome J T → Type 0} {out : E → Outward J T} {credited : E → ℕ} (old new : RecordedView J T) → StaysPut old new → (ends : List E) →
@@ -64,27 +48,23 @@ module _ {J T : Type 0} {same : J → J → Type 0} {made : J → ℕ} {polls : 
 
   module _ (picks : CorePicks core (Ok (goes_out name queue started job)) mid picked) (slice : List (Note T)) (slice_is : slice ≡ picked) where
     may_pick : IsWritten (terms_of_desk said) (reverse slice ++ said.journal.notes)
-    may_pick = quiet_written core took said invariant mid picked slice slice_is (quiet started picked picks)
+    may_pick = quiet_written core took said invariant slice_is (quiet started picked picks)
 
     sent_pick : KeepsSent said.journal.notes (reverse slice ++ said.journal.notes)
-    sent_pick = quiet_sent core took said invariant mid picked slice slice_is (quiet started picked picks)
+    sent_pick = quiet_sent core took said invariant slice_is (quiet started picked picks)
 
     module _ (noted : DeskView J T) (wrote : noted ≡ desk_with (reverse slice) said) where
       pub is_picked : IsRecorded same made polls (view_of mid took noted) × (noted ≡ desk_of (view_of mid took noted))
-      is_picked = quiet_invariant core took said invariant mid picked slice slice_is (quiet started picked picks) noted wrote
+      is_picked = quiet_invariant core took said invariant slice_is (quiet started picked picks) wrote
 
       pub picks_it : IsPick (view_of core took said) name queue started job (view_of mid took noted)
-      picks_it = subst (IsPick (view_of core took said) name queue started job) (sym (now_is core took said invariant mid picked slice slice_is (quiet started picked picks) noted wrote)) (right started picked picks)
+      picks_it = seen_so core took said invariant slice_is (quiet started picked picks) wrote refl (λ old new. IsPick old name queue started job new) (right started picked picks)
 
       pub keeps_in : (sender : ℕ) → KeepsIn sender (view_of core took said) (view_of mid took noted)
-      keeps_in sender = quiet_ins core took said invariant mid picked slice slice_is (quiet started picked picks) noted wrote sender tt
+      keeps_in sender = (quiet_now core took said invariant slice_is (quiet started picked picks) wrote refl).ins sender tt
 
       pub stays_picked : StaysPut (view_of core took said) (view_of mid took noted)
-      stays_picked = record {
-        seat = quiet_seat core took said invariant mid picked slice slice_is (quiet started picked picks) noted wrote;
-        outs = quiet_outs core took said invariant mid picked slice slice_is (quiet started picked picks) noted wrote;
-        lanes = ap (λ desk. desk.lanes) wrote;
-      }
+      stays_picked = let now = quiet_now core took said invariant slice_is (quiet started picked picks) wrote refl in record { seat = now.seat; outs = now.outs; lanes = now.lanes }
 
       outs_picked : {E : Type 0} {fits : Order J → Outcome J T → Type 0} {out : E → Outward J T} {credited : E → ℕ} (ends : List E) → AreOutsOf fits out credited (desk_of (view_of core took said)) ends → AreOutsOf fits out credited noted ends
       outs_picked {E} {fits} {out} {credited} ends outs =

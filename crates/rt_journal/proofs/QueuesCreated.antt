@@ -1,23 +1,11 @@
 -- A core beside its journal creates a queue before anything else is done.
-use Rattle.std.proofs.Common.{◌≡◌, ℕ, ◌+◌, ◌≤◌, List, [], ◌∷◌, length, reverse, refl, sym, ◌∙◌, ap, subst, arith, add-zero}
-use Rattle.std.specs.Prelude.{All, is_some, Result, Ok, Err}
-use Rattle.rt_shares.specs.Charge.{InRange}
-use Rattle.rt_ids.specs.declared.names.JobId.{JobId}
-use Rattle.rt_ids.specs.declared.note.Note.{Note}
+use Rattle.rt_journal.proofs.Names.{◌≡◌, ℕ, ◌+◌, ◌≤◌, List, [], ◌∷◌, length, reverse, refl, sym, ◌∙◌, ap, subst, arith}
+use Rattle.rt_journal.proofs.Names.{add-zero, All, is_some, Result, Ok, Err, InRange, JobId, Note, Journal}
+use Rattle.rt_journal.proofs.Names.{created_count, IsOpening, number_if, Owed, queue_count, held_count, CreateError}
+use Rattle.rt_journal.proofs.Names.{TooMany, Memory, CoreView, inside_count, Creates, polls_made, RecordedView}
+use Rattle.rt_journal.proofs.Names.{terms_at, IsRecorded, HasTask, CreatesQueue, with_notes}
 use Rattle.rt_ids.specs.declared.note.Note.TheVariants as writes
-use Rattle.rt_ids.specs.Journal.{Journal}
-use Rattle.rt_ids.specs.Commands.{created_count, IsOpening}
-use Rattle.rt_ids.specs.Work.{number_if}
-use Rattle.rt_jobs.specs.Steps.{Owed}
-use Rattle.rt_taskqueue.specs.Queues.{queue_count, held_count}
-use Rattle.rt_taskqueue.specs.declared.queues.CreateError.{CreateError}
-use Rattle.rt_taskqueue.specs.declared.queues.CreateError.TheVariants.{TooMany, Memory}
-use Rattle.rt_core.specs.State.{CoreView, inside_count}
-use Rattle.rt_core.specs.Deliveries.{Creates}
 use Rattle.rt_core.specs.Deliveries.{CreatesQueue as CoreCreates}
-use Rattle.rt_journal.specs.Polls.{polls_made}
-use Rattle.rt_journal.specs.Recorded.{RecordedView, terms_at, IsRecorded, HasTask}
-use Rattle.rt_journal.specs.Steps.{CreatesQueue, with_notes}
 use Rattle.rt_journal.proofs.Kept.{IsKept, plainly_stands}
 use Rattle.rt_journal.proofs.KeptCommands.{agrees-created}
 use Rattle.rt_journal.proofs.TakenOrders.{carries_out-opening}

@@ -1,23 +1,12 @@
 -- Notes by which nothing is delivered: a core beside its journal stays recorded, and the ends of its links stay beside it.
-use Rattle.std.proofs.Common.{◌≡◌, ℕ, ◌+◌, ◌≤◌, Bool, true, false, ◌∷◌, length, refl, ap, arith}
-use Rattle.std.specs.Prelude.{Option, None}
-use Rattle.rt_ids.specs.declared.names.JobId.{JobId}
+use Rattle.rt_journal.proofs.Names.{◌≡◌, ℕ, ◌+◌, ◌≤◌, Bool, true, false, ◌∷◌, length, refl, ap, arith, Option, None}
+use Rattle.rt_journal.proofs.Names.{JobId, Order, Reason, final_count, Journal, EachNote, if_from, delivered_names}
+use Rattle.rt_journal.proofs.Names.{given_outcomes, Step, DeliversAs, poll_note, settle_note, RecordedView, IsHeld}
+use Rattle.rt_journal.proofs.Names.{IsTaken, sum_upto, delivered_count, given_count, IsInOf, LeavesOwed, GivesMore}
+use Rattle.rt_journal.proofs.Names.{IsUngiven, KeepsSent, IsSameSeat, grows, OutcomeNote, Inward}
 use Rattle.rt_ids.specs.declared.note.Note.TheVariants as writes
-use Rattle.rt_ids.specs.declared.order.Order.{Order}
-use Rattle.rt_ids.specs.declared.order.Reason.{Reason}
-use Rattle.rt_ids.specs.Closing.{final_count}
-use Rattle.rt_ids.specs.Journal.{Journal, EachNote}
-use Rattle.rt_ids.specs.Filters.{if_from, delivered_names, given_outcomes}
-use Rattle.rt_jobs.specs.declared.job.Step.{Step}
 use Rattle.rt_jobs.specs.declared.job.Step.TheVariants as steps
-use Rattle.rt_ids.specs.Joining.{DeliversAs}
-use Rattle.rt_journal.specs.Polls.{poll_note, settle_note}
-use Rattle.rt_journal.specs.Recorded.{RecordedView, IsHeld, IsTaken, sum_upto, delivered_count, given_count}
-use Rattle.rt_journal.specs.Ends.{IsInOf, LeavesOwed, GivesMore, IsUngiven, KeepsSent, IsSameSeat}
-use Rattle.rt_ids.proofs.Told.{grows}
-use Rattle.rt_ids.specs.declared.note.OutcomeNote.{OutcomeNote}
 use Rattle.rt_ids.specs.declared.note.OutcomeNote.TheVariants as outcomes
-use Rattle.rt_link.specs.declared.ends.Inward.{Inward}
 use Rattle.rt_journal.proofs.EndsKept.{keeps_in}
 use Rattle.rt_journal.proofs.Sums.{sum_upto-same}
 

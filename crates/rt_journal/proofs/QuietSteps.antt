@@ -1,21 +1,9 @@
 -- A core beside its journal makes a step by which nothing is delivered and nothing sent: it stays recorded, and the ends of its links stay beside it.
-use Rattle.std.proofs.Common.{◌≡◌, ℕ, ◌+◌, ◌*◌, ◌≤◌, List, [], ◌++◌, refl, sym, ◌∙◌, ap, subst, arith}
-use Rattle.std.specs.Prelude.{Some, All, Option}
-use Rattle.rt_ids.specs.declared.names.JobId.{JobId}
-use Rattle.rt_ids.specs.declared.note.Note.{Note}
-use Rattle.rt_ids.specs.declared.note.OutcomeNote.{OutcomeNote}
-use Rattle.rt_link.specs.declared.ends.Inward.{Inward}
-use Rattle.rt_ids.specs.Journal.{Journal, EachNote}
-use Rattle.rt_ids.specs.Closing.{final_count}
-use Rattle.rt_ids.specs.Joining.{DeliversAs}
-use Rattle.rt_jobs.specs.Steps.{Owed}
-use Rattle.rt_taskqueue.specs.Queues.{waiting_of}
-use Rattle.rt_core.specs.State.{CoreView, JobOut, inside_count}
-use Rattle.rt_journal.specs.Agreement.{IsKept}
-use Rattle.rt_journal.specs.Submissions.{IsWritten}
-use Rattle.rt_journal.specs.Recorded.{RecordedView, terms_at, desk_of, IsRecorded, IsHeld, HasTask, note_taken, sum_upto, given_count}
-use Rattle.rt_journal.specs.Ends.{IsInOf, IsUngiven, LeavesOwed, KeepsOuts, IsSameSeat}
-use Rattle.rt_journal.specs.Steps.{with_notes}
+use Rattle.rt_journal.proofs.Names.{◌≡◌, ℕ, ◌+◌, ◌*◌, ◌≤◌, List, [], ◌++◌, refl, sym, ◌∙◌, ap, subst, arith, Some, All}
+use Rattle.rt_journal.proofs.Names.{Option, JobId, Note, OutcomeNote, Inward, Journal, EachNote, final_count}
+use Rattle.rt_journal.proofs.Names.{DeliversAs, Owed, waiting_of, CoreView, JobOut, inside_count, IsKept, IsWritten}
+use Rattle.rt_journal.proofs.Names.{RecordedView, terms_at, desk_of, IsRecorded, IsHeld, HasTask, note_taken, sum_upto}
+use Rattle.rt_journal.proofs.Names.{given_count, IsInOf, IsUngiven, LeavesOwed, KeepsOuts, IsSameSeat, with_notes}
 use Rattle.rt_journal.proofs.EndsKept.{keeps_outs}
 use Rattle.rt_journal.proofs.Quiet.{IsQuiet, nobody, quiet-nothing, held-quiet, taken-quiet, ins-quiet}
 

@@ -1,35 +1,14 @@
 -- A core beside its journal stays recorded as an order is delivered to it, and the ends of its links stay beside it.
-use Rattle.std.proofs.Common.{◌≡◌, ℕ, ◌+◌, ◌*◌, ◌<◌, ◌≤◌, Bool, List, [], ◌∷◌, ◌++◌, length, refl, sym, ◌∙◌, ap, subst, ⊎_elim, arith, get_or, zero-add}
-use Rattle.std.specs.Prelude.{◌==◌, Option, Some, None, All, reverse}
-use Rattle.std.specs.Option.{option_map}
-use Rattle.std.proofs.lemmas.Bool.{eq-eqb, ne_eqb, cases_eq}
-use Rattle.std.proofs.lemmas.List.{length-reverse}
-use Rattle.std.proofs.lemmas.List.Elements.{All-append}
-use Rattle.rt_ids.specs.declared.names.JobId.{JobId}
-use Rattle.rt_ids.specs.declared.note.Note.{Note}
-use Rattle.rt_ids.specs.declared.order.Envelope.{Envelope}
-use Rattle.rt_ids.specs.declared.order.Order.{Order}
-use Rattle.rt_ids.specs.declared.order.Order.TheVariants.{Job}
-use Rattle.rt_ids.specs.Journal.{Journal}
-use Rattle.rt_ids.specs.Filters.{given_outcomes}
-use Rattle.rt_ids.specs.Work.{number_if}
-use Rattle.rt_jobs.specs.Steps.{Owed, IsSameTask}
-use Rattle.rt_taskqueue.specs.Queues.{waiting_of}
-use Rattle.rt_core.specs.State.{CoreView, inside_count, delivered_of}
+use Rattle.rt_journal.proofs.Names.{◌≡◌, ℕ, ◌+◌, ◌*◌, ◌<◌, ◌≤◌, Bool, List, [], ◌∷◌, ◌++◌, length, refl, sym, ◌∙◌, ap}
+use Rattle.rt_journal.proofs.Names.{subst, ⊎_elim, arith, get_or, zero-add, ◌==◌, Option, Some, None, All, reverse}
+use Rattle.rt_journal.proofs.Names.{option_map, eq-eqb, ne_eqb, cases_eq, length-reverse, All-append, JobId, Note}
+use Rattle.rt_journal.proofs.Names.{Envelope, Order, Job, Journal, given_outcomes, number_if, Owed, IsSameTask}
+use Rattle.rt_journal.proofs.Names.{waiting_of, CoreView, inside_count, delivered_of, Delivered, IsNextDelivered}
+use Rattle.rt_journal.proofs.Names.{IsSpelledOrder, without_job, polls_made, IsKept, IsWritten, RecordedView, terms_at}
+use Rattle.rt_journal.proofs.Names.{IsRecorded, IsHeld, IsTaken, HasTask, OwesAfter, order_taken, note_taken, sum_upto}
+use Rattle.rt_journal.proofs.Names.{delivered_count, given_count, IsSameSeat, KeepsSent, GivesMore, told_under}
+use Rattle.rt_journal.proofs.Names.{outcome_delivered, OutcomeNote, outcome_note, grows, IsNextIn, Receives}
 use Rattle.rt_core.specs.Deliveries.{Delivers as CarriesOut}
-use Rattle.rt_core.specs.declared.delivery.Delivered.{Delivered}
-use Rattle.rt_ids.specs.Lawful.{IsNextDelivered}
-use Rattle.rt_ids.specs.Orders.{IsSpelledOrder, without_job}
-use Rattle.rt_journal.specs.Polls.{polls_made}
-use Rattle.rt_journal.specs.Agreement.{IsKept}
-use Rattle.rt_journal.specs.Submissions.{IsWritten}
-use Rattle.rt_journal.specs.Recorded.{RecordedView, terms_at, IsRecorded, IsHeld, IsTaken, HasTask, OwesAfter, order_taken, note_taken, sum_upto, delivered_count, given_count}
-use Rattle.rt_journal.specs.Ends.{IsSameSeat, KeepsSent, GivesMore, told_under}
-use Rattle.rt_journal.specs.Deliveries.{outcome_delivered}
-use Rattle.rt_ids.specs.declared.note.OutcomeNote.{OutcomeNote}
-use Rattle.rt_ids.specs.Outcomes.{outcome_note}
-use Rattle.rt_ids.proofs.Told.{grows}
-use Rattle.rt_journal.specs.Steps.{IsNextIn, Receives}
 use Rattle.rt_journal.proofs.PollsMade.{polls_made-fresh}
 use Rattle.rt_journal.proofs.Sums.{sum_upto-one_more, sum_upto-room}
 use Rattle.rt_journal.proofs.TakenOrders.{order_taken-longer, order_taken-last, order_taken-parts, note_taken-stays, as_sent-stays}
@@ -166,6 +145,14 @@ module _ {J T : Type 0} {same : J → J → Type 0} {made : J → ℕ} {polls : 
   pub next_for_core : name.number ≡ delivered_of name.from old.core + 1
   next_for_core = let counted = recorded.kept.agrees.delivered name.from next.sender in omega (arith, next.next, counted)
 
+-- what a call leaves that received an order
+pub record HasReceived {J T : Type 0} (same : J → J → Type 0) (made : J → ℕ) (polls : Owed J T) (envelope : Envelope J) (told : Option (OutcomeNote T)) (old new : RecordedView J T) : Type 0 where
+  pub sound : IsRecorded same made polls new
+  pub seat : IsSameSeat old new
+  pub receives : Receives old envelope new
+  pub gives : GivesMore (told_under envelope.name told) old.journal.notes new.journal.notes
+  pub stands : order_taken new.took envelope.name ≡ Some envelope.order
+
 -- what a call that received an order knows of its parts
 module _ {J T : Type 0} {same : J → J → Type 0} {made : J → ℕ} {polls : Owed J T} (is_same : IsSameTask same)
     (old : RecordedView J T) (recorded : IsRecorded same made polls old) (envelope : Envelope J) (next : IsNextIn old envelope.name)
@@ -187,17 +174,11 @@ module _ {J T : Type 0} {same : J → J → Type 0} {made : J → ℕ} {polls : 
   sent_now = done.lists.sent
 
   module _ (new : RecordedView J T) (is : new ≡ record { cap = old.cap; core = core; journal = record old.journal { notes = reverse written ++ old.journal.notes }; took = old.took ++ envelope ∷ []; lanes = old.lanes }) where
-    pub sound_now : IsRecorded same made polls new
-    sound_now = subst (IsRecorded same made polls) (sym is) (recorded_now is_same old recorded envelope told core (reverse written) done next)
-
-    pub seat_now : IsSameSeat old new
-    seat_now = subst (IsSameSeat old) (sym is) (same_seat is_same old recorded envelope told core (reverse written) done next)
-
-    pub receives_now : Receives old envelope new
-    receives_now = subst (Receives old envelope) (sym is) (record { notes = reverse written; delivery = done.delivery; journal = refl; took = refl; out = done.out; lists = done.lists; delivered = done.delivered })
-
-    pub gives_now : GivesMore (told_under envelope.name told) old.journal.notes new.journal.notes
-    gives_now = subst (λ view. GivesMore (told_under envelope.name told) old.journal.notes view.journal.notes) (sym is) done.given
-
-    pub stands_now : order_taken new.took envelope.name ≡ Some envelope.order
-    stands_now = subst (λ view. order_taken view.took envelope.name ≡ Some envelope.order) (sym is) (here is_same old recorded envelope told core (reverse written) done next)
+    pub received_now : HasReceived same made polls envelope told old new
+    received_now = subst (HasReceived same made polls envelope told old) (sym is) (record {
+      sound = recorded_now is_same old recorded envelope told core (reverse written) done next;
+      seat = same_seat is_same old recorded envelope told core (reverse written) done next;
+      receives = record { notes = reverse written; delivery = done.delivery; journal = refl; took = refl; out = done.out; lists = done.lists; delivered = done.delivered };
+      gives = done.given;
+      stands = here is_same old recorded envelope told core (reverse written) done next;
+    })

@@ -1,30 +1,16 @@
 -- A ticket is redeemed or detached, or refused.
-use Rattle.std.proofs.Common.{◌≡◌, ◌≢◌, inl, inr, ℕ, ◌+◌, ◌<◌, ◌≤◌, Bool, true, false, ◌∷◌, length, Some, refl, sym, ◌∙◌, ap, subst, arith, set}
-use Rattle.std.specs.Prelude.{◌&&◌, ◌||◌, not, is_some, IsSome, slice_get, take, Ok, Err}
-use Rattle.rt_ids.specs.declared.names.JobId.{JobId}
-use Rattle.rt_ids.specs.declared.names.TicketError.{TicketError}
-use Rattle.rt_ids.specs.declared.names.TicketError.TheVariants.{Unknown, Gone, Pending}
+use Rattle.rt_journal.proofs.Names.{◌≡◌, ◌≢◌, inl, inr, ℕ, ◌+◌, ◌<◌, ◌≤◌, Bool, true, false, ◌∷◌, length, Some, refl}
+use Rattle.rt_journal.proofs.Names.{sym, ◌∙◌, ap, subst, arith, set, ◌&&◌, ◌||◌, not, is_some, IsSome, slice_get, take}
+use Rattle.rt_journal.proofs.Names.{Ok, Err, JobId, TicketError, Unknown, Gone, Order, Outcome, first_under}
+use Rattle.rt_journal.proofs.Names.{IsRedeemable, IsDetachable, accepted_orders, Journal, is_told, without_job}
+use Rattle.rt_journal.proofs.Names.{outcome_note, outstanding_count, is_gone, is_outstanding, name_redeemed}
+use Rattle.rt_journal.proofs.Names.{name_detached, name_collected, same_as_itself, Outward, at, Lane, IsLaneOf, IsGot}
+use Rattle.rt_journal.proofs.Names.{Redeems, Detaches, Stands-sent, taken-get, DeskView, IsWritten, terms_of_desk}
+use Rattle.rt_journal.proofs.Names.{IsOutOf, name_of, KnowsLane, KnowsLanes, StaysBeside, RefusesTicket, DetachesTicket}
+use Rattle.rt_journal.proofs.Names.{is_let_go}
+use Rattle.rt_ids.specs.declared.names.TicketError.TheVariants.{Pending}
 use Rattle.rt_ids.specs.declared.note.Note.TheVariants as writes
-use Rattle.rt_ids.specs.declared.order.Order.{Order}
-use Rattle.rt_ids.specs.declared.order.Outcome.{Outcome}
-use Rattle.rt_ids.specs.Assembly.{first_under}
-use Rattle.rt_ids.specs.Collecting.{IsRedeemable, IsDetachable}
-use Rattle.rt_ids.specs.Filters.{accepted_orders}
-use Rattle.rt_ids.specs.Journal.{Journal, is_told}
-use Rattle.rt_ids.specs.Orders.{without_job}
-use Rattle.rt_ids.specs.Outcomes.{outcome_note}
-use Rattle.rt_ids.specs.Outstanding.{outstanding_count, is_gone, is_outstanding, name_redeemed, name_detached, name_collected}
-use Rattle.rt_ids.proofs.NameLemmas.{same_as_itself}
-use Rattle.rt_link.specs.declared.ends.Outward.{Outward}
-use Rattle.rt_desk.specs.Held.{at}
-use Rattle.rt_desk.specs.Lanes.{Lane, IsLaneOf, IsGot}
-use Rattle.rt_desk.specs.Steps.{Redeems, Detaches}
 use Rattle.rt_desk.specs.declared.entry.Entry.TheVariants as entry
-use Rattle.rt_desk.proofs.Lanes.{Stands-sent}
-use Rattle.rt_desk.proofs.Taken.{taken-get}
-use Rattle.rt_journal.specs.Submissions.{DeskView, IsWritten, terms_of_desk}
-use Rattle.rt_journal.specs.Ends.{IsOutOf, name_of}
-use Rattle.rt_journal.specs.Tickets.{KnowsLane, KnowsLanes, StaysBeside, RefusesTicket, DetachesTicket, is_let_go}
 use Rattle.rt_journal.proofs.Desked.{desk_same}
 use Rattle.rt_journal.proofs.LaneNotes.{stays_noted, as_many, one_less}
 use Rattle.rt_journal.proofs.Named.{named-found, unknown_name, collected_told}

@@ -1,27 +1,11 @@
 -- Why a ticket is refused, as the lane says it and as the notes do.
-use Rattle.std.proofs.Common.{◌≡◌, inl, inr, ℕ, ◌+◌, ◌-◌, ◌<◌, ◌≤◌, false, length, Some, ◌∙◌, ap, subst, arith}
-use Rattle.std.specs.Prelude.{is_some, IsSome, slice_get, take}
-use Rattle.std.proofs.lemmas.List.{length-take}
-use Rattle.std.proofs.lemmas.Option.{slice_get_within}
-use Rattle.rt_ids.specs.declared.names.JobId.{JobId}
-use Rattle.rt_ids.specs.declared.names.TicketError.{TicketError}
-use Rattle.rt_ids.specs.declared.names.TicketError.TheVariants.{Unknown, Gone, Pending}
-use Rattle.rt_ids.specs.declared.order.Order.{Order}
-use Rattle.rt_ids.specs.declared.order.Outcome.{Outcome}
-use Rattle.rt_ids.specs.Assembly.{first_under}
-use Rattle.rt_ids.specs.Filters.{accepted_orders}
-use Rattle.rt_ids.specs.Journal.{Journal, is_told}
-use Rattle.rt_ids.specs.Orders.{without_job}
-use Rattle.rt_ids.specs.Outstanding.{name_collected}
-use Rattle.rt_link.specs.declared.ends.Outward.{Outward}
-use Rattle.rt_desk.specs.Lanes.{Lane, IsLaneOf, IsAwaited}
-use Rattle.rt_desk.specs.Steps.{Refuses}
+use Rattle.rt_journal.proofs.Names.{◌≡◌, inl, inr, ℕ, ◌+◌, ◌-◌, ◌<◌, ◌≤◌, false, length, Some, ◌∙◌, ap, subst, arith}
+use Rattle.rt_journal.proofs.Names.{is_some, IsSome, slice_get, take, length-take, slice_get_within, JobId, TicketError}
+use Rattle.rt_journal.proofs.Names.{Unknown, Gone, Order, Outcome, first_under, accepted_orders, Journal, is_told}
+use Rattle.rt_journal.proofs.Names.{without_job, name_collected, Outward, Lane, IsLaneOf, IsAwaited, Refuses, get-taken}
+use Rattle.rt_journal.proofs.Names.{numbered_orders, DeskView, IsOutOf, name_of, KnowsLane, RefusesTicket, is_let_go}
+use Rattle.rt_ids.specs.declared.names.TicketError.TheVariants.{Pending}
 use Rattle.rt_desk.specs.declared.entry.Entry.TheVariants as entry
-use Rattle.rt_desk.proofs.Taken.{get-taken}
-use Rattle.rt_journal.specs.Orders.{numbered_orders}
-use Rattle.rt_journal.specs.Submissions.{DeskView}
-use Rattle.rt_journal.specs.Ends.{IsOutOf, name_of}
-use Rattle.rt_journal.specs.Tickets.{KnowsLane, RefusesTicket, is_let_go}
 use Rattle.rt_journal.proofs.Named.{order_at, numbered-missing, named-missing, uncollected}
 use Rattle.rt_journal.proofs.NumberedOrders.{first_under-numbered}
 

@@ -1,35 +1,17 @@
 -- A core beside its journal stays recorded as its actor submits, collects, redeems or detaches, and the ends that it receives from stay beside it.
-use Rattle.std.proofs.Common.{◌≡◌, ℕ, List, [], ◌∷◌, ◌++◌, length, refl, sym, ◌∙◌, ap, subst, arith, add-zero}
-use Rattle.std.specs.Prelude.{Result, Ok, Err, None}
-use Rattle.rt_ids.specs.declared.names.JobId.{JobId}
-use Rattle.rt_ids.specs.declared.names.TicketError.{TicketError}
-use Rattle.rt_ids.specs.declared.names.TicketError.TheVariants.{Unknown, Gone, Pending}
-use Rattle.rt_ids.specs.declared.note.Note.{Note}
+use Rattle.rt_journal.proofs.Names.{◌≡◌, ℕ, List, [], ◌∷◌, ◌++◌, length, refl, sym, ◌∙◌, ap, subst, arith, add-zero}
+use Rattle.rt_journal.proofs.Names.{Result, Ok, Err, None, JobId, TicketError, Unknown, Gone, Note, OutcomeNote, Order}
+use Rattle.rt_journal.proofs.Names.{Outcome, Envelope, SendError, Closed, Full, NoCore, final_count, created_count}
+use Rattle.rt_journal.proofs.Names.{shares, delivered_names, given_outcomes, DeliversAs, Journal, EachNote, or_else}
+use Rattle.rt_journal.proofs.Names.{without_job, outcome_note, Owed, CoreView, Lane, Agrees, polls_made, DeskView}
+use Rattle.rt_journal.proofs.Names.{IsWritten, Submits, terms_of_desk, RecordedView, IsRecorded, desk_of, terms_at}
+use Rattle.rt_journal.proofs.Names.{delivered_count, given_count, KeepsIn, ArePosts, AreCollected, CollectsFrom}
+use Rattle.rt_journal.proofs.Names.{RedeemsTicket, DetachesTicket}
+use Rattle.rt_ids.specs.declared.names.TicketError.TheVariants.{Pending}
 use Rattle.rt_ids.specs.declared.note.Note.TheVariants as writes
-use Rattle.rt_ids.specs.declared.note.OutcomeNote.{OutcomeNote}
-use Rattle.rt_ids.specs.declared.order.Order.{Order}
-use Rattle.rt_ids.specs.declared.order.Outcome.{Outcome}
-use Rattle.rt_ids.specs.declared.order.Envelope.{Envelope}
-use Rattle.rt_ids.specs.declared.order.SendError.{SendError}
-use Rattle.rt_ids.specs.declared.order.SendError.TheVariants.{Closed, Full, Spent, NoCore}
-use Rattle.rt_ids.specs.Closing.{final_count}
-use Rattle.rt_ids.specs.Filters.{delivered_names, given_outcomes}
-use Rattle.rt_ids.specs.Joining.{DeliversAs}
-use Rattle.rt_ids.specs.Journal.{Journal, EachNote}
-use Rattle.rt_ids.specs.Orders.{without_job}
-use Rattle.rt_ids.specs.Outcomes.{outcome_note}
-use Rattle.rt_jobs.specs.Steps.{Owed}
-use Rattle.rt_core.specs.State.{CoreView}
-use Rattle.rt_desk.specs.Lanes.{Lane}
-use Rattle.rt_journal.specs.Agreement.{Agrees}
-use Rattle.rt_journal.specs.Polls.{polls_made}
-use Rattle.rt_journal.specs.Submissions.{DeskView, IsWritten, Submits, terms_of_desk}
-use Rattle.rt_journal.specs.Recorded.{RecordedView, IsRecorded, desk_of, terms_at, delivered_count, given_count}
-use Rattle.rt_journal.specs.Ends.{KeepsIn}
-use Rattle.rt_journal.specs.Posts.{ArePosts}
-use Rattle.rt_journal.specs.Tickets.{AreCollected, CollectsFrom, RedeemsTicket, DetachesTicket}
-use Rattle.rt_journal.proofs.KeptModes.{same_modes, closing-stays}
-use Rattle.rt_journal.proofs.Kept.{agrees_unmoved, calm_sent, calm_collected, calm_redeemed, calm_detached}
+use Rattle.rt_ids.specs.declared.order.SendError.TheVariants.{Spent}
+use Rattle.rt_journal.proofs.KeptModes.{IsOpenNote, same_modes, closing-stays}
+use Rattle.rt_journal.proofs.Kept.{agrees_unmoved, IsCalm}
 use Rattle.rt_journal.proofs.EndsKept.{keeps_in}
 use Rattle.rt_journal.proofs.Received.{task_stays}
 use Rattle.rt_journal.proofs.Sums.{sum_upto-same}
@@ -59,49 +41,31 @@ module _ {T : Type 0} where
   }
 
   module _ (before : Journal T) where
-    pub sent_no_more : (name : JobId) (order : Order (Unit {0})) → SaysNoMore before (writes.Sent name order ∷ before)
-    sent_no_more name order = record {
-      agrees = λ core was. agrees_unmoved core before (writes.Sent name order) was (calm_sent before name order) refl (λ queue. refl) core.delivered was.senders was.delivered core.gates core.mode
-          (closing-stays core core (writes.Sent name order) before (same_modes core) (record { queues = λ queue. refl; core = refl; gates = λ sender. refl }) was.closing);
-      delivered = λ sender. refl;
-      given = λ sender. refl;
-      gates = λ sender. refl;
-      as_sent = λ under is. (tt, is);
-      polls = λ name. add-zero (polls_made name before);
+    -- a calm note by which nothing is delivered or given, and nothing is created, weighed or closed
+    silent_note : (note : Note T) → IsCalm note before → created_count (note ∷ before) ≡ created_count before → ((queue : ℕ) → shares queue (note ∷ before) ≡ shares queue before) → IsOpenNote note →
+        ((sender : ℕ) → delivered_names sender (note ∷ before) ≡ delivered_names sender before) → ((sender : ℕ) → given_outcomes sender (note ∷ before) ≡ given_outcomes sender before) →
+        ((under : _) → EachNote (DeliversAs under) before → EachNote (DeliversAs under) (note ∷ before)) → ((name : JobId) → polls_made name (note ∷ before) ≡ polls_made name before) → SaysNoMore before (note ∷ before)
+    silent_note note calm creates weighs opens delivered given as_sent polls = record {
+      agrees = λ core was. agrees_unmoved core before note was calm creates weighs core.delivered was.senders (λ sender known. was.delivered sender known ∙ ap length (sym (delivered sender))) core.gates core.mode
+          (closing-stays core core note before (same_modes core) opens was.closing);
+      delivered = delivered;
+      given = given;
+      gates = λ sender. ap (λ told. or_else told (final_count sender before)) (opens.gates sender);
+      as_sent = as_sent;
+      polls = polls;
     }
 
-    pub collected_no_more : (name : JobId) (outcome : OutcomeNote T) → SaysNoMore before (writes.Collected name outcome ∷ before)
-    collected_no_more name outcome = record {
-      agrees = λ core was. agrees_unmoved core before (writes.Collected name outcome) was (calm_collected before name outcome) refl (λ queue. refl) core.delivered was.senders was.delivered core.gates core.mode
-          (closing-stays core core (writes.Collected name outcome) before (same_modes core) (record { queues = λ queue. refl; core = refl; gates = λ sender. refl }) was.closing);
-      delivered = λ sender. refl;
-      given = λ sender. refl;
-      gates = λ sender. refl;
-      as_sent = λ under is. (tt, is);
-      polls = λ name. add-zero (polls_made name before);
-    }
+    sent_no_more : (name : JobId) (order : Order (Unit {0})) → SaysNoMore before (writes.Sent name order ∷ before)
+    sent_no_more name order = silent_note (writes.Sent name order) refl refl (λ queue. refl) (record { queues = λ queue. refl; core = refl; gates = λ sender. refl }) (λ sender. refl) (λ sender. refl) (λ under is. (tt, is)) (λ name. add-zero (polls_made name before))
 
-    pub redeemed_no_more : (name : JobId) (outcome : OutcomeNote T) → SaysNoMore before (writes.Redeemed name outcome ∷ before)
-    redeemed_no_more name outcome = record {
-      agrees = λ core was. agrees_unmoved core before (writes.Redeemed name outcome) was (calm_redeemed before name outcome) refl (λ queue. refl) core.delivered was.senders was.delivered core.gates core.mode
-          (closing-stays core core (writes.Redeemed name outcome) before (same_modes core) (record { queues = λ queue. refl; core = refl; gates = λ sender. refl }) was.closing);
-      delivered = λ sender. refl;
-      given = λ sender. refl;
-      gates = λ sender. refl;
-      as_sent = λ under is. (tt, is);
-      polls = λ name. add-zero (polls_made name before);
-    }
+    collected_no_more : (name : JobId) (outcome : OutcomeNote T) → SaysNoMore before (writes.Collected name outcome ∷ before)
+    collected_no_more name outcome = silent_note (writes.Collected name outcome) refl refl (λ queue. refl) (record { queues = λ queue. refl; core = refl; gates = λ sender. refl }) (λ sender. refl) (λ sender. refl) (λ under is. (tt, is)) (λ name. add-zero (polls_made name before))
 
-    pub detached_no_more : (name : JobId) → SaysNoMore before (writes.Detached name ∷ before)
-    detached_no_more name = record {
-      agrees = λ core was. agrees_unmoved core before (writes.Detached name) was (calm_detached before name) refl (λ queue. refl) core.delivered was.senders was.delivered core.gates core.mode
-          (closing-stays core core (writes.Detached name) before (same_modes core) (record { queues = λ queue. refl; core = refl; gates = λ sender. refl }) was.closing);
-      delivered = λ sender. refl;
-      given = λ sender. refl;
-      gates = λ sender. refl;
-      as_sent = λ under is. (tt, is);
-      polls = λ name. add-zero (polls_made name before);
-    }
+    redeemed_no_more : (name : JobId) (outcome : OutcomeNote T) → SaysNoMore before (writes.Redeemed name outcome ∷ before)
+    redeemed_no_more name outcome = silent_note (writes.Redeemed name outcome) refl refl (λ queue. refl) (record { queues = λ queue. refl; core = refl; gates = λ sender. refl }) (λ sender. refl) (λ sender. refl) (λ under is. (tt, is)) (λ name. add-zero (polls_made name before))
+
+    detached_no_more : (name : JobId) → SaysNoMore before (writes.Detached name ∷ before)
+    detached_no_more name = silent_note (writes.Detached name) refl refl (λ queue. refl) (record { queues = λ queue. refl; core = refl; gates = λ sender. refl }) (λ sender. refl) (λ sender. refl) (λ under is. (tt, is)) (λ name. add-zero (polls_made name before))
 
   pub all_collected : (core : ℕ) (notes before : Journal T) → AreCollected core notes → SaysNoMore before (notes ++ before)
   all_collected core [] before are = no_more before
@@ -146,34 +110,37 @@ module _ {J T : Type 0} (old : RecordedView J T) (longer : Journal T) (lanes : L
     ins_silent sender =
         keeps_in old new (record { number = refl; cores = refl; cap = refl; room = refl }) sender None (silent.given sender) (silent.gates sender) (λ inward is. tt) (ap length (silent.delivered sender)) (λ which order from at. at)
 
+-- what a call of its desk leaves of a core: it is recorded, the desk is its own, and the ends that it receives from are as they were
+pub record HasSaid {J T : Type 0} (same : J → J → Type 0) (made : J → ℕ) (polls : Owed J T) (desk : DeskView J T) (old new : RecordedView J T) : Type 0 where
+  pub sound : IsRecorded same made polls new
+  pub is_its : desk ≡ desk_of new
+  pub ins : (sender : ℕ) → KeepsIn sender old new
+
 -- whatever its desk did
 module _ {J T : Type 0} {same : J → J → Type 0} {made : J → ℕ} {polls : Owed J T}
-    (inside : CoreView J) (took : List (Envelope J)) (said now : DeskView J T)
-    (invariant : IsRecorded same made polls (view_of inside took said) × (said ≡ desk_of (view_of inside took said)))
-    (rest : now ≡ record said { journal = record said.journal { notes = now.journal.notes }; lanes = now.lanes })
-    (written : IsWritten (terms_of_desk now) now.journal.notes) (silent : SaysNoMore said.journal.notes now.journal.notes) where
-  abbrev old : RecordedView J T
-  old = view_of inside took said
+    (inside : CoreView J) (took : List (Envelope J)) (said : DeskView J T)
+    (invariant : IsRecorded same made polls (view_of inside took said) × (said ≡ desk_of (view_of inside took said))) {before : RecordedView J T} (view_is : view_of inside took said ≡ before) where
+  -- what the caller says of the desk holds of this one
+  pub of_desk : (P : DeskView J T → Type 0) → P (desk_of before) → P said
+  of_desk P = subst P (sym (invariant.1 ∙ ap desk_of view_is))
 
-  now_is : view_of inside took now ≡ record old { journal = record old.journal { notes = now.journal.notes }; lanes = now.lanes }
-  now_is = ap (view_of inside took) rest
-
-  pub desk_sound : IsRecorded same made polls (view_of inside took now)
-  desk_sound =
-      subst (IsRecorded same made polls) (sym now_is)
-      (recorded_silent old now.journal.notes now.lanes silent invariant.0 (subst (λ terms. IsWritten terms now.journal.notes) (ap terms_of_desk rest ∙ ap terms_of_desk invariant.1) written))
-
-  pub desk_is_its : now ≡ desk_of (view_of inside took now)
-  desk_is_its = λ i. record {
-    actor = (ap (λ desk. desk.actor) rest ∙ ap (λ desk. desk.actor) invariant.1) i;
-    cores = (ap (λ desk. desk.cores) rest ∙ ap (λ desk. desk.cores) invariant.1) i;
-    cap = now.cap;
-    journal = now.journal;
-    lanes = now.lanes;
-  }
-
-  pub desk_ins : (sender : ℕ) → KeepsIn sender old (view_of inside took now)
-  desk_ins sender = subst (KeepsIn sender old) (sym now_is) (ins_silent old now.journal.notes now.lanes silent sender)
+  pub has_said : {now : DeskView J T} → now ≡ record said { journal = record said.journal { notes = now.journal.notes }; lanes = now.lanes } →
+      IsWritten (terms_of_desk now) now.journal.notes → SaysNoMore said.journal.notes now.journal.notes → HasSaid same made polls now before (view_of inside took now)
+  has_said {now} rest written silent =
+      let old : RecordedView J T = view_of inside took said in
+      let now_is : view_of inside took now ≡ record old { journal = record old.journal { notes = now.journal.notes }; lanes = now.lanes } = ap (view_of inside took) rest in
+      record {
+        sound = subst (IsRecorded same made polls) (sym now_is)
+            (recorded_silent old now.journal.notes now.lanes silent invariant.0 (subst (λ terms. IsWritten terms now.journal.notes) (ap terms_of_desk rest ∙ ap terms_of_desk invariant.1) written));
+        is_its = λ i. record {
+          actor = (ap (λ desk. desk.actor) rest ∙ ap (λ desk. desk.actor) invariant.1) i;
+          cores = (ap (λ desk. desk.cores) rest ∙ ap (λ desk. desk.cores) invariant.1) i;
+          cap = now.cap;
+          journal = now.journal;
+          lanes = now.lanes;
+        };
+        ins = λ sender. subst (λ before. KeepsIn sender before (view_of inside took now)) view_is (subst (KeepsIn sender old) (sym now_is) (ins_silent old now.journal.notes now.lanes silent sender));
+      }
 
 -- what each call of the desk writes
 module _ {J T : Type 0} (said now : DeskView J T) where

@@ -1,26 +1,10 @@
 -- The end of the sender of a job, as a poll of the job is settled.
-use Rattle.std.proofs.Common.{◌≡◌, ℕ, List, sym, ◌∙◌, subst}
-use Rattle.std.specs.Prelude.{Option, Some, IfSome}
-use Rattle.std.specs.Option.{option_map}
-use Rattle.std.proofs.lemmas.Option.{same_Some}
-use Rattle.rt_ids.specs.declared.names.JobId.{JobId}
-use Rattle.rt_ids.specs.declared.order.Envelope.{Envelope}
-use Rattle.rt_ids.specs.declared.order.Order.TheVariants.{Job}
-use Rattle.rt_ids.specs.declared.order.Outcome.{Outcome}
-use Rattle.rt_ids.specs.Outcomes.{outcome_note}
-use Rattle.rt_jobs.specs.declared.job.Step.{Step}
+use Rattle.rt_journal.proofs.Names.{◌≡◌, ℕ, List, sym, ◌∙◌, subst, Option, Some, IfSome, option_map, same_Some, JobId}
+use Rattle.rt_journal.proofs.Names.{Envelope, Job, Outcome, outcome_note, Step, Owed, AfterPoll, IfDone, Settled}
+use Rattle.rt_journal.proofs.Names.{JobOut, Inward, MayGive, Fits, RecordedView, IsRecorded, order_taken, IsInOf}
+use Rattle.rt_journal.proofs.Names.{IsInOwing, KeepsIn, LeavesOwed, Gives, told_under, IsOutUnder, TellsStep, Settles}
+use Rattle.rt_journal.proofs.Names.{OwesSettled, outcome_settled, MayAnswer}
 use Rattle.rt_jobs.specs.declared.job.Step.TheVariants as steps
-use Rattle.rt_jobs.specs.Steps.{Owed, AfterPoll, IfDone}
-use Rattle.rt_core.specs.declared.turn.Settled.{Settled}
-use Rattle.rt_core.specs.State.{JobOut}
-use Rattle.rt_link.specs.declared.ends.Inward.{Inward}
-use Rattle.rt_link.specs.Calls.{MayGive}
-use Rattle.rt_link.specs.Fits.{Fits}
-use Rattle.rt_journal.specs.Recorded.{RecordedView, IsRecorded, order_taken}
-use Rattle.rt_journal.specs.Ends.{IsInOf, IsInOwing, KeepsIn, LeavesOwed, Gives, told_under}
-use Rattle.rt_journal.specs.Turns.{IsOutUnder, TellsStep, Settles}
-use Rattle.rt_journal.specs.Owed.{OwesSettled, outcome_settled}
-use Rattle.rt_journal.specs.Whole.{MayAnswer}
 use Rattle.rt_journal.proofs.Quiet.{given_settled}
 use Rattle.rt_journal.proofs.SettledPolls.{given_told}
 use Rattle.rt_journal.proofs.DeliveredEnds.{told_elsewhere}

@@ -1,53 +1,30 @@
 -- A core beside its journal settles the poll of the job that is out.
-use Rattle.std.proofs.Common.{◌≡◌, ℕ, zero, suc, ◌+◌, ◌<◌, ◌≤◌, Bool, true, false, List, [], ◌∷◌, ◌++◌, length, reverse, refl, sym, ◌∙◌, ap, subst, arith, add-zero, get_or}
-use Rattle.std.specs.Prelude.{◌==◌, Option, Some, None, All, is_some, unwrap_or}
-use Rattle.std.proofs.lemmas.Bool.{eqb-true, eqb-false, false_from_ne_true, or_parts}
-use Rattle.std.proofs.lemmas.List.{length-append}
-use Rattle.std.proofs.lemmas.List.Elements.{All-append, All-cons, All-nil}
-use Rattle.rt_ids.specs.declared.names.JobId.{JobId}
-use Rattle.rt_ids.specs.declared.note.Note.{Note}
+use Rattle.rt_journal.proofs.Names.{◌≡◌, ℕ, zero, suc, ◌+◌, ◌<◌, ◌≤◌, Bool, true, false, List, [], ◌∷◌, ◌++◌, length}
+use Rattle.rt_journal.proofs.Names.{reverse, refl, sym, ◌∙◌, ap, subst, arith, add-zero, get_or, ◌==◌, Option, Some}
+use Rattle.rt_journal.proofs.Names.{None, All, is_some, unwrap_or, false_from_ne_true, or_parts, length-append}
+use Rattle.rt_journal.proofs.Names.{All-append, All-cons, All-nil, JobId, Note, same_name, is_name, Journal, is_told}
+use Rattle.rt_journal.proofs.Names.{jobs_out, name_settled, number_if, alone_out, apart_of, among, same_as_itself, Step}
+use Rattle.rt_journal.proofs.Names.{Call, Owed, AfterPoll, IsSameTask, IfDone, OnYield, OwesOn, waiting_of, held_count}
+use Rattle.rt_journal.proofs.Names.{ChangesLine, Settled, Yielded, CoreView, JobOut, inside_count, IsTaskOut}
+use Rattle.rt_journal.proofs.Names.{settled_view, IsJobOut, polls_made, settle_note, RecordedView, terms_at, IsRecorded}
+use Rattle.rt_journal.proofs.Names.{HasTask, note_taken, OwesAfter, sum_upto, given_count, IsOut, IsPolled, Settles}
+use Rattle.rt_journal.proofs.Names.{TellsStep, Job, name_ended, without_job, known_of, option_map, Inward, IsInOf}
+use Rattle.rt_journal.proofs.Names.{IsUngiven, told_under, outcome_note, outcome_settled, length-with_last_if}
+use Rattle.rt_journal.proofs.Names.{given_outcomes}
 use Rattle.rt_ids.specs.declared.note.Note.TheVariants as writes
-use Rattle.rt_ids.specs.Names.{same_name, is_name}
-use Rattle.rt_ids.specs.Journal.{Journal, is_told}
-use Rattle.rt_ids.specs.Lines.{jobs_out, name_settled}
-use Rattle.rt_ids.specs.Work.{number_if}
-use Rattle.rt_ids.proofs.JobsOut.{alone_out}
-use Rattle.rt_ids.proofs.LineDistinct.{apart_of}
-use Rattle.rt_ids.proofs.NameLemmas.{among, same_as_itself}
-use Rattle.rt_jobs.specs.declared.job.Step.{Step}
-use Rattle.rt_jobs.specs.Calls.{Call}
 use Rattle.rt_jobs.specs.declared.job.Step.TheVariants as steps
-use Rattle.rt_jobs.specs.Steps.{Owed, AfterPoll, IsSameTask, IfDone, OnYield, OwesOn}
-use Rattle.rt_taskqueue.specs.Queues.{waiting_of, held_count, ChangesLine}
-use Rattle.rt_core.specs.declared.turn.Settled.{Settled}
-use Rattle.rt_core.specs.declared.turn.Settled.TheVariants.{Yielded, Finished}
-use Rattle.rt_core.specs.State.{CoreView, JobOut, inside_count}
-use Rattle.rt_core.specs.Answers.{IsTaskOut}
-use Rattle.rt_core.specs.Turns.{settled_view}
+use Rattle.rt_core.specs.declared.turn.Settled.TheVariants.{Finished}
 use Rattle.rt_core.specs.Turns.{Settles as CoreSettles}
-use Rattle.rt_journal.specs.Agreement.{IsJobOut, names_of}
-use Rattle.rt_journal.specs.Polls.{polls_made, settle_note}
-use Rattle.rt_journal.specs.Recorded.{RecordedView, terms_at, IsRecorded, HasTask, note_taken, OwesAfter, sum_upto, given_count}
-use Rattle.rt_journal.specs.Turns.{IsOut, IsPolled, Settles, TellsStep}
+use Rattle.rt_journal.specs.Agreement.{names_of}
+use Rattle.rt_journal.proofs.Everywhere.{everywhere}
 use Rattle.rt_journal.proofs.Kept.{IsKept}
 use Rattle.rt_journal.proofs.KeptSettles.{none≢some, kept-yield, kept-done}
 use Rattle.rt_journal.proofs.PollNotes.{other_way}
-use Rattle.rt_ids.specs.declared.order.Order.TheVariants.{Job}
 use Rattle.rt_ids.specs.declared.note.OutcomeNote.TheVariants as outcomes
-use Rattle.rt_ids.specs.Filters.{name_ended}
-use Rattle.rt_ids.specs.Orders.{without_job}
-use Rattle.rt_ids.proofs.Known.{known_of}
-use Rattle.std.specs.Option.{option_map}
-use Rattle.rt_link.specs.declared.ends.Inward.{Inward}
-use Rattle.rt_journal.specs.Ends.{IsInOf, IsUngiven, told_under}
-use Rattle.rt_ids.specs.Outcomes.{outcome_note}
-use Rattle.rt_journal.specs.Owed.{outcome_settled}
 use Rattle.rt_journal.proofs.Ungiven.{ungiven_if, not_given}
 use Rattle.rt_journal.proofs.Received.{task_stays}
 use Rattle.rt_journal.proofs.Quiet.{given_settled, quiet-settled, gates-settled, as_sent-settled}
 use Rattle.rt_journal.proofs.Sums.{sum_upto-at_most_one}
-use Rattle.rt_ids.proofs.Told.{length-with_last_if}
-use Rattle.rt_ids.specs.Filters.{given_outcomes}
 use Rattle.rt_journal.proofs.QuietSteps.{stepped, IsQuietStep, everyone}
 
 -- whoever waits is another than one who isn't among them
@@ -155,16 +132,11 @@ module _ {J T : Type 0} {same : J → J → Type 0} {made : J → ℕ} {polls : 
     TaskNow queue entry = HasTask same made polls old.took longer queue entry.0 entry.2
 
     waiting_now : (queue : ℕ) → All (TaskNow queue) (waiting_of queue core.queues)
-    waiting_now queue = by_test (queue == out.queue) refl
-      where
-        by_test : (test : Bool) → (queue == out.queue) ≡ test → All (TaskNow queue) (waiting_of queue core.queues)
-        by_test true one =
-            let here : queue ≡ out.queue = eqb-true queue out.queue one in
-            subst (λ at. All (TaskNow at) (waiting_of at core.queues)) (sym here)
-            (subst (All (TaskNow out.queue)) (sym changes.changed)
-            (All-append (TaskNow out.queue) (waiting_of out.queue old.core.queues) ((out.name, true, ran.job) ∷ []) (still_waiting out.queue)
-            (All-cons (TaskNow out.queue) (out.name, true, ran.job) [] (task_now yields) (All-nil (TaskNow out.queue)))))
-        by_test false away = subst (All (TaskNow queue)) (sym (changes.others queue (eqb-false queue out.queue away))) (still_waiting queue)
+    waiting_now = everywhere (λ at. All (TaskNow at) (waiting_of at core.queues)) out.queue
+        (subst (All (TaskNow out.queue)) (sym changes.changed)
+        (All-append (TaskNow out.queue) (waiting_of out.queue old.core.queues) ((out.name, true, ran.job) ∷ []) (still_waiting out.queue)
+        (All-cons (TaskNow out.queue) (out.name, true, ran.job) [] (task_now yields) (All-nil (TaskNow out.queue)))))
+        (λ queue away. subst (All (TaskNow queue)) (sym (changes.others queue away)) (still_waiting queue))
 
     same_inside : inside_count core ≡ inside_count old.core
     same_inside =
@@ -218,44 +190,26 @@ module _ {J T : Type 0} {same : J → J → Type 0} {made : J → ℕ} {polls : 
 
   -- whatever the step
   module _ (settled : Settled T) (notes : List (Note T)) (settles : CoreSettles old.core out ran spent ran.step settled core notes) where
-    notes_are : notes ≡ written
-    notes_are = by_step ran.step settled settles
+    its_step : (notes ≡ written) × (core.out ≡ None) × TellsStep ran.step settled
+    its_step = by_step ran.step settled settles
       where
-        by_step : (step : Step T) (settled : Settled T) → CoreSettles old.core out ran spent step settled core notes → notes ≡ settle_note out.name time step ∷ []
-        by_step (steps.Done value) (Finished answer) settles = settles.2
+        by_step : (step : Step T) (settled : Settled T) → CoreSettles old.core out ran spent step settled core notes → (notes ≡ settle_note out.name time step ∷ []) × (core.out ≡ None) × TellsStep step settled
+        by_step (steps.Done value) (Finished answer) settles = (settles.2, ap (λ core. core.out) settles.1, ap Finished settles.0)
         by_step (steps.Done value) Yielded settles = absurd settles
         by_step steps.Yield (Finished answer) settles = absurd settles
-        by_step steps.Yield Yielded settles = settles.2
+        by_step steps.Yield Yielded settles = (settles.2, ap (λ core. core.out) settles.1, refl)
 
     pub few-settled : length notes ≤ 1
-    few-settled = omega (arith, ap length notes_are)
+    few-settled = omega (arith, ap length its_step.0)
 
     pub step-settled : IsQuietStep old core (reverse notes) same made polls everyone (given_settled out.name ran.step)
-    step-settled = subst (λ notes. IsQuietStep old core (reverse notes) same made polls everyone (given_settled out.name ran.step)) (sym notes_are) (by_step ran.step refl settled settles)
+    step-settled = subst (λ notes. IsQuietStep old core (reverse notes) same made polls everyone (given_settled out.name ran.step)) (sym its_step.0) (by_step ran.step refl settled settles)
       where
         by_step : (step : Step T) → ran.step ≡ step → (settled : Settled T) → CoreSettles old.core out ran spent step settled core notes → IsQuietStep old core written same made polls everyone (given_settled out.name ran.step)
         by_step (steps.Done value) ends (Finished answer) settles = ended value ends settles.1
         by_step (steps.Done value) ends Yielded settles = absurd settles
         by_step steps.Yield yields (Finished answer) settles = absurd settles
         by_step steps.Yield yields Yielded settles = yielded yields settles.0 settles.1
-
-    out_now : core.out ≡ None
-    out_now = by_step ran.step settled settles
-      where
-        by_step : (step : Step T) (settled : Settled T) → CoreSettles old.core out ran spent step settled core notes → core.out ≡ None
-        by_step (steps.Done value) (Finished answer) settles = ap (λ core. core.out) settles.1
-        by_step (steps.Done value) Yielded settles = absurd settles
-        by_step steps.Yield (Finished answer) settles = absurd settles
-        by_step steps.Yield Yielded settles = ap (λ core. core.out) settles.1
-
-    tells : TellsStep ran.step settled
-    tells = by_step ran.step settled settles
-      where
-        by_step : (step : Step T) (settled : Settled T) → CoreSettles old.core out ran spent step settled core notes → TellsStep step settled
-        by_step (steps.Done value) (Finished answer) settles = ap Finished settles.0
-        by_step (steps.Done value) Yielded settles = absurd settles
-        by_step steps.Yield (Finished answer) settles = absurd settles
-        by_step steps.Yield Yielded settles = refl
 
     answered : IfDone ran.step (answers its_task.sent)
     answered = by_step ran.step polled.answered
@@ -279,8 +233,8 @@ module _ {J T : Type 0} {same : J → J → Type 0} {made : J → ℕ} {polls : 
       task = its_task.task;
       owed = owed;
       answered = answered;
-      tells = tells;
-      journal = ap (λ notes. record old.journal { notes = reverse notes ++ old.journal.notes }) notes_are;
-      out_now = out_now;
+      tells = its_step.2;
+      journal = ap (λ notes. record old.journal { notes = reverse notes ++ old.journal.notes }) its_step.0;
+      out_now = its_step.1;
       took = refl;
     }

@@ -1,23 +1,11 @@
 -- A core beside its journal shuts the gate of a sender, and the end of that sender stays beside it.
-use Rattle.std.proofs.Common.{◌≡◌, ℕ, ◌+◌, ◌≤◌, true, List, [], ◌∷◌, ◌++◌, length, reverse, refl, sym, ◌∙◌, ap, subst, arith, add-zero, cond}
-use Rattle.std.specs.Prelude.{◌≢◌, Some, None, All, is_some, IsSome, slice_set}
-use Rattle.std.proofs.lemmas.Bool.{eq-eqb, ne_eqb, true≢false}
-use Rattle.std.proofs.lemmas.List.{length-append}
-use Rattle.rt_ids.specs.declared.note.Note.{Note}
+use Rattle.rt_journal.proofs.Names.{◌≡◌, ℕ, ◌+◌, ◌≤◌, true, List, [], ◌∷◌, ◌++◌, length, reverse, refl, sym, ◌∙◌, ap}
+use Rattle.rt_journal.proofs.Names.{subst, arith, add-zero, cond, ◌≢◌, Some, None, All, is_some, IsSome, slice_set}
+use Rattle.rt_journal.proofs.Names.{eq-eqb, ne_eqb, true≢false, length-append, Note, IsNextShut, core_mode, final_count}
+use Rattle.rt_journal.proofs.Names.{or_else, Owed, waiting_of, CoreView, gate_of, inside_count, ShutsGate, Inward}
+use Rattle.rt_journal.proofs.Names.{SoundIn, Shuts, polls_made, RecordedView, terms_at, IsRecorded, HasTask, IsInOf}
+use Rattle.rt_journal.proofs.Names.{TellsShut, with_notes}
 use Rattle.rt_ids.specs.declared.note.Note.TheVariants as writes
-use Rattle.rt_ids.specs.Closing.{IsNextShut, core_mode, final_count}
-use Rattle.rt_ids.specs.Journal.{or_else}
-use Rattle.rt_jobs.specs.Steps.{Owed}
-use Rattle.rt_taskqueue.specs.Queues.{waiting_of}
-use Rattle.rt_core.specs.State.{CoreView, gate_of, inside_count}
-use Rattle.rt_core.specs.Closing.{ShutsGate}
-use Rattle.rt_link.specs.declared.ends.Inward.{Inward}
-use Rattle.rt_link.specs.Ends.{SoundIn}
-use Rattle.rt_link.specs.Calls.{Shuts}
-use Rattle.rt_journal.specs.Polls.{polls_made}
-use Rattle.rt_journal.specs.Recorded.{RecordedView, terms_at, IsRecorded, HasTask}
-use Rattle.rt_journal.specs.Ends.{IsInOf}
-use Rattle.rt_journal.specs.Steps.{TellsShut, with_notes}
 use Rattle.rt_journal.proofs.KeptClosings.{agrees-shut, shut_stands}
 use Rattle.rt_journal.proofs.EndsKept.{sees_more_in}
 use Rattle.rt_journal.proofs.Received.{task_stays}

@@ -1,23 +1,10 @@
 -- Each note on a submission leaves fewer that can be made before the next outcome is collected.
-use Rattle.std.proofs.Common.{◌≡◌, inl, inr, ℕ, ◌+◌, ◌*◌, ◌<◌, ◌≤◌, List, [], ◌∷◌, length, Some, refl, sym, ap, subst, arith, set, get_or}
-use Rattle.std.specs.Prelude.{slice_get, Ok, None, Option, IsSome, sum_by}
-use Rattle.std.proofs.lemmas.List.Sums.{sum_by-set}
-use Rattle.std.proofs.lemmas.Option.{slice_get_within, get_or_from_slice_get}
-use Rattle.rt_ids.specs.declared.names.JobId.{JobId}
-use Rattle.rt_ids.specs.declared.note.Note.TheVariants as writes
-use Rattle.rt_ids.specs.declared.note.OutcomeNote.{OutcomeNote}
-use Rattle.rt_ids.specs.declared.order.Order.{Order}
-use Rattle.rt_ids.specs.declared.order.Outcome.{Outcome}
-use Rattle.rt_link.specs.declared.ends.Outward.{Outward}
-use Rattle.rt_notes.specs.Journals.{JournalView}
-use Rattle.rt_desk.specs.Held.{at, tally, count_of, one, Adds, Removes}
-use Rattle.rt_desk.specs.Lanes.{Lane, IsLaneOf, is_collected, is_detached}
-use Rattle.rt_desk.specs.Steps.{CollectsNext, Detaches, Keeps}
-use Rattle.rt_desk.specs.Told.{told_of}
-use Rattle.rt_desk.specs.declared.entry.Entry.{Entry}
+use Rattle.rt_journal.proofs.Names.{◌≡◌, inl, inr, ℕ, ◌+◌, ◌*◌, ◌<◌, ◌≤◌, List, [], ◌∷◌, length, Some, refl, sym, ap}
+use Rattle.rt_journal.proofs.Names.{subst, arith, set, get_or, slice_get, Ok, IsSome, sum_by, sum_by-set}
+use Rattle.rt_journal.proofs.Names.{slice_get_within, get_or_from_slice_get, JobId, Order, Outcome, Outward, at, tally}
+use Rattle.rt_journal.proofs.Names.{count_of, one, Adds, Removes, Lane, IsLaneOf, is_collected, is_detached, Detaches}
+use Rattle.rt_journal.proofs.Names.{Keeps, Entry, DeskView, is_waiting, left_of, due_of, booked, Spends, HoldsSome}
 use Rattle.rt_desk.specs.declared.entry.Entry.TheVariants.{Pending, Detached, Collected}
-use Rattle.rt_journal.specs.Submissions.{DeskView}
-use Rattle.rt_journal.specs.Spending.{is_waiting, left_of, due_of, booked, Spends, HoldsSome}
 
 module _ {J T : Type 0} where
   -- each entry waits, is detached or was collected
@@ -112,14 +99,6 @@ module _ {J T : Type 0} where
       let its : get_or desk.lanes core lane ≡ lane = get_or_from_slice_get desk.lanes core lane lane was in
       let swapped : sum_by due_of (set desk.lanes core later) + due_of (get_or desk.lanes core lane) ≡ sum_by due_of desk.lanes + due_of later = sum_by-set due_of desk.lanes core later lane within in
       omega (arith, noted, due, swapped, ap due_of its, ap (sum_by due_of) lanes)
-
-  -- the next outcome is collected and noted
-  pub booked_some : (desk : DeskView J T) (core : ℕ) (lane later : Lane J T) → slice_get desk.lanes core ≡ Some lane → (out now : Outward J T) (credited after : ℕ) (found : Option (ℕ × Outcome J T)) → CollectsNext lane later out now credited after found →
-      (name : JobId) (told : OutcomeNote T) → Some (name, told) ≡ told_of desk.actor core found → (page : JournalView T) → page ≡ record desk.journal { notes = writes.Collected name told ∷ desk.journal.notes } →
-      booked (record desk { journal = page; lanes = set desk.lanes core later }) ≡ booked desk
-  booked_some desk core lane later was out now credited after None next name told is page page_is = absurd cc
-  booked_some desk core lane later was out now credited after (Some found) next name told is page page_is =
-      booked_noted desk core lane later was (due_collected lane later found.0 found.1 credited after next.2) (record desk { journal = page; lanes = set desk.lanes core later }) (omega (arith, ap (λ (journal : JournalView T). length journal.notes) page_is)) refl
 
   -- what a call knows of its own names, it ensures of its caller's
   pub carried_spends : (desk now new : DeskView J T) → desk ≡ now → (core to : ℕ) → core ≡ to → (lane later : Lane J T) → slice_get desk.lanes core ≡ Some lane → new.lanes ≡ set desk.lanes core later → left_of later < left_of lane →

@@ -1,31 +1,17 @@
 -- An actor submits an order: its journal and its lanes stay as they should be, and the ends that it sends on stay beside it.
-use Rattle.std.proofs.Common.{◌≡◌, inl, inr, ℕ, ◌+◌, true, false, Some, [], ◌∷◌, ◌++◌, length, refl, sym, ◌∙◌, ap, subst, arith, set}
-use Rattle.std.specs.Prelude.{◌==◌, ◌&&◌, ◌||◌, not, Ok, Err, is_some, take, slice_get, count_by}
-use Rattle.std.proofs.lemmas.Bool.{eq-eqb, ne_eqb}
-use Rattle.std.proofs.lemmas.Bool.Decides.{eqb_tells}
-use Rattle.std.proofs.lemmas.List.{length-append, length-set}
-use Rattle.rt_ids.specs.declared.names.JobId.{JobId}
+use Rattle.rt_journal.proofs.Names.{◌≡◌, inl, inr, ℕ, ◌+◌, true, false, Some, [], ◌∷◌, ◌++◌, length, refl, sym, ◌∙◌, ap}
+use Rattle.rt_journal.proofs.Names.{subst, arith, set, ◌==◌, ◌&&◌, ◌||◌, not, Ok, Err, is_some, take, slice_get}
+use Rattle.rt_journal.proofs.Names.{count_by, eq-eqb, ne_eqb, eqb_tells, length-append, JobId, Order, Outcome}
+use Rattle.rt_journal.proofs.Names.{SendError, Closed, Full, NoCore, Journal, is_told, accepted_orders, IsNextSent}
+use Rattle.rt_journal.proofs.Names.{IsSpelledOrder, without_job, outstanding_count, is_outstanding, is_gone}
+use Rattle.rt_journal.proofs.Names.{name_redeemed, name_detached, name_collected, Outward, Sends, JournalView, at, Adds}
+use Rattle.rt_journal.proofs.Names.{Lane, IsLaneOf, changed, unchanged, numbered_orders, DeskView, IsWritten, Submits}
+use Rattle.rt_journal.proofs.Names.{terms_of_desk, IsOutOf, name_of, named_outcomes, KnowsLane, KnowsLanes, StaysBeside}
+use Rattle.rt_journal.proofs.Names.{is_let_go}
+use Rattle.std.proofs.lemmas.List.{length-set}
 use Rattle.rt_ids.specs.declared.note.Note.TheVariants as writes
-use Rattle.rt_ids.specs.declared.order.Order.{Order}
-use Rattle.rt_ids.specs.declared.order.Outcome.{Outcome}
-use Rattle.rt_ids.specs.declared.order.SendError.{SendError}
-use Rattle.rt_ids.specs.declared.order.SendError.TheVariants.{Closed, Full, Spent, NoCore}
-use Rattle.rt_ids.specs.Journal.{Journal, is_told}
-use Rattle.rt_ids.specs.Filters.{accepted_orders}
-use Rattle.rt_ids.specs.Lawful.{IsNextSent}
-use Rattle.rt_ids.specs.Orders.{IsSpelledOrder, without_job}
-use Rattle.rt_ids.specs.Outstanding.{outstanding_count, is_outstanding, is_gone, name_redeemed, name_detached, name_collected}
-use Rattle.rt_link.specs.declared.ends.Outward.{Outward}
-use Rattle.rt_link.specs.Calls.{Sends}
-use Rattle.rt_notes.specs.Journals.{JournalView}
-use Rattle.rt_desk.specs.Held.{at, Adds}
-use Rattle.rt_desk.specs.Lanes.{Lane, IsLaneOf}
+use Rattle.rt_ids.specs.declared.order.SendError.TheVariants.{Spent}
 use Rattle.rt_desk.specs.declared.entry.Entry.TheVariants.{Pending}
-use Rattle.rt_desk.proofs.Cores.{changed, unchanged}
-use Rattle.rt_journal.specs.Orders.{numbered_orders}
-use Rattle.rt_journal.specs.Submissions.{DeskView, IsWritten, Submits, terms_of_desk}
-use Rattle.rt_journal.specs.Ends.{IsOutOf, name_of, named_outcomes}
-use Rattle.rt_journal.specs.Tickets.{KnowsLane, KnowsLanes, StaysBeside, is_let_go}
 use Rattle.rt_journal.proofs.Kept.{plainly_stands}
 use Rattle.rt_journal.proofs.Apart.{counted-more}
 use Rattle.rt_journal.proofs.TicketNotes.{neither}

@@ -1,9 +1,6 @@
 -- Counts of the first actors together, as the count of one of them grows.
-use Rattle.std.proofs.Common.{◌≡◌, ℕ, zero, suc, ◌+◌, ◌*◌, ◌<◌, ◌≤◌, ap, subst, ⊎_elim, arith}
-use Rattle.std.specs.Prelude.{◌==◌}
-use Rattle.std.proofs.lemmas.Bool.{eq-eqb, ne_eqb, cases_lt}
-use Rattle.rt_ids.specs.Work.{number_if}
-use Rattle.rt_journal.specs.Recorded.{sum_upto}
+use Rattle.rt_journal.proofs.Names.{◌≡◌, ℕ, zero, suc, ◌+◌, ◌*◌, ◌<◌, ◌≤◌, ap, subst, ⊎_elim, arith, ◌==◌, eq-eqb}
+use Rattle.rt_journal.proofs.Names.{ne_eqb, cases_lt, number_if, sum_upto}
 
 number_if-here : (a b : ℕ) → a ≡ b → number_if (a == b) ≡ 1
 number_if-here a b one = ap number_if (eq-eqb a b one)

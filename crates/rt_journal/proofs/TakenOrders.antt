@@ -1,20 +1,9 @@
 -- The orders that were delivered, by their names, as one more comes.
-use Rattle.std.proofs.Common.{◌≡◌, Bool, true, false, List, [], ◌∷◌, ◌++◌, refl, ◌∙◌, ap, ◌⊎◌, inl, inr, cond}
-use Rattle.std.specs.Prelude.{Option, Some, None}
-use Rattle.std.specs.Option.{option_map}
-use Rattle.rt_ids.specs.declared.names.JobId.{JobId}
-use Rattle.rt_ids.specs.declared.note.Note.{Note}
+use Rattle.rt_journal.proofs.Names.{◌≡◌, Bool, true, false, List, [], ◌∷◌, ◌++◌, refl, ◌∙◌, ap, ◌⊎◌, inl, inr, cond}
+use Rattle.rt_journal.proofs.Names.{Option, Some, None, option_map, JobId, Note, Envelope, Order, Job, same_name}
+use Rattle.rt_journal.proofs.Names.{Journal, EachNote, IsOpening, one_name, same_as_itself, without_job, CarriesOut}
+use Rattle.rt_journal.proofs.Names.{DeliversAs, order_taken, note_taken}
 use Rattle.rt_ids.specs.declared.note.Note.TheVariants as writes
-use Rattle.rt_ids.specs.declared.order.Envelope.{Envelope}
-use Rattle.rt_ids.specs.declared.order.Order.{Order}
-use Rattle.rt_ids.specs.declared.order.Order.TheVariants.{Job}
-use Rattle.rt_ids.specs.Names.{same_name}
-use Rattle.rt_ids.specs.Journal.{Journal, EachNote}
-use Rattle.rt_ids.specs.Commands.{IsOpening}
-use Rattle.rt_ids.proofs.NameLemmas.{one_name, same_as_itself}
-use Rattle.rt_ids.specs.Orders.{without_job}
-use Rattle.rt_ids.specs.Joining.{CarriesOut, DeliversAs}
-use Rattle.rt_journal.specs.Recorded.{order_taken, note_taken}
 
 module _ {J : Type 0} (last : Envelope J) where
   -- an order stays under its name

@@ -1,18 +1,10 @@
 -- The notes of an actor on one of its submissions: that its outcome was collected or redeemed, or that it was detached.
-use Rattle.std.proofs.Common.{◌≡◌, ℕ, Bool, true, false, ◌∷◌, refl, ap, cond}
-use Rattle.std.specs.Prelude.{◌==◌, ◌&&◌, ◌||◌, not, Some, None}
-use Rattle.rt_ids.specs.declared.names.JobId.{JobId}
-use Rattle.rt_ids.specs.declared.note.Note.{Note}
+use Rattle.rt_journal.proofs.Names.{◌≡◌, ℕ, Bool, true, false, ◌∷◌, refl, ap, cond, ◌==◌, ◌&&◌, ◌||◌, not, Some, None}
+use Rattle.rt_journal.proofs.Names.{JobId, Note, OutcomeNote, queue_just_picked, effect_awaited, accepted_orders}
+use Rattle.rt_journal.proofs.Names.{collected_outcomes, Journal, is_told, with_last, MayWrite, takes_turn, IsEffectDue}
+use Rattle.rt_journal.proofs.Names.{same_name, is_gone, is_outstanding, name_collected, name_redeemed, name_detached}
+use Rattle.rt_journal.proofs.Names.{Terms}
 use Rattle.rt_ids.specs.declared.note.Note.TheVariants as writes
-use Rattle.rt_ids.specs.declared.note.OutcomeNote.{OutcomeNote}
-use Rattle.rt_ids.specs.Clauses.{queue_just_picked}
-use Rattle.rt_ids.specs.Commands.{effect_awaited}
-use Rattle.rt_ids.specs.Filters.{accepted_orders, collected_outcomes}
-use Rattle.rt_ids.specs.Journal.{Journal, is_told, with_last}
-use Rattle.rt_ids.specs.Lawful.{MayWrite, takes_turn, IsEffectDue}
-use Rattle.rt_ids.specs.Names.{same_name}
-use Rattle.rt_ids.specs.Outstanding.{is_gone, is_outstanding, name_collected, name_redeemed, name_detached}
-use Rattle.rt_ids.specs.Terms.{Terms}
 
 -- a note on this submission says nothing of any other
 pub record IsTicketNote {T : Type 0} (name : JobId) (note : Note T) : Type 0 where

@@ -1,35 +1,16 @@
 -- Actors that are recorded each by itself are joined, where the ends of their links are.
-use Rattle.std.proofs.Common.{◌≡◌, ℕ, ◌+◌, ◌<◌, ◌≤◌, Bool, true, false, List, [], ◌∷◌, length, refl, sym, ◌∙◌, ap, subst, ⊎_elim, arith}
-use Rattle.std.specs.Prelude.{Option, Some, None, take, drop, slice_get}
-use Rattle.std.specs.Option.{option_map}
-use Rattle.std.proofs.lemmas.Bool.{cases_lt}
-use Rattle.std.proofs.lemmas.List.{length-append, map-append, take-append-drop}
-use Rattle.std.proofs.lemmas.Option.{same_Some}
-use Rattle.rt_ids.specs.Terms.{Terms, terms_of}
-use Rattle.rt_ids.specs.declared.names.JobId.{JobId}
-use Rattle.rt_ids.specs.declared.note.Note.{Note}
+use Rattle.rt_journal.proofs.Names.{◌≡◌, ℕ, ◌+◌, ◌<◌, ◌≤◌, Bool, true, false, List, [], ◌∷◌, length, refl, sym, ◌∙◌, ap}
+use Rattle.rt_journal.proofs.Names.{subst, ⊎_elim, arith, Option, Some, None, take, drop, slice_get, option_map}
+use Rattle.rt_journal.proofs.Names.{cases_lt, length-append, map-append, take-append-drop, same_Some, Terms, terms_of}
+use Rattle.rt_journal.proofs.Names.{JobId, Note, Order, Outcome, Assembly, IsPrefix, journal_of, first_under, order_of}
+use Rattle.rt_journal.proofs.Names.{final_count, accepted_orders, delivered_names, given_outcomes, collected_outcomes}
+use Rattle.rt_journal.proofs.Names.{AreJoined, LinksAgree, DeliversAs, DeliversAsSent, Journal, EachNote, IsLawful}
+use Rattle.rt_journal.proofs.Names.{MayStand, MayWrite, jobs_out, without_job, Owed, Outward, Inward, Joined, final_of}
+use Rattle.rt_journal.proofs.Names.{IsJobOut, numbered_orders, DeskView, terms_of_desk, RecordedView, terms_at}
+use Rattle.rt_journal.proofs.Names.{note_taken, order_taken, IsOutOf, IsInOf, name_of, named_outcomes, AreTogether}
+use Rattle.rt_journal.proofs.Names.{IsAssemblyOf}
 use Rattle.rt_ids.specs.declared.note.Note.TheVariants as writes
-use Rattle.rt_ids.specs.declared.order.Order.{Order}
-use Rattle.rt_ids.specs.declared.order.Outcome.{Outcome}
-use Rattle.rt_ids.specs.Assembly.{Assembly, IsPrefix, journal_of, names_of, first_under, order_of}
-use Rattle.rt_ids.specs.Closing.{final_count}
-use Rattle.rt_ids.specs.Filters.{accepted_orders, delivered_names, given_outcomes, collected_outcomes}
-use Rattle.rt_ids.specs.Joining.{AreJoined, LinksAgree, DeliversAs, DeliversAsSent}
-use Rattle.rt_ids.specs.Journal.{Journal, EachNote}
-use Rattle.rt_ids.specs.Lawful.{IsLawful, MayStand, MayWrite}
-use Rattle.rt_ids.specs.Lines.{jobs_out}
-use Rattle.rt_ids.specs.Orders.{without_job}
-use Rattle.rt_jobs.specs.Steps.{Owed}
-use Rattle.rt_link.specs.declared.ends.Outward.{Outward}
-use Rattle.rt_link.specs.declared.ends.Inward.{Inward}
-use Rattle.rt_link.specs.Ends.{Joined}
-use Rattle.rt_link.specs.Calls.{final_of}
-use Rattle.rt_journal.specs.Agreement.{IsJobOut}
-use Rattle.rt_journal.specs.Orders.{numbered_orders}
-use Rattle.rt_journal.specs.Submissions.{DeskView, terms_of_desk}
-use Rattle.rt_journal.specs.Recorded.{RecordedView, terms_at, note_taken, order_taken}
-use Rattle.rt_journal.specs.Ends.{IsOutOf, IsInOf, name_of, named_outcomes}
-use Rattle.rt_journal.specs.Together.{AreTogether, IsAssemblyOf}
+use Rattle.rt_ids.specs.Assembly.{names_of}
 use Rattle.rt_journal.proofs.DeliveredNames.{names_from, names_from-prefix, names_of-numbered, delivered_numbered}
 use Rattle.rt_journal.proofs.EndsKept.{prefix-along, slice_get-seen}
 use Rattle.rt_journal.proofs.NumberedOrders.{length-numbered, first_under-numbered}
@@ -37,27 +18,20 @@ use Rattle.rt_journal.proofs.TakenOrders.{as_sent-stays}
 
 -- an actor that is no core polls nothing and carries nothing out
 module _ {T : Type 0} (terms : Terms) (outside : terms.cores ≤ terms.actor) where
+  by_note : (under : JobId → Option (Order (Unit {0}))) (note : Note T) (before : Journal T) → MayWrite terms note → DeliversAs under note before × (jobs_out before ≡ [] → jobs_out (note ∷ before) ≡ [])
+  by_note under (writes.Sent name order) before writer = (tt, λ rest. rest)
+  by_note under (writes.Collected name outcome) before writer = (tt, λ rest. rest)
+  by_note under (writes.Redeemed name outcome) before writer = (tt, λ rest. rest)
+  by_note under (writes.Detached name) before writer = (tt, λ rest. rest)
+  by_note under _ before writer = absurd (omega (arith, writer, outside))
+
   nobody_out : (journal : Journal T) → EachNote (MayStand terms) journal → jobs_out journal ≡ []
   nobody_out [] notes = refl
-  nobody_out (note ∷ before) notes = by_note note notes.0.writer (nobody_out before notes.1)
-    where
-      by_note : (note : Note T) → MayWrite terms note → jobs_out before ≡ [] → jobs_out (note ∷ before) ≡ []
-      by_note (writes.Sent name order) writer rest = rest
-      by_note (writes.Collected name outcome) writer rest = rest
-      by_note (writes.Redeemed name outcome) writer rest = rest
-      by_note (writes.Detached name) writer rest = rest
-      by_note _ writer rest = absurd (omega (arith, writer, outside))
+  nobody_out (note ∷ before) notes = (by_note (λ name. None) note before notes.0.writer).1 (nobody_out before notes.1)
 
   nothing_delivered : (under : JobId → Option (Order (Unit {0}))) (journal : Journal T) → EachNote (MayStand terms) journal → EachNote (DeliversAs under) journal
   nothing_delivered under [] notes = tt
-  nothing_delivered under (note ∷ before) notes = (by_note note notes.0.writer, nothing_delivered under before notes.1)
-    where
-      by_note : (note : Note T) → MayWrite terms note → DeliversAs under note before
-      by_note (writes.Sent name order) writer = tt
-      by_note (writes.Collected name outcome) writer = tt
-      by_note (writes.Redeemed name outcome) writer = tt
-      by_note (writes.Detached name) writer = tt
-      by_note _ writer = absurd (omega (arith, writer, outside))
+  nothing_delivered under (note ∷ before) notes = ((by_note under note before notes.0.writer).0, nothing_delivered under before notes.1)
 
 -- outcomes that are the beginning of others are so under their names
 named-prefix : {J T : Type 0} (sender core : ℕ) (front whole : List (ℕ × Outcome J T)) → IsPrefix front whole → IsPrefix (named_outcomes sender core front) (named_outcomes sender core whole)

@@ -1,25 +1,12 @@
 -- A job that is inside was given no outcome, neither by its journal nor on its end.
-use Rattle.std.proofs.Common.{◌≡◌, ◌⊎◌, ⊎_elim, inl, inr, ℕ, zero, suc, ◌+◌, Bool, true, false, List, [], ◌∷◌, refl, sym, ◌∙◌, ap, subst, cond}
-use Rattle.std.specs.Prelude.{◌==◌, Option, Some, None, slice_get}
-use Rattle.std.proofs.lemmas.Bool.{or_parts, eqb-true, true≢false}
-use Rattle.std.specs.Option.{option_map}
-use Rattle.std.proofs.lemmas.Option.{none-some, same_Some, slice_get-map}
-use Rattle.rt_ids.specs.declared.names.JobId.{JobId}
-use Rattle.rt_ids.specs.declared.note.Note.{Note}
+use Rattle.rt_journal.proofs.Names.{◌≡◌, ◌⊎◌, ⊎_elim, inl, inr, ℕ, zero, suc, ◌+◌, Bool, true, false, List, [], ◌∷◌}
+use Rattle.rt_journal.proofs.Names.{refl, sym, ◌∙◌, ap, subst, cond, ◌==◌, Option, Some, None, slice_get, or_parts}
+use Rattle.rt_journal.proofs.Names.{eqb-true, true≢false, option_map, none-some, same_Some, slice_get-map, JobId, Note}
+use Rattle.rt_journal.proofs.Names.{OutcomeNote, Order, Job, IsAnswer, if_from, name_ended, given_outcomes}
+use Rattle.rt_journal.proofs.Names.{outcome_given, DeliversAs, Journal, EachNote, is_told, with_last, same_name}
+use Rattle.rt_journal.proofs.Names.{is_name, outcome_note, same_as_itself, Inward, RecordedView, order_taken, IsInOf}
+use Rattle.rt_journal.proofs.Names.{IsUngiven, name_of}
 use Rattle.rt_ids.specs.declared.note.Note.TheVariants as writes
-use Rattle.rt_ids.specs.declared.note.OutcomeNote.{OutcomeNote}
-use Rattle.rt_ids.specs.declared.order.Order.{Order}
-use Rattle.rt_ids.specs.declared.order.Order.TheVariants.{Job}
-use Rattle.rt_ids.specs.Commands.{IsAnswer}
-use Rattle.rt_ids.specs.Filters.{if_from, name_ended, given_outcomes, outcome_given}
-use Rattle.rt_ids.specs.Joining.{DeliversAs}
-use Rattle.rt_ids.specs.Journal.{Journal, EachNote, is_told, with_last}
-use Rattle.rt_ids.specs.Names.{same_name, is_name}
-use Rattle.rt_ids.specs.Outcomes.{outcome_note}
-use Rattle.rt_ids.proofs.NameLemmas.{same_as_itself}
-use Rattle.rt_link.specs.declared.ends.Inward.{Inward}
-use Rattle.rt_journal.specs.Recorded.{RecordedView, order_taken}
-use Rattle.rt_journal.specs.Ends.{IsInOf, IsUngiven, name_of}
 
 -- what stands in a list with one more at its end stood there, or is the last
 last_or_before : {A : Type 0} (items : List A) (more : Option A) (place : ℕ) (item : A) → slice_get (with_last items more) place ≡ Some item →

@@ -1,16 +1,8 @@
 -- What a call of a recorded core knows after its core made a step and its desk wrote the notes.
-use Rattle.std.specs.Prelude.{Option}
-use Rattle.std.proofs.Common.{◌≡◌, ℕ, List, ◌++◌, reverse, sym, ◌∙◌, ap, subst}
-use Rattle.rt_ids.specs.declared.names.JobId.{JobId}
-use Rattle.rt_ids.specs.declared.note.Note.{Note}
-use Rattle.rt_ids.specs.declared.note.OutcomeNote.{OutcomeNote}
-use Rattle.rt_ids.specs.declared.order.Envelope.{Envelope}
-use Rattle.rt_ids.specs.Journal.{Journal}
-use Rattle.rt_jobs.specs.Steps.{Owed}
-use Rattle.rt_core.specs.State.{CoreView}
-use Rattle.rt_journal.specs.Submissions.{DeskView, IsWritten, terms_of_desk, desk_with}
-use Rattle.rt_journal.specs.Recorded.{RecordedView, IsRecorded, desk_of, terms_at}
-use Rattle.rt_journal.specs.Ends.{KeepsSent, LeavesOwed, KeepsOuts, IsSameSeat}
+use Rattle.rt_journal.proofs.Names.{Option, ◌≡◌, ℕ, List, ◌++◌, reverse, refl, sym, ◌∙◌, ap, subst, JobId, Note}
+use Rattle.rt_journal.proofs.Names.{OutcomeNote, Envelope, Journal, Owed, CoreView, DeskView, IsWritten, terms_of_desk}
+use Rattle.rt_journal.proofs.Names.{desk_with, RecordedView, IsRecorded, desk_of, terms_at, KeepsSent, LeavesOwed}
+use Rattle.rt_journal.proofs.Names.{KeepsOuts, IsSameSeat}
 use Rattle.rt_journal.proofs.QuietSteps.{stepped, IsQuietStep, recorded_step, seat_step, ins_step, outs_step, written_step}
 
 module _ {J T : Type 0} where
@@ -33,10 +25,19 @@ module _ {J T : Type 0} where
 pub may_send : {T : Type 0} (before : Journal T) (notes slice : List (Note T)) → slice ≡ notes → KeepsSent before (reverse notes ++ before) → KeepsSent before (reverse slice ++ before)
 may_send before notes slice slice_is = subst (λ notes. KeepsSent before (reverse notes ++ before)) (sym slice_is)
 
+module _ {J T : Type 0} (same : J → J → Type 0) (made : J → ℕ) (polls : Owed J T) (keeps : ℕ → Type 0) (gives : ℕ → Option (JobId × OutcomeNote T)) where
+  -- what a quiet step leaves: the core is recorded, and the seat, the lanes and the ends of all links are as they were, except what it gives and whose gate it shuts
+  pub record HasStepped (old new : RecordedView J T) : Type 0 where
+    pub sound : IsRecorded same made polls new
+    pub seat : IsSameSeat old new
+    pub ins : (sender : ℕ) → keeps sender → LeavesOwed sender (gives sender) old new
+    pub outs : KeepsOuts (desk_of old) (desk_of new)
+    pub lanes : new.lanes ≡ old.lanes
+
 module _ {J T : Type 0} {same : J → J → Type 0} {made : J → ℕ} {polls : Owed J T}
     (core : CoreView J) (took : List (Envelope J)) (said : DeskView J T)
     (invariant : IsRecorded same made polls (view_of core took said) × (said ≡ desk_of (view_of core took said)))
-    (after : CoreView J) (notes slice : List (Note T)) (slice_is : slice ≡ notes) {keeps : ℕ → Type 0} {gives : ℕ → Option (JobId × OutcomeNote T)} (step : IsQuietStep (view_of core took said) after (reverse notes) same made polls keeps gives) where
+    {after : CoreView J} {notes slice : List (Note T)} (slice_is : slice ≡ notes) {keeps : ℕ → Type 0} {gives : ℕ → Option (JobId × OutcomeNote T)} (step : IsQuietStep (view_of core took said) after (reverse notes) same made polls keeps gives) where
   abbrev old : RecordedView J T
   old = view_of core took said
 
@@ -46,28 +47,30 @@ module _ {J T : Type 0} {same : J → J → Type 0} {made : J → ℕ} {polls : 
   pub quiet_sent : KeepsSent said.journal.notes (reverse slice ++ said.journal.notes)
   quiet_sent = may_send said.journal.notes notes slice slice_is step.quiet.sent
 
-  module _ (said_now : DeskView J T) (wrote : said_now ≡ desk_with (reverse slice) said) where
+  module _ {said_now : DeskView J T} (wrote : said_now ≡ desk_with (reverse slice) said) where
     now_written : said_now ≡ desk_with (reverse notes) said
     now_written = wrote ∙ ap (λ notes. desk_with (reverse notes) said) slice_is
 
-    pub now_is : view_of after took said_now ≡ stepped old after (reverse notes)
+    now_is : view_of after took said_now ≡ stepped old after (reverse notes)
     now_is = ap (view_of after took) now_written
-
-    pub quiet_sound : IsRecorded same made polls (view_of after took said_now)
-    quiet_sound = subst (IsRecorded same made polls) (sym now_is) (recorded_step old invariant.0 after (reverse notes) step)
 
     pub quiet_invariant : IsRecorded same made polls (view_of after took said_now) × (said_now ≡ desk_of (view_of after took said_now))
     quiet_invariant = (
-      quiet_sound,
+      subst (IsRecorded same made polls) (sym now_is) (recorded_step old invariant.0 after (reverse notes) step),
       desk_is said_now after took (ap (λ desk. desk.actor) now_written ∙ (ap (λ desk. desk.actor) invariant.1 ∙ sym step.number))
           (ap (λ desk. desk.cores) now_written ∙ (ap (λ desk. desk.cores) invariant.1 ∙ sym step.cores)),
     )
 
-    pub quiet_seat : IsSameSeat old (view_of after took said_now)
-    quiet_seat = subst (IsSameSeat old) (sym now_is) (seat_step old invariant.0 after (reverse notes) step)
+    module _ {before : RecordedView J T} (view_is : old ≡ before) where
+      -- what holds of the step holds of what the caller sees
+      pub seen_so : (P : RecordedView J T → RecordedView J T → Type 0) → P old (stepped old after (reverse notes)) → P before (view_of after took said_now)
+      seen_so P is = subst (λ before. P before (view_of after took said_now)) view_is (subst (P old) (sym now_is) is)
 
-    pub quiet_ins : (sender : ℕ) → keeps sender → LeavesOwed sender (gives sender) old (view_of after took said_now)
-    quiet_ins sender kept = subst (LeavesOwed sender (gives sender) old) (sym now_is) (ins_step old invariant.0 after (reverse notes) step sender kept)
-
-    pub quiet_outs : KeepsOuts (desk_of old) (desk_of (view_of after took said_now))
-    quiet_outs = subst (λ view. KeepsOuts (desk_of old) (desk_of view)) (sym now_is) (outs_step old invariant.0 after (reverse notes) step)
+      pub quiet_now : HasStepped same made polls keeps gives before (view_of after took said_now)
+      quiet_now = seen_so (HasStepped same made polls keeps gives) (record {
+        sound = recorded_step old invariant.0 after (reverse notes) step;
+        seat = seat_step old invariant.0 after (reverse notes) step;
+        ins = ins_step old invariant.0 after (reverse notes) step;
+        outs = outs_step old invariant.0 after (reverse notes) step;
+        lanes = refl;
+      })

@@ -1,7 +1,4 @@
-use Rattle.std.proofs.Common.{◌≡◌}
-use Rattle.std.specs.Prelude.{replicate}
-use Rattle.std.specs.Vec.{vec_capacity}
-use Rattle.rt_desk.specs.Lanes.{fresh_lane}
+use Rattle.rt_journal.proofs.Names.{◌≡◌, replicate, vec_capacity, fresh_lane}
 use Rattle.rt_journal.proofs.desk.open_lanes.Given as goal
 
 -- a lane for each step of the loop, and room for all

@@ -1,8 +1,5 @@
-use Rattle.std.proofs.Common.{[], length, refl, ◌∙◌, ap, subst, arith}
-use Rattle.std.proofs.lemmas.List.{length-append}
-use Rattle.rt_link.proofs.Lists.{StartsWith-self}
-use Rattle.rt_journal.specs.Submissions.{DeskView, IsWritten, terms_of_desk}
-use Rattle.rt_journal.specs.Tickets.{KnowsLanes}
+use Rattle.rt_journal.proofs.Names.{[], length, refl, ◌∙◌, ap, subst, arith, length-append, StartsWith-self, DeskView}
+use Rattle.rt_journal.proofs.Names.{IsWritten, terms_of_desk, KnowsLanes}
 use Rattle.rt_journal.proofs.Desked.{stays_nothing}
 use Rattle.rt_journal.proofs.CollectedAll.{stays_then, gathers_more, end_more, gathers_no_more, gets_all}
 use Rattle.rt_journal.proofs.desk.RecordedDesk.collect_from.Goals as goal
@@ -42,49 +39,43 @@ loop-core-smaller g c =
 
 pub loop-core-preserved : goal.loop-core-preserved
 loop-core-preserved g c =
+    let loop = c.loop-core.invariant in
     let gets = c.loop-core-test.ensures.gets in
-    let end = end_more c.args.core c.args.self.now c.loop-core.self c.collect_one.new.self (g.O.OutEnd.out c.args.end.now) (g.O.OutEnd.out c.loop-core.end) (g.O.OutEnd.out c.collect_one.new.end) c.loop-core.count c.loop-core.invariant.gathered c.loop-core.invariant.end c.loop-core.invariant.longer gets in
+    let end = end_more c.args.core c.args.self.now c.loop-core.self c.collect_one.new.self (g.O.OutEnd.out c.args.end.now) (g.O.OutEnd.out c.loop-core.end) (g.O.OutEnd.out c.collect_one.new.end) c.loop-core.count loop.gathered loop.end loop.longer gets in
     record {
-      stays = stays_then c.args.core c.args.self.now c.loop-core.self c.collect_one.new.self c.loop-core.invariant.stays c.collect_one.ensures.stays;
-      gathered = gathers_more c.args.core c.args.self.now c.loop-core.self c.collect_one.new.self (g.O.OutEnd.out c.args.end.now) (g.O.OutEnd.out c.loop-core.end) (g.O.OutEnd.out c.collect_one.new.end) c.loop-core.count c.loop-core.invariant.gathered c.loop-core.invariant.end c.loop-core.invariant.longer gets;
+      stays = stays_then c.args.core c.args.self.now c.loop-core.self c.collect_one.new.self loop.stays c.collect_one.ensures.stays;
+      gathered = gathers_more c.args.core c.args.self.now c.loop-core.self c.collect_one.new.self (g.O.OutEnd.out c.args.end.now) (g.O.OutEnd.out c.loop-core.end) (g.O.OutEnd.out c.collect_one.new.end) c.loop-core.count loop.gathered loop.end loop.longer gets;
       end = end.0;
       longer = end.1;
-      room = omega (arith, c.loop-core.invariant.room, ap (λ journal. length journal.notes) gets.0.3, ap (λ journal. journal.room) gets.0.3, ap (λ end. end.got) gets.1, ap (λ end. length end.sent) gets.1);
-      counted = omega (arith, c.loop-core.invariant.counted, ap (λ end. end.got) gets.1);
-      books = c.collect_one.ensures.books ∙ c.loop-core.invariant.books;
-      untouched = c.collect_one.ensures.untouched ∙ c.loop-core.invariant.untouched;
+      room = omega (arith, loop.room, ap (λ journal. length journal.notes) gets.0.3, ap (λ journal. journal.room) gets.0.3, ap (λ end. end.got) gets.1, ap (λ end. length end.sent) gets.1);
+      counted = omega (arith, loop.counted, ap (λ end. end.got) gets.1);
+      books = c.collect_one.ensures.books ∙ loop.books;
+      untouched = c.collect_one.ensures.untouched ∙ loop.untouched;
     }
 
-pub returns-clause-collects : goal.returns-clause-collects
-returns-clause-collects g c = gathers_no_more c.args.core c.args.self.now c.loop-core.self c.collect_one.new.self (g.O.OutEnd.out c.args.end.now) (g.O.OutEnd.out c.loop-core.end) (g.O.OutEnd.out c.collect_one.new.end) c.loop-core.count c.loop-core.invariant.gathered c.loop-core.invariant.end c.loop-core.invariant.longer c.loop-core-test.ensures.gets
-
-pub returns-clause-end : goal.returns-clause-end
-returns-clause-end g c = gets_all c.args.core c.args.self.now c.loop-core.self c.collect_one.new.self (g.O.OutEnd.out c.args.end.now) (g.O.OutEnd.out c.loop-core.end) (g.O.OutEnd.out c.collect_one.new.end) c.loop-core.count c.loop-core.invariant.gathered c.loop-core.invariant.end c.loop-core.invariant.longer c.loop-core-test.ensures.gets
-
-pub returns-clause-stays : goal.returns-clause-stays
-returns-clause-stays g c = stays_then c.args.core c.args.self.now c.loop-core.self c.collect_one.new.self c.loop-core.invariant.stays c.collect_one.ensures.stays
-
-pub returns-clause-untouched : goal.returns-clause-untouched
-returns-clause-untouched g c = c.collect_one.ensures.untouched ∙ c.loop-core.invariant.untouched
-
-pub returns-clause-books : goal.returns-clause-books
-returns-clause-books g c = c.collect_one.ensures.books ∙ c.loop-core.invariant.books
-
-pub returns-clause-few : goal.returns-clause-few
-returns-clause-few g c =
-    let gathered = c.loop-core.invariant.gathered in
-    let sound = c.requires.lane.lane_of.sound in
+pub returns : goal.returns
+returns g c =
+    let loop = c.loop-core.invariant in
     let gets = c.loop-core-test.ensures.gets in
-    omega (
-      arith,
-      gathered.2,
-      ap (λ journal. length journal.notes) gathered.3,
-      length-append gathered.0 c.args.self.now.journal.notes,
-      ap (λ (desk : DeskView _ _). length desk.journal.notes) gets.0,
-      c.loop-core.invariant.counted,
-      c.loop-core.invariant.stays.lane.lane_of.sound.within,
-      ap (λ end. length end.sent) c.loop-core.invariant.end,
-      sound.room,
-      sound.credits,
-      c.requires.beside.capacity,
-    )
+    let gathered = loop.gathered in
+    let sound = c.requires.lane.lane_of.sound in
+    record {
+      collects = gathers_no_more c.args.core c.args.self.now c.loop-core.self c.collect_one.new.self (g.O.OutEnd.out c.args.end.now) (g.O.OutEnd.out c.loop-core.end) (g.O.OutEnd.out c.collect_one.new.end) c.loop-core.count loop.gathered loop.end loop.longer gets;
+      books = c.collect_one.ensures.books ∙ loop.books;
+      few = omega (
+        arith,
+        gathered.2,
+        ap (λ journal. length journal.notes) gathered.3,
+        length-append gathered.0 c.args.self.now.journal.notes,
+        ap (λ (desk : DeskView _ _). length desk.journal.notes) gets.0,
+        loop.counted,
+        loop.stays.lane.lane_of.sound.within,
+        ap (λ end. length end.sent) loop.end,
+        sound.room,
+        sound.credits,
+        c.requires.beside.capacity,
+      );
+      end = gets_all c.args.core c.args.self.now c.loop-core.self c.collect_one.new.self (g.O.OutEnd.out c.args.end.now) (g.O.OutEnd.out c.loop-core.end) (g.O.OutEnd.out c.collect_one.new.end) c.loop-core.count loop.gathered loop.end loop.longer gets;
+      stays = stays_then c.args.core c.args.self.now c.loop-core.self c.collect_one.new.self loop.stays c.collect_one.ensures.stays;
+      untouched = c.collect_one.ensures.untouched ∙ loop.untouched;
+    }

@@ -1,8 +1,4 @@
-use Rattle.std.proofs.Common.{◌≡◌, ◌+◌, ◌-◌, ◌≤◌, length}
-use Rattle.rt_link.specs.Ends.{StartsWith}
-use Rattle.rt_link.specs.Fits.{Fits}
-use Rattle.rt_journal.specs.Spending.{booked}
-use Rattle.rt_journal.specs.Tickets.{StaysBeside, CollectsFrom}
+use Rattle.rt_journal.proofs.Names.{◌≡◌, ◌+◌, ◌-◌, ◌≤◌, length, StartsWith, Fits, booked, StaysBeside, CollectsFrom}
 use Rattle.rt_journal.proofs.desk.RecordedDesk.collect_from.Given as goal
 
 -- so many outcomes were collected and noted, and there is room for those that the end may still show

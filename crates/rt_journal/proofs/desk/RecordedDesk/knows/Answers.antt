@@ -1,7 +1,4 @@
-use Rattle.std.proofs.Common.{sym, subst, ◌∙◌}
-use Rattle.std.proofs.lemmas.Bool.{true≢false, eq-eqb, lt-ltb}
-use Rattle.rt_ids.specs.declared.names.TicketError.TheVariants.{Unknown}
-use Rattle.rt_journal.specs.Tickets.{RefusesTicket}
+use Rattle.rt_journal.proofs.Names.{sym, subst, ◌∙◌, true≢false, eq-eqb, lt-ltb, Unknown, RefusesTicket}
 use Rattle.rt_journal.proofs.Redeemed.{foreign}
 use Rattle.rt_journal.proofs.desk.RecordedDesk.knows.Goals as goal
 

@@ -1,6 +1,4 @@
-use Rattle.std.proofs.Common.{subst}
-use Rattle.rt_link.specs.Fits.{Fits}
-use Rattle.rt_journal.specs.Posts.{IsLent}
+use Rattle.rt_journal.proofs.Names.{subst, Fits, IsLent}
 use Rattle.rt_journal.proofs.post.RecordedPost.into_parts.Goals as goal
 
 pub returns-clause-lent : goal.returns-clause-lent

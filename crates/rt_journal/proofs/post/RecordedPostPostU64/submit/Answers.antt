@@ -1,8 +1,4 @@
-use Rattle.std.proofs.Common.{inr, subst, set, arith}
-use Rattle.rt_jobs.specs.Calls.Call.{Submit}
-use Rattle.rt_desk.proofs.Cores.{found}
-use Rattle.rt_link.specs.Fits.{Fits}
-use Rattle.rt_journal.specs.Calls.{Does}
+use Rattle.rt_journal.proofs.Names.{inr, subst, set, arith, Submit, found, Fits, Does}
 use Rattle.rt_journal.proofs.Posted.{end_beside, end_lane, lent_did, submitted_on, waits_sent}
 use Rattle.rt_journal.proofs.post.RecordedPostPostU64.submit.Goals as goal
 

@@ -1,36 +1,33 @@
-use Rattle.std.proofs.Common.{length, sym, subst, ap, arith}
-use Rattle.rt_journal.specs.Steps.{ClosesItself}
+use Rattle.rt_journal.proofs.Names.{length, ap, arith, ClosesItself}
 use Rattle.rt_journal.proofs.ClosedItself.{few_closed, step_closed, closes_itself}
-use Rattle.rt_journal.proofs.Wrote.{view_of, quiet_written, quiet_sent, now_is, quiet_sound, quiet_invariant, quiet_seat, quiet_ins, quiet_outs}
+use Rattle.rt_journal.proofs.Wrote.{view_of, quiet_written, quiet_sent, quiet_invariant, seen_so, quiet_now}
 use Rattle.rt_journal.proofs.recorded.Recorded.close.Goals as goal
 
-pub write-requires-clause-room : goal.write-requires-clause-room
-write-requires-clause-room g c =
+pub write-requires : goal.write-requires
+write-requires g c =
+    let step = step_closed (view_of c.self.inside.core c.self.inside.took.items c.self.inside.said) c.self.invariant.0 c.args.mode c.close-closed.result.0 c.close-closed.new.self c.close-closed.result.1.items c.close-closed.ensures.closes in
     let few = few_closed (view_of c.self.inside.core c.self.inside.took.items c.self.inside.said) c.self.invariant.0 c.args.mode c.close-closed.result.0 c.close-closed.new.self c.close-closed.result.1.items c.close-closed.ensures.closes in
-    omega (arith, few, c.requires, ap (λ view. view.journal.room) c.self.view_is, ap (λ view. length view.journal.notes) c.self.view_is, ap length c.as_slice.ensures.value)
-
-pub write-requires-clause-written : goal.write-requires-clause-written
-write-requires-clause-written g c = quiet_written c.self.inside.core c.self.inside.took.items c.self.inside.said c.self.invariant c.close-closed.new.self c.close-closed.result.1.items c.as_slice.result.now c.as_slice.ensures.value (step_closed (view_of c.self.inside.core c.self.inside.took.items c.self.inside.said) c.self.invariant.0 c.args.mode c.close-closed.result.0 c.close-closed.new.self c.close-closed.result.1.items c.close-closed.ensures.closes)
-
-pub write-requires-clause-sent : goal.write-requires-clause-sent
-write-requires-clause-sent g c = quiet_sent c.self.inside.core c.self.inside.took.items c.self.inside.said c.self.invariant c.close-closed.new.self c.close-closed.result.1.items c.as_slice.result.now c.as_slice.ensures.value (step_closed (view_of c.self.inside.core c.self.inside.took.items c.self.inside.said) c.self.invariant.0 c.args.mode c.close-closed.result.0 c.close-closed.new.self c.close-closed.result.1.items c.close-closed.ensures.closes)
+    record {
+      room = omega (arith, few, c.requires, ap (λ view. view.journal.room) c.self.view_is, ap (λ view. length view.journal.notes) c.self.view_is, ap length c.as_slice.ensures.value);
+      written = quiet_written c.self.inside.core c.self.inside.took.items c.self.inside.said c.self.invariant c.as_slice.ensures.value step;
+      sent = quiet_sent c.self.inside.core c.self.inside.took.items c.self.inside.said c.self.invariant c.as_slice.ensures.value step;
+    }
 
 pub invariant_of-self : goal.invariant_of-self
-invariant_of-self g c = quiet_invariant c.self.inside.core c.self.inside.took.items c.self.inside.said c.self.invariant c.close-closed.new.self c.close-closed.result.1.items c.as_slice.result.now c.as_slice.ensures.value (step_closed (view_of c.self.inside.core c.self.inside.took.items c.self.inside.said) c.self.invariant.0 c.args.mode c.close-closed.result.0 c.close-closed.new.self c.close-closed.result.1.items c.close-closed.ensures.closes) c.write.new.self c.write.ensures
+invariant_of-self g c =
+    let step = step_closed (view_of c.self.inside.core c.self.inside.took.items c.self.inside.said) c.self.invariant.0 c.args.mode c.close-closed.result.0 c.close-closed.new.self c.close-closed.result.1.items c.close-closed.ensures.closes in
+    quiet_invariant c.self.inside.core c.self.inside.took.items c.self.inside.said c.self.invariant c.as_slice.ensures.value step c.write.ensures
 
-pub returns-clause-closes : goal.returns-clause-closes
-returns-clause-closes g c =
-    rw (← c.self.view_is) (subst (ClosesItself (view_of c.self.inside.core c.self.inside.took.items c.self.inside.said) c.args.mode c.close-closed.result.0) (sym (now_is c.self.inside.core c.self.inside.took.items c.self.inside.said c.self.invariant c.close-closed.new.self c.close-closed.result.1.items c.as_slice.result.now c.as_slice.ensures.value (step_closed (view_of c.self.inside.core c.self.inside.took.items c.self.inside.said) c.self.invariant.0 c.args.mode c.close-closed.result.0 c.close-closed.new.self c.close-closed.result.1.items c.close-closed.ensures.closes) c.write.new.self c.write.ensures))
-    (closes_itself (view_of c.self.inside.core c.self.inside.took.items c.self.inside.said) c.self.invariant.0 c.args.mode c.close-closed.result.0 c.close-closed.new.self c.close-closed.result.1.items c.close-closed.ensures.closes))
-
-pub returns-clause-ins : goal.returns-clause-ins
-returns-clause-ins g c = rw (← c.self.view_is) (λ sender. quiet_ins c.self.inside.core c.self.inside.took.items c.self.inside.said c.self.invariant c.close-closed.new.self c.close-closed.result.1.items c.as_slice.result.now c.as_slice.ensures.value (step_closed (view_of c.self.inside.core c.self.inside.took.items c.self.inside.said) c.self.invariant.0 c.args.mode c.close-closed.result.0 c.close-closed.new.self c.close-closed.result.1.items c.close-closed.ensures.closes) c.write.new.self c.write.ensures sender tt)
-
-pub returns-clause-outs : goal.returns-clause-outs
-returns-clause-outs g c = rw (← c.self.view_is) (quiet_outs c.self.inside.core c.self.inside.took.items c.self.inside.said c.self.invariant c.close-closed.new.self c.close-closed.result.1.items c.as_slice.result.now c.as_slice.ensures.value (step_closed (view_of c.self.inside.core c.self.inside.took.items c.self.inside.said) c.self.invariant.0 c.args.mode c.close-closed.result.0 c.close-closed.new.self c.close-closed.result.1.items c.close-closed.ensures.closes) c.write.new.self c.write.ensures)
-
-pub returns-clause-seat : goal.returns-clause-seat
-returns-clause-seat g c = rw (← c.self.view_is) (quiet_seat c.self.inside.core c.self.inside.took.items c.self.inside.said c.self.invariant c.close-closed.new.self c.close-closed.result.1.items c.as_slice.result.now c.as_slice.ensures.value (step_closed (view_of c.self.inside.core c.self.inside.took.items c.self.inside.said) c.self.invariant.0 c.args.mode c.close-closed.result.0 c.close-closed.new.self c.close-closed.result.1.items c.close-closed.ensures.closes) c.write.new.self c.write.ensures)
-
-pub returns-clause-sound : goal.returns-clause-sound
-returns-clause-sound g c = quiet_sound c.self.inside.core c.self.inside.took.items c.self.inside.said c.self.invariant c.close-closed.new.self c.close-closed.result.1.items c.as_slice.result.now c.as_slice.ensures.value (step_closed (view_of c.self.inside.core c.self.inside.took.items c.self.inside.said) c.self.invariant.0 c.args.mode c.close-closed.result.0 c.close-closed.new.self c.close-closed.result.1.items c.close-closed.ensures.closes) c.write.new.self c.write.ensures
+pub returns : goal.returns
+returns g c =
+    let step = step_closed (view_of c.self.inside.core c.self.inside.took.items c.self.inside.said) c.self.invariant.0 c.args.mode c.close-closed.result.0 c.close-closed.new.self c.close-closed.result.1.items c.close-closed.ensures.closes in
+    let now = quiet_now c.self.inside.core c.self.inside.took.items c.self.inside.said c.self.invariant c.as_slice.ensures.value step c.write.ensures c.self.view_is in
+    record {
+      closes = seen_so c.self.inside.core c.self.inside.took.items c.self.inside.said c.self.invariant c.as_slice.ensures.value step c.write.ensures c.self.view_is (λ old new. ClosesItself old c.args.mode c.close-closed.result.0 new)
+          (closes_itself (view_of c.self.inside.core c.self.inside.took.items c.self.inside.said) c.self.invariant.0 c.args.mode c.close-closed.result.0 c.close-closed.new.self c.close-closed.result.1.items c.close-closed.ensures.closes);
+      ins = λ sender. now.ins sender tt;
+      outs = now.outs;
+      seat = now.seat;
+      lanes = now.lanes;
+      sound = now.sound;
+    }

@@ -1,7 +1,4 @@
-use Rattle.std.proofs.Common.{subst, ap}
-use Rattle.rt_link.specs.Fits.{Fits}
-use Rattle.rt_journal.specs.Recorded.{IsRecorded}
-use Rattle.rt_journal.specs.Ends.{IsInOf}
+use Rattle.rt_journal.proofs.Names.{subst, ap, ◌∙◌, Fits, IsRecorded, IsInOf}
 use Rattle.rt_journal.proofs.DeliveredEnds.{next_in, outs_keep, beside_owes, rest_keep, nothing_keeps}
 use Rattle.rt_journal.proofs.GivenEnds.{may_give, gave}
 use Rattle.rt_journal.proofs.recorded.Recorded.deliver.Goals as goal
@@ -17,27 +14,24 @@ give_if-requires g c =
     may_give c.receive-outcome.new.self c.in-Some.envelope.name c.in-Some.envelope.order c.receive-outcome.ensures.stands taken (c.receive-outcome.ensures.sound.taken _ _ c.receive-outcome.ensures.stands)
     (Fits g.J.Task.SameTask g.J.Task.Answers) c.receive-outcome.result c.receive-outcome.ensures.fits owes
 
-pub returns-in-Some-clause-delivers : goal.returns-in-Some-clause-delivers
-returns-in-Some-clause-delivers g c =
-    (c.in-Some.envelope, (g.I.InEnd.inward c.take.new.self, c.receive-outcome.result, c.in-Some.ensures.takes, c.give_if.ensures.gives), c.receive-outcome.ensures.receives)
-
-pub returns-in-Some-clause-beside : goal.returns-in-Some-clause-beside
-returns-in-Some-clause-beside g c =
-    let next = next_in c.args.self.now _ _ c.in-Some.envelope c.requires.beside c.in-Some.ensures.takes c.in-Some.ensures.sound in
+pub returns-in-Some : goal.returns-in-Some
+returns-in-Some g c =
+    let took = c.in-Some.ensures in
+    let received = c.receive-outcome.ensures in
+    let next = next_in c.args.self.now _ _ c.in-Some.envelope c.requires.beside took.takes took.sound in
     let taken = g.I.InEnd.inward c.take.new.self in
-    let owes = beside_owes c.args.self.now c.receive-outcome.new.self c.in-Some.envelope next c.receive-outcome.ensures.receives c.receive-outcome.ensures.seat c.receive-outcome.result c.receive-outcome.ensures.gives _ taken c.requires.beside c.in-Some.ensures.takes c.in-Some.ensures.sound c.in-Some.ensures.named in
-    let now = gave c.receive-outcome.new.self c.in-Some.envelope.name c.in-Some.envelope.order c.receive-outcome.ensures.stands taken c.receive-outcome.result owes _ c.give_if.ensures.gives in
-    subst (λ from. IsInOf from c.receive-outcome.new.self (g.I.InEnd.inward c.give_if.new.end)) (ap (λ name. name.from) c.in-Some.ensures.takes.2) now
-
-pub returns-in-Some-clause-others : goal.returns-in-Some-clause-others
-returns-in-Some-clause-others g c =
-    let next = next_in c.args.self.now _ _ c.in-Some.envelope c.requires.beside c.in-Some.ensures.takes c.in-Some.ensures.sound in
-    rest_keep c.args.self.now c.receive-outcome.new.self c.in-Some.envelope next c.receive-outcome.ensures.receives c.receive-outcome.ensures.seat c.receive-outcome.result c.receive-outcome.ensures.gives (g.I.InEnd.inward c.args.end.now) (g.I.InEnd.inward c.take.new.self) c.in-Some.ensures.takes
-
-pub returns-in-Some-clause-outs : goal.returns-in-Some-clause-outs
-returns-in-Some-clause-outs g c =
-    let next = next_in c.args.self.now _ _ c.in-Some.envelope c.requires.beside c.in-Some.ensures.takes c.in-Some.ensures.sound in
-    outs_keep c.args.self.now c.receive-outcome.new.self c.in-Some.envelope next c.receive-outcome.ensures.receives c.receive-outcome.ensures.seat c.receive-outcome.result c.receive-outcome.ensures.gives
+    let owes = beside_owes c.args.self.now c.receive-outcome.new.self c.in-Some.envelope next received.receives received.seat c.receive-outcome.result received.gives _ taken c.requires.beside took.takes took.sound took.named in
+    let now = gave c.receive-outcome.new.self c.in-Some.envelope.name c.in-Some.envelope.order received.stands taken c.receive-outcome.result owes _ c.give_if.ensures.gives in
+    record {
+      delivers = (c.in-Some.envelope, (taken, c.receive-outcome.result, took.takes, c.give_if.ensures.gives), received.receives);
+      beside = subst (λ from. IsInOf from c.receive-outcome.new.self (g.I.InEnd.inward c.give_if.new.end)) (ap (λ name. name.from) took.takes.2) now;
+      others = rest_keep c.args.self.now c.receive-outcome.new.self c.in-Some.envelope next received.receives received.seat c.receive-outcome.result received.gives (g.I.InEnd.inward c.args.end.now) taken took.takes;
+      outs = outs_keep c.args.self.now c.receive-outcome.new.self c.in-Some.envelope next received.receives received.seat c.receive-outcome.result received.gives;
+      seat = received.seat;
+      lanes = received.lanes;
+      sound = received.sound;
+      untouched = c.give_if.ensures.untouched ∙ took.untouched;
+    }
 
 pub returns-in-None-clause-beside : goal.returns-in-None-clause-beside
 returns-in-None-clause-beside g c = nothing_keeps c.args.self.now (g.I.InEnd.inward c.args.end.now) (g.I.InEnd.inward c.take.new.self) c.requires.beside c.in-None.ensures.takes

@@ -1,4 +1,4 @@
-use Rattle.std.proofs.Common.{◌∙◌}
+use Rattle.rt_journal.proofs.Names.{◌∙◌}
 use Rattle.rt_journal.proofs.recorded.Recorded.gate.Goals as goal
 
 pub returns : goal.returns

@@ -1,5 +1,4 @@
-use Rattle.std.proofs.Common.{subst}
-use Rattle.rt_journal.specs.Recorded.{IsRecorded}
+use Rattle.rt_journal.proofs.Names.{subst, IsRecorded}
 use Rattle.rt_journal.proofs.GivenEnds.{may_give_back, gave_back}
 use Rattle.rt_journal.proofs.recorded.Recorded.give_back.Goals as goal
 

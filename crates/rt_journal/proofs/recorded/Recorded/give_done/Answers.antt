@@ -1,6 +1,4 @@
-use Rattle.std.proofs.Common.{subst}
-use Rattle.rt_journal.specs.Recorded.{IsRecorded}
-use Rattle.rt_journal.specs.Ends.{Gives}
+use Rattle.rt_journal.proofs.Names.{subst, IsRecorded, Gives}
 use Rattle.rt_journal.proofs.GivenEnds.{may_give_done, gave_done}
 use Rattle.rt_journal.proofs.recorded.Recorded.give_done.Goals as goal
 

@@ -1,5 +1,4 @@
-use Rattle.std.proofs.Common.{◌∙◌, ap}
-use Rattle.std.specs.Prelude.{is_some}
+use Rattle.rt_journal.proofs.Names.{◌∙◌, ap, is_some}
 use Rattle.rt_journal.proofs.recorded.Recorded.is_closed.Goals as goal
 
 pub returns : goal.returns

@@ -1,5 +1,4 @@
-use Rattle.std.proofs.Common.{ap}
-use Rattle.rt_journal.specs.Submissions.{opened_desk}
+use Rattle.rt_journal.proofs.Names.{ap, opened_desk}
 use Rattle.rt_journal.proofs.Opened.{recorded-opened}
 use Rattle.rt_journal.proofs.recorded.Recorded.open.Goals as goal
 

@@ -1,7 +1,4 @@
-use Rattle.std.proofs.Common.{sym, subst, ◌∙◌, ap}
-use Rattle.rt_ids.specs.Outstanding.{outstanding_count}
-use Rattle.rt_journal.specs.Recorded.{desk_of}
-use Rattle.rt_journal.specs.Ends.{IsOutOf}
+use Rattle.rt_journal.proofs.Names.{sym, subst, ◌∙◌, ap, outstanding_count, desk_of, IsOutOf}
 use Rattle.rt_journal.proofs.recorded.Recorded.outstanding.Goals as goal
 
 pub outstanding-requires : goal.outstanding-requires

@@ -1,8 +1,5 @@
-use Rattle.std.proofs.Common.{length, sym, ◌∙◌, ap, subst, reverse, arith}
-use Rattle.rt_ids.specs.Orders.{IsSpelledOrder}
-use Rattle.rt_journal.specs.Steps.{IsNextIn}
-use Rattle.rt_journal.specs.Submissions.{desk_with}
-use Rattle.rt_journal.proofs.Received.{next_for_core, room_in, few, sound_now, seat_now, receives_now, written_now, sent_now, gives_now, stands_now}
+use Rattle.rt_journal.proofs.Names.{length, sym, ◌∙◌, ap, subst, reverse, arith, IsSpelledOrder, IsNextIn, desk_with}
+use Rattle.rt_journal.proofs.Received.{next_for_core, room_in, few, written_now, sent_now, received_now}
 use Rattle.rt_journal.proofs.Carries.{fits_delivered}
 use Rattle.rt_journal.proofs.Wrote.{view_of, may_write, may_send, desk_is}
 use Rattle.rt_journal.proofs.recorded.Recorded.receive.Goals as goal
@@ -12,90 +9,42 @@ deliver-delivered-requires g c =
     let next = subst (λ view. IsNextIn view c.args.envelope.name) (sym c.self.view_is) c.requires.next in
     (omega arith, (room_in (view_of c.self.inside.core c.self.inside.took.items c.self.inside.said) _ c.self.invariant.0 next, (next.sender, (next_for_core (view_of c.self.inside.core c.self.inside.took.items c.self.inside.said) _ c.self.invariant.0 next, c.requires.ready))))
 
-pub write-requires-clause-room : goal.write-requires-clause-room
-write-requires-clause-room g c =
+pub write-requires : goal.write-requires
+write-requires g c =
     let next = subst (λ view. IsNextIn view c.args.envelope.name) (sym c.self.view_is) c.requires.next in
     let spelled = subst IsSpelledOrder c.without_job-within_ranges.ensures.same c.without_job-within_ranges.ensures.spelled in
-    let written = few g.met.J.Task.same_task (view_of c.self.inside.core c.self.inside.took.items c.self.inside.said) c.self.invariant.0 c.args.envelope next spelled c.deliver-delivered.new.self c.deliver-delivered.result.0 c.deliver-delivered.result.1.items
-    c.deliver-delivered.ensures.delivers in
-    omega (arith, written, c.requires.room, ap (λ view. view.journal.room) c.self.view_is, ap (λ view. length view.journal.notes) c.self.view_is, ap length c.as_slice.ensures.value)
-
-pub write-requires-clause-written : goal.write-requires-clause-written
-write-requires-clause-written g c =
-    let next = subst (λ view. IsNextIn view c.args.envelope.name) (sym c.self.view_is) c.requires.next in
-    let spelled = subst IsSpelledOrder c.without_job-within_ranges.ensures.same c.without_job-within_ranges.ensures.spelled in
-    may_write c.self.inside.core c.self.inside.took.items c.self.inside.said c.self.invariant.1 c.deliver-delivered.result.1.items c.as_slice.result.now c.as_slice.ensures.value
-    (written_now g.met.J.Task.same_task (view_of c.self.inside.core c.self.inside.took.items c.self.inside.said) c.self.invariant.0 c.args.envelope next spelled c.deliver-delivered.new.self c.deliver-delivered.result.0 c.deliver-delivered.result.1.items
-    c.deliver-delivered.ensures.delivers)
-
-pub write-requires-clause-sent : goal.write-requires-clause-sent
-write-requires-clause-sent g c =
-    let next = subst (λ view. IsNextIn view c.args.envelope.name) (sym c.self.view_is) c.requires.next in
-    let spelled = subst IsSpelledOrder c.without_job-within_ranges.ensures.same c.without_job-within_ranges.ensures.spelled in
-    may_send c.self.inside.said.journal.notes c.deliver-delivered.result.1.items c.as_slice.result.now c.as_slice.ensures.value
-    (sent_now g.met.J.Task.same_task (view_of c.self.inside.core c.self.inside.took.items c.self.inside.said) c.self.invariant.0 c.args.envelope next spelled c.deliver-delivered.new.self c.deliver-delivered.result.0 c.deliver-delivered.result.1.items
-    c.deliver-delivered.ensures.delivers)
+    let written = few g.met.J.Task.same_task (view_of c.self.inside.core c.self.inside.took.items c.self.inside.said) c.self.invariant.0 c.args.envelope next spelled c.deliver-delivered.new.self c.deliver-delivered.result.0 c.deliver-delivered.result.1.items c.deliver-delivered.ensures.delivers in
+    record {
+      room = omega (arith, written, c.requires.room, ap (λ view. view.journal.room) c.self.view_is, ap (λ view. length view.journal.notes) c.self.view_is, ap length c.as_slice.ensures.value);
+      written = may_write c.self.inside.core c.self.inside.took.items c.self.inside.said c.self.invariant.1 c.deliver-delivered.result.1.items c.as_slice.result.now c.as_slice.ensures.value (written_now g.met.J.Task.same_task (view_of c.self.inside.core c.self.inside.took.items c.self.inside.said) c.self.invariant.0 c.args.envelope next spelled c.deliver-delivered.new.self c.deliver-delivered.result.0 c.deliver-delivered.result.1.items c.deliver-delivered.ensures.delivers);
+      sent = may_send c.self.inside.said.journal.notes c.deliver-delivered.result.1.items c.as_slice.result.now c.as_slice.ensures.value (sent_now g.met.J.Task.same_task (view_of c.self.inside.core c.self.inside.took.items c.self.inside.said) c.self.invariant.0 c.args.envelope next spelled c.deliver-delivered.new.self c.deliver-delivered.result.0 c.deliver-delivered.result.1.items c.deliver-delivered.ensures.delivers);
+    }
 
 pub invariant_of-self : goal.invariant_of-self
 invariant_of-self g c =
     let next = subst (λ view. IsNextIn view c.args.envelope.name) (sym c.self.view_is) c.requires.next in
     let spelled = subst IsSpelledOrder c.without_job-within_ranges.ensures.same c.without_job-within_ranges.ensures.spelled in
     let said_is = c.write.ensures ∙ ap (λ notes. desk_with (reverse notes) c.self.inside.said) c.as_slice.ensures.value in
-    let seat = seat_now g.met.J.Task.same_task (view_of c.self.inside.core c.self.inside.took.items c.self.inside.said) c.self.invariant.0 c.args.envelope next spelled c.deliver-delivered.new.self c.deliver-delivered.result.0 c.deliver-delivered.result.1.items
-    c.deliver-delivered.ensures.delivers
+    let now = received_now g.met.J.Task.same_task (view_of c.self.inside.core c.self.inside.took.items c.self.inside.said) c.self.invariant.0 c.args.envelope next spelled c.deliver-delivered.new.self c.deliver-delivered.result.0 c.deliver-delivered.result.1.items c.deliver-delivered.ensures.delivers
     _ (λ i. record { cap = (said_is i).cap; core = c.deliver-delivered.new.self; journal = (said_is i).journal; took = c.with-self-inside.ensures i; lanes = (said_is i).lanes }) in (
-      sound_now g.met.J.Task.same_task (view_of c.self.inside.core c.self.inside.took.items c.self.inside.said) c.self.invariant.0 c.args.envelope next spelled c.deliver-delivered.new.self c.deliver-delivered.result.0 c.deliver-delivered.result.1.items
-          c.deliver-delivered.ensures.delivers
-          _ (λ i. record { cap = (said_is i).cap; core = c.deliver-delivered.new.self; journal = (said_is i).journal; took = c.with-self-inside.ensures i; lanes = (said_is i).lanes }),
-      desk_is c.write.new.self c.deliver-delivered.new.self c.self.inside.took.items (ap (λ desk. desk.actor) said_is ∙ (ap (λ desk. desk.actor) c.self.invariant.1 ∙ sym seat.number))
-          (ap (λ desk. desk.cores) said_is ∙ (ap (λ desk. desk.cores) c.self.invariant.1 ∙ sym seat.cores)),
+      now.sound,
+      desk_is c.write.new.self c.deliver-delivered.new.self c.self.inside.took.items (ap (λ desk. desk.actor) said_is ∙ (ap (λ desk. desk.actor) c.self.invariant.1 ∙ sym now.seat.number))
+          (ap (λ desk. desk.cores) said_is ∙ (ap (λ desk. desk.cores) c.self.invariant.1 ∙ sym now.seat.cores)),
     )
 
-pub returns-clause-receives : goal.returns-clause-receives
-returns-clause-receives g c =
+pub returns : goal.returns
+returns g c =
     let next = subst (λ view. IsNextIn view c.args.envelope.name) (sym c.self.view_is) c.requires.next in
     let spelled = subst IsSpelledOrder c.without_job-within_ranges.ensures.same c.without_job-within_ranges.ensures.spelled in
     let said_is = c.write.ensures ∙ ap (λ notes. desk_with (reverse notes) c.self.inside.said) c.as_slice.ensures.value in
-    rw (← c.self.view_is) (receives_now g.met.J.Task.same_task (view_of c.self.inside.core c.self.inside.took.items c.self.inside.said) c.self.invariant.0 c.args.envelope next spelled c.deliver-delivered.new.self c.deliver-delivered.result.0 c.deliver-delivered.result.1.items
-    c.deliver-delivered.ensures.delivers
-    _ (λ i. record { cap = (said_is i).cap; core = c.deliver-delivered.new.self; journal = (said_is i).journal; took = c.with-self-inside.ensures i; lanes = (said_is i).lanes }))
-
-pub returns-clause-gives : goal.returns-clause-gives
-returns-clause-gives g c =
-    let next = subst (λ view. IsNextIn view c.args.envelope.name) (sym c.self.view_is) c.requires.next in
-    let spelled = subst IsSpelledOrder c.without_job-within_ranges.ensures.same c.without_job-within_ranges.ensures.spelled in
-    let said_is = c.write.ensures ∙ ap (λ notes. desk_with (reverse notes) c.self.inside.said) c.as_slice.ensures.value in
-    rw (← c.self.view_is, c.outcome_of.ensures) (gives_now g.met.J.Task.same_task (view_of c.self.inside.core c.self.inside.took.items c.self.inside.said) c.self.invariant.0 c.args.envelope next spelled c.deliver-delivered.new.self c.deliver-delivered.result.0 c.deliver-delivered.result.1.items
-    c.deliver-delivered.ensures.delivers
-    _ (λ i. record { cap = (said_is i).cap; core = c.deliver-delivered.new.self; journal = (said_is i).journal; took = c.with-self-inside.ensures i; lanes = (said_is i).lanes }))
-
-pub returns-clause-stands : goal.returns-clause-stands
-returns-clause-stands g c =
-    let next = subst (λ view. IsNextIn view c.args.envelope.name) (sym c.self.view_is) c.requires.next in
-    let spelled = subst IsSpelledOrder c.without_job-within_ranges.ensures.same c.without_job-within_ranges.ensures.spelled in
-    let said_is = c.write.ensures ∙ ap (λ notes. desk_with (reverse notes) c.self.inside.said) c.as_slice.ensures.value in
-    (stands_now g.met.J.Task.same_task (view_of c.self.inside.core c.self.inside.took.items c.self.inside.said) c.self.invariant.0 c.args.envelope next spelled c.deliver-delivered.new.self c.deliver-delivered.result.0 c.deliver-delivered.result.1.items
-    c.deliver-delivered.ensures.delivers
-    _ (λ i. record { cap = (said_is i).cap; core = c.deliver-delivered.new.self; journal = (said_is i).journal; took = c.with-self-inside.ensures i; lanes = (said_is i).lanes }))
-
-pub returns-clause-fits : goal.returns-clause-fits
-returns-clause-fits g c =
-    rw (c.outcome_of.ensures) (fits_delivered g.J.Task.Answers g.met.J.Task.same_task c.self.inside.core c.deliver-delivered.new.self c.args.envelope.name c.deliver-delivered.result.1.items c.args.envelope.order c.deliver-delivered.result.0 c.deliver-delivered.ensures.delivers)
-
-pub returns-clause-sound : goal.returns-clause-sound
-returns-clause-sound g c =
-    let next = subst (λ view. IsNextIn view c.args.envelope.name) (sym c.self.view_is) c.requires.next in
-    let spelled = subst IsSpelledOrder c.without_job-within_ranges.ensures.same c.without_job-within_ranges.ensures.spelled in
-    let said_is = c.write.ensures ∙ ap (λ notes. desk_with (reverse notes) c.self.inside.said) c.as_slice.ensures.value in
-    sound_now g.met.J.Task.same_task (view_of c.self.inside.core c.self.inside.took.items c.self.inside.said) c.self.invariant.0 c.args.envelope next spelled c.deliver-delivered.new.self c.deliver-delivered.result.0 c.deliver-delivered.result.1.items
-    c.deliver-delivered.ensures.delivers
-    _ (λ i. record { cap = (said_is i).cap; core = c.deliver-delivered.new.self; journal = (said_is i).journal; took = c.with-self-inside.ensures i; lanes = (said_is i).lanes })
-
-pub returns-clause-seat : goal.returns-clause-seat
-returns-clause-seat g c =
-    let next = subst (λ view. IsNextIn view c.args.envelope.name) (sym c.self.view_is) c.requires.next in
-    let spelled = subst IsSpelledOrder c.without_job-within_ranges.ensures.same c.without_job-within_ranges.ensures.spelled in
-    let said_is = c.write.ensures ∙ ap (λ notes. desk_with (reverse notes) c.self.inside.said) c.as_slice.ensures.value in
-    rw (← c.self.view_is) (seat_now g.met.J.Task.same_task (view_of c.self.inside.core c.self.inside.took.items c.self.inside.said) c.self.invariant.0 c.args.envelope next spelled c.deliver-delivered.new.self c.deliver-delivered.result.0 c.deliver-delivered.result.1.items
-    c.deliver-delivered.ensures.delivers
-    _ (λ i. record { cap = (said_is i).cap; core = c.deliver-delivered.new.self; journal = (said_is i).journal; took = c.with-self-inside.ensures i; lanes = (said_is i).lanes }))
+    let now = received_now g.met.J.Task.same_task (view_of c.self.inside.core c.self.inside.took.items c.self.inside.said) c.self.invariant.0 c.args.envelope next spelled c.deliver-delivered.new.self c.deliver-delivered.result.0 c.deliver-delivered.result.1.items c.deliver-delivered.ensures.delivers
+    _ (λ i. record { cap = (said_is i).cap; core = c.deliver-delivered.new.self; journal = (said_is i).journal; took = c.with-self-inside.ensures i; lanes = (said_is i).lanes }) in
+    record {
+      receives = rw (← c.self.view_is) now.receives;
+      gives = rw (← c.self.view_is, c.outcome_of.ensures) now.gives;
+      fits = rw c.outcome_of.ensures (fits_delivered g.J.Task.Answers g.met.J.Task.same_task c.self.inside.core c.deliver-delivered.new.self c.args.envelope.name c.deliver-delivered.result.1.items c.args.envelope.order c.deliver-delivered.result.0 c.deliver-delivered.ensures.delivers);
+      stands = now.stands;
+      sound = now.sound;
+      seat = rw (← c.self.view_is) now.seat;
+      lanes = ap (λ desk. desk.lanes) said_is ∙ ap (λ view. view.lanes) c.self.view_is;
+    }

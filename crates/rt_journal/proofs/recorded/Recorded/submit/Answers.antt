@@ -1,22 +1,27 @@
-use Rattle.std.proofs.Common.{sym, subst, ◌∙◌, ap}
-use Rattle.rt_link.specs.Fits.{Fits}
-use Rattle.rt_journal.specs.Recorded.{desk_of}
-use Rattle.rt_journal.specs.Ends.{IsOutOf}
-use Rattle.rt_journal.specs.Tickets.{HasLane}
-use Rattle.rt_journal.proofs.SentNotes.{desk_sound, desk_is_its, desk_ins, submitted_silent}
+use Rattle.rt_journal.proofs.Names.{Fits, IsOutOf, HasLane}
+use Rattle.rt_journal.proofs.SentNotes.{of_desk, has_said, submitted_silent}
 use Rattle.rt_journal.proofs.recorded.Recorded.submit.Goals as goal
 
 pub submit-requires-clause-beside : goal.submit-requires-clause-beside
-submit-requires-clause-beside g c = subst (λ desk. IsOutOf c.args.to desk (g.O.OutEnd.out c.args.end.now) (g.O.OutEnd.credited c.args.end.now)) (sym (c.self.invariant.1 ∙ ap desk_of c.self.view_is)) c.requires.beside
+submit-requires-clause-beside g c = of_desk c.self.inside.core c.self.inside.took.items c.self.inside.said c.self.invariant c.self.view_is (λ desk. IsOutOf c.args.to desk (g.O.OutEnd.out c.args.end.now) (g.O.OutEnd.credited c.args.end.now)) c.requires.beside
 
 pub submit-requires-clause-lane : goal.submit-requires-clause-lane
-submit-requires-clause-lane g c = subst (λ desk. HasLane (Fits g.J.Task.SameTask g.J.Task.Answers) c.args.to desk (g.O.OutEnd.out c.args.end.now) (g.O.OutEnd.credited c.args.end.now)) (sym (c.self.invariant.1 ∙ ap desk_of c.self.view_is)) c.requires.lane
+submit-requires-clause-lane g c = of_desk c.self.inside.core c.self.inside.took.items c.self.inside.said c.self.invariant c.self.view_is (λ desk. HasLane (Fits g.J.Task.SameTask g.J.Task.Answers) c.args.to desk (g.O.OutEnd.out c.args.end.now) (g.O.OutEnd.credited c.args.end.now)) c.requires.lane
 
 pub invariant_of-self : goal.invariant_of-self
-invariant_of-self g c = (desk_sound c.self.inside.core c.self.inside.took.items c.self.inside.said c.submit.new.self c.self.invariant c.submit.ensures.stays.rest c.submit.ensures.stays.written (submitted_silent c.self.inside.said c.submit.new.self c.args.to c.args.order c.submit.result c.submit.ensures.submits), desk_is_its {same = g.J.Task.SameTask} {made = g.J.Task.made} {polls = g.J.Task.Polls} c.self.inside.core c.self.inside.took.items c.self.inside.said c.submit.new.self c.self.invariant c.submit.ensures.stays.rest c.submit.ensures.stays.written (submitted_silent c.self.inside.said c.submit.new.self c.args.to c.args.order c.submit.result c.submit.ensures.submits))
+invariant_of-self g c =
+    let silent = submitted_silent c.self.inside.said c.submit.new.self c.args.to c.args.order c.submit.result c.submit.ensures.submits in
+    let now = has_said c.self.inside.core c.self.inside.took.items c.self.inside.said c.self.invariant c.self.view_is c.submit.ensures.stays.rest c.submit.ensures.stays.written silent in
+    (now.sound, now.is_its)
 
 pub returns-clause-ins : goal.returns-clause-ins
-returns-clause-ins g c = rw (← c.self.view_is) (desk_ins {same = g.J.Task.SameTask} {made = g.J.Task.made} {polls = g.J.Task.Polls} c.self.inside.core c.self.inside.took.items c.self.inside.said c.submit.new.self c.self.invariant c.submit.ensures.stays.rest c.submit.ensures.stays.written (submitted_silent c.self.inside.said c.submit.new.self c.args.to c.args.order c.submit.result c.submit.ensures.submits))
+returns-clause-ins g c =
+    let silent = submitted_silent c.self.inside.said c.submit.new.self c.args.to c.args.order c.submit.result c.submit.ensures.submits in
+    let now = has_said c.self.inside.core c.self.inside.took.items c.self.inside.said c.self.invariant c.self.view_is c.submit.ensures.stays.rest c.submit.ensures.stays.written silent in
+    now.ins
 
 pub returns-clause-sound : goal.returns-clause-sound
-returns-clause-sound g c = desk_sound c.self.inside.core c.self.inside.took.items c.self.inside.said c.submit.new.self c.self.invariant c.submit.ensures.stays.rest c.submit.ensures.stays.written (submitted_silent c.self.inside.said c.submit.new.self c.args.to c.args.order c.submit.result c.submit.ensures.submits)
+returns-clause-sound g c =
+    let silent = submitted_silent c.self.inside.said c.submit.new.self c.args.to c.args.order c.submit.result c.submit.ensures.submits in
+    let now = has_said c.self.inside.core c.self.inside.took.items c.self.inside.said c.self.invariant c.self.view_is c.submit.ensures.stays.rest c.submit.ensures.stays.written silent in
+    now.sound

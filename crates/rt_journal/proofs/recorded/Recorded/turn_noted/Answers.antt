@@ -1,12 +1,5 @@
-use Rattle.std.proofs.Common.{◌+◌, ◌*◌, ◌<◌, ◌≤◌, length, reverse, sym, ◌∙◌, ap, subst, arith}
-use Rattle.std.proofs.lemmas.List.{length-append}
-use Rattle.rt_ids.specs.Limits.{most_turns}
-use Rattle.rt_ids.specs.Picks.{turns}
-use Rattle.rt_core.specs.Whole.{IsAhead}
-use Rattle.rt_link.specs.Fits.{Fits}
-use Rattle.rt_journal.specs.Submissions.{DeskView, desk_with}
-use Rattle.rt_journal.specs.Recorded.{desk_of}
-use Rattle.rt_journal.specs.Posts.{AreOutsOf, lends}
+use Rattle.rt_journal.proofs.Names.{◌+◌, ◌*◌, ◌<◌, ◌≤◌, length, reverse, sym, ◌∙◌, ap, subst, arith, length-append}
+use Rattle.rt_journal.proofs.Names.{most_turns, turns, IsAhead, Fits, DeskView, desk_with, desk_of, AreOutsOf, lends}
 use Rattle.rt_journal.proofs.Picked.{turns-within}
 use Rattle.rt_journal.proofs.Posted.{posted_made}
 use Rattle.rt_journal.proofs.PostingTurn.{may_note_pick, sent_note_pick, outs_note_pick, noted_pick, noted_settled}

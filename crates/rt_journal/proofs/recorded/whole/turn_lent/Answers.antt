@@ -1,7 +1,5 @@
-use Rattle.std.proofs.Common.{◌≡◌, ◌<◌, length, arith, sym, ◌∙◌, ap, subst}
-use Rattle.rt_link.specs.Fits.{Fits}
-use Rattle.rt_journal.specs.Posts.{PostView, AreOutsOf, lends}
-use Rattle.rt_journal.specs.Calls.{Does}
+use Rattle.rt_journal.proofs.Names.{◌≡◌, ◌<◌, length, arith, sym, ◌∙◌, ap, subst, Fits, PostView, AreOutsOf, lends}
+use Rattle.rt_journal.proofs.Names.{Does}
 use Rattle.rt_journal.proofs.PolledDesks.{made_parts}
 use Rattle.rt_journal.proofs.recorded.whole.turn_lent.Goals as goal
 
