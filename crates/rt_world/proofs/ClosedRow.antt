@@ -1,20 +1,16 @@
 -- A core closes, hands its job back and shuts its gates.
 use Rattle.std.proofs.Common.{ℕ, ◌≤◌, [], ◌∷◌, refl, inr, arith}
+use Rattle.rt_world.proofs.Words.{Journal, IsRightPick, Event, Reply, WorldView, noted, Happens}
 use Rattle.rt_ids.specs.declared.note.Note.TheVariants as writes
 use Rattle.rt_ids.specs.declared.order.Answer.TheVariants as answers
 use Rattle.rt_ids.specs.declared.order.Mode.TheVariants.{Return}
 use Rattle.rt_ids.specs.declared.order.Order.TheVariants.{Job, CloseCore}
 use Rattle.rt_ids.specs.declared.order.Reason.TheVariants.{CoreReturned}
 use Rattle.rt_ids.specs.declared.order.SendError.TheVariants.{Closed}
-use Rattle.rt_ids.specs.Journal.{Journal}
-use Rattle.rt_ids.specs.Picks.{IsRightPick}
 use Rattle.rt_jobs.specs.Scripts.{Script}
-use Rattle.rt_world.specs.declared.event.Event.{Event}
 use Rattle.rt_world.specs.declared.event.Event.TheVariants.{Send, Deliver, Turn, Shut}
-use Rattle.rt_world.specs.declared.event.Reply.{Reply}
 use Rattle.rt_world.specs.declared.event.Reply.TheVariants as reply
-use Rattle.rt_world.specs.State.{WorldView, noted, with_sent}
-use Rattle.rt_world.specs.Runs.{Happens}
+use Rattle.rt_world.specs.State.{with_sent}
 use Rattle.rt_world.specs.ScriptRuns.{ScriptSame, script_made, ScriptPolls, ScriptAnswers}
 use Rattle.rt_world.specs.Rows.{name}
 use Rattle.rt_world.specs.WorkedRows.{short_job}

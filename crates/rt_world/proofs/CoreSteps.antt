@@ -1,19 +1,11 @@
 -- A step of one core: what it is in its world.
 use Rattle.std.proofs.Common.{◌≡◌, ◌≢◌, ℕ, ◌+◌, ◌<◌, ◌≤◌, List, [], ◌++◌, length, sym, ◌∙◌, ap, subst, arith, get_or, set, get_or-set_same, get_or-set_other, length-set}
-use Rattle.std.specs.Prelude.{map}
-use Rattle.std.proofs.lemmas.List.{get_or_default}
-use Rattle.rt_ids.specs.declared.note.Note.{Note}
-use Rattle.rt_jobs.specs.Steps.{Owed}
-use Rattle.rt_link.specs.declared.plain.Whole.{Whole}
-use Rattle.rt_link.specs.Whole.{out_of, inward_of}
-use Rattle.rt_journal.specs.Recorded.{RecordedView, IsRecorded, desk_of}
+use Rattle.std.proofs.lemmas.List.{get_or_default, set-get_or}
+use Rattle.rt_world.proofs.Words.{noted, map, Note, Owed, Whole, out_of, inward_of, RecordedView, IsRecorded, desk_of, Fits, IsOutOf, IsInOf, journal_at, link_at, Parts, core_at, desk_at, world_of, IsWorld}
 use Rattle.rt_journal.specs.Steps.{opened_beside, with_notes}
-use Rattle.rt_link.specs.Fits.{Fits}
-use Rattle.rt_journal.specs.Ends.{IsOutOf, IsInOf, IsSameSeat}
+use Rattle.rt_journal.specs.Ends.{IsSameSeat}
 use Rattle.rt_journal.specs.Tickets.{HasLane}
-use Rattle.rt_world.specs.State.{journal_at}
-use Rattle.rt_world.specs.Links.{link_at}
-use Rattle.rt_world.specs.Inside.{Parts, core_at, desk_at, notes_at, seat_of, world_of, IsWorld}
+use Rattle.rt_world.specs.Inside.{notes_at, seat_of}
 use Rattle.rt_world.proofs.Desks.{desk_at-core, desks-core, journal_at-world, journals-noted}
 use Rattle.rt_world.proofs.LinkSteps.{OnlyReceived, OnlySent, lane_stays}
 use Rattle.rt_world.proofs.WorldAfter.{IsStep, world_after}
@@ -52,6 +44,12 @@ module _ {J T : Type 0} {same : J → J → Type 0} {made : J → ℕ} {polls : 
   -- notes that have room in the world have room there
   pub free : (more : ℕ) → length (journal_at core (world_of old)) + more ≤ old.room → length (core_at core old).journal.notes + more ≤ (core_at core old).journal.room
   free more room = omega (arith, room, ap length journal_is, room_is)
+
+  -- the ends on which the core sends are beside what it says
+  pub core_outs : (to : ℕ) → to < old.cores → IsOutOf to (desk_of (core_at core old)) (out_of (link_at core to old.links)) (link_at core to old.links).credited
+  core_outs to known =
+      subst (λ desk. IsOutOf to desk (out_of (link_at core to old.links)) (link_at core to old.links).credited) desk_is
+      (world.beside.outs core to (omega (arith, there)) known)
 
   module _ (now : RecordedView J T) (links : List (List (Whole J T))) where
     abbrev pub parts_now : Parts J T
@@ -118,3 +116,14 @@ module _ {J T : Type 0} {same : J → J → Type 0} {made : J → ℕ} {polls : 
     journals_now notes longer =
         ap (map (λ desk. desk.journal.notes)) (desks-core old core now within)
         ∙ journals-noted old core (desk_of now) notes (ap (λ journal. journal.notes) longer ∙ ap (λ before. notes ++ before) (sym notes_are))
+
+    -- where no order was sent, its world is longer by these notes
+    pub core_noted : (notes : List (Note T)) → now.journal ≡ with_notes notes (core_at core old).journal → (world_of parts_now).sent ≡ (world_of old).sent →
+        world_of parts_now ≡ noted core notes (world_of old)
+    core_noted notes longer same_lists = λ i. record { cores = old.cores; cap = old.cap; room = old.room; journals = journals_now notes longer i; sent = same_lists i }
+
+    -- and where the core is as it was, so is its world
+    pub core_unchanged : now ≡ core_at core old → (world_of parts_now).sent ≡ (world_of old).sent → world_of parts_now ≡ world_of old
+    core_unchanged is same_lists =
+        core_noted [] (ap (λ view. view.journal) is) same_lists
+        ∙ (λ i. record (world_of old) { journals = set-get_or (world_of old).journals core [] i })

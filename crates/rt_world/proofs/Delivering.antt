@@ -1,29 +1,23 @@
 -- A world at rest stays one as a core takes the next order of a sender.
-use Rattle.std.proofs.Common.{◌≡◌, ◌≢◌, ℕ, zero, suc, ◌+◌, ◌<◌, ◌≤◌, Bool, true, false, List, [], ◌∷◌, length, refl, sym, ◌∙◌, ap, subst, arith}
-use Rattle.std.specs.Prelude.{Option, Some, None, slice_get}
-use Rattle.std.proofs.lemmas.List.{append-nil, set-get_or}
+use Rattle.std.proofs.Common.{◌≡◌, ℕ, zero, suc, ◌+◌, Bool, true, false, List, [], ◌∷◌, length, refl, sym, ◌∙◌, ap, subst, arith}
+use Rattle.std.proofs.lemmas.List.{append-nil}
+use Rattle.rt_world.proofs.Words.{Option, Some, None, slice_get, Order, Owed, Whole, inward_of, RecordedView, IsInOf, link_at, Parts, core_at, world_of, IsWorld, IsAtRest}
 use Rattle.rt_ids.specs.declared.order.Envelope.{Envelope}
-use Rattle.rt_ids.specs.declared.order.Order.{Order}
 use Rattle.rt_ids.specs.declared.order.Outcome.{Outcome}
 use Rattle.rt_ids.specs.Filters.{delivered_names}
-use Rattle.rt_jobs.specs.Steps.{Owed}
 use Rattle.rt_link.specs.declared.ends.Inward.{Inward}
-use Rattle.rt_link.specs.declared.plain.Whole.{Whole}
-use Rattle.rt_link.specs.Whole.{inward_of, kept_by_receiver}
+use Rattle.rt_link.specs.Whole.{kept_by_receiver}
 use Rattle.rt_link.specs.Ends.{StartsWith}
 use Rattle.rt_link.specs.Calls.{SeesMore, Takes}
-use Rattle.rt_journal.specs.Recorded.{RecordedView, IsRecorded, desk_of}
-use Rattle.rt_journal.specs.Ends.{IsInOf, Gives, KeepsIn, KeepsOuts, IsSameSeat}
+use Rattle.rt_journal.specs.Ends.{Gives}
 use Rattle.rt_journal.specs.Steps.{Delivers as DeliversTo}
 use Rattle.rt_journal.proofs.GivenEnds.{gave_rest}
 use Rattle.rt_world.specs.State.{sent_at}
 use Rattle.rt_world.specs.Deliveries.{Delivers, IsDelivery, next_place, taken_reply}
-use Rattle.rt_world.specs.Links.{link_at}
-use Rattle.rt_world.specs.Inside.{Parts, core_at, world_of, IsWorld, IsAtRest}
 use Rattle.rt_world.proofs.Desks.{sent_at-world}
 use Rattle.rt_world.proofs.LinkRows.{with_link, same_sent}
-use Rattle.rt_world.proofs.Receiving.{DidReceive, may_take, sent_is, only_received, receives_rests, receives_at_rest}
-use Rattle.rt_world.proofs.CoreSteps.{number_is, parts_now, journal_is, journals_now}
+use Rattle.rt_world.proofs.Receiving.{KeepsReceiver, IsReceiving, received_there, DidReceive, may_take, sent_is, only_received, receives_rests, receives_at_rest}
+use Rattle.rt_world.proofs.CoreSteps.{number_is, parts_now, journal_is, core_noted, core_unchanged}
 
 slice_get-end : {A : Type 0} (items : List A) (place : ℕ) → length items ≡ place → slice_get items place ≡ None
 slice_get-end [] zero is = refl
@@ -35,26 +29,18 @@ slice_get-end (item ∷ items) (suc place) is = slice_get-end items place (omega
 pub record IsTakenBy {J T : Type 0} (same : J → J → Type 0) (made : J → ℕ) (polls : Owed J T)
     (view : RecordedView J T) (link : Whole J T) (found : Bool) (now : RecordedView J T) (after : Whole J T) : Type 0 where
   pub delivers : DeliversTo view (inward_of link) now (inward_of after) found
-  pub beside : IsInOf link.from now (inward_of after)
-  pub others : (other : ℕ) → other ≢ link.from → KeepsIn other view now
-  pub outs : KeepsOuts (desk_of view) (desk_of now)
-  pub lanes : now.lanes ≡ view.lanes
-  pub seat : IsSameSeat view now
-  pub sound : IsRecorded same made polls now
+  pub keeps : KeepsReceiver same made polls link.from view now after
   pub untouched : kept_by_receiver after ≡ kept_by_receiver link
 
--- the end that is taken from is beside the core
-pub may_take_from : {J T : Type 0} {same : J → J → Type 0} {made : J → ℕ} {polls : Owed J T} {answers : J → T → Type 0} {old : Parts J T}
-    (world : IsWorld same made polls answers old) (sender core : ℕ) → sender ≤ old.cores → core < old.cores → (view : RecordedView J T) → view ≡ core_at core old →
-    (link : Whole J T) → link ≡ link_at sender core old.links → IsInOf link.from view (inward_of link)
-may_take_from world sender core there core_there view view_is link link_is =
-    let its = may_take world sender core there core_there view view_is link link_is in
-    subst (λ from. IsInOf from view (inward_of link)) (sym its.from) its
+module _ {J T : Type 0} {same : J → J → Type 0} {made : J → ℕ} {polls : Owed J T} {answers : J → T → Type 0} {old : Parts J T} {sender core : ℕ}
+    {its_view : RecordedView J T} {its_link : Whole J T} (world : IsWorld same made polls answers old) (by : IsReceiving old sender core its_view its_link) where
+  -- the end that is taken from is beside the core
+  pub may_take_from : IsInOf its_link.from its_view (inward_of its_link)
+  may_take_from = subst (λ from. IsInOf from its_view (inward_of its_link)) (sym (may_take world by).from) (may_take world by)
 
-module _ {J T : Type 0} {same : J → J → Type 0} {made : J → ℕ} {polls : Owed J T} {answers : J → T → Type 0} {old : Parts J T}
-    (world : IsWorld same made polls answers old) (sender core : ℕ) (there : sender ≤ old.cores) (core_there : core < old.cores)
-    (found : Bool) (now : RecordedView J T) (after : Whole J T)
-    (did : IsTakenBy same made polls (core_at core old) (link_at sender core old.links) found now after) where
+module _ {J T : Type 0} {same : J → J → Type 0} {made : J → ℕ} {polls : Owed J T} {answers : J → T → Type 0} {old : Parts J T} {sender core : ℕ}
+    {its_view now : RecordedView J T} {its_link after : Whole J T} {found : Bool} (world : IsWorld same made polls answers old)
+    (by : IsReceiving old sender core its_view its_link) (it_did : IsTakenBy same made polls its_view its_link found now after) where
   abbrev view : RecordedView J T
   view = core_at core old
 
@@ -64,11 +50,11 @@ module _ {J T : Type 0} {same : J → J → Type 0} {made : J → ℕ} {polls : 
   abbrev links : List (List (Whole J T))
   links = with_link old.links sender core after
 
-  from_is : link.from ≡ sender
-  from_is = (world.beside.ins sender core there core_there).from
+  did : IsTakenBy same made polls view link found now after
+  did = received_there world by (λ view link. IsTakenBy same made polls view link found now after) it_did
 
-  beside_now : IsInOf sender now (inward_of after)
-  beside_now = subst (λ from. IsInOf from now (inward_of after)) from_is did.beside
+  from_is : link.from ≡ sender
+  from_is = (world.beside.ins sender core by.there by.core_there).from
 
   -- what the core did on the link: it took, and gave an outcome, if there is one yet; and it sees what it saw
   record DidOnLink : Type 0 where
@@ -126,26 +112,21 @@ module _ {J T : Type 0} {same : J → J → Type 0} {made : J → ℕ} {polls : 
   received = record {
     received = only_received link after did_on_link.more did.untouched did_on_link.rest did_on_link.given;
     at_rest = did_on_link.out;
-    beside = beside_now;
-    others = λ other away. did.others other (λ one. away (one ∙ from_is));
-    outs = did.outs;
-    lanes = did.lanes;
-    seat = did.seat;
-    sound = did.sound;
+    keeps = subst (λ from. KeepsReceiver same made polls from view now after) from_is did.keeps;
   }
 
   abbrev pub delivered : Parts J T
-  delivered = parts_now world core core_there now links
+  delivered = parts_now world core by.core_there now links
 
   pub delivered_at_rest : IsAtRest old → IsAtRest delivered
-  delivered_at_rest = receives_at_rest world sender core there core_there now after received
+  delivered_at_rest = receives_at_rest world sender core by.there by.core_there now after received
 
   pub delivered_rests : IsWorld same made polls answers delivered
-  delivered_rests = receives_rests world sender core there core_there now after received
+  delivered_rests = receives_rests world sender core by.there by.core_there now after received
 
   -- the next place is the one that the link says
   place_is : next_place sender core (world_of old) ≡ link.taken
-  place_is = ap (λ journal. length (delivered_names sender journal)) (journal_is world core core_there) ∙ (world.beside.ins sender core there core_there).taken
+  place_is = ap (λ journal. length (delivered_names sender journal)) (journal_is world core by.core_there) ∙ (world.beside.ins sender core by.there by.core_there).taken
 
   next_order : slice_get (sent_at sender core (world_of old)) (next_place sender core (world_of old)) ≡ slice_get link.sent link.taken
   next_order = ap (λ orders. slice_get orders (next_place sender core (world_of old))) (sent_at-world old sender core) ∙ ap (slice_get link.sent) place_is
@@ -162,19 +143,19 @@ module _ {J T : Type 0} {same : J → J → Type 0} {made : J → ℕ} {polls : 
         delivers.0.order,
         next_order ∙ (ap (λ orders. slice_get orders link.taken) (sym same_orders ∙ seen_is delivers.1.0 delivers.0 delivers.1.1 delivers.1.2 delivers.1.3) ∙ delivers.1.2.3),
         delivers.2.notes,
-        subst (λ journal. IsDelivery (record { from = sender; to = core; number = next_place sender core (world_of old) + 1 }) delivers.0.order journal delivers.2.notes) (sym (journal_is world core core_there))
+        subst (λ journal. IsDelivery (record { from = sender; to = core; number = next_place sender core (world_of old) + 1 }) delivers.0.order journal delivers.2.notes) (sym (journal_is world core by.core_there))
             (subst (λ name. IsDelivery name delivers.0.order view.journal.notes delivers.2.notes) (name_is delivers.0 delivers.1.2.2) delivers.2.delivery),
-        λ i. record { cores = old.cores; cap = old.cap; room = old.room; journals = journals_now world core core_there now links delivers.2.notes delivers.2.journal i; sent = same_lists i },
+        core_noted world core by.core_there now links delivers.2.notes delivers.2.journal same_lists,
       )
         where
           its_end : IsInOf sender view (inward_of link)
-          its_end = world.beside.ins sender core there core_there
+          its_end = world.beside.ins sender core by.there by.core_there
 
           name_is : (envelope : Envelope J) → envelope.name ≡ record { from = link.from; to = link.to; number = link.base + link.taken + 1 } →
               envelope.name ≡ record { from = sender; to = core; number = next_place sender core (world_of old) + 1 }
           name_is envelope is = is ∙ (λ i. record {
             from = its_end.from i;
-            to = (its_end.to ∙ number_is world core core_there) i;
+            to = (its_end.to ∙ number_is world core by.core_there) i;
             number = counts i;
           })
             where
@@ -182,9 +163,5 @@ module _ {J T : Type 0} {same : J → J → Type 0} {made : J → ℕ} {polls : 
               counts = omega (arith, its_end.base, place_is)
       by_found false delivers = (
         next_order ∙ slice_get-end link.sent link.taken (ap length (sym same_orders) ∙ delivers.0.2),
-        λ i. record { cores = old.cores; cap = old.cap; room = old.room; journals = same_journals delivers.1 i; sent = same_lists i },
+        core_unchanged world core by.core_there now links delivers.1 same_lists,
       )
-        where
-          same_journals : now ≡ view → (world_of delivered).journals ≡ (world_of old).journals
-          same_journals is =
-              journals_now world core core_there now links [] (ap (λ view. view.journal) is) ∙ set-get_or (world_of old).journals core []

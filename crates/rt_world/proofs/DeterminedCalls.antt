@@ -1,9 +1,8 @@
 -- Calls of a post have one result, where they ask the same as long as they are answered alike.
 use Rattle.std.proofs.Common.{◌≡◌, ℕ, List, [], ◌∷◌, refl, sym, ◌∙◌, subst, inl, inr, arith}
 use Rattle.std.specs.Prelude.{Result, Ok, Err}
-use Rattle.rt_ids.specs.declared.names.JobId.{JobId}
+use Rattle.rt_world.proofs.Words.{JobId, Order, WorldView}
 use Rattle.rt_ids.specs.declared.names.TicketError.{TicketError}
-use Rattle.rt_ids.specs.declared.order.Order.{Order}
 use Rattle.rt_ids.specs.declared.order.Outcome.{Outcome}
 use Rattle.rt_ids.specs.declared.order.SendError.{SendError}
 use Rattle.rt_ids.specs.Outcomes.{outcome_note}
@@ -14,7 +13,6 @@ use Rattle.rt_world.specs.Calls.{CallsAt, AsksSame, AnsweredAlike, AskAlike, tol
 use Rattle.rt_world.specs.Collections.{redeemed_reply, detached_reply}
 use Rattle.rt_world.specs.Determined.{AreAlike}
 use Rattle.rt_world.specs.Sends.{sent_reply}
-use Rattle.rt_world.specs.State.{WorldView}
 use Rattle.rt_world.proofs.DeterminedSends.{sends_once}
 use Rattle.rt_world.proofs.DeterminedTickets.{redeems_once, detaches_once}
 

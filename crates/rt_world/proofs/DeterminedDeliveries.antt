@@ -1,22 +1,17 @@
 -- A delivery has one result, unless there was no memory for a queue.
 use Rattle.std.proofs.Common.{◌≡◌, ℕ, ◌+◌, ◌<◌, Bool, true, false, List, [], ◌∷◌, ◌++◌, length, refl, sym, ◌∙◌, ap, subst, ◌⊎◌, inl, inr, ⊎_elim}
-use Rattle.std.specs.Prelude.{Option, Some, None, nat_le}
+use Rattle.std.specs.Prelude.{nat_le}
 use Rattle.std.proofs.lemmas.List.{get_or-set_same}
 use Rattle.std.proofs.lemmas.Option.{none-some, same_Some}
-use Rattle.rt_ids.specs.declared.names.JobId.{JobId}
-use Rattle.rt_ids.specs.declared.note.Note.{Note}
+use Rattle.rt_world.proofs.Words.{Option, Some, None, JobId, Note, Order, Journal, Reply, WorldView, journal_at, noted}
 use Rattle.rt_ids.specs.declared.note.Note.TheVariants as writes
 use Rattle.rt_ids.specs.declared.order.Answer.{Answer}
 use Rattle.rt_ids.specs.declared.order.Answer.TheVariants as answers
 use Rattle.rt_ids.specs.declared.order.Mode.{Mode}
-use Rattle.rt_ids.specs.declared.order.Order.{Order}
 use Rattle.rt_ids.specs.declared.order.Order.TheVariants.{Job, Create, SetShares, Close, CloseCore}
 use Rattle.rt_ids.specs.Closing.{core_mode}
 use Rattle.rt_ids.specs.Commands.{created_count, IsCreationAnswer, IsAnswer, effect_note}
-use Rattle.rt_ids.specs.Journal.{Journal}
-use Rattle.rt_world.specs.declared.event.Reply.{Reply}
 use Rattle.rt_world.specs.declared.event.Reply.TheVariants as reply
-use Rattle.rt_world.specs.State.{WorldView, journal_at, noted}
 use Rattle.rt_world.specs.Deliveries.{with_effect, IsAnswered, IsDelivery, next_place, Delivers}
 use Rattle.rt_world.specs.Determined.{tells_refusal, WasRefusedSince}
 

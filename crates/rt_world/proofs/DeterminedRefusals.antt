@@ -2,12 +2,7 @@
 use Rattle.std.proofs.Common.{append_assoc, ◌≡◌, ℕ, Bool, true, false, List, [], ◌∷◌, ◌++◌, refl, sym, ◌∙◌, ap, get_or}
 use Rattle.std.specs.Prelude.{◌||◌}
 use Rattle.std.proofs.Math.Bool.{or-true}
-use Rattle.rt_ids.specs.Journal.{Journal}
-use Rattle.rt_jobs.specs.Steps.{Owed}
-use Rattle.rt_world.specs.declared.event.Event.{Event}
-use Rattle.rt_world.specs.declared.event.Reply.{Reply}
-use Rattle.rt_world.specs.State.{WorldView, journal_at}
-use Rattle.rt_world.specs.Runs.{Happens}
+use Rattle.rt_world.proofs.Words.{Journal, Owed, Event, Reply, WorldView, journal_at, Happens}
 use Rattle.rt_world.specs.Determined.{is_refusal, tells_refusal, WasRefused, WasRefusedSince, IsToldRun}
 use Rattle.rt_world.proofs.KeptLists.{Extends, is_later}
 

@@ -1,13 +1,11 @@
 -- A run has one result, unless there was no memory for a queue.
 use Rattle.std.proofs.Common.{◌≡◌, ℕ, List, [], ◌∷◌, refl, sym, ◌∙◌, ap, subst, ◌⊎◌, inl, inr, ⊎_elim, arith}
-use Rattle.rt_jobs.specs.Steps.{Owed}
-use Rattle.rt_world.specs.declared.event.Event.{Event}
+use Rattle.rt_world.proofs.Words.{Owed, Event, Reply, WorldView, Happens}
 use Rattle.rt_world.specs.declared.event.Event.TheVariants.{Send, Deliver, Turn, Shut, Collect, Redeem, Detach}
-use Rattle.rt_world.specs.declared.event.Reply.{Reply}
 use Rattle.rt_world.specs.declared.event.Reply.TheVariants as reply
-use Rattle.rt_world.specs.State.{WorldView, IsNearlyFull, assembly_of}
+use Rattle.rt_world.specs.State.{IsNearlyFull, assembly_of}
 use Rattle.rt_world.specs.Sends.{actor_of, AreThere}
-use Rattle.rt_world.specs.Runs.{Steps, Happens, IsRun}
+use Rattle.rt_world.specs.Runs.{Steps, IsRun}
 use Rattle.rt_world.specs.Opening.{HasAllLists}
 use Rattle.rt_world.specs.Determined.{WasRefusedSince, OwesOne, IsToldRun, AreAlike, AreAllAlike, RunIsDetermined, AssemblyIsDetermined}
 use Rattle.rt_world.proofs.KeptLists.{Extends, is_later, happens_keep}

@@ -1,20 +1,16 @@
 -- A send has one result.
 use Rattle.std.proofs.Common.{◌≡◌, ℕ, ◌+◌, ◌-◌, ◌^◌, ◌<◌, ◌≤◌, [], ◌∷◌, length, refl, sym, ◌∙◌, ap, subst, ◌⊎◌, inl, inr, arith}
-use Rattle.std.specs.Prelude.{Option, Some, None}
 use Rattle.std.proofs.lemmas.Option.{none-some, same_Some}
-use Rattle.rt_ids.specs.declared.names.JobId.{JobId}
+use Rattle.rt_world.proofs.Words.{Option, Some, None, JobId, Order, Journal, Reply, WorldView, journal_at, noted}
 use Rattle.rt_ids.specs.declared.note.Note.TheVariants as writes
-use Rattle.rt_ids.specs.declared.order.Order.{Order}
 use Rattle.rt_ids.specs.declared.order.SendError.TheVariants.{Closed, Full, Spent}
 use Rattle.rt_ids.specs.Closing.{final_count}
 use Rattle.rt_ids.specs.Filters.{accepted_orders}
-use Rattle.rt_ids.specs.Journal.{Journal}
 use Rattle.rt_ids.specs.Outstanding.{outstanding_count}
 use Rattle.rt_ids.specs.Lawful.{IsNextSent}
 use Rattle.rt_world.specs.State.{terms_at}
-use Rattle.rt_world.specs.declared.event.Reply.{Reply}
 use Rattle.rt_world.specs.declared.event.Reply.TheVariants as reply
-use Rattle.rt_world.specs.State.{WorldView, without_job, journal_at, noted, with_sent}
+use Rattle.rt_world.specs.State.{without_job, with_sent}
 use Rattle.rt_world.specs.Sends.{Sends}
 
 module _ {J T : Type 0} (sender core : ℕ) (order : Order J) (old : WorldView J T) where

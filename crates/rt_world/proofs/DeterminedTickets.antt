@@ -1,22 +1,18 @@
 -- What a sender does with its outcomes has one result, except for how far a job got that comes back.
 use Rattle.std.proofs.Common.{◌≡◌, ℕ, refl, sym, ◌∙◌, ap, subst, inl, inr, [], ◌∷◌}
 use Rattle.std.specs.Option.{IsSome}
-use Rattle.std.specs.Prelude.{Option, None, is_some}
+use Rattle.std.specs.Prelude.{is_some}
 use Rattle.std.proofs.lemmas.Bool.{true≢false}
 use Rattle.std.proofs.lemmas.Option.{none-some, same_Some}
-use Rattle.rt_ids.specs.declared.names.JobId.{JobId}
+use Rattle.rt_world.proofs.Words.{Option, None, JobId, Journal, Fits, Reply, WorldView, journal_at, noted}
 use Rattle.rt_ids.specs.declared.names.TicketError.{TicketError}
 use Rattle.rt_ids.specs.declared.names.TicketError.TheVariants.{Unknown, Gone, Pending}
 use Rattle.rt_ids.specs.declared.note.Note.TheVariants as writes
 use Rattle.rt_ids.specs.declared.note.OutcomeNote.{OutcomeNote}
 use Rattle.rt_ids.specs.Collecting.{IsRedeemable, IsDetachable}
-use Rattle.rt_ids.specs.Journal.{Journal}
 use Rattle.rt_ids.specs.Outcomes.{outcome_note}
 use Rattle.rt_ids.proofs.Collected.{nothing_collected_under}
-use Rattle.rt_link.specs.Fits.{Fits}
-use Rattle.rt_world.specs.declared.event.Reply.{Reply}
 use Rattle.rt_world.specs.declared.event.Reply.TheVariants as reply
-use Rattle.rt_world.specs.State.{WorldView, journal_at, noted}
 use Rattle.rt_world.specs.Collections.{WasAccepted, RefusesTicket, Collects, Detaches, Redeems}
 use Rattle.rt_world.specs.Determined.{AreAlike}
 

@@ -1,26 +1,22 @@
 -- A turn has one result, if each poll owes one step and one time.
 use Rattle.std.proofs.Common.{◌≡◌, ℕ, ◌+◌, ◌-◌, ◌^◌, ◌<◌, ◌⊎◌, inl, inr, false, List, [], ◌∷◌, refl, sym, ◌∙◌, ap, subst, ⊎_elim, arith}
-use Rattle.std.specs.Prelude.{Option, Some, unwrap_or}
+use Rattle.std.specs.Prelude.{unwrap_or}
 use Rattle.std.proofs.lemmas.Bool.{true≢false}
 use Rattle.std.proofs.lemmas.Option.{none-some, same_Some}
-use Rattle.rt_ids.specs.declared.names.JobId.{JobId}
-use Rattle.rt_ids.specs.declared.order.Order.{Order}
+use Rattle.rt_world.proofs.Words.{Option, Some, JobId, Order, Journal, IsRightPick, Owed, Reply, WorldView, journal_at, noted}
 use Rattle.rt_ids.specs.declared.order.Order.TheVariants.{Job}
 use Rattle.rt_ids.specs.declared.order.Reason.{Reason}
 use Rattle.rt_ids.specs.Commands.{return_reason}
 use Rattle.rt_ids.specs.Keys.{KeyAtMost}
-use Rattle.rt_ids.specs.Journal.{Journal}
 use Rattle.rt_ids.specs.Lines.{line}
-use Rattle.rt_ids.specs.Picks.{IsRightPick, turns}
+use Rattle.rt_ids.specs.Picks.{turns}
 use Rattle.rt_ids.specs.Runtimes.{virtual_runtime}
 use Rattle.rt_ids.specs.Work.{has_work}
 use Rattle.rt_jobs.specs.Calls.{Makes}
 use Rattle.rt_jobs.specs.declared.job.Step.{Step}
-use Rattle.rt_jobs.specs.Steps.{Owed}
 use Rattle.rt_journal.proofs.Ahead.{one_key}
-use Rattle.rt_world.specs.declared.event.Reply.{Reply}
 use Rattle.rt_world.specs.declared.event.Reply.TheVariants as reply
-use Rattle.rt_world.specs.State.{WorldView, journal_at, order_under, noted}
+use Rattle.rt_world.specs.State.{order_under}
 use Rattle.rt_world.specs.Calls.{CallsAt}
 use Rattle.rt_world.specs.Turns.{polls_made, pick_notes, settle_note, IsPoll, IsHandBack, Turns}
 use Rattle.rt_world.specs.Determined.{OwesOne}

@@ -1,10 +1,8 @@
 -- The journals of a world, gathered from its actors.
 use Rattle.std.proofs.Common.{◌≡◌, ◌+◌, List, [], ◌∷◌, ◌++◌, length, refl, sym, ◌∙◌, ap}
-use Rattle.std.specs.Prelude.{map}
 use Rattle.std.proofs.lemmas.List.{length-map, length_push, map-append}
+use Rattle.rt_world.proofs.Words.{map, RecordedView, desk_of, Parts, world_of}
 use Rattle.rt_notes.specs.Journals.{JournalView}
-use Rattle.rt_journal.specs.Recorded.{RecordedView, desk_of}
-use Rattle.rt_world.specs.Inside.{Parts, world_of}
 
 module _ {J T : Type 0} where
   -- the journals of the cores

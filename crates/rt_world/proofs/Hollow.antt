@@ -1,11 +1,7 @@
 -- A world without its lists is refused, and a world at rest has them.
 use Rattle.std.proofs.Common.{◌≡◌, ℕ, ◌+◌, [], length, ◌⊎◌, ⊎_elim, ◌∙◌, ap, arith}
-use Rattle.std.specs.Prelude.{map}
 use Rattle.std.proofs.lemmas.List.{length-map}
-use Rattle.rt_jobs.specs.Steps.{Owed}
-use Rattle.rt_world.specs.State.{WorldView}
-use Rattle.rt_world.specs.Links.{row_of}
-use Rattle.rt_world.specs.Inside.{Parts, desks, world_of, IsWorld}
+use Rattle.rt_world.proofs.Words.{map, Owed, WorldView, row_of, Parts, desks, world_of, IsWorld}
 use Rattle.rt_world.specs.Opening.{HasAllLists}
 use Rattle.rt_world.specs.Hollow.{HollowIsRefused}
 use Rattle.rt_journal.proofs.NumberedOrders.{get_or-map}

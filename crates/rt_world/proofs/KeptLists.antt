@@ -3,31 +3,25 @@ use Rattle.std.proofs.Common.{append_assoc, ◌≡◌, ℕ, List, [], ◌∷◌,
 use Rattle.std.specs.Prelude.{unwrap_or}
 use Rattle.std.proofs.lemmas.Bool.{cases_eq, cases_lt}
 use Rattle.std.proofs.lemmas.List.{length-set, get_or-set_same, get_or-set_other, set_past}
-use Rattle.rt_ids.specs.declared.names.JobId.{JobId}
-use Rattle.rt_ids.specs.declared.note.Note.{Note}
+use Rattle.rt_world.proofs.Words.{JobId, Note, Order, Journal, Owed, Event, Reply, WorldView, journal_at, noted, Happens}
 use Rattle.rt_ids.specs.declared.note.Note.TheVariants as writes
-use Rattle.rt_ids.specs.declared.order.Order.{Order}
 use Rattle.rt_ids.specs.declared.order.Reason.{Reason}
 use Rattle.rt_ids.specs.declared.names.TicketError.TheVariants.{Unknown, Gone}
 use Rattle.rt_ids.specs.declared.order.SendError.TheVariants.{Closed, Full, Spent}
 use Rattle.rt_ids.specs.Filters.{accepted_orders}
-use Rattle.rt_ids.specs.Journal.{Journal}
 use Rattle.rt_ids.specs.Outcomes.{outcome_note}
 use Rattle.rt_jobs.specs.Calls.{Call, Makes}
 use Rattle.rt_jobs.specs.Calls.Call.{Submit, Redeem as RedeemCall, Detach as DetachCall}
-use Rattle.rt_jobs.specs.Steps.{Owed}
-use Rattle.rt_world.specs.declared.event.Event.{Event}
 use Rattle.rt_world.specs.declared.event.Event.TheVariants.{Send, Deliver, Turn, Shut, Collect, Redeem, Detach}
-use Rattle.rt_world.specs.declared.event.Reply.{Reply}
 use Rattle.rt_world.specs.declared.event.Reply.TheVariants as reply
-use Rattle.rt_world.specs.State.{WorldView, without_job, journal_at, sent_at, noted, with_sent}
+use Rattle.rt_world.specs.State.{without_job, sent_at, with_sent}
 use Rattle.rt_world.specs.Sends.{Sends, sent_reply}
 use Rattle.rt_world.specs.Deliveries.{Delivers}
 use Rattle.rt_world.specs.Calls.{CallsAt}
 use Rattle.rt_world.specs.Turns.{pick_notes, settle_note, Turns}
 use Rattle.rt_world.specs.Closings.{Shuts}
 use Rattle.rt_world.specs.Collections.{collected_notes, uncollected, Collects, Redeems, Detaches, redeemed_reply, detached_reply}
-use Rattle.rt_world.specs.Runs.{Steps, Happens}
+use Rattle.rt_world.specs.Runs.{Steps}
 use Rattle.rt_world.specs.Opening.{HasAllLists}
 
 -- as many rows as before, each as long as before

@@ -1,18 +1,15 @@
 -- A core is lent the link of one sender, and gives an outcome on it.
 use Rattle.std.proofs.Common.{◌≡◌, ◌≢◌, ℕ, ◌<◌, ◌≤◌, List, [], ◌∷◌, ◌++◌, length, refl, sym, ◌∙◌, ap, subst, ⊎_elim, cond, arith, get_or, set}
-use Rattle.std.specs.Prelude.{map, Option, Some, None}
 use Rattle.std.proofs.lemmas.Bool.{cases_eq, eq-eqb}
 use Rattle.std.proofs.lemmas.List.{append-nil, length-map, set-get_or}
-use Rattle.rt_ids.specs.declared.names.JobId.{JobId}
+use Rattle.rt_world.proofs.Words.{map, Option, Some, None, JobId, Whole, inward_of, RecordedView, IsInOf, no_link, row_of, link_at}
 use Rattle.rt_ids.specs.declared.note.OutcomeNote.{OutcomeNote}
 use Rattle.rt_ids.specs.declared.order.Outcome.{Outcome}
 use Rattle.rt_link.specs.declared.ends.Inward.{Inward}
-use Rattle.rt_link.specs.declared.plain.Whole.{Whole}
-use Rattle.rt_link.specs.Whole.{inward_of, kept_by_receiver}
-use Rattle.rt_journal.specs.Recorded.{RecordedView}
-use Rattle.rt_journal.specs.Ends.{IsInOf, IsInOwing, Gives, IsSameSeat, told_under}
+use Rattle.rt_link.specs.Whole.{kept_by_receiver}
+use Rattle.rt_journal.specs.Ends.{IsInOwing, Gives, IsSameSeat, told_under}
 use Rattle.rt_journal.proofs.DeliveredEnds.{told_elsewhere}
-use Rattle.rt_world.specs.Links.{no_link, row_of, link_at, with_link, ChangesLink, GivesOnOne}
+use Rattle.rt_world.specs.Links.{with_link, ChangesLink, GivesOnOne}
 use Rattle.rt_world.specs.OneTurn.{none_owed, IsBesideAll}
 use Rattle.rt_world.proofs.LinkRows as by_rows
 use Rattle.rt_world.proofs.LinkSteps.{no_change}
@@ -53,67 +50,83 @@ no_gift core links = record {
   changes = no_change links 0 core;
 }
 
--- the row and the link that a call borrows
-module _ {J T V : Type 0} (items : V → List (Whole J T)) (rows : List V) (number : ℕ) (owed : ℕ → Option (JobId × OutcomeNote T)) (view : RecordedView J T)
-    (beside : IsBesideAll number owed view (map items rows)) (sender : ℕ) (known : sender ≤ view.core.cores) where
-  pub row_within : sender < length rows
-  row_within = omega (arith, beside.rows sender known, length-map rows items)
+-- the row of a sender's links that a call borrows of a core's world, where each end is beside the core except for what is owed
+pub record IsLentOwing {J T V : Type 0} (items : V → List (Whole J T)) (rows : List V) (number : ℕ) (owed : ℕ → Option (JobId × OutcomeNote T)) (view : RecordedView J T)
+    (sender : ℕ) (row : V) : Type 0 where
+  pub beside : IsBesideAll number owed view (map items rows)
+  pub known : sender ≤ view.core.cores
+  pub row_is : row ≡ get_or rows sender row
 
-  module _ (row : V) (row_is : row ≡ get_or rows sender row) where
-    pub link_within : number < length (items row)
-    link_within = omega (arith, beside.cores sender known, ap length (by_rows.row_of-borrowed items rows sender row_within row row_is))
+-- there is such a row
+pub row_within : {J T V : Type 0} (items : V → List (Whole J T)) (rows : List V) (number : ℕ) (owed : ℕ → Option (JobId × OutcomeNote T)) (view : RecordedView J T) →
+    IsBesideAll number owed view (map items rows) → (sender : ℕ) → sender ≤ view.core.cores → sender < length rows
+row_within items rows number owed view beside sender known = omega (arith, beside.rows sender known, length-map rows items)
 
-    module _ (link : Whole J T) (link_is : link ≡ get_or (items row) number link) where
-      link_here : link ≡ link_at sender number (map items rows)
-      link_here = by_rows.link_at-borrowed items rows sender row_within row row_is number link link_within link_is
+module _ {J T V : Type 0} {items : V → List (Whole J T)} {rows : List V} {number : ℕ} {owed : ℕ → Option (JobId × OutcomeNote T)} {view : RecordedView J T}
+    {sender : ℕ} {row : V} (row_lent : IsLentOwing items rows number owed view sender row) where
+  beside : IsBesideAll number owed view (map items rows)
+  beside = row_lent.beside
 
-      -- the link that is lent is beside the core
-      pub lent : IsInOwing sender (owed sender) view (inward_of link)
-      lent = subst (λ at. IsInOwing sender (owed sender) view (inward_of at)) (sym link_here) (beside.ins sender known)
+  known : sender ≤ view.core.cores
+  known = row_lent.known
 
-      -- after an outcome was given on it, if there is one, each end is beside the core, and nothing is owed
-      module _ (after : Whole J T) (number_of : ℕ) (outcome : Option (Outcome J T)) (gives : Gives (inward_of link) number_of outcome (inward_of after))
-          (untouched : kept_by_receiver after ≡ kept_by_receiver link) (after_row : V) (written : items after_row ≡ set (items row) number after) where
-        abbrev old_links : List (List (Whole J T))
-        old_links = map items rows
+  row_there : sender < length rows
+  row_there = row_within items rows number owed view beside sender known
 
-        abbrev new_links : List (List (Whole J T))
-        new_links = map items (set rows sender after_row)
+  pub link_within : number < length (items row)
+  link_within = omega (arith, beside.cores sender known, ap length (by_rows.row_of-borrowed items rows sender row_there row row_lent.row_is))
 
-        links_are : new_links ≡ with_link old_links sender number after
-        links_are = by_rows.rows-with_link items rows sender row_within row row_is number after_row after written
+  module _ {link : Whole J T} (link_is : link ≡ get_or (items row) number link) where
+    link_here : link ≡ link_at sender number (map items rows)
+    link_here = by_rows.link_at-borrowed items rows sender row_there row row_lent.row_is number link link_within link_is
 
-        changes : ChangesLink old_links new_links sender number after
-        changes = subst (λ links. ChangesLink old_links links sender number after) (sym links_are)
-            (by_rows.ChangesLink-with_link old_links sender number after (beside.rows sender known) (beside.cores sender known))
+    -- the link that is lent is beside the core
+    pub lent : IsInOwing sender (owed sender) view (inward_of link)
+    lent = subst (λ at. IsInOwing sender (owed sender) view (inward_of at)) (sym link_here) (beside.ins sender known)
 
-        pub gave_on_one : GivesOnOne number old_links new_links
-        gave_on_one =
-            let is = gift link after untouched number_of outcome gives in
-            record {
-              sender = sender;
-              link = after;
-              given = is.0;
-              gives = subst (λ at. after ≡ record at { given = at.given ++ is.0 }) link_here is.1;
-              links = links_are;
-              changes = changes;
-            }
+    -- after an outcome was given on it, if there is one, each end is beside the core, and nothing is owed
+    module _ (after : Whole J T) (number_of : ℕ) (outcome : Option (Outcome J T)) (gives : Gives (inward_of link) number_of outcome (inward_of after))
+        (untouched : kept_by_receiver after ≡ kept_by_receiver link) (after_row : V) (written : items after_row ≡ set (items row) number after) where
+      abbrev old_links : List (List (Whole J T))
+      old_links = map items rows
 
-        pub none_left : (now : RecordedView J T) → IsSameSeat view now → IsInOf sender now (inward_of after) →
-            ((other : ℕ) → other ≢ sender → (inward : Inward J T) → IsInOwing other (owed other) view inward → IsInOf other now inward) →
-            IsBesideAll number none_owed now new_links
-        none_left now seat here others = record {
-          rows = λ s there. subst (λ count. s < count) (sym changes.same_rows) (beside.rows s (its s there));
-          cores = λ s there. subst (λ count. number < count) (sym (changes.same_cores s)) (beside.cores s (its s there));
-          ins = λ s there.
-              ⊎_elim
-              (λ one. subst (λ at. IsInOf at now (inward_of (link_at at number new_links))) (sym one) (subst (λ link. IsInOf sender now (inward_of link)) (sym changes.changed) here))
-              (λ away. subst (λ link. IsInOf s now (inward_of link)) (sym (changes.others s number (λ one two. away one))) (others s away _ (beside.ins s (its s there))))
-              (cases_eq s sender);
-        }
-          where
-            its : (s : ℕ) → s ≤ now.core.cores → s ≤ view.core.cores
-            its s there = subst (λ count. s ≤ count) seat.cores there
+      abbrev new_links : List (List (Whole J T))
+      new_links = map items (set rows sender after_row)
+
+      links_are : new_links ≡ with_link old_links sender number after
+      links_are = by_rows.rows-with_link items rows sender row_there row row_lent.row_is number after_row after written
+
+      changes : ChangesLink old_links new_links sender number after
+      changes = subst (λ links. ChangesLink old_links links sender number after) (sym links_are)
+          (by_rows.ChangesLink-with_link old_links sender number after (beside.rows sender known) (beside.cores sender known))
+
+      pub gave_on_one : GivesOnOne number old_links new_links
+      gave_on_one =
+          let is = gift link after untouched number_of outcome gives in
+          record {
+            sender = sender;
+            link = after;
+            given = is.0;
+            gives = subst (λ at. after ≡ record at { given = at.given ++ is.0 }) link_here is.1;
+            links = links_are;
+            changes = changes;
+          }
+
+      pub none_left : (now : RecordedView J T) → IsSameSeat view now → IsInOf sender now (inward_of after) →
+          ((other : ℕ) → other ≢ sender → (inward : Inward J T) → IsInOwing other (owed other) view inward → IsInOf other now inward) →
+          IsBesideAll number none_owed now new_links
+      none_left now seat here others = record {
+        rows = λ s there. subst (λ count. s < count) (sym changes.same_rows) (beside.rows s (its s there));
+        cores = λ s there. subst (λ count. number < count) (sym (changes.same_cores s)) (beside.cores s (its s there));
+        ins = λ s there.
+            ⊎_elim
+            (λ one. subst (λ at. IsInOf at now (inward_of (link_at at number new_links))) (sym one) (subst (λ link. IsInOf sender now (inward_of link)) (sym changes.changed) here))
+            (λ away. subst (λ link. IsInOf s now (inward_of link)) (sym (changes.others s number (λ one two. away one))) (others s away _ (beside.ins s (its s there))))
+            (cases_eq s sender);
+      }
+        where
+          its : (s : ℕ) → s ≤ now.core.cores → s ≤ view.core.cores
+          its s there = subst (λ count. s ≤ count) seat.cores there
 
 module _ {T : Type 0} (name : JobId) (what : OutcomeNote T) where
   -- what is owed under a name is owed to its sender

@@ -1,3 +1,4 @@
+pub mod Words
 pub mod Desks
 pub mod LinkRows
 pub mod LinkSteps

@@ -1,21 +1,17 @@
 -- What one end of a plain link does, as the other end sees it.
-use Rattle.std.proofs.Common.{◌≡◌, ℕ, true, List, [], ◌∷◌, ◌++◌, length, refl, sym, ◌∙◌, ap, subst, ⊎_elim, arith}
+use Rattle.std.proofs.Common.{◌≡◌, ℕ, Bool, true, List, [], ◌∷◌, ◌++◌, length, refl, sym, ◌∙◌, ap, subst, ⊎_elim, arith, get_or}
 use Rattle.std.proofs.lemmas.Bool.{cases_eq}
 use Rattle.std.proofs.lemmas.List.{append-nil, length-append}
-use Rattle.rt_ids.specs.declared.order.Order.{Order}
+use Rattle.rt_world.proofs.Words.{Order, Whole, out_of, inward_of, slice_get, RecordedView, IsOutOf, IsInOf, link_at}
 use Rattle.rt_ids.specs.declared.order.Outcome.{Outcome}
-use Rattle.rt_link.specs.declared.plain.Whole.{Whole}
-use Rattle.rt_link.specs.Whole.{out_of, inward_of}
 use Rattle.rt_link.specs.Ends.{StartsWith}
+use Rattle.rt_link.specs.Whole.{kept_by_sender}
 use Rattle.rt_desk.specs.Lanes.{IsLaneOf}
-use Rattle.std.specs.Prelude.{slice_get}
 use Rattle.rt_journal.specs.Submissions.{DeskView}
-use Rattle.rt_journal.specs.Recorded.{RecordedView}
-use Rattle.rt_journal.specs.Ends.{IsOutOf, IsInOf}
 use Rattle.rt_journal.specs.Tickets.{HasLane}
 use Rattle.rt_journal.proofs.LaneEnds.{sees_more_lane}
 use Rattle.rt_journal.proofs.EndsKept.{sees_more_in, sees_more_out}
-use Rattle.rt_world.specs.Links.{link_at, ChangesLink}
+use Rattle.rt_world.specs.Links.{ChangesLink}
 
 -- a list that is as long as its beginning is the same
 pub as_long : {A : Type 0} (whole front : List A) → StartsWith whole front → length whole ≡ length front → whole ≡ front
@@ -46,6 +42,23 @@ module _ {J T : Type 0} where
 
   pub sent-same : (link : Whole J T) → OnlySent link link
   sent-same link = record { rest = refl; sent = ([], sym (append-nil link.sent)); gate = λ shut. refl }
+
+  -- of a link of which its sender's end changed in these, no more changed
+  pub sender_rest : (old new : Whole J T) {sent : List (Order J)} {seen : List (ℕ × Outcome J T)} {got : ℕ} {closed : Bool} → kept_by_sender new ≡ kept_by_sender old →
+      out_of new ≡ record (out_of old) { sent = sent; seen = seen; got = got; closed = closed } → new.given ≡ old.given → new.shut ≡ old.shut →
+      new ≡ record old { sent = new.sent; got = new.got; credited = new.credited }
+  sender_rest old new untouched is given shut = λ i. record {
+    from = ap (λ out. out.from) is i;
+    to = ap (λ out. out.to) is i;
+    base = ap (λ out. out.base) is i;
+    capacity = ap (λ out. out.capacity) is i;
+    sent = new.sent;
+    taken = ap (λ kept. get_or kept 0 0) untouched i;
+    given = given i;
+    got = new.got;
+    credited = new.credited;
+    shut = shut i;
+  }
 
   -- the end of the other stays beside its actor
   pub out_stays : (core : ℕ) (desk : DeskView J T) (old new : Whole J T) → OnlyReceived old new →

@@ -1,42 +1,37 @@
 -- If no queue is ordered, no refusal is told.
 use Rattle.std.proofs.Common.{◌≡◌, ℕ, zero, suc, ◌+◌, Bool, true, false, cond, List, [], ◌∷◌, ◌++◌, length, refl, sym, ◌∙◌, ap, subst, ◌⊎◌, inl, inr, ⊎_elim, get_or, set}
-use Rattle.std.specs.Prelude.{◌||◌, Option, Some, None, slice_get, nat_le, unwrap_or}
+use Rattle.std.specs.Prelude.{◌||◌, nat_le, unwrap_or}
 use Rattle.std.proofs.lemmas.Bool.{true≢false, or_parts}
 use Rattle.std.proofs.lemmas.Option.{none-some}
-use Rattle.rt_ids.specs.declared.names.JobId.{JobId}
+use Rattle.rt_world.proofs.Words.{Option, Some, None, slice_get, JobId, Note, Order, Journal, Owed, Event, Reply, WorldView, journal_at, noted, Happens}
 use Rattle.rt_ids.specs.declared.names.TicketError.TheVariants.{Unknown, Gone}
-use Rattle.rt_ids.specs.declared.note.Note.{Note}
 use Rattle.rt_ids.specs.declared.note.Note.TheVariants as writes
 use Rattle.rt_ids.specs.declared.order.Answer.{Answer}
 use Rattle.rt_ids.specs.declared.order.Answer.TheVariants as told_answers
 use Rattle.rt_ids.specs.declared.order.Mode.{Mode}
-use Rattle.rt_ids.specs.declared.order.Order.{Order}
 use Rattle.rt_ids.specs.declared.order.Order.TheVariants.{Job, Create, SetShares, Close, CloseCore}
 use Rattle.rt_ids.specs.declared.order.Reason.{Reason}
 use Rattle.rt_ids.specs.declared.order.SendError.TheVariants.{Closed, Full, Spent}
 use Rattle.rt_ids.specs.Commands.{created_count, refusal, effect_note}
 use Rattle.rt_ids.specs.Closing.{closes, core_mode, queue_mode}
 use Rattle.rt_ids.specs.Filters.{Outcomes, accepted_orders, name_started}
-use Rattle.rt_ids.specs.Journal.{Journal, is_told}
+use Rattle.rt_ids.specs.Journal.{is_told}
 use Rattle.rt_ids.specs.Commands.{IsOpening}
 use Rattle.rt_ids.specs.Outcomes.{outcome_note}
 use Rattle.rt_jobs.specs.Calls.{Call, Makes}
 use Rattle.rt_jobs.specs.Calls.Call.{Submit, Redeem as RedeemCall, Detach as DetachCall}
 use Rattle.rt_jobs.specs.declared.job.Step.{Step}
-use Rattle.rt_jobs.specs.Steps.{Owed}
 use Rattle.rt_jobs.specs.declared.job.Step.TheVariants as steps
-use Rattle.rt_world.specs.declared.event.Event.{Event}
 use Rattle.rt_world.specs.declared.event.Event.TheVariants.{Send, Deliver, Turn, Shut, Collect, Redeem, Detach}
-use Rattle.rt_world.specs.declared.event.Reply.{Reply}
 use Rattle.rt_world.specs.declared.event.Reply.TheVariants as reply
-use Rattle.rt_world.specs.State.{WorldView, without_job, journal_at, sent_at, noted, with_sent}
+use Rattle.rt_world.specs.State.{without_job, sent_at, with_sent}
 use Rattle.rt_world.specs.Sends.{Sends, sent_reply}
 use Rattle.rt_world.specs.Deliveries.{entry_note, with_effect, IsDelivery, next_place, Delivers}
 use Rattle.rt_world.specs.Calls.{CallsAt}
 use Rattle.rt_world.specs.Turns.{poll_note, pick_notes, settle_note, Turns}
 use Rattle.rt_world.specs.Closings.{Shuts}
 use Rattle.rt_world.specs.Collections.{collected_notes, uncollected, Collects, Redeems, Detaches, redeemed_reply, detached_reply}
-use Rattle.rt_world.specs.Runs.{Steps, Happens}
+use Rattle.rt_world.specs.Runs.{Steps}
 use Rattle.rt_world.specs.Opening.{IsUnbegun}
 use Rattle.rt_world.specs.Determined.{is_refusal, tells_refusal, WasRefused, IsToldRun}
 use Rattle.rt_world.specs.Creations.{IsNoCreation, OrdersNoQueue, OrderNoQueues, CallNoQueues, PollsOrderNone, RunOfJobsIsDetermined}

@@ -1,27 +1,22 @@
 -- A pick and the poll that it begins are one turn of a core.
 use Rattle.std.proofs.Common.{◌≡◌, ℕ, ◌+◌, ◌≤◌, Bool, true, false, List, ◌∷◌, refl, sym, ◌∙◌, ap, subst, add-zero}
-use Rattle.std.specs.Prelude.{Option, Some, None, Result, Ok}
-use Rattle.rt_ids.specs.declared.names.JobId.{JobId}
+use Rattle.std.specs.Prelude.{Result, Ok}
+use Rattle.rt_world.proofs.Words.{Option, Some, None, JobId, Order, Whole, inward_of, Journal, Owed, RecordedView, IsRecorded, link_at}
 use Rattle.rt_ids.specs.declared.note.Note.TheVariants as writes
 use Rattle.rt_ids.specs.declared.note.OutcomeNote.{OutcomeNote}
 use Rattle.rt_ids.specs.declared.note.OutcomeNote.TheVariants as outcomes
-use Rattle.rt_ids.specs.declared.order.Order.{Order}
 use Rattle.rt_ids.specs.declared.order.Order.TheVariants.{Job}
 use Rattle.rt_ids.specs.declared.order.Reason.{Reason}
-use Rattle.rt_link.specs.declared.plain.Whole.{Whole}
-use Rattle.rt_link.specs.Whole.{inward_of}
-use Rattle.rt_ids.specs.Journal.{Journal}
-use Rattle.rt_jobs.specs.Steps.{Owed}
 use Rattle.rt_core.specs.declared.turn.Turn.{Turn}
 use Rattle.rt_core.specs.declared.turn.Turn.TheVariants.{Back}
 use Rattle.rt_core.specs.declared.turn.PickError.{PickError}
 use Rattle.rt_core.specs.declared.turn.Settled.{Settled}
 use Rattle.rt_journal.specs.Polls.{polls_made, poll_note}
-use Rattle.rt_journal.specs.Recorded.{RecordedView, IsRecorded, order_taken}
+use Rattle.rt_journal.specs.Recorded.{order_taken}
 use Rattle.rt_journal.specs.Turns.{IsHandBack, Picks}
 use Rattle.rt_journal.specs.Ends.{IsInOwing, told_under}
 use Rattle.rt_journal.specs.Owed.{IsSentUnder, owed_back}
-use Rattle.rt_world.specs.Links.{link_at, GivesOnOne}
+use Rattle.rt_world.specs.Links.{GivesOnOne}
 use Rattle.rt_world.specs.OneTurn.{none_owed, IsBesideAll, IsKeptBeside, StaysBeside, HandsOneBack, TurnsOwing}
 use Rattle.rt_world.proofs.LentLinks.{no_gift}
 

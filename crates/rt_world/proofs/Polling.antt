@@ -1,37 +1,29 @@
 -- A core's turn in its world: a job is picked, it is polled with its post, and the poll is settled; or it is handed back.
 use Rattle.std.proofs.Common.{◌≡◌, ℕ, ◌+◌, ◌-◌, ◌^◌, ◌<◌, ◌≤◌, List, [], ◌∷◌, refl, sym, ◌∙◌, ap, subst, inl, inr, arith, set, get_or-set_same}
-use Rattle.std.specs.Prelude.{Some, unwrap_or, slice_get}
+use Rattle.std.specs.Prelude.{unwrap_or}
 use Rattle.std.proofs.lemmas.List.{set-set, set-get_or}
 use Rattle.std.proofs.lemmas.Option.{same_Some}
-use Rattle.rt_ids.specs.declared.names.JobId.{JobId}
+use Rattle.rt_world.proofs.Words.{Some, slice_get, JobId, Order, Journal, IsRightPick, Owed, Whole, RecordedView, Reply, row_of, link_at, Parts, core_at, world_of, IsWorld, IsAtRest, journal_at, noted}
 use Rattle.rt_ids.specs.declared.note.Note.TheVariants as writes
-use Rattle.rt_ids.specs.declared.order.Order.{Order}
 use Rattle.rt_ids.specs.declared.order.Order.TheVariants.{Job}
 use Rattle.rt_ids.specs.Commands.{return_reason}
 use Rattle.rt_ids.specs.Filters.{name_started}
-use Rattle.rt_ids.specs.Journal.{Journal, is_told}
+use Rattle.rt_ids.specs.Journal.{is_told}
 use Rattle.rt_ids.specs.Lines.{line}
-use Rattle.rt_ids.specs.Picks.{IsRightPick, turns}
+use Rattle.rt_ids.specs.Picks.{turns}
 use Rattle.rt_ids.specs.Work.{has_work}
 use Rattle.rt_jobs.specs.Calls.{Makes}
-use Rattle.rt_jobs.specs.Steps.{Owed}
-use Rattle.rt_link.specs.declared.plain.Whole.{Whole}
-use Rattle.rt_link.specs.Whole.{out_of}
-use Rattle.rt_journal.specs.Ends.{IsOutOf}
 use Rattle.rt_journal.specs.Polls.{polls_made, poll_note, settle_note}
-use Rattle.rt_journal.specs.Recorded.{RecordedView, order_taken}
+use Rattle.rt_journal.specs.Recorded.{order_taken}
 use Rattle.rt_journal.specs.Steps.{opened_beside, with_notes}
 use Rattle.rt_journal.specs.Whole.{post_of}
 use Rattle.rt_journal.proofs.SentNotes.{all_posted}
-use Rattle.rt_world.specs.declared.event.Reply.{Reply}
 use Rattle.rt_world.specs.declared.event.Reply.TheVariants as reply
 use Rattle.rt_world.specs.Calls.{CallsAt}
-use Rattle.rt_world.specs.Links.{row_of, link_at}
-use Rattle.rt_world.specs.Inside.{Parts, core_at, world_of, IsWorld, IsAtRest}
 use Rattle.rt_world.specs.OneTurn as one
-use Rattle.rt_world.specs.State.{journal_at, order_under, noted}
+use Rattle.rt_world.specs.State.{order_under}
 use Rattle.rt_world.specs.Turns.{pick_notes, IsPoll, Turns}
-use Rattle.rt_world.proofs.CoreSteps.{cores_are, number_is, desk_is, parts_now, lanes_kept, rests, journal_is, journals_now}
+use Rattle.rt_world.proofs.CoreSteps.{cores_are, number_is, parts_now, lanes_kept, rests, journal_is, core_outs, core_noted}
 use Rattle.rt_world.proofs.Desks.{sent_at-world}
 use Rattle.rt_world.proofs.LinkSteps.{received-same, sent-same}
 use Rattle.rt_world.proofs.OneTurn.{polls_made-picked}
@@ -77,7 +69,7 @@ module _ {J : Type 0} {same : J → J → Type 0} {made : J → ℕ} {polls : Ow
         links_are = λ sender. refl;
         received = λ sender to away. received-same (link_at sender to old.links);
         sent = λ sender to away. sent-same (link_at sender to old.links);
-        outs = λ to known. (did.turn.stays.outs to).each _ _ (subst (λ desk. IsOutOf to desk (out_of (link_at number to old.links)) (link_at number to old.links).credited) (desk_is world number there) (world.beside.outs number to (omega (arith, there)) known));
+        outs = λ to known. (did.turn.stays.outs to).each _ _ (core_outs world number there to known);
         lanes = lanes_kept world number there did.turn.picked old.links did.turn.stays.lanes (λ to. received-same (link_at number to old.links));
         ins = λ sender known. (did.turn.keeps sender).each _ (world.beside.ins sender number known there);
       })
@@ -152,13 +144,7 @@ module _ {J : Type 0} {same : J → J → Type 0} {made : J → ℕ} {polls : Ow
       picked_noted : world_of (parts_at old number did.turn.picked first) ≡ noted number (pick_notes did.name did.queue did.turn.picks.runtime before) (world_of old)
       picked_noted =
           ap world_of first_is
-          ∙ ((λ i. record {
-            cores = old.cores;
-            cap = old.cap;
-            room = old.room;
-            journals = journals_now world number there did.turn.picked old.links (poll_note did.name did.started ∷ writes.Pick did.queue did.turn.picks.runtime ∷ []) did.turn.picks.journal i;
-            sent = (world_of old).sent;
-          })
+          ∙ (core_noted world number there did.turn.picked old.links (poll_note did.name did.started ∷ writes.Pick did.queue did.turn.picks.runtime ∷ []) did.turn.picks.journal refl
           ∙ ap (λ started. noted number (poll_note did.name started ∷ writes.Pick did.queue did.turn.picks.runtime ∷ []) (world_of old)) (did.turn.picks.started ∙ ap (is_told name_started did.name) (sym here)))
 
       settled_noted : world_of turned ≡ noted number (settle_note did.name (unwrap_or did.turn.ran.told spent) did.turn.ran.step ∷ []) (world_of mid)

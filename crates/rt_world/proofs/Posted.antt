@@ -1,37 +1,22 @@
 -- The links of a core after a turn whose job called its post.
 use Rattle.std.proofs.Common.{◌≡◌, ◌≢◌, ℕ, ◌≤◌, List, [], length, sym, ap, subst, ⊎_elim, arith, get_or, set, get_or-set_same, get_or-set_other}
-use Rattle.std.specs.Prelude.{Option}
 use Rattle.std.proofs.lemmas.Bool.{cases_eq}
 use Rattle.std.proofs.lemmas.List.{length-set}
 use Rattle.std.proofs.lemmas.Option.{slice_get-get_or}
-use Rattle.rt_ids.specs.declared.names.JobId.{JobId}
+use Rattle.rt_world.proofs.Words.{Option, JobId, Whole, out_of, inward_of, RecordedView, no_link, row_of, link_at}
 use Rattle.rt_ids.specs.declared.note.OutcomeNote.{OutcomeNote}
-use Rattle.rt_link.specs.declared.plain.Whole.{Whole}
-use Rattle.rt_link.specs.Whole.{out_of, inward_of, kept_by_sender}
+use Rattle.rt_link.specs.Whole.{kept_by_sender}
 use Rattle.rt_journal.specs.Ends.{IsInOwing, LeavesOwed, IsSameSeat}
 use Rattle.rt_journal.specs.Posts.{SendsMore, HasPosted}
-use Rattle.rt_journal.specs.Recorded.{RecordedView}
 use Rattle.rt_journal.specs.Whole.{post_of}
-use Rattle.rt_world.specs.Links.{no_link, row_of, link_at}
 use Rattle.rt_world.specs.OneTurn.{none_owed, IsBesideAll}
-use Rattle.rt_world.proofs.LinkSteps.{OnlySent, in_stays}
+use Rattle.rt_world.proofs.LinkSteps.{sender_rest, OnlySent, in_stays}
 use Rattle.rt_world.proofs.SentLinks.{one_gate}
 
 -- a link on which its sender's end sent more has that end's changes alone
 posts_only : {J T : Type 0} (link after : Whole J T) → kept_by_sender after ≡ kept_by_sender link → SendsMore (out_of link) (out_of after) → OnlySent link after
 posts_only link after untouched more = record {
-  rest = λ i. record {
-    from = ap (λ out. out.from) more.0 i;
-    to = ap (λ out. out.to) more.0 i;
-    base = ap (λ out. out.base) more.0 i;
-    capacity = ap (λ out. out.capacity) more.0 i;
-    sent = after.sent;
-    taken = ap (λ kept. get_or kept 0 0) untouched i;
-    given = ap (λ out. out.seen) more.0 i;
-    got = after.got;
-    credited = after.credited;
-    shut = one_gate after.shut link.shut (ap (λ kept. get_or kept 2 0) untouched) i;
-  };
+  rest = sender_rest link after untouched more.0 (ap (λ out. out.seen) more.0) (one_gate after.shut link.shut (ap (λ kept. get_or kept 2 0) untouched));
   sent = more.1;
   gate = λ shut. ap (λ out. out.sent) (more.2 shut);
 }

@@ -1,25 +1,19 @@
 -- What a job's calls of its post do in the world, while its core polls it.
-use Rattle.std.proofs.Common.{◌≡◌, ℕ, ◌<◌, ◌≤◌, List, [], ◌∷◌, refl, sym, ◌∙◌, ap, subst, inl, inr, arith, get_or, set, map, get_or-set_same}
-use Rattle.std.specs.Prelude.{Result, IfOk}
+use Rattle.std.proofs.Common.{◌≡◌, ℕ, ◌<◌, ◌≤◌, List, [], ◌∷◌, refl, sym, ◌∙◌, ap, subst, inl, inr, arith, get_or, set, get_or-set_same}
+use Rattle.std.specs.Prelude.{Result}
 use Rattle.std.proofs.lemmas.List.{set-set, length-set}
 use Rattle.std.proofs.lemmas.Option.{get_or_from_slice_get}
-use Rattle.rt_ids.specs.declared.names.JobId.{JobId}
+use Rattle.rt_world.proofs.Words.{JobId, Order, Owed, Whole, Fits, out_of, RecordedView, IsRecorded, desk_of, no_link, row_of, link_at, Parts, core_at, desk_at, world_of, IsWorld, journal_at}
 use Rattle.rt_ids.specs.declared.names.TicketError.{TicketError}
 use Rattle.rt_ids.specs.declared.names.TicketError.TheVariants.{Unknown}
-use Rattle.rt_ids.specs.declared.order.Order.{Order}
 use Rattle.rt_ids.specs.declared.order.Outcome.{Outcome}
 use Rattle.rt_ids.specs.declared.order.SendError.{SendError}
 use Rattle.rt_jobs.specs.Calls.{Call, Makes}
 use Rattle.rt_jobs.specs.Calls.Call.{Submit, Redeem, Detach}
-use Rattle.rt_jobs.specs.Steps.{Owed}
-use Rattle.rt_link.specs.declared.plain.Whole.{Whole}
-use Rattle.rt_link.specs.Fits.{Fits}
-use Rattle.rt_link.specs.Whole.{out_of, kept_by_sender}
-use Rattle.rt_desk.specs.Lanes.{IsGot, FitsSent}
+use Rattle.rt_link.specs.Whole.{kept_by_sender}
 use Rattle.rt_journal.specs.Calls.{Does, LendsEnd, SubmitsOn, RedeemsOn, DetachesOn}
 use Rattle.rt_journal.specs.Ends.{KeepsIn}
 use Rattle.rt_journal.specs.Posts.{PostView}
-use Rattle.rt_journal.specs.Recorded.{RecordedView, IsRecorded, desk_of}
 use Rattle.rt_journal.specs.Steps.{opened_beside}
 use Rattle.rt_journal.specs.Submissions.{IsWritten, terms_of_desk}
 use Rattle.rt_journal.specs.Tickets.{RefusesTicket, RedeemsTicket, DetachesTicket, StaysBeside}
@@ -27,12 +21,9 @@ use Rattle.rt_journal.proofs.SentNotes.{SaysNoMore, recorded_silent, ins_silent,
 use Rattle.rt_world.specs.Calls.{CallsAt}
 use Rattle.rt_world.specs.Collections.{Redeems, Detaches, redeemed_reply, detached_reply}
 use Rattle.rt_world.specs.Sends.{Sends, sent_reply}
-use Rattle.rt_world.specs.Links.{no_link, row_of, link_at}
-use Rattle.rt_world.specs.Inside.{Parts, core_at, desks, desk_at, world_of, IsWorld}
-use Rattle.rt_world.specs.State.{journal_at}
 use Rattle.rt_world.proofs.LinkSteps.{OnlySent}
 use Rattle.rt_world.proofs.CoreSteps.{cores_are, desk_is, journal_is}
-use Rattle.rt_world.proofs.CoreSending.{IsDoneBy, core_done, core_sent, core_desks, core_rests}
+use Rattle.rt_world.proofs.CoreSending.{IsDoneBy, IsCoreActing, core_sent, core_journals, core_rests}
 use Rattle.rt_world.proofs.SentLinks.{IsSubmitted, only_sent, sends_now}
 use Rattle.rt_world.proofs.Ticketing.{got_same, redeems_now, detaches_now}
 
@@ -113,8 +104,8 @@ module _ {J : Type 0} (same : J → J → Type 0) (made : J → ℕ) (polls : Ow
       written : IsWritten (terms_of_desk (desk_of (view post))) next.desk.journal.notes
       written = subst (λ terms. IsWritten terms next.desk.journal.notes) (ap terms_of_desk rest_is ∙ ap terms_of_desk at.desk) lent.stays.written
 
-      done_by : IsDoneBy same made polls answers to (view post) lent.end (view next) lent.later
-      done_by = record {
+      pub did : IsDoneBy same made polls answers to (view post) lent.end (view next) lent.later
+      did = record {
         done = record {
           only_sent = only;
           stays = subst (λ desk. StaysBeside (Fits same answers) to desk (desk_of (view next)) (out_of lent.later) lent.later.credited) at.desk
@@ -126,64 +117,63 @@ module _ {J : Type 0} (same : J → J → Type 0) (made : J → ℕ) (polls : Ow
         sound = subst (IsRecorded same made polls) (sym view_is) (recorded_silent (view post) next.desk.journal.notes next.desk.lanes silent recorded written);
       }
 
-      pub did : IsDoneBy same made polls answers to (core_at number (parts post)) (link_at number to (parts post).links) (view next) lent.later
-      did = subst (λ at. IsDoneBy same made polls answers to at (link_at number to (parts post).links) (view next) lent.later) (sym core_is)
-          (subst (λ link. IsDoneBy same made polls answers to (view post) link (view next) lent.later) link_is done_by)
+      pub by : IsCoreActing (parts post) number to (view post) lent.end
+      by = record {
+        core = there;
+        actor_is = sym core_is;
+        acting = record { there = omega (arith, there); to_there = to_there; desk_is = ap desk_of (sym core_is) ∙ sym (desk_is at.world number there); link_is = link_is };
+      }
 
       -- the world after it is the one where the post stands as it does then
-      pub sent_is : core_sent at.world number to there to_there (view next) lent.later did ≡ parts next
+      pub sent_is : core_sent at.world by did ≡ parts next
       sent_is = λ i. record base {
         inside = set-set base.inside number (view post) (view next) i;
         links = (set-set base.links number post.ends (set (row_of number (parts post).links) to lent.later) ∙ ap (set base.links number) (ap (λ row. set row to lent.later) row_is ∙ sym lent.ends)) i;
       }
 
       pub next_at : Here next
-      next_at = record { world = subst (IsWorld same made polls answers) sent_is (core_rests at.world number to there to_there (view next) lent.later did); desk = next_desk }
-
-      pub journals : map (λ desk. desk.journal.notes) (desks (core_sent at.world number to there to_there (view next) lent.later did)) ≡ map (λ desk. desk.journal.notes) (set (desks (parts post)) number (desk_of (view next)))
-      journals = ap (map (λ desk. desk.journal.notes)) (core_desks at.world number to there to_there (view next) lent.later did)
+      next_at = record { world = subst (IsWorld same made polls answers) sent_is (core_rests at.world by did); desk = next_desk }
 
     abbrev Now : Call J ℕ → Post J → Type 0
     Now call next = Here next × CallsAt same answers number (world_of (parts post)) call (world_of (parts next))
 
-    submit_now : (to : ℕ) (order : Order J) (answer : Result JobId (SendError J)) (next : Post J) → SubmitsOn (Fits same answers) out_of (λ link. link.credited) kept_by_sender to order answer post next → Now (Submit to order answer) next
+    submit_now : (to : ℕ) (order : Order J) (answer : Result JobId (SendError J)) (next : Post J) →
+        SubmitsOn (Fits same answers) out_of (λ link. link.credited) kept_by_sender to order answer post next → Now (Submit to order answer) next
     submit_now to order answer next on =
         let lent = on.lent in
         let submitted : IsSubmitted to order post.desk lent.end answer next.desk lent.later = record { submits = on.submits; sends = on.sends; credited = on.credited; untouched = lent.untouched } in
         let only = only_sent to order post.desk lent.end answer next.desk lent.later submitted in
         let silent = submitted_silent post.desk next.desk to order answer on.submits in
         let its = next_at to next lent only silent in
-        let its_own = subst (λ desk. IsSubmitted to order desk (link_at number to (parts post).links) answer (desk_of (view next)) lent.later) (sym its_desk)
-        (subst (λ link. IsSubmitted to order post.desk link answer (desk_of (view next)) lent.later) (link_is to next lent only silent)
-        (subst (λ desk. IsSubmitted to order post.desk lent.end answer desk lent.later) its.desk submitted)) in
-        let sends = sends_now at.world number to (omega (arith, there)) (to_there to next lent only silent) order answer (desk_of (view next)) lent.later its_own _ (journals to next lent only silent) in
+        let its_own = subst (λ desk. IsSubmitted to order desk lent.end answer (desk_of (view next)) lent.later) at.desk
+        (subst (λ desk. IsSubmitted to order post.desk lent.end answer desk lent.later) its.desk submitted) in
+        let sends = sends_now at.world (by to next lent only silent).acting its_own (core_journals at.world (by to next lent only silent) (did to next lent only silent)) in
         (its, inr (to_there to next lent only silent, subst (λ then. Sends number to order (world_of (parts post)) (world_of then) (sent_reply answer)) (sent_is to next lent only silent) sends))
 
-    redeem_now : (name : JobId) (answer : Result (Outcome J ℕ) TicketError) (next : Post J) → RedeemsOn (Fits same answers) out_of (λ link. link.credited) kept_by_sender name answer post next → Now (Redeem name answer) next
+    redeem_now : (name : JobId) (answer : Result (Outcome J ℕ) TicketError) (next : Post J) →
+        RedeemsOn (Fits same answers) out_of (λ link. link.credited) kept_by_sender name answer post next → Now (Redeem name answer) next
     redeem_now name answer next on =
         let lent = on.lent in
         let only = got_same lent.end lent.later lent.untouched on.out in
         let silent = redeemed_silent post.desk next.desk name answer on.redeems in
         let its = next_at name.to next lent only silent in
-        let link = link_is name.to next lent only silent in
-        let redeems = subst (λ desk. RedeemsTicket name desk answer (desk_of (view next))) (sym its_desk) (subst (RedeemsTicket name post.desk answer) its.desk on.redeems) in
-        let done = redeems_now at.world number name (omega (arith, there)) (to_there name.to next lent only silent) (desk_of (view next)) lent.later
-        (core_done at.world number name.to there (to_there name.to next lent only silent) (view next) lent.later (did name.to next lent only silent)) _ (journals name.to next lent only silent)
-        (ap (λ out. out.sent) on.out ∙ ap (λ link. link.sent) link) (on.knows.0 ∙ its_number) answer redeems
-        (subst (λ at. IfOk answer (IsGot (out_of at) name.number)) link on.given) (subst (λ at. IfOk answer (FitsSent (Fits same answers) (out_of at) name.number)) link on.fits) in
+        let core = by name.to next lent only silent in
+        let redeems = subst (λ desk. RedeemsTicket name desk answer (desk_of (view next))) at.desk (subst (RedeemsTicket name post.desk answer) its.desk on.redeems) in
+        let done = redeems_now at.world name core.acting (desk_of (view next)) lent.later (core_journals at.world core (did name.to next lent only silent))
+        (ap (λ out. out.sent) on.out) (on.knows.0 ∙ its_number) answer redeems on.given on.fits in
         (its, subst (λ then. Redeems same answers number name (world_of (parts post)) (world_of then) (redeemed_reply answer)) (sent_is name.to next lent only silent) done)
 
-    detach_now : (name : JobId) (answer : Result (Unit {0}) TicketError) (next : Post J) → DetachesOn (Fits same answers) out_of (λ link. link.credited) kept_by_sender name answer post next → Now (Detach name answer) next
+    detach_now : (name : JobId) (answer : Result (Unit {0}) TicketError) (next : Post J) →
+        DetachesOn (Fits same answers) out_of (λ link. link.credited) kept_by_sender name answer post next → Now (Detach name answer) next
     detach_now name answer next on =
         let lent = on.lent in
         let only = got_same lent.end lent.later lent.untouched on.out in
         let silent = detached_silent post.desk next.desk name answer on.detaches in
         let its = next_at name.to next lent only silent in
-        let link = link_is name.to next lent only silent in
-        let detaches = subst (λ desk. DetachesTicket name desk answer (desk_of (view next))) (sym its_desk) (subst (DetachesTicket name post.desk answer) its.desk on.detaches) in
-        let done = detaches_now at.world number name (omega (arith, there)) (to_there name.to next lent only silent) (desk_of (view next)) lent.later
-        (core_done at.world number name.to there (to_there name.to next lent only silent) (view next) lent.later (did name.to next lent only silent)) _ (journals name.to next lent only silent)
-        (ap (λ out. out.sent) on.out ∙ ap (λ link. link.sent) link) answer detaches in
+        let core = by name.to next lent only silent in
+        let detaches = subst (λ desk. DetachesTicket name desk answer (desk_of (view next))) at.desk (subst (DetachesTicket name post.desk answer) its.desk on.detaches) in
+        let done = detaches_now at.world name core.acting (desk_of (view next)) lent.later (core_journals at.world core (did name.to next lent only silent))
+        (ap (λ out. out.sent) on.out) answer detaches in
         (its, subst (λ then. Detaches number name (world_of (parts post)) (world_of then) (detached_reply answer)) (sent_is name.to next lent only silent) done)
 
     -- nothing changed

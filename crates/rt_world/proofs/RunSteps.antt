@@ -1,10 +1,7 @@
 -- A run, one event longer.
 use Rattle.std.proofs.Common.{ℕ, List, [], ◌∷◌, ◌++◌, refl, subst}
-use Rattle.rt_jobs.specs.Steps.{Owed}
-use Rattle.rt_world.specs.declared.event.Event.{Event}
-use Rattle.rt_world.specs.declared.event.Reply.{Reply}
-use Rattle.rt_world.specs.State.{WorldView}
-use Rattle.rt_world.specs.Runs.{Happens, IsRun}
+use Rattle.rt_world.proofs.Words.{Owed, Event, Reply, WorldView, Happens}
+use Rattle.rt_world.specs.Runs.{IsRun}
 
 module _ {J : Type 0} (same : J → J → Type 0) (made : J → ℕ) (polls : Owed J ℕ) (answers : J → ℕ → Type 0) where
   pub run_longer : (events : List (Event J)) (old between new : WorldView J ℕ) (event : Event J) (answer : Reply J) →

@@ -1,20 +1,16 @@
 -- A world at rest stays one as the outside actor does something on the link to a core.
-use Rattle.std.proofs.Common.{◌≡◌, ◌≢◌, ℕ, ◌+◌, ◌<◌, ◌≤◌, List, length, refl, sym, ◌∙◌, ap, subst, ⊎_elim, arith, set}
+use Rattle.std.proofs.Common.{◌≡◌, ◌≢◌, ℕ, ◌+◌, ◌<◌, ◌≤◌, List, ◌++◌, length, refl, sym, ◌∙◌, ap, subst, ⊎_elim, arith, get_or, set, map}
 use Rattle.std.proofs.lemmas.Bool.{cases_eq}
-use Rattle.rt_ids.specs.declared.order.Order.{Order}
+use Rattle.std.proofs.lemmas.List.{set-get_or}
+use Rattle.rt_world.proofs.Words.{Note, Order, Journal, Owed, Whole, Fits, out_of, IsOutOf, WorldView, journal_at, noted, link_at, Parts, desks, desk_at, world_of, IsWorld}
 use Rattle.rt_ids.specs.declared.order.Outcome.{Outcome}
-use Rattle.rt_jobs.specs.Steps.{Owed}
-use Rattle.rt_link.specs.declared.plain.Whole.{Whole}
-use Rattle.rt_link.specs.Fits.{Fits}
-use Rattle.rt_link.specs.Whole.{out_of}
-use Rattle.rt_journal.specs.Submissions.{DeskView}
-use Rattle.rt_journal.specs.Ends.{IsOutOf}
+use Rattle.rt_journal.specs.Submissions.{DeskView, opened_desk}
 use Rattle.rt_journal.specs.Tickets.{HasLane, StaysBeside}
-use Rattle.rt_world.specs.State.{journal_at}
-use Rattle.rt_world.specs.Links.{link_at, ChangesLink}
-use Rattle.rt_world.specs.Inside.{Parts, desks, desk_at, world_of, IsWorld}
-use Rattle.rt_world.proofs.Desks.{desk_at-outside, desks-outside, journal_at-world}
-use Rattle.rt_world.proofs.LinkRows.{with_link, ChangesLink-with_link}
+use Rattle.rt_world.specs.Links.{ChangesLink}
+use Rattle.rt_world.specs.Inside.{seat_of}
+use Rattle.rt_world.proofs.Desks.{desk_at-outside, desks-outside, journal_at-world, journals-noted}
+use Rattle.rt_world.proofs.Borrowed.{IsLent, lent_link}
+use Rattle.rt_world.proofs.LinkRows.{with_link, same_sent, ChangesLink-with_link}
 use Rattle.rt_world.proofs.LinkSteps.{OnlyReceived, OnlySent, received-same, sent-same, each_link, other_link}
 use Rattle.rt_world.proofs.WorldAfter.{world_after}
 
@@ -23,58 +19,115 @@ pub record IsDoneOn {J T : Type 0} (fits : Order J → Outcome J T → Type 0) (
   pub only_sent : OnlySent link after
   pub stays : StaysBeside fits to desk now (out_of after) after.credited
 
+-- a sender's desk and its link to a core, as their world has them
+pub record IsActing {J T : Type 0} (old : Parts J T) (sender to : ℕ) (desk : DeskView J T) (link : Whole J T) : Type 0 where
+  pub there : sender ≤ old.cores
+  pub to_there : to < old.cores
+  pub desk_is : desk ≡ desk_at sender old
+  pub link_is : link ≡ link_at sender to old.links
+
 module _ {J T : Type 0} {same : J → J → Type 0} {made : J → ℕ} {polls : Owed J T} {answers : J → T → Type 0} {old : Parts J T}
-    (world : IsWorld same made polls answers old) (sender to : ℕ) (there : sender ≤ old.cores) (to_there : to < old.cores)
-    (now : DeskView J T) (after : Whole J T) (did : IsDoneOn (Fits same answers) to (desk_at sender old) (link_at sender to old.links) now after) where
-  abbrev pub links : List (List (Whole J T))
-  links = with_link old.links sender to after
+    {sender to : ℕ} {desk : DeskView J T} {link : Whole J T} (world : IsWorld same made polls answers old) (acting : IsActing old sender to desk link) where
+  -- the link's end is beside the sender
+  pub its_end : IsOutOf to desk (out_of link) link.credited
+  its_end =
+      subst (λ at. IsOutOf to desk (out_of at) at.credited) (sym acting.link_is)
+      (subst (λ at. IsOutOf to at (out_of (link_at sender to old.links)) (link_at sender to old.links).credited) (sym acting.desk_is)
+      (world.beside.outs sender to acting.there acting.to_there))
 
-  pub changes : ChangesLink old.links links sender to after
-  changes =
-      ChangesLink-with_link old.links sender to after (omega (arith, world.all_there.rows_are, there)) (omega (arith, world.all_there.links_are sender there, to_there))
+  -- and so is its lane
+  pub its_lane : HasLane (Fits same answers) to desk (out_of link) link.credited
+  its_lane =
+      subst (λ at. HasLane (Fits same answers) to desk (out_of at) at.credited) (sym acting.link_is)
+      (subst (λ at. HasLane (Fits same answers) to at (out_of (link_at sender to old.links)) (link_at sender to old.links).credited)
+      (sym acting.desk_is) (world.beside.lanes sender to acting.there acting.to_there))
 
-  pub all_sent : (r e : ℕ) → OnlySent (link_at r e old.links) (link_at r e links)
-  all_sent = each_link OnlySent sent-same old.links links sender to after changes did.only_sent
+  pub its_seat : desk ≡ seat_of sender (desk_at sender old) old
+  its_seat = acting.desk_is ∙ world.all_there.seats_are sender acting.there
 
-  pub others_received : (r e : ℕ) → r ≢ sender → OnlyReceived (link_at r e old.links) (link_at r e links)
-  others_received r e away = other_link OnlyReceived received-same old.links links sender to after changes r e (λ one two. away one)
+  pub its_cap : desk.cap ≡ old.cap
+  its_cap = ap (λ desk. desk.cap) its_seat
 
-  pub outs_sent : (e : ℕ) → e < old.cores → IsOutOf e now (out_of (link_at sender e links)) (link_at sender e links).credited
-  outs_sent e known =
-      ⊎_elim
-      (λ one. subst (λ at. IsOutOf at now (out_of (link_at sender at links)) (link_at sender at links).credited) (sym one)
-      (subst (λ link. IsOutOf to now (out_of link) link.credited) (sym changes.changed) did.stays.beside))
-      (λ away. subst (λ link. IsOutOf e now (out_of link) link.credited) (sym (changes.others sender e (λ one two. away two)))
-      ((did.stays.others e away).each _ _ (world.beside.outs sender e there known)))
-      (cases_eq e to)
+  pub its_notes : journal_at sender (world_of old) ≡ desk.journal.notes
+  its_notes = journal_at-world old sender ∙ ap (λ desk. desk.journal.notes) (sym acting.desk_is)
 
-  pub lanes_sent : (e : ℕ) → e < old.cores → HasLane (Fits same answers) e now (out_of (link_at sender e links)) (link_at sender e links).credited
-  lanes_sent e known =
-      ⊎_elim
-      (λ one. subst (λ at. HasLane (Fits same answers) at now (out_of (link_at sender at links)) (link_at sender at links).credited) (sym one)
-      (subst (λ link. HasLane (Fits same answers) to now (out_of link) link.credited) (sym changes.changed) did.stays.lane))
-      (λ away. subst (λ link. HasLane (Fits same answers) e now (out_of link) link.credited) (sym (changes.others sender e (λ one two. away two))) (elsewhere away (world.beside.lanes sender e there known)))
-      (cases_eq e to)
-    where
-      elsewhere : e ≢ to → HasLane (Fits same answers) e (desk_at sender old) (out_of (link_at sender e old.links)) (link_at sender e old.links).credited →
-          HasLane (Fits same answers) e now (out_of (link_at sender e old.links)) (link_at sender e old.links).credited
-      elsewhere away has = record { lane = has.lane; is = did.stays.lanes e away ∙ has.is; lane_of = has.lane_of }
+  -- notes that have room in the world have room there
+  pub its_room : {from : ℕ} {seen : WorldView J T} → sender ≡ from → world_of old ≡ seen → (more : ℕ) →
+      length (journal_at from seen) + more ≤ seen.room → length desk.journal.notes + more ≤ desk.journal.room
+  its_room {from = from} {seen = seen} sender_is world_is more room =
+      let notes : desk.journal.notes ≡ journal_at from seen = sym its_notes ∙ (λ i. journal_at (sender_is i) (world_is i)) in
+      omega (arith, room, ap length notes, ap (λ world. world.room) world_is, ap (λ desk. desk.journal.room) its_seat)
 
--- the end is beside the actor that sends on it
-pub may_send : {J T : Type 0} {same : J → J → Type 0} {made : J → ℕ} {polls : Owed J T} {answers : J → T → Type 0} {old : Parts J T}
-    (world : IsWorld same made polls answers old) (sender to : ℕ) → sender ≤ old.cores → to < old.cores → (desk : DeskView J T) → desk ≡ desk_at sender old →
-    (link : Whole J T) → link ≡ link_at sender to old.links → IsOutOf to desk (out_of link) link.credited
-may_send {old = old} world sender to there to_there desk desk_is link link_is =
-    subst (λ at. IsOutOf to desk (out_of at) at.credited) (sym link_is)
-    (subst (λ at. IsOutOf to at (out_of (link_at sender to old.links)) (link_at sender to old.links).credited) (sym desk_is) (world.beside.outs sender to there to_there))
+  -- what its world sees where the sender's desk became `now` and its link `after`
+  module _ (now : DeskView J T) (after : Whole J T) {journals : List (Journal T)}
+      (journals_are : journals ≡ map (λ desk. desk.journal.notes) (set (desks old) sender now)) where
+    abbrev pub later : WorldView J T
+    later = record (world_of old) { journals = journals; sent = map (map (λ link. link.sent)) (with_link old.links sender to after) }
 
--- and so is its lane
-pub may_ask : {J T : Type 0} {same : J → J → Type 0} {made : J → ℕ} {polls : Owed J T} {answers : J → T → Type 0} {old : Parts J T}
-    (world : IsWorld same made polls answers old) (sender to : ℕ) → sender ≤ old.cores → to < old.cores → (desk : DeskView J T) → desk ≡ desk_at sender old →
-    (link : Whole J T) → link ≡ link_at sender to old.links → HasLane (Fits same answers) to desk (out_of link) link.credited
-may_ask {same = same} {answers = answers} {old = old} world sender to there to_there desk desk_is link link_is =
-    subst (λ at. HasLane (Fits same answers) to desk (out_of at) at.credited) (sym link_is)
-    (subst (λ at. HasLane (Fits same answers) to at (out_of (link_at sender to old.links)) (link_at sender to old.links).credited) (sym desk_is) (world.beside.lanes sender to there to_there))
+    pub journals_noted : (notes : List (Note T)) → now.journal.notes ≡ notes ++ desk.journal.notes → journals ≡ (noted sender notes (world_of old)).journals
+    journals_noted notes longer =
+        journals_are ∙ journals-noted old sender now notes (longer ∙ ap (λ desk. notes ++ desk.journal.notes) acting.desk_is)
+
+    same_lists : after.sent ≡ link.sent → map (map (λ link. link.sent)) (with_link old.links sender to after) ≡ (world_of old).sent
+    same_lists same_orders = same_sent old.links sender to after (same_orders ∙ ap (λ link. link.sent) acting.link_is)
+
+    -- the sender's journal is longer by these notes
+    pub noted_now : (notes : List (Note T)) → now.journal.notes ≡ notes ++ desk.journal.notes → after.sent ≡ link.sent → later ≡ noted sender notes (world_of old)
+    noted_now notes longer same_orders = λ i. record {
+      cores = old.cores;
+      cap = old.cap;
+      room = old.room;
+      journals = journals_noted notes longer i;
+      sent = same_lists same_orders i;
+    }
+
+    -- nothing changed
+    pub same_now : now ≡ desk → after.sent ≡ link.sent → later ≡ world_of old
+    same_now is same_orders =
+        let same_desks = ap (set (desks old) sender) (is ∙ acting.desk_is) ∙ set-get_or (desks old) sender (opened_desk 0 0 0 0) in
+        let same_journals = journals_are ∙ ap (map (λ desk. desk.journal.notes)) same_desks in
+        λ i. record { cores = old.cores; cap = old.cap; room = old.room; journals = same_journals i; sent = same_lists same_orders i }
+
+  module _ {now : DeskView J T} {after : Whole J T} (did : IsDoneOn (Fits same answers) to desk link now after) where
+    pub done_there : IsDoneOn (Fits same answers) to (desk_at sender old) (link_at sender to old.links) now after
+    done_there =
+        subst (λ at. IsDoneOn (Fits same answers) to at (link_at sender to old.links) now after) acting.desk_is
+        (subst (λ at. IsDoneOn (Fits same answers) to desk at now after) acting.link_is did)
+
+    abbrev pub links : List (List (Whole J T))
+    links = with_link old.links sender to after
+
+    pub changes : ChangesLink old.links links sender to after
+    changes =
+        ChangesLink-with_link old.links sender to after (omega (arith, world.all_there.rows_are, acting.there))
+        (omega (arith, world.all_there.links_are sender acting.there, acting.to_there))
+
+    pub all_sent : (r e : ℕ) → OnlySent (link_at r e old.links) (link_at r e links)
+    all_sent = each_link OnlySent sent-same old.links links sender to after changes done_there.only_sent
+
+    pub others_received : (r e : ℕ) → r ≢ sender → OnlyReceived (link_at r e old.links) (link_at r e links)
+    others_received r e away = other_link OnlyReceived received-same old.links links sender to after changes r e (λ one two. away one)
+
+    pub outs_sent : (e : ℕ) → e < old.cores → IsOutOf e now (out_of (link_at sender e links)) (link_at sender e links).credited
+    outs_sent e known =
+        ⊎_elim
+        (λ one. subst (λ at. IsOutOf at now (out_of (link_at sender at links)) (link_at sender at links).credited) (sym one)
+        (subst (λ link. IsOutOf to now (out_of link) link.credited) (sym changes.changed) done_there.stays.beside))
+        (λ away. subst (λ link. IsOutOf e now (out_of link) link.credited) (sym (changes.others sender e (λ one two. away two)))
+        ((done_there.stays.others e away).each _ _ (world.beside.outs sender e acting.there known)))
+        (cases_eq e to)
+
+    pub lanes_sent : (e : ℕ) → e < old.cores → HasLane (Fits same answers) e now (out_of (link_at sender e links)) (link_at sender e links).credited
+    lanes_sent e known =
+        ⊎_elim
+        (λ one. subst (λ at. HasLane (Fits same answers) at now (out_of (link_at sender at links)) (link_at sender at links).credited) (sym one)
+        (subst (λ link. HasLane (Fits same answers) to now (out_of link) link.credited) (sym changes.changed) done_there.stays.lane))
+        (λ away. subst (λ link. HasLane (Fits same answers) e now (out_of link) link.credited) (sym (changes.others sender e (λ one two. away two))) (elsewhere away (world.beside.lanes sender e acting.there known)))
+        (cases_eq e to)
+      where
+        elsewhere : e ≢ to → HasLane (Fits same answers) e (desk_at sender old) (out_of (link_at sender e old.links)) (link_at sender e old.links).credited →
+            HasLane (Fits same answers) e now (out_of (link_at sender e old.links)) (link_at sender e old.links).credited
+        elsewhere away has = record { lane = has.lane; is = done_there.stays.lanes e away ∙ has.is; lane_of = has.lane_of }
 
 -- the outside actor's desk, and the room that it has
 module _ {J T : Type 0} {same : J → J → Type 0} {made : J → ℕ} {polls : Owed J T} {answers : J → T → Type 0} {old : Parts J T}
@@ -88,42 +141,36 @@ module _ {J T : Type 0} {same : J → J → Type 0} {made : J → ℕ} {polls : 
   pub outside_room : old.outside.journal.room ≡ old.room
   outside_room = sym (ap (λ desk. desk.journal.room) outside_desk) ∙ ap (λ desk. desk.journal.room) (world.all_there.seats_are sender (omega (arith, is_last)))
 
-  pub outside_cap : old.outside.cap ≡ old.cap
-  outside_cap = sym (ap (λ desk. desk.cap) outside_desk) ∙ ap (λ desk. desk.cap) (world.all_there.seats_are sender (omega (arith, is_last)))
-
-  pub outside_free : (more : ℕ) → length (journal_at sender (world_of old)) + more ≤ old.room → length old.outside.journal.notes + more ≤ old.outside.journal.room
-  outside_free more room =
-      omega (arith, room, ap length (journal_at-world old sender), ap (λ desk. length desk.journal.notes) outside_desk, outside_room)
+-- the outside actor acts on a link of the row that it was lent
+pub outside_acting : {J T V : Type 0} {same : J → J → Type 0} {made : J → ℕ} {polls : Owed J T} {answers : J → T → Type 0} {old : Parts J T}
+    {items : V → List (Whole J T)} {rows : List V} {sender to place : ℕ} {row : V} {link : Whole J T} (world : IsWorld same made polls answers old) →
+    IsLent old.cores old.links items rows sender to place row → link ≡ get_or (items row) place link → sender ≡ old.cores → IsActing old sender to old.outside link
+outside_acting {sender = sender} world lent read is_last =
+    record { there = lent.there; to_there = lent.to_there; desk_is = sym (outside_desk world sender is_last); link_is = lent_link world lent read }
 
 module _ {J T : Type 0} {same : J → J → Type 0} {made : J → ℕ} {polls : Owed J T} {answers : J → T → Type 0} {old : Parts J T}
-    (world : IsWorld same made polls answers old) (sender to : ℕ) (is_last : sender ≡ old.cores) (to_there : to < old.cores)
-    (now : DeskView J T) (after : Whole J T) (outside_did : IsDoneOn (Fits same answers) to old.outside (link_at sender to old.links) now after) where
-  outside_is : desk_at sender old ≡ old.outside
-  outside_is = outside_desk world sender is_last
-
-  pub outside_done : IsDoneOn (Fits same answers) to (desk_at sender old) (link_at sender to old.links) now after
-  outside_done = subst (λ desk. IsDoneOn (Fits same answers) to desk (link_at sender to old.links) now after) (sym outside_is) outside_did
-
-  there : sender ≤ old.cores
-  there = omega (arith, is_last)
-
+    {sender to : ℕ} {link : Whole J T} {now : DeskView J T} {after : Whole J T} (world : IsWorld same made polls answers old) (is_last : sender ≡ old.cores)
+    (acting : IsActing old sender to old.outside link) (did : IsDoneOn (Fits same answers) to old.outside link now after) where
   abbrev pub outside_sent : Parts J T
   outside_sent = record old { outside = now; links = with_link old.links sender to after }
 
-  pub outside_desks : desks outside_sent ≡ set (desks old) sender now
+  outside_desks : desks outside_sent ≡ set (desks old) sender now
   outside_desks = desks-outside old sender now (world.all_there.cores_are ∙ sym is_last)
+
+  pub outside_journals : map (λ desk. desk.journal.notes) (desks outside_sent) ≡ map (λ desk. desk.journal.notes) (set (desks old) sender now)
+  outside_journals = ap (map (λ desk. desk.journal.notes)) outside_desks
 
   pub outside_rests : IsWorld same made polls answers outside_sent
   outside_rests =
       world_after world sender old.inside now (with_link old.links sender to after) now (record {
-        there = there;
+        there = acting.there;
         inside_are = refl;
-        rows_are = (changes world sender to there to_there now after outside_done).same_rows;
-        links_are = (changes world sender to there to_there now after outside_done).same_cores;
+        rows_are = (changes world acting did).same_rows;
+        links_are = (changes world acting did).same_cores;
         desks_are = outside_desks;
         seat =
-            let was = sym outside_is ∙ world.all_there.seats_are sender there in
-            outside_did.stays.rest ∙ (λ i. record {
+            let was = its_seat world acting in
+            did.stays.rest ∙ (λ i. record {
               actor = ap (λ desk. desk.actor) was i;
               cores = ap (λ desk. desk.cores) was i;
               cap = ap (λ desk. desk.cap) was i;
@@ -132,10 +179,10 @@ module _ {J T : Type 0} {same : J → J → Type 0} {made : J → ℕ} {polls : 
             });
         other_cores = λ core away. refl;
         recorded = λ known. absurd (omega (arith, known, is_last));
-        written = outside_did.stays.written;
-        received = others_received world sender to there to_there now after outside_done;
-        sent = λ from core away. all_sent world sender to there to_there now after outside_done from core;
-        outs = outs_sent world sender to there to_there now after outside_done;
-        lanes = lanes_sent world sender to there to_there now after outside_done;
+        written = did.stays.written;
+        received = others_received world acting did;
+        sent = λ from core away. all_sent world acting did from core;
+        outs = outs_sent world acting did;
+        lanes = lanes_sent world acting did;
         ins = λ from known core_known. absurd (omega (arith, core_known, is_last));
       })

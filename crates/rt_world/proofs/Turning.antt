@@ -1,35 +1,25 @@
 -- A world stays one as a core makes a step that sends nothing, or creates a queue before the first event.
 use Rattle.std.proofs.Common.{◌≡◌, ℕ, ◌+◌, ◌-◌, ◌^◌, ◌<◌, ◌≤◌, [], ◌∷◌, sym, ◌∙◌, ap, subst, arith}
-use Rattle.std.specs.Prelude.{List, map, Some, None, Result, Ok, Err, slice_get}
-use Rattle.std.proofs.lemmas.List.{set-get_or}
+use Rattle.std.specs.Prelude.{List, Result, Ok, Err}
 use Rattle.std.proofs.lemmas.Option.{slice_get_within, get_or_from_slice_get}
-use Rattle.rt_ids.specs.declared.note.Note.{Note}
+use Rattle.rt_world.proofs.Words.{map, Some, None, slice_get, Note, IsRightPick, Owed, RecordedView, desk_of, Whole, Fits, out_of, IsOutOf, journal_at, noted, no_link, row_of, link_at, Parts, core_at, world_of, IsWorld, IsAtRest}
 use Rattle.rt_ids.specs.declared.note.Note.TheVariants as writes
 use Rattle.rt_ids.specs.Commands.{created_count, return_reason}
 use Rattle.rt_ids.specs.Lines.{line}
-use Rattle.rt_ids.specs.Picks.{IsRightPick, turns}
-use Rattle.rt_jobs.specs.Steps.{Owed}
+use Rattle.rt_ids.specs.Picks.{turns}
 use Rattle.rt_taskqueue.specs.declared.queues.CreateError.{CreateError}
 use Rattle.rt_taskqueue.specs.declared.queues.CreateError.TheVariants.{TooMany, Memory}
-use Rattle.rt_journal.specs.Recorded.{RecordedView, desk_of}
 use Rattle.rt_journal.specs.Steps.{CreatesQueue, with_notes}
 use Rattle.rt_journal.specs.Tickets.{HasLane}
-use Rattle.rt_link.specs.declared.plain.Whole.{Whole}
-use Rattle.rt_link.specs.Fits.{Fits}
-use Rattle.rt_link.specs.Whole.{out_of}
-use Rattle.rt_journal.specs.Ends.{IsOutOf}
-use Rattle.rt_world.specs.State.{journal_at, noted}
 use Rattle.rt_world.specs.Turns.{IsHandBack}
 use Rattle.rt_world.specs.OneTurn as one
 use Rattle.rt_world.specs.Opening.{CreatesAtOpening}
-use Rattle.rt_world.specs.Links.{no_link, row_of, link_at}
-use Rattle.rt_world.specs.Inside.{Parts, core_at, world_of, IsWorld, IsAtRest}
 use Rattle.rt_world.proofs.LinkRows.{same_sent}
 use Rattle.rt_world.proofs.LinkSteps.{OnlyReceived, OnlySent, received-same, received-given, sent-same, each_link, other_link, out_stays}
 use Rattle.rt_world.proofs.WorldAfter.{rest_after}
 use Rattle.rt_world.proofs.LentLinks.{no_gift}
 use Rattle.rt_world.proofs.OneTurn.{beside_then}
-use Rattle.rt_world.proofs.CoreSteps.{cores_are, desk_is, parts_now, lanes_kept, rests, journal_is, journals_now}
+use Rattle.rt_world.proofs.CoreSteps.{cores_are, desk_is, parts_now, lanes_kept, rests, journal_is, core_outs, core_noted, core_unchanged}
 
 -- a core that makes a step has each end beside it, and nothing is owed
 pub all_beside : {J T : Type 0} {same : J → J → Type 0} {made : J → ℕ} {polls : Owed J T} {answers : J → T → Type 0} {old : Parts J T}
@@ -49,7 +39,7 @@ pub all_outs : {J T : Type 0} {same : J → J → Type 0} {made : J → ℕ} {po
 all_outs {same = same} {answers = answers} {old = old} world core there = record {
   count = world.all_there.links_are core (omega (arith, there)) ∙ sym (cores_are world core there);
   beside = λ to end is. subst (λ link. IsOutOf to (desk_of (core_at core old)) (out_of link) link.credited) (link_is to end is)
-      (subst (λ desk. IsOutOf to desk (out_of (link_at core to old.links)) (link_at core to old.links).credited) (desk_is world core there) (world.beside.outs core to (omega (arith, there)) (its to end is)));
+      (core_outs world core there to (its to end is));
   lanes = λ to end is. subst (λ link. HasLane (Fits same answers) to (desk_of (core_at core old)) (out_of link) link.credited) (link_is to end is)
       (subst (λ desk. HasLane (Fits same answers) to desk (out_of (link_at core to old.links)) (link_at core to old.links).credited) (desk_is world core there) (world.beside.lanes core to (omega (arith, there)) (its to end is)));
 }
@@ -85,7 +75,7 @@ module _ {J T : Type 0} {same : J → J → Type 0} {made : J → ℕ} {polls : 
     sent = λ from to away. other_link OnlySent sent-same old.links links stays.links.sender core stays.links.link stays.links.changes from to (λ one two. away two);
     outs = λ to known.
         out_stays to (desk_of now) _ _ (all_received core to)
-        ((stays.outs to).each _ _ (subst (λ desk. IsOutOf to desk (out_of (link_at core to old.links)) (link_at core to old.links).credited) (desk_is world core there) (world.beside.outs core to (omega (arith, there)) known)));
+        ((stays.outs to).each _ _ (core_outs world core there to known));
     lanes = lanes_kept world core there now links stays.lanes (λ to. all_received core to);
     ins = λ sender known. stays.ins.ins sender (subst (λ cores. sender ≤ cores) (sym (stays.seat.cores ∙ cores_are world core there)) known);
   })
@@ -101,13 +91,11 @@ module _ {J T : Type 0} {same : J → J → Type 0} {made : J → ℕ} {polls : 
   here = journal_is world core there
 
   pub unchanged : now ≡ view → world_of quiet ≡ world_of old
-  unchanged is =
-      let journals = journals_now world core there now links [] (ap (λ view. view.journal) is) ∙ set-get_or (world_of old).journals core [] in
-      λ i. record { cores = old.cores; cap = old.cap; room = old.room; journals = journals i; sent = same_lists i }
+  unchanged is = core_unchanged world core there now links is same_lists
 
   -- the core's journal is longer by these notes, and nothing else changed
   pub quiet_noted : (notes : List (Note T)) → now.journal ≡ with_notes notes view.journal → world_of quiet ≡ noted core notes (world_of old)
-  quiet_noted notes longer = λ i. record { cores = old.cores; cap = old.cap; room = old.room; journals = journals_now world core there now links notes longer i; sent = same_lists i }
+  quiet_noted notes longer = core_noted world core there now links notes longer same_lists
 
   pub handed_back : one.HandsOneBack same view now → IsHandBack core (world_of old) (world_of quiet)
   handed_back did = record {

@@ -1,19 +1,14 @@
 -- Two queues of 1000 and 500 shares: the picks of six turns, and their notes.
 use Rattle.std.proofs.Common.{ℕ, ◌<◌, ◌≤◌, [], ◌∷◌, refl, sym, inl, inr, arith}
-use Rattle.std.specs.Prelude.{Some}
 use Rattle.std.proofs.lemmas.Bool.{true≢false}
+use Rattle.rt_world.proofs.Words.{Some, Journal, IsRightPick, Event, Reply, WorldView, noted, Happens}
 use Rattle.rt_ids.specs.declared.note.Note.TheVariants.{Sent, Took, Created, Pick, Start, Resume, Yield, Done}
 use Rattle.rt_ids.specs.declared.order.Order.TheVariants.{Job}
-use Rattle.rt_ids.specs.Journal.{Journal}
-use Rattle.rt_ids.specs.Picks.{IsRightPick}
 use Rattle.rt_jobs.specs.declared.job.Step.TheVariants as steps
 use Rattle.rt_jobs.specs.Scripts.{Script}
-use Rattle.rt_world.specs.declared.event.Event.{Event}
 use Rattle.rt_world.specs.declared.event.Event.TheVariants.{Send, Deliver, Turn}
-use Rattle.rt_world.specs.declared.event.Reply.{Reply}
 use Rattle.rt_world.specs.declared.event.Reply.TheVariants as reply
-use Rattle.rt_world.specs.State.{WorldView, noted, with_sent}
-use Rattle.rt_world.specs.Runs.{Happens}
+use Rattle.rt_world.specs.State.{with_sent}
 use Rattle.rt_world.specs.Creations.{with_creations}
 use Rattle.rt_world.specs.ScriptRuns.{ScriptSame, script_made, ScriptPolls, ScriptAnswers}
 use Rattle.rt_world.specs.Rows.{name}

@@ -1,19 +1,14 @@
 -- Two senders of one core: each has its own link, and their jobs are polled in the order in which they came.
 use Rattle.std.proofs.Common.{ℕ, ◌≤◌, [], ◌∷◌, refl, inl, inr, arith}
-use Rattle.std.specs.Prelude.{Some}
+use Rattle.rt_world.proofs.Words.{Some, Journal, IsRightPick, Event, Reply, WorldView, noted, Happens}
 use Rattle.rt_ids.specs.declared.note.Note.TheVariants.{Sent, Took, Pick, Start, Done}
 use Rattle.rt_ids.specs.declared.order.Order.TheVariants.{Job}
 use Rattle.rt_ids.specs.declared.order.SendError.TheVariants.{Full}
-use Rattle.rt_ids.specs.Journal.{Journal}
-use Rattle.rt_ids.specs.Picks.{IsRightPick}
 use Rattle.rt_jobs.specs.declared.job.Step.TheVariants as steps
 use Rattle.rt_jobs.specs.Scripts.{Script}
-use Rattle.rt_world.specs.declared.event.Event.{Event}
 use Rattle.rt_world.specs.declared.event.Event.TheVariants.{Send, Deliver, Turn}
-use Rattle.rt_world.specs.declared.event.Reply.{Reply}
 use Rattle.rt_world.specs.declared.event.Reply.TheVariants as reply
-use Rattle.rt_world.specs.State.{WorldView, noted, with_sent}
-use Rattle.rt_world.specs.Runs.{Happens}
+use Rattle.rt_world.specs.State.{with_sent}
 use Rattle.rt_world.specs.ScriptRuns.{ScriptSame, script_made, ScriptPolls, ScriptAnswers}
 use Rattle.rt_world.specs.Rows.{name}
 use Rattle.rt_world.specs.WorkedRows.{short_job, TwoSenders}

@@ -1,19 +1,12 @@
 -- A world stays one where one actor makes a step.
 use Rattle.std.proofs.Common.{◌≡◌, ◌≢◌, ℕ, ◌<◌, ◌≤◌, List, length, sym, ◌∙◌, ap, subst, ◌⊎◌, inl, inr, ⊎_elim, arith, get_or, set, get_or-set_same, get_or-set_other}
-use Rattle.std.specs.Prelude.{None}
 use Rattle.std.proofs.lemmas.Bool.{cases_eq, cases_lt}
 use Rattle.std.proofs.lemmas.List.{set_past}
-use Rattle.rt_jobs.specs.Steps.{Owed}
-use Rattle.rt_link.specs.declared.plain.Whole.{Whole}
-use Rattle.rt_link.specs.Whole.{out_of, inward_of}
+use Rattle.rt_world.proofs.Words.{None, Owed, Whole, out_of, inward_of, RecordedView, IsRecorded, Fits, IsOutOf, IsInOf, row_of, link_at, Parts, core_at, desks, desk_at, IsWorld, IsAtRest}
 use Rattle.rt_journal.specs.Submissions.{DeskView, IsWritten, terms_of_desk, opened_desk}
-use Rattle.rt_journal.specs.Recorded.{RecordedView, IsRecorded}
 use Rattle.rt_journal.specs.Steps.{opened_beside}
-use Rattle.rt_link.specs.Fits.{Fits}
-use Rattle.rt_journal.specs.Ends.{IsOutOf, IsInOf}
 use Rattle.rt_journal.specs.Tickets.{HasLane}
-use Rattle.rt_world.specs.Links.{row_of, link_at}
-use Rattle.rt_world.specs.Inside.{Parts, core_at, desks, desk_at, seat_of, IsWorld, IsAtRest}
+use Rattle.rt_world.specs.Inside.{seat_of}
 use Rattle.rt_world.proofs.Desks.{desk_count}
 use Rattle.rt_world.proofs.LinkSteps.{OnlyReceived, OnlySent, out_stays, lane_stays, in_stays}
 

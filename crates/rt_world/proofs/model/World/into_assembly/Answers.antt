@@ -9,7 +9,9 @@ use Rattle.rt_world.specs.State.{assembly_of}
 use Rattle.rt_world.specs.Inside.{Parts, world_of}
 use Rattle.rt_world.proofs.Gathered.{journals_of, gathered_count, gathered_are}
 use Rattle.rt_world.proofs.WorldSound.{world_joined, world_sound}
+use Rattle.rt_world.proofs.model.World.into_assembly.Given.{Over}
 use Rattle.rt_world.proofs.model.World.into_assembly.Goals as goal
+use Rattle.rt_world.proofs.model.World.into_assembly.Goals.{In-None, After-push_reserved-2, After-of}
 
 pub loop-core-init : goal.loop-core-init
 loop-core-init g c = (c.self.invariant.2.no_item, omega (arith, c.self.invariant.2.reserved, ap (λ world. world.cores) c.self.view_is))
@@ -37,14 +39,35 @@ loop-core-preserved g c = (
   omega (arith, c.loop-core.invariant.1, c.push_reserved.ensures.capacity),
 )
 
-pub push_reserved-requires-2 : goal.push_reserved-requires-2
-push_reserved-requires-2 g c =
+-- the loop has gone over all cores
+all_yielded : (g : Over) (c : In-None g) → c.loop-core.yielded ≡ c.self.inside.inside.items
+all_yielded g c =
     let all = YieldsList-from_vec {s = c.into_iter-core-iterator.result} c.self.inside.inside.items c.into_iter-core-iterator.ensures.into_iter_gives.0 (c.into_iter-core-iterator.ensures.into_iter_gives.1 ∙ c.self.inside.inside.ok.0) in
     let end = YieldsList-end all c.loop-core.yielded c.loop-core.core-iterator c.loop-core.yielded_by _ c.next.new.self c.in-None.is c.next.ensures.steps in
-    let yielded_are : c.loop-core.yielded ≡ c.self.inside.inside.items = sym (map-id c.loop-core.yielded) ∙ end.0 in
+    sym (map-id c.loop-core.yielded) ∙ end.0
+
+-- what is gathered is the journals of all actors
+all_gathered : (g : Over) (c : After-push_reserved-2 g) → c.loop-core.yielded ≡ c.self.inside.inside.items →
+    c.push_reserved-2.new.self.items ≡ journals_of c.self.inside.inside.items ++ c.self.inside.outside.journal ∷ []
+all_gathered g c yielded_are =
+    c.push_reserved-2.ensures.items
+    ∙ (ap (λ front. front ++ c.into_journal-2.result ∷ []) (c.loop-core.invariant.0 ∙ ap (λ cores. journals_of cores) yielded_are)
+    ∙ ap (λ last. journals_of c.self.inside.inside.items ++ last ∷ []) c.into_journal-2.ensures)
+
+abbrev parts : (g : Over) (c : After-of g) → Parts g.row.J.Denot ℕ
+parts g c = record { cores = c.self.inside.cores; cap = c.self.inside.cap; room = c.self.inside.room; inside = c.self.inside.inside.items; outside = c.self.inside.outside; links = map vec_items c.self.inside.links.items }
+
+-- the assembly is the world's
+value : (g : Over) (c : After-of g) → c.push_reserved-2.new.self.items ≡ journals_of c.self.inside.inside.items ++ c.self.inside.outside.journal ∷ [] →
+    c.of.result ≡ assembly_of (world_of (parts g c))
+value g c items_are =
+    c.of.ensures ∙ (λ i. record { cores = c.self.inside.cores; cap = c.self.inside.cap; journals = (ap (map (λ journal. journal.notes)) items_are ∙ gathered_are (parts g c)) i })
+
+pub push_reserved-requires-2 : goal.push_reserved-requires-2
+push_reserved-requires-2 g c =
     omega (
       arith,
-      ap length yielded_are,
+      ap length (all_yielded g (goal.at.push_reserved-requires-2 g c).In-None),
       c.loop-core.gathered.ok.0,
       ap length c.loop-core.invariant.0,
       length-map c.loop-core.yielded (λ core. core.journal),
@@ -55,53 +78,23 @@ push_reserved-requires-2 g c =
 
 pub of-requires : goal.of-requires
 of-requires g c =
-    let all = YieldsList-from_vec {s = c.into_iter-core-iterator.result} c.self.inside.inside.items c.into_iter-core-iterator.ensures.into_iter_gives.0 (c.into_iter-core-iterator.ensures.into_iter_gives.1 ∙ c.self.inside.inside.ok.0) in
-    let end = YieldsList-end all c.loop-core.yielded c.loop-core.core-iterator c.loop-core.yielded_by _ c.next.new.self c.in-None.is c.next.ensures.steps in
-    let yielded_are : c.loop-core.yielded ≡ c.self.inside.inside.items = sym (map-id c.loop-core.yielded) ∙ end.0 in
-    let items_are : c.push_reserved-2.new.self.items ≡ journals_of c.self.inside.inside.items ++ c.self.inside.outside.journal ∷ [] =
-    c.push_reserved-2.ensures.items
-    ∙ (ap (λ front. front ++ c.into_journal-2.result ∷ []) (c.loop-core.invariant.0 ∙ ap (λ cores. journals_of cores) yielded_are)
-    ∙ ap (λ last. journals_of c.self.inside.inside.items ++ last ∷ []) c.into_journal-2.ensures) in
+    let at = goal.at.of-requires g c in
+    let items_are = all_gathered g at.After-push_reserved-2 (all_yielded g at.In-None) in
     ap length items_are ∙ (gathered_count (record { cores = c.self.inside.cores; cap = c.self.inside.cap; room = c.self.inside.room; inside = c.self.inside.inside.items; outside = c.self.inside.outside; links = map vec_items c.self.inside.links.items }) ∙ ap (λ count. count + 1) c.self.invariant.1.all_there.cores_are)
 
 pub returns-clause-value : goal.returns-clause-value
 returns-clause-value g c =
-    let all = YieldsList-from_vec {s = c.into_iter-core-iterator.result} c.self.inside.inside.items c.into_iter-core-iterator.ensures.into_iter_gives.0 (c.into_iter-core-iterator.ensures.into_iter_gives.1 ∙ c.self.inside.inside.ok.0) in
-    let end = YieldsList-end all c.loop-core.yielded c.loop-core.core-iterator c.loop-core.yielded_by _ c.next.new.self c.in-None.is c.next.ensures.steps in
-    let yielded_are : c.loop-core.yielded ≡ c.self.inside.inside.items = sym (map-id c.loop-core.yielded) ∙ end.0 in
-    let items_are : c.push_reserved-2.new.self.items ≡ journals_of c.self.inside.inside.items ++ c.self.inside.outside.journal ∷ [] =
-    c.push_reserved-2.ensures.items
-    ∙ (ap (λ front. front ++ c.into_journal-2.result ∷ []) (c.loop-core.invariant.0 ∙ ap (λ cores. journals_of cores) yielded_are)
-    ∙ ap (λ last. journals_of c.self.inside.inside.items ++ last ∷ []) c.into_journal-2.ensures) in
-    let parts : Parts g.row.J.Denot ℕ = record { cores = c.self.inside.cores; cap = c.self.inside.cap; room = c.self.inside.room; inside = c.self.inside.inside.items; outside = c.self.inside.outside; links = map vec_items c.self.inside.links.items } in
-    let value : c.of.result ≡ assembly_of (world_of parts) =
-    c.of.ensures ∙ (λ i. record { cores = c.self.inside.cores; cap = c.self.inside.cap; journals = (ap (map (λ journal. journal.notes)) items_are ∙ gathered_are parts) i }) in
-    value ∙ ap (λ world. assembly_of world) c.self.view_is
+    let at = goal.at.returns-clause-value g c in
+    value g at.After-of (all_gathered g at.After-push_reserved-2 (all_yielded g at.In-None)) ∙ ap (λ world. assembly_of world) c.self.view_is
 
 pub returns-clause-sound : goal.returns-clause-sound
 returns-clause-sound g c =
-    let all = YieldsList-from_vec {s = c.into_iter-core-iterator.result} c.self.inside.inside.items c.into_iter-core-iterator.ensures.into_iter_gives.0 (c.into_iter-core-iterator.ensures.into_iter_gives.1 ∙ c.self.inside.inside.ok.0) in
-    let end = YieldsList-end all c.loop-core.yielded c.loop-core.core-iterator c.loop-core.yielded_by _ c.next.new.self c.in-None.is c.next.ensures.steps in
-    let yielded_are : c.loop-core.yielded ≡ c.self.inside.inside.items = sym (map-id c.loop-core.yielded) ∙ end.0 in
-    let items_are : c.push_reserved-2.new.self.items ≡ journals_of c.self.inside.inside.items ++ c.self.inside.outside.journal ∷ [] =
-    c.push_reserved-2.ensures.items
-    ∙ (ap (λ front. front ++ c.into_journal-2.result ∷ []) (c.loop-core.invariant.0 ∙ ap (λ cores. journals_of cores) yielded_are)
-    ∙ ap (λ last. journals_of c.self.inside.inside.items ++ last ∷ []) c.into_journal-2.ensures) in
-    let parts : Parts g.row.J.Denot ℕ = record { cores = c.self.inside.cores; cap = c.self.inside.cap; room = c.self.inside.room; inside = c.self.inside.inside.items; outside = c.self.inside.outside; links = map vec_items c.self.inside.links.items } in
-    let value : c.of.result ≡ assembly_of (world_of parts) =
-    c.of.ensures ∙ (λ i. record { cores = c.self.inside.cores; cap = c.self.inside.cap; journals = (ap (map (λ journal. journal.notes)) items_are ∙ gathered_are parts) i }) in
-    subst IsSound (sym value) (world_sound parts c.self.invariant.1 c.self.invariant.3)
+    let at = goal.at.returns-clause-sound g c in
+    subst IsSound (sym (value g at.After-of (all_gathered g at.After-push_reserved-2 (all_yielded g at.In-None))))
+    (world_sound (parts g at.After-of) c.self.invariant.1 c.self.invariant.3)
 
 pub returns-clause-joined : goal.returns-clause-joined
 returns-clause-joined g c =
-    let all = YieldsList-from_vec {s = c.into_iter-core-iterator.result} c.self.inside.inside.items c.into_iter-core-iterator.ensures.into_iter_gives.0 (c.into_iter-core-iterator.ensures.into_iter_gives.1 ∙ c.self.inside.inside.ok.0) in
-    let end = YieldsList-end all c.loop-core.yielded c.loop-core.core-iterator c.loop-core.yielded_by _ c.next.new.self c.in-None.is c.next.ensures.steps in
-    let yielded_are : c.loop-core.yielded ≡ c.self.inside.inside.items = sym (map-id c.loop-core.yielded) ∙ end.0 in
-    let items_are : c.push_reserved-2.new.self.items ≡ journals_of c.self.inside.inside.items ++ c.self.inside.outside.journal ∷ [] =
-    c.push_reserved-2.ensures.items
-    ∙ (ap (λ front. front ++ c.into_journal-2.result ∷ []) (c.loop-core.invariant.0 ∙ ap (λ cores. journals_of cores) yielded_are)
-    ∙ ap (λ last. journals_of c.self.inside.inside.items ++ last ∷ []) c.into_journal-2.ensures) in
-    let parts : Parts g.row.J.Denot ℕ = record { cores = c.self.inside.cores; cap = c.self.inside.cap; room = c.self.inside.room; inside = c.self.inside.inside.items; outside = c.self.inside.outside; links = map vec_items c.self.inside.links.items } in
-    let value : c.of.result ≡ assembly_of (world_of parts) =
-    c.of.ensures ∙ (λ i. record { cores = c.self.inside.cores; cap = c.self.inside.cap; journals = (ap (map (λ journal. journal.notes)) items_are ∙ gathered_are parts) i }) in
-    subst AreJoined (sym value) (world_joined parts c.self.invariant.1 c.self.invariant.3)
+    let at = goal.at.returns-clause-joined g c in
+    subst AreJoined (sym (value g at.After-of (all_gathered g at.After-push_reserved-2 (all_yielded g at.In-None))))
+    (world_joined (parts g at.After-of) c.self.invariant.1 c.self.invariant.3)

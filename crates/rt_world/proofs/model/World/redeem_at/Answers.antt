@@ -1,158 +1,102 @@
-use Rattle.std.proofs.Common.{◌≡◌, ◌≤◌, ◌<◌, ◌+◌, length, refl, sym, ◌∙◌, ap, subst, arith, vec_items, get_or, set}
-use Rattle.std.specs.Prelude.{map}
-use Rattle.std.specs.Vec.{with_item}
-use Rattle.rt_link.specs.Fits.{Fits}
-use Rattle.rt_journal.specs.Recorded.{desk_of}
-use Rattle.rt_world.specs.State.{journal_at}
-use Rattle.rt_world.specs.Links.{link_at}
-use Rattle.rt_world.proofs.Borrowed.{row_within, link_within, link_here, links_now}
-use Rattle.rt_world.proofs.CoreSteps.{viewed, free, desk_is}
-use Rattle.rt_world.proofs.Sending.{IsDoneOn, may_send, may_ask, outside_desk, outside_free, outside_done, outside_rests, outside_desks}
-use Rattle.rt_world.proofs.CoreSending.{IsDoneBy, core_done, core_rests, core_at_rest, core_desks}
-use Rattle.std.specs.Prelude.{IfOk}
-use Rattle.rt_link.specs.Whole.{out_of}
-use Rattle.rt_desk.specs.Lanes.{IsGot, FitsSent}
-use Rattle.rt_journal.specs.Tickets.{RedeemsTicket}
+use Rattle.std.proofs.Common.{◌≡◌, ℕ, ◌≤◌, refl, sym, ◌∙◌, ap, arith, vec_items}
+use Rattle.rt_world.proofs.Words.{map, with_item, Fits, desk_of}
+use Rattle.rt_world.proofs.Borrowed.{IsLent, row_within, lent_within, lent_links}
+use Rattle.rt_world.proofs.Sending.{IsDoneOn, its_end, its_lane, its_room, outside_acting, outside_rests, outside_journals}
+use Rattle.rt_world.proofs.CoreSending.{IsDoneBy, core_acting, core_rests, core_at_rest, core_journals}
 use Rattle.rt_world.proofs.Ticketing.{got_same, redeems_now}
+use Rattle.rt_world.proofs.model.World.redeem_at.Given.{Over}
 use Rattle.rt_world.proofs.model.World.redeem_at.Goals as goal
+use Rattle.rt_world.proofs.model.World.redeem_at.Goals.{After-index_mut-row, After-redeem, After-redeem-2}
+
+-- the row that is borrowed is the sender's, and the core is there
+lent : (g : Over) (c : After-index_mut-row g) (place : ℕ) → place ≡ c.args.ticket.to →
+    IsLent c.self.inside.cores (map vec_items c.self.inside.links.items) vec_items c.self.inside.links.items c.from.inside.0 c.args.ticket.to place c.index_mut-row.result.now
+lent g c place place_is = record {
+  there = omega (arith, c.from.view_is, c.requires.sender, ap (λ world. world.cores) c.self.view_is);
+  to_there = omega (arith, c.requires.core, ap (λ world. world.cores) c.self.view_is);
+  are = refl;
+  row_is = c.index_mut-row.ensures.value;
+  place_is = place_is;
+}
 
 pub index_mut-row-requires : goal.index_mut-row-requires
 index_mut-row-requires g c =
     let there : c.from.inside.0 ≤ c.self.inside.cores = omega (arith, c.from.view_is, c.requires.sender, ap (λ world. world.cores) c.self.view_is) in
-    let within = row_within c.self.invariant.1 vec_items c.self.inside.links.items refl c.from.inside.0 there in
-    omega (arith, within, c.self.inside.links.ok.0)
+    omega (arith, row_within c.self.invariant.1 vec_items c.self.inside.links.items refl c.from.inside.0 there, c.self.inside.links.ok.0)
 
 pub index_mut-link-requires : goal.index_mut-link-requires
-index_mut-link-requires g c =
-    let there : c.from.inside.0 ≤ c.self.inside.cores = omega (arith, c.from.view_is, c.requires.sender, ap (λ world. world.cores) c.self.view_is) in
-    let to_there : c.args.ticket.to < c.self.inside.cores = omega (arith, c.requires.core, ap (λ world. world.cores) c.self.view_is) in
-    let to_is : c.to.inside.0 ≡ c.args.ticket.to = c.to.view_is ∙ c.requires.same in
-    let within = link_within c.self.invariant.1 vec_items c.self.inside.links.items refl c.from.inside.0 there _ c.index_mut-row.ensures.value c.args.ticket.to to_there in
-    omega (arith, within, to_is, c.index_mut-row.result.now.ok.0)
+index_mut-link-requires g c = omega (arith, lent_within c.self.invariant.1 (lent g (goal.at.index_mut-link-requires g c).After-index_mut-row _ (c.to.view_is ∙ c.requires.same)), c.index_mut-row.result.now.ok.0)
 
 pub redeem-requires : goal.redeem-requires
 redeem-requires g c =
-    let there : c.from.inside.0 ≤ c.self.inside.cores = omega (arith, c.from.view_is, c.requires.sender, ap (λ world. world.cores) c.self.view_is) in
-    let to_there : c.args.ticket.to < c.self.inside.cores = omega (arith, c.requires.core, ap (λ world. world.cores) c.self.view_is) in
-    let to_is : c.to.inside.0 ≡ c.args.ticket.to = c.to.view_is ∙ c.requires.same in
-    let link_read = subst (λ at. c.index_mut-link.result.now ≡ get_or c.index_mut-row.result.now.items at c.index_mut-link.result.now) to_is c.index_mut-link.ensures.value in
-    let link = link_here c.self.invariant.1 vec_items c.self.inside.links.items refl c.from.inside.0 there _ c.index_mut-row.ensures.value c.args.ticket.to to_there _ link_read in
-    let sender_there : c.from.inside.0 < c.self.inside.cores = c.if-from-self.true in
-    let view = viewed c.self.invariant.1 c.from.inside.0 sender_there _ c.index_mut-actor.ensures.value in
-    let desk = ap desk_of view ∙ sym (desk_is c.self.invariant.1 c.from.inside.0 sender_there) in
-    let room = subst (λ world. length (journal_at c.from.inside.0 world) + 4 ≤ world.room) (sym c.self.view_is)
-    (subst (λ actor. length (journal_at actor c.args.self.now) + 4 ≤ c.args.self.now.room) (sym c.from.view_is) c.requires.room) in
-    let places = free c.self.invariant.1 c.from.inside.0 sender_there 4 room in
+    let by = core_acting c.self.invariant.1 (lent g (goal.at.redeem-requires g c).After-index_mut-row _ (c.to.view_is ∙ c.requires.same)) c.index_mut-link.ensures.value c.if-from-self.true c.index_mut-actor.ensures.value in
     record {
-      beside = may_send c.self.invariant.1 c.from.inside.0 c.args.ticket.to there to_there _ desk _ link;
-      lane = may_ask c.self.invariant.1 c.from.inside.0 c.args.ticket.to there to_there _ desk _ link;
-      room = λ held. omega (arith, places, ap (λ at. length at.journal.notes) view, ap (λ at. at.journal.room) view);
+      beside = its_end c.self.invariant.1 by.acting;
+      lane = its_lane c.self.invariant.1 by.acting;
+      room = λ held. let room = its_room c.self.invariant.1 by.acting c.from.view_is c.self.view_is 4 c.requires.room in omega (arith, room);
     }
+
+-- what the core did on the link
+core_did : (g : Over) (c : After-redeem g) → IsDoneBy g.J.Task.SameTask g.J.Task.made g.J.Task.Polls g.J.Task.Answers c.args.ticket.to c.index_mut-actor.result.now c.index_mut-link.result.now c.redeem.new.self c.redeem.new.end
+core_did g c = record {
+  done = record { only_sent = got_same _ _ c.redeem.ensures.untouched c.redeem.ensures.out; stays = c.redeem.ensures.stays };
+  rest = c.redeem.ensures.rest;
+  seat = c.redeem.ensures.seat;
+  ins = c.redeem.ensures.ins;
+  sound = c.redeem.ensures.sound;
+}
 
 pub invariant_of-self : goal.invariant_of-self
 invariant_of-self g c =
-    let there : c.from.inside.0 ≤ c.self.inside.cores = omega (arith, c.from.view_is, c.requires.sender, ap (λ world. world.cores) c.self.view_is) in
-    let to_there : c.args.ticket.to < c.self.inside.cores = omega (arith, c.requires.core, ap (λ world. world.cores) c.self.view_is) in
-    let to_is : c.to.inside.0 ≡ c.args.ticket.to = c.to.view_is ∙ c.requires.same in
-    let link_read = subst (λ at. c.index_mut-link.result.now ≡ get_or c.index_mut-row.result.now.items at c.index_mut-link.result.now) to_is c.index_mut-link.ensures.value in
-    let link = link_here c.self.invariant.1 vec_items c.self.inside.links.items refl c.from.inside.0 there _ c.index_mut-row.ensures.value c.args.ticket.to to_there _ link_read in
-    let sender_there : c.from.inside.0 < c.self.inside.cores = c.if-from-self.true in
-    let view = viewed c.self.invariant.1 c.from.inside.0 sender_there _ c.index_mut-actor.ensures.value in
-    let desk = ap desk_of view ∙ sym (desk_is c.self.invariant.1 c.from.inside.0 sender_there) in
-    let links = links_now c.self.invariant.1 vec_items c.self.inside.links.items refl c.from.inside.0 there _ c.index_mut-row.ensures.value c.args.ticket.to to_there
-    (with_item c.index_mut-row.result.now c.to.inside.0 c.redeem.new.end) c.redeem.new.end (ap (λ at. set c.index_mut-row.result.now.items at c.redeem.new.end) to_is) in
-    let did = subst (λ at. IsDoneBy g.J.Task.SameTask g.J.Task.made g.J.Task.Polls g.J.Task.Answers c.args.ticket.to at (link_at c.from.inside.0 c.args.ticket.to (map vec_items c.self.inside.links.items)) c.redeem.new.self c.redeem.new.end) view
-    (subst (λ at. IsDoneBy g.J.Task.SameTask g.J.Task.made g.J.Task.Polls g.J.Task.Answers c.args.ticket.to c.index_mut-actor.result.now at c.redeem.new.self c.redeem.new.end) link
-    (record {
-      done = record { only_sent = got_same _ _ c.redeem.ensures.untouched c.redeem.ensures.out; stays = c.redeem.ensures.stays };
-      rest = c.redeem.ensures.rest;
-      seat = c.redeem.ensures.seat;
-      ins = c.redeem.ensures.ins;
-      sound = c.redeem.ensures.sound;
-    })) in
-    rw links (c.self.invariant.0, core_rests c.self.invariant.1 c.from.inside.0 c.args.ticket.to sender_there to_there c.redeem.new.self c.redeem.new.end did, c.self.invariant.2, core_at_rest c.self.invariant.1 c.from.inside.0 c.args.ticket.to sender_there to_there c.redeem.new.self c.redeem.new.end did c.self.invariant.3)
+    let at = goal.at.invariant_of-self g c in
+    let row = lent g at.After-index_mut-row _ (c.to.view_is ∙ c.requires.same) in
+    let by = core_acting c.self.invariant.1 row c.index_mut-link.ensures.value c.if-from-self.true c.index_mut-actor.ensures.value in
+    let did = core_did g at.After-redeem in
+    rw (lent_links c.self.invariant.1 row (with_item c.index_mut-row.result.now c.to.inside.0 c.redeem.new.end) c.redeem.new.end refl)
+    (c.self.invariant.0, core_rests c.self.invariant.1 by did, c.self.invariant.2, core_at_rest c.self.invariant.1 by did c.self.invariant.3)
 
 pub returns-then-from-self : goal.returns-then-from-self
 returns-then-from-self g c =
-    let there : c.from.inside.0 ≤ c.self.inside.cores = omega (arith, c.from.view_is, c.requires.sender, ap (λ world. world.cores) c.self.view_is) in
-    let to_there : c.args.ticket.to < c.self.inside.cores = omega (arith, c.requires.core, ap (λ world. world.cores) c.self.view_is) in
-    let to_is : c.to.inside.0 ≡ c.args.ticket.to = c.to.view_is ∙ c.requires.same in
-    let link_read = subst (λ at. c.index_mut-link.result.now ≡ get_or c.index_mut-row.result.now.items at c.index_mut-link.result.now) to_is c.index_mut-link.ensures.value in
-    let link = link_here c.self.invariant.1 vec_items c.self.inside.links.items refl c.from.inside.0 there _ c.index_mut-row.ensures.value c.args.ticket.to to_there _ link_read in
-    let sender_there : c.from.inside.0 < c.self.inside.cores = c.if-from-self.true in
-    let view = viewed c.self.invariant.1 c.from.inside.0 sender_there _ c.index_mut-actor.ensures.value in
-    let desk = ap desk_of view ∙ sym (desk_is c.self.invariant.1 c.from.inside.0 sender_there) in
-    let links = links_now c.self.invariant.1 vec_items c.self.inside.links.items refl c.from.inside.0 there _ c.index_mut-row.ensures.value c.args.ticket.to to_there
-    (with_item c.index_mut-row.result.now c.to.inside.0 c.redeem.new.end) c.redeem.new.end (ap (λ at. set c.index_mut-row.result.now.items at c.redeem.new.end) to_is) in
-    let did = subst (λ at. IsDoneBy g.J.Task.SameTask g.J.Task.made g.J.Task.Polls g.J.Task.Answers c.args.ticket.to at (link_at c.from.inside.0 c.args.ticket.to (map vec_items c.self.inside.links.items)) c.redeem.new.self c.redeem.new.end) view
-    (subst (λ at. IsDoneBy g.J.Task.SameTask g.J.Task.made g.J.Task.Polls g.J.Task.Answers c.args.ticket.to c.index_mut-actor.result.now at c.redeem.new.self c.redeem.new.end) link
-    (record {
-      done = record { only_sent = got_same _ _ c.redeem.ensures.untouched c.redeem.ensures.out; stays = c.redeem.ensures.stays };
-      rest = c.redeem.ensures.rest;
-      seat = c.redeem.ensures.seat;
-      ins = c.redeem.ensures.ins;
-      sound = c.redeem.ensures.sound;
-    })) in
-    let journals = ap (map (λ desk. desk.journal.notes)) (core_desks c.self.invariant.1 c.from.inside.0 c.args.ticket.to sender_there to_there c.redeem.new.self c.redeem.new.end did) in
-    let same = subst (λ at. out_of c.redeem.new.end ≡ out_of at) link c.redeem.ensures.out in
-    let redeems = subst (λ at. RedeemsTicket c.args.ticket at c.redeem.result (desk_of c.redeem.new.self)) desk c.redeem.ensures.redeems in
-    let own : c.args.ticket.from ≡ c.from.inside.0 = c.requires.own ∙ sym c.from.view_is in
-    rw (← c.self.view_is, ← c.from.view_is, c.redeemed.ensures, links)
-    (redeems_now c.self.invariant.1 c.from.inside.0 c.args.ticket there to_there (desk_of c.redeem.new.self) c.redeem.new.end (core_done c.self.invariant.1 c.from.inside.0 c.args.ticket.to sender_there to_there c.redeem.new.self c.redeem.new.end did) _ journals (ap (λ out. out.sent) same) own
-    c.redeem.result redeems (subst (λ at. IfOk c.redeem.result (IsGot (out_of at) c.args.ticket.number)) link c.redeem.ensures.given)
-    (subst (λ at. IfOk c.redeem.result (FitsSent (Fits g.J.Task.SameTask g.J.Task.Answers) (out_of at) c.args.ticket.number)) link c.redeem.ensures.fits))
+    let at = goal.at.returns-then-from-self g c in
+    let row = lent g at.After-index_mut-row _ (c.to.view_is ∙ c.requires.same) in
+    let by = core_acting c.self.invariant.1 row c.index_mut-link.ensures.value c.if-from-self.true c.index_mut-actor.ensures.value in
+    let did = core_did g at.After-redeem in
+    let journals = core_journals c.self.invariant.1 by did in
+    rw (← c.self.view_is, ← c.from.view_is, c.redeemed.ensures, lent_links c.self.invariant.1 row (with_item c.index_mut-row.result.now c.to.inside.0 c.redeem.new.end) c.redeem.new.end refl)
+    (redeems_now c.self.invariant.1 c.args.ticket by.acting (desk_of c.redeem.new.self) c.redeem.new.end journals (ap (λ out. out.sent) c.redeem.ensures.out)
+    (c.requires.own ∙ sym c.from.view_is) c.redeem.result c.redeem.ensures.redeems c.redeem.ensures.given c.redeem.ensures.fits)
 
 pub redeem-requires-2 : goal.redeem-requires-2
 redeem-requires-2 g c =
-    let there : c.from.inside.0 ≤ c.self.inside.cores = omega (arith, c.from.view_is, c.requires.sender, ap (λ world. world.cores) c.self.view_is) in
-    let to_there : c.args.ticket.to < c.self.inside.cores = omega (arith, c.requires.core, ap (λ world. world.cores) c.self.view_is) in
-    let to_is : c.to.inside.0 ≡ c.args.ticket.to = c.to.view_is ∙ c.requires.same in
-    let link_read = subst (λ at. c.index_mut-link.result.now ≡ get_or c.index_mut-row.result.now.items at c.index_mut-link.result.now) to_is c.index_mut-link.ensures.value in
-    let link = link_here c.self.invariant.1 vec_items c.self.inside.links.items refl c.from.inside.0 there _ c.index_mut-row.ensures.value c.args.ticket.to to_there _ link_read in
-    let is_last : c.from.inside.0 ≡ c.self.inside.cores = omega (arith, there, c.if-from-self.false) in
-    let desk = sym (outside_desk c.self.invariant.1 c.from.inside.0 is_last) in
-    let room = subst (λ world. length (journal_at c.from.inside.0 world) + 4 ≤ world.room) (sym c.self.view_is)
-    (subst (λ actor. length (journal_at actor c.args.self.now) + 4 ≤ c.args.self.now.room) (sym c.from.view_is) c.requires.room) in
-    let places = outside_free c.self.invariant.1 c.from.inside.0 is_last 4 room in
+    let row = lent g (goal.at.redeem-requires-2 g c).After-index_mut-row _ (c.to.view_is ∙ c.requires.same) in
+    let acting = outside_acting c.self.invariant.1 row c.index_mut-link.ensures.value (omega (arith, row.there, c.if-from-self.false)) in
     record {
-      beside = may_send c.self.invariant.1 c.from.inside.0 c.args.ticket.to there to_there _ desk _ link;
-      lane = may_ask c.self.invariant.1 c.from.inside.0 c.args.ticket.to there to_there _ desk _ link;
-      room = λ held. omega (arith, places);
+      beside = its_end c.self.invariant.1 acting;
+      lane = its_lane c.self.invariant.1 acting;
+      room = λ held. let room = its_room c.self.invariant.1 acting c.from.view_is c.self.view_is 4 c.requires.room in omega (arith, room);
     }
+
+-- what the outside actor did on the link
+outside_did : (g : Over) (c : After-redeem-2 g) → IsDoneOn (Fits g.J.Task.SameTask g.J.Task.Answers) c.args.ticket.to c.self.inside.outside c.index_mut-link.result.now c.redeem-2.new.self c.redeem-2.new.end
+outside_did g c = record { only_sent = got_same _ _ c.redeem-2.ensures.untouched c.redeem-2.ensures.out; stays = c.redeem-2.ensures.stays }
 
 pub invariant_of-self-2 : goal.invariant_of-self-2
 invariant_of-self-2 g c =
-    let there : c.from.inside.0 ≤ c.self.inside.cores = omega (arith, c.from.view_is, c.requires.sender, ap (λ world. world.cores) c.self.view_is) in
-    let to_there : c.args.ticket.to < c.self.inside.cores = omega (arith, c.requires.core, ap (λ world. world.cores) c.self.view_is) in
-    let to_is : c.to.inside.0 ≡ c.args.ticket.to = c.to.view_is ∙ c.requires.same in
-    let link_read = subst (λ at. c.index_mut-link.result.now ≡ get_or c.index_mut-row.result.now.items at c.index_mut-link.result.now) to_is c.index_mut-link.ensures.value in
-    let link = link_here c.self.invariant.1 vec_items c.self.inside.links.items refl c.from.inside.0 there _ c.index_mut-row.ensures.value c.args.ticket.to to_there _ link_read in
-    let is_last : c.from.inside.0 ≡ c.self.inside.cores = omega (arith, there, c.if-from-self.false) in
-    let desk = sym (outside_desk c.self.invariant.1 c.from.inside.0 is_last) in
-    let links = links_now c.self.invariant.1 vec_items c.self.inside.links.items refl c.from.inside.0 there _ c.index_mut-row.ensures.value c.args.ticket.to to_there
-    (with_item c.index_mut-row.result.now c.to.inside.0 c.redeem-2.new.end) c.redeem-2.new.end (ap (λ at. set c.index_mut-row.result.now.items at c.redeem-2.new.end) to_is) in
-    let did = subst (λ at. IsDoneOn (Fits g.J.Task.SameTask g.J.Task.Answers) c.args.ticket.to c.self.inside.outside at c.redeem-2.new.self c.redeem-2.new.end) link
-    (record { only_sent = got_same _ _ c.redeem-2.ensures.untouched c.redeem-2.ensures.out; stays = c.redeem-2.ensures.stays }) in
-    rw links (c.self.invariant.0, outside_rests c.self.invariant.1 c.from.inside.0 c.args.ticket.to is_last to_there c.redeem-2.new.self c.redeem-2.new.end did, c.self.invariant.2, c.self.invariant.3)
+    let at = goal.at.invariant_of-self-2 g c in
+    let row = lent g at.After-index_mut-row _ (c.to.view_is ∙ c.requires.same) in
+    let is_last : c.from.inside.0 ≡ c.self.inside.cores = omega (arith, row.there, c.if-from-self.false) in
+    let acting = outside_acting c.self.invariant.1 row c.index_mut-link.ensures.value is_last in
+    rw (lent_links c.self.invariant.1 row (with_item c.index_mut-row.result.now c.to.inside.0 c.redeem-2.new.end) c.redeem-2.new.end refl)
+    (c.self.invariant.0, outside_rests c.self.invariant.1 is_last acting (outside_did g at.After-redeem-2), c.self.invariant.2, c.self.invariant.3)
 
 pub returns : goal.returns
 returns g c =
-    let there : c.from.inside.0 ≤ c.self.inside.cores = omega (arith, c.from.view_is, c.requires.sender, ap (λ world. world.cores) c.self.view_is) in
-    let to_there : c.args.ticket.to < c.self.inside.cores = omega (arith, c.requires.core, ap (λ world. world.cores) c.self.view_is) in
-    let to_is : c.to.inside.0 ≡ c.args.ticket.to = c.to.view_is ∙ c.requires.same in
-    let link_read = subst (λ at. c.index_mut-link.result.now ≡ get_or c.index_mut-row.result.now.items at c.index_mut-link.result.now) to_is c.index_mut-link.ensures.value in
-    let link = link_here c.self.invariant.1 vec_items c.self.inside.links.items refl c.from.inside.0 there _ c.index_mut-row.ensures.value c.args.ticket.to to_there _ link_read in
-    let is_last : c.from.inside.0 ≡ c.self.inside.cores = omega (arith, there, c.if-from-self.false) in
-    let desk = sym (outside_desk c.self.invariant.1 c.from.inside.0 is_last) in
-    let links = links_now c.self.invariant.1 vec_items c.self.inside.links.items refl c.from.inside.0 there _ c.index_mut-row.ensures.value c.args.ticket.to to_there
-    (with_item c.index_mut-row.result.now c.to.inside.0 c.redeem-2.new.end) c.redeem-2.new.end (ap (λ at. set c.index_mut-row.result.now.items at c.redeem-2.new.end) to_is) in
-    let did = subst (λ at. IsDoneOn (Fits g.J.Task.SameTask g.J.Task.Answers) c.args.ticket.to c.self.inside.outside at c.redeem-2.new.self c.redeem-2.new.end) link
-    (record { only_sent = got_same _ _ c.redeem-2.ensures.untouched c.redeem-2.ensures.out; stays = c.redeem-2.ensures.stays }) in
-    let journals = ap (map (λ desk. desk.journal.notes)) (outside_desks c.self.invariant.1 c.from.inside.0 c.args.ticket.to is_last to_there c.redeem-2.new.self c.redeem-2.new.end did) in
-    let same = subst (λ at. out_of c.redeem-2.new.end ≡ out_of at) link c.redeem-2.ensures.out in
-    let redeems = subst (λ at. RedeemsTicket c.args.ticket at c.redeem-2.result c.redeem-2.new.self) desk c.redeem-2.ensures.redeems in
-    let own : c.args.ticket.from ≡ c.from.inside.0 = c.requires.own ∙ sym c.from.view_is in
-    rw (← c.self.view_is, ← c.from.view_is, c.redeemed-2.ensures, links)
-    (redeems_now c.self.invariant.1 c.from.inside.0 c.args.ticket there to_there c.redeem-2.new.self c.redeem-2.new.end (outside_done c.self.invariant.1 c.from.inside.0 c.args.ticket.to is_last to_there c.redeem-2.new.self c.redeem-2.new.end did) _ journals (ap (λ out. out.sent) same) own
-    c.redeem-2.result redeems (subst (λ at. IfOk c.redeem-2.result (IsGot (out_of at) c.args.ticket.number)) link c.redeem-2.ensures.given)
-    (subst (λ at. IfOk c.redeem-2.result (FitsSent (Fits g.J.Task.SameTask g.J.Task.Answers) (out_of at) c.args.ticket.number)) link c.redeem-2.ensures.fits))
+    let at = goal.at.returns g c in
+    let row = lent g at.After-index_mut-row _ (c.to.view_is ∙ c.requires.same) in
+    let is_last : c.from.inside.0 ≡ c.self.inside.cores = omega (arith, row.there, c.if-from-self.false) in
+    let acting = outside_acting c.self.invariant.1 row c.index_mut-link.ensures.value is_last in
+    let did = outside_did g at.After-redeem-2 in
+    let journals = outside_journals c.self.invariant.1 is_last acting did in
+    rw (← c.self.view_is, ← c.from.view_is, c.redeemed-2.ensures, lent_links c.self.invariant.1 row (with_item c.index_mut-row.result.now c.to.inside.0 c.redeem-2.new.end) c.redeem-2.new.end refl)
+    (redeems_now c.self.invariant.1 c.args.ticket acting c.redeem-2.new.self c.redeem-2.new.end journals (ap (λ out. out.sent) c.redeem-2.ensures.out)
+    (c.requires.own ∙ sym c.from.view_is) c.redeem-2.result c.redeem-2.ensures.redeems c.redeem-2.ensures.given c.redeem-2.ensures.fits)

@@ -1,9 +1,6 @@
 use Rattle.std.proofs.Common.{◌≡◌, ℕ, ◌≤◌, ◌<◌, ◌+◌, ◌*◌, length, sym, ◌∙◌, ap, subst, arith, vec_items}
-use Rattle.std.specs.Prelude.{map}
 use Rattle.std.proofs.Math.Nat.{mul_comm, mul_assoc}
-use Rattle.rt_link.specs.Fits.{Fits}
-use Rattle.rt_journal.specs.Recorded.{IsRecorded}
-use Rattle.rt_world.specs.State.{journal_at}
+use Rattle.rt_world.proofs.Words.{map, Fits, IsRecorded, journal_at}
 use Rattle.rt_world.specs.OneTurn as one
 use Rattle.rt_world.proofs.CoreSteps.{viewed, free, cores_are, core_cap}
 use Rattle.rt_world.proofs.Turning.{all_beside, all_outs}

@@ -1,10 +1,7 @@
 use Rattle.std.proofs.Common.{◌≤◌, sym, subst, arith, vec_items}
-use Rattle.std.specs.Prelude.{map}
 use Rattle.std.proofs.lemmas.List.{map-set}
-use Rattle.rt_link.specs.Fits.{Fits}
-use Rattle.rt_link.specs.Whole.{out_of}
+use Rattle.rt_world.proofs.Words.{map, Fits, out_of, desk_of}
 use Rattle.rt_journal.specs.Posts.{AreOutsOf}
-use Rattle.rt_journal.specs.Recorded.{desk_of}
 use Rattle.rt_world.specs.OneTurn.{none_owed, owed_settled, IsBesideAll, TurnsOn}
 use Rattle.rt_world.proofs.LentLinks.{row_within}
 use Rattle.rt_world.proofs.LinkRows.{row_of-borrowed}
