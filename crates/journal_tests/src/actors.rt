@@ -228,9 +228,10 @@ impl<O: OutEnd<ScriptJob> + Drop> Sender<O> {
         if self.desk.journal().free() < 1 || !self.desk.knows(ticket) {
             return Ok(None);
         }
-        match self.desk.redeem(&mut self.end, ticket)? {
-            Outcome::Finished(answer) => Ok(Some(answer)),
-            _ => Ok(None),
+        match self.desk.redeem(&mut self.end, ticket) {
+            Ok(Outcome::Finished(answer)) => Ok(Some(answer)),
+            Ok(_) => Ok(None),
+            Err(error) => Err(error),
         }
     }
 

@@ -81,14 +81,30 @@ fn plain_poster(
     Poster::open(alloc, out, own, outside)
 }
 
-/// Whether the job's polls over plain links come to these notes.
-fn posts_over_plain_links(alloc: Global, job: Order<ScriptJob>) -> Option<bool>
+/// The same core, with this job on the outside actor's link.
+fn plain_poster_with(
+    alloc: Global,
+    job: Order<ScriptJob>,
+) -> Result<Poster<PlainLink<ScriptJob>, PlainLink<ScriptJob>>, AllocError>
     requires { HasReadyJob ⟦<ScriptJob as Task>⟧.done ⟦<ScriptJob as Task>⟧.CanPoll job }
 {
-    let outside = link_with(alloc, job).ok()?;
-    let mut poster = plain_poster(alloc, outside).ok()?;
-    let polled = poster.deliver(OUTSIDE) && poster.turns(alloc, 4);
-    Some(polled && poster.tells(&NOTED[..15]))
+    let outside = link_with(alloc, job)?;
+    plain_poster(alloc, outside)
+}
+
+/// Whether the job's polls over plain links come to these notes.
+fn polls_over_plain_links(
+    alloc: Global,
+    poster: &mut Poster<PlainLink<ScriptJob>, PlainLink<ScriptJob>>,
+) -> bool {
+    poster.deliver(OUTSIDE) && poster.turns(alloc, 4) && poster.tells(&NOTED[..15])
+}
+
+fn posts_over_plain_links(rt: &impl Abort, alloc: Global) -> bool {
+    match plain_poster_with(alloc, job(rt)) {
+        Ok(mut poster) => polls_over_plain_links(alloc, &mut poster),
+        Err(_) => false,
+    }
 }
 
 /// A core with a ring to itself, which receives from the outside actor on this end.
@@ -122,21 +138,32 @@ fn ring_actors(
 }
 
 /// Whether the job's polls over rings come to these notes, and then the poll of the job that it submitted.
-fn posts_over_rings(alloc: Global, job: Order<ScriptJob>) -> Option<bool>
-    requires { HasReadyJob ⟦<ScriptJob as Task>⟧.done ⟦<ScriptJob as Task>⟧.CanPoll job }
-{
-    let (mut sender, mut poster) = ring_actors(alloc)?;
-    let polled = sender.submit(job) && poster.deliver(OUTSIDE) && poster.turns(alloc, 4);
-    let own = poster.deliver(OWN) && poster.turns(alloc, 1);
-    Some(polled && own && poster.tells(&NOTED))
+fn polls_over_rings(
+    alloc: Global,
+    poster: &mut Poster<RingOut<ScriptJob>, RingIn<ScriptJob>>,
+) -> bool {
+    poster.deliver(OUTSIDE)
+        && poster.turns(alloc, 4)
+        && poster.deliver(OWN)
+        && poster.turns(alloc, 1)
+        && poster.tells(&NOTED)
+}
+
+fn posts_over_rings(rt: &impl Abort, alloc: Global) -> bool {
+    match ring_actors(alloc) {
+        Some((mut sender, mut poster)) => {
+            sender.submit(job(rt)) && polls_over_rings(alloc, &mut poster)
+        }
+        None => false,
+    }
 }
 
 #[test]
 fn a_job_submits_over_rings(rt: HostRuntime) {
-    assert!(rt; posts_over_rings(rt.alloc(), job(&rt)) == Some(true));
+    assert!(rt; posts_over_rings(&rt, rt.alloc()));
 }
 
 #[test]
 fn a_job_submits_over_plain_links(rt: HostRuntime) {
-    assert!(rt; posts_over_plain_links(rt.alloc(), job(&rt)) == Some(true));
+    assert!(rt; posts_over_plain_links(&rt, rt.alloc()));
 }

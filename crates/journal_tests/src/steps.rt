@@ -23,6 +23,9 @@ const HANDED_BACK: [Note<u64>; 5] = [
     Note::Returned(FIRST, Reason::QueueReturned),
 ];
 
+/// What that core does.
+const HANDS_BACK: [Act; 4] = [Act::Deliver, Act::Deliver, Act::Nothing, Act::Turn];
+
 /// What a core does that is closed by the second order and finishes its job.
 const FINISHES: [Act; 6] = [
     Act::Deliver,
@@ -85,15 +88,20 @@ fn plain_receiver(alloc: Global) -> Result<Receiver<PlainLink<ScriptJob>>, Alloc
     Receiver::open(alloc, 4, own, outside)
 }
 
-fn hands_back(alloc: Global) -> Option<bool> {
-    let mut receiver = plain_receiver(alloc).ok()?;
-    let done = receiver.does(&[Act::Deliver, Act::Deliver, Act::Nothing, Act::Turn]);
-    Some(done && receiver.tells(&HANDED_BACK))
+fn hands_back(receiver: &mut Receiver<PlainLink<ScriptJob>>) -> bool {
+    receiver.does(&HANDS_BACK) && receiver.tells(&HANDED_BACK)
+}
+
+fn queue_hands_back(alloc: Global) -> bool {
+    match plain_receiver(alloc) {
+        Ok(mut receiver) => hands_back(&mut receiver),
+        Err(_) => false,
+    }
 }
 
 #[test]
 fn a_queue_hands_back_over_plain_links(rt: HostRuntime) {
-    assert!(rt; hands_back(rt.alloc()) == Some(true));
+    assert!(rt; queue_hands_back(rt.alloc()));
 }
 
 /// A core with a ring to itself, which receives from the outside actor on this end.
@@ -141,43 +149,70 @@ fn redeems_one(sender: &mut Sender<RingOut<ScriptJob>>) -> bool {
         && sender.tells(&REDEEMED)
 }
 
-fn outcomes_cross(alloc: Global) -> Option<bool> {
-    let (mut sender, mut receiver) = ring_actors(alloc)?;
-    let came = sends_both(&mut sender) && finishes(&mut receiver);
-    Some(came && collects_both(&mut sender) && redeems_one(&mut sender))
+fn cross_back(
+    sender: &mut Sender<RingOut<ScriptJob>>,
+    receiver: &mut Receiver<RingIn<ScriptJob>>,
+) -> bool {
+    sends_both(sender) && finishes(receiver) && collects_both(sender) && redeems_one(sender)
+}
+
+fn outcomes_cross(alloc: Global) -> bool {
+    match ring_actors(alloc) {
+        Some((mut sender, mut receiver)) => cross_back(&mut sender, &mut receiver),
+        None => false,
+    }
 }
 
 #[test]
 fn outcomes_cross_back_over_rings(rt: HostRuntime) {
-    assert!(rt; outcomes_cross(rt.alloc()) == Some(true));
+    assert!(rt; outcomes_cross(rt.alloc()));
+}
+
+/// The outside actor with a plain link of one place.
+fn plain_sender(alloc: Global) -> Result<Sender<PlainLink<ScriptJob>>, AllocError> {
+    let link = PlainLink::open(alloc, OUTSIDE, CORE, 1)?;
+    Sender::open(alloc, 1, link)
 }
 
 /// On a link of one place a job is sent and let go, and its place isn't free yet.
-fn lets_go(alloc: Global) -> Result<bool, AllocError> {
-    let link = PlainLink::open(alloc, OUTSIDE, CORE, 1)?;
-    let mut sender = Sender::open(alloc, 1, link)?;
-    let sent = sender.submit(job()) && !sender.submit(job()) && sender.detach(1);
-    Ok(sent && sender.outstanding() == 1 && sender.tells(&LET_GO))
+fn lets_go(sender: &mut Sender<PlainLink<ScriptJob>>) -> bool {
+    sender.submit(job())
+        && !sender.submit(job())
+        && sender.detach(1)
+        && sender.outstanding() == 1
+        && sender.tells(&LET_GO)
+}
+
+fn actor_lets_go(alloc: Global) -> bool {
+    match plain_sender(alloc) {
+        Ok(mut sender) => lets_go(&mut sender),
+        Err(_) => false,
+    }
 }
 
 #[test]
 fn an_actor_sends_over_a_plain_link(rt: HostRuntime) {
-    assert!(rt; lets_go(rt.alloc()) == Ok(true));
+    assert!(rt; actor_lets_go(rt.alloc()));
 }
 
 fn closes(core: &mut Recorded<ScriptJob>) -> bool {
     core.journal().free() >= 1 && core.close(Mode::Return) && core.is_closed()
 }
 
-/// A core makes a queue of these shares before anything else, and closes.
-fn makes_and_closes(alloc: Global, half: Shares) -> Result<bool, AllocError> {
-    let mut core: Recorded<ScriptJob> = Recorded::open(alloc, alloc, CORE, 1, 4, 10)?;
-    let made = core.create(half) == Ok(QueueNo(1)) && core.cap() == 4;
+/// Whether a queue of these shares and a closing are all that is told.
+fn tells_both(core: &Recorded<ScriptJob>, half: Shares) -> bool {
     let notes = [
         Note::Created(QueueNo(1), half),
         Note::CoreClosed(Mode::Return),
     ];
-    Ok(made && closes(&mut core) && tells(core.journal(), &notes))
+    tells(core.journal(), &notes)
+}
+
+/// A core makes a queue of these shares before anything else, and closes.
+fn makes_and_closes(alloc: Global, half: Shares) -> Result<bool, AllocError> {
+    let mut core: Recorded<ScriptJob> = Recorded::open(alloc, alloc, CORE, 1, 4, 10)?;
+    let made = core.create(half) == Ok(QueueNo(1)) && core.cap() == 4;
+    Ok(made && closes(&mut core) && tells_both(&core, half))
 }
 
 #[test]

@@ -67,48 +67,65 @@ fn lives<L: Link>(link: &mut L, rows: &[(Step, Told)]) -> bool {
     first_wrong(link, rows) == rows.len()
 }
 
+fn begins<L: Link>(link: &mut L) -> bool {
+    lives(link, &BEFORE)
+}
+
+/// Whether the first link is as before, and the second one has its whole life.
+fn stand_apart<L: Link>(first: &mut L, second: &mut L) -> bool {
+    lives(first, &AFTER) && lives(second, &ONE_PLACE)
+}
+
+fn obeys<L: Link>(link: &mut L) -> bool {
+    lives(link, &COMMANDS)
+}
+
 /// Whether a ring is as before when another one was opened, and the other one has its whole life.
-fn rings_live(alloc: Global) -> bool {
-    let Some(mut first) = ring(alloc, 2, 0) else {
-        return false;
-    };
-    let begun = lives(&mut first, &BEFORE);
-    let Some(mut second) = ring(alloc, 1, 0) else {
-        return false;
-    };
-    begun && lives(&mut first, &AFTER) && lives(&mut second, &ONE_PLACE)
+fn rings_live(alloc: Global) -> Option<bool> {
+    let mut first = ring(alloc, 2, 0)?;
+    let begun = begins(&mut first);
+    let mut second = ring(alloc, 1, 0)?;
+    Some(begun && stand_apart(&mut first, &mut second))
 }
 
 /// The same of plain links.
-fn plain_links_live(alloc: Global) -> bool {
-    let Some(mut first) = plain(alloc, 2, 0) else {
-        return false;
-    };
-    let begun = lives(&mut first, &BEFORE);
-    let Some(mut second) = plain(alloc, 1, 0) else {
-        return false;
-    };
-    begun && lives(&mut first, &AFTER) && lives(&mut second, &ONE_PLACE)
+fn plain_links_live(alloc: Global) -> Option<bool> {
+    let mut first = plain(alloc, 2, 0)?;
+    let begun = begins(&mut first);
+    let mut second = plain(alloc, 1, 0)?;
+    Some(begun && stand_apart(&mut first, &mut second))
+}
+
+fn ring_obeys(alloc: Global) -> bool {
+    match ring(alloc, 3, 7) {
+        Some(mut ring) => obeys(&mut ring),
+        None => false,
+    }
+}
+
+fn plain_link_obeys(alloc: Global) -> bool {
+    match plain(alloc, 3, 7) {
+        Some(mut plain) => obeys(&mut plain),
+        None => false,
+    }
 }
 
 #[test]
 fn rings_are_opened_again(rt: HostRuntime) {
-    assert!(rt; rings_live(rt.alloc()));
+    assert!(rt; rings_live(rt.alloc()) == Some(true));
 }
 
 #[test]
 fn plain_links_are_opened_again(rt: HostRuntime) {
-    assert!(rt; plain_links_live(rt.alloc()));
+    assert!(rt; plain_links_live(rt.alloc()) == Some(true));
 }
 
 #[test]
 fn rings_behind_a_number_are_opened_again(rt: HostRuntime) {
-    let ring = ring(rt.alloc(), 3, 7);
-    assert!(rt; ring.is_some_and(|mut ring| lives(&mut ring, &COMMANDS)));
+    assert!(rt; ring_obeys(rt.alloc()));
 }
 
 #[test]
 fn plain_links_behind_a_number_are_opened_again(rt: HostRuntime) {
-    let plain = plain(rt.alloc(), 3, 7);
-    assert!(rt; plain.is_some_and(|mut plain| lives(&mut plain, &COMMANDS)));
+    assert!(rt; plain_link_obeys(rt.alloc()));
 }

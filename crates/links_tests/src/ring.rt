@@ -15,6 +15,15 @@ use std::alloc::{AllocError, Global};
 use std::sync::Arc;
 use std::test::Fail;
 
+/// The counts of a whole life.
+const COUNTS: Accounts = Accounts {
+    accepted: 3,
+    taken: 3,
+    given: 1,
+    collected: 1,
+    shut: Some(3),
+};
+
 fn opened(alloc: Global, capacity: u16, accepted: u64) -> Option<Ring>
     requires { accepted < 2 ^ 63 }
 {
@@ -40,17 +49,16 @@ fn rows_right(alloc: Global, capacity: u16, accepted: u64, rows: &[(Step, Told)]
     }
 }
 
-/// Whether the whole life of a ring comes to what it should, and to these counts.
+/// Whether the whole life of this ring comes to what it should, and to these counts.
+fn lives_wholly(ring: Ring) -> bool {
+    let mut ring = ring;
+    let right = first_wrong(&mut ring, &WHOLE_LIFE) == 17;
+    ended(ring, COUNTS) && right
+}
+
 fn whole_life_right(alloc: Global) -> bool {
-    let counts = Accounts {
-        accepted: 3,
-        taken: 3,
-        given: 1,
-        collected: 1,
-        shut: Some(3),
-    };
     match opened(alloc, 2, 0) {
-        Some(mut ring) => first_wrong(&mut ring, &WHOLE_LIFE) == 17 && ended(ring, counts),
+        Some(ring) => lives_wholly(ring),
         None => false,
     }
 }
@@ -99,20 +107,27 @@ fn holds(ring: &mut Ring, held: &Arc<u64, Global>) -> bool {
 }
 
 /// Sends three jobs that hold something. Whether they are held, and two of them taken.
-fn holds_three(mut ring: Ring, held: &Arc<u64, Global>) -> Result<bool, AllocError> {
+fn holds_three(ring: &mut Ring, held: &Arc<u64, Global>) -> bool {
     for _ in 0..3 {
-        if !send_held(&mut ring, held)? {
-            return Ok(false);
+        if send_held(ring, held) != Ok(true) {
+            return false;
         }
     }
-    Ok(holds(&mut ring, held))
+    holds(ring, held)
+}
+
+/// The same in a ring that is dropped then.
+fn ring_holds_three(alloc: Global, held: &Arc<u64, Global>) -> bool {
+    match opened(alloc, 4, 0) {
+        Some(mut ring) => holds_three(&mut ring, held),
+        None => false,
+    }
 }
 
 #[test]
 fn what_is_left_in_the_slots_is_dropped(rt: HostRuntime) -> Result<(), Fail> {
     let held = Arc::new(rt.alloc(), 0u64)?;
-    let ring = opened(rt.alloc(), 4, 0).ok_or("no ring")?;
-    assert!(rt; holds_three(ring, &held)? && Arc::strong_count(&held) == 1);
+    assert!(rt; ring_holds_three(rt.alloc(), &held) && Arc::strong_count(&held) == 1);
     Ok(())
 }
 

@@ -1,6 +1,6 @@
 //! Statistics that are refused for want of memory, and asked for again. tests/memory/again lets each growth fail.
 
-use crate::journals::two_queues;
+use crate::journals::{Scene, scene_of};
 use rt_ids::QueueNo;
 use rt_notes::Journal;
 use rt_stats::{core_stats, gained, greatest_turn, queue_stats};
@@ -12,7 +12,7 @@ const TRIES: u32 = 1000;
 /// The journal of two queues, made until it isn't refused.
 fn journal(alloc: Global) -> Option<Journal<u64>> {
     for _ in 0..TRIES {
-        if let Ok(journal) = two_queues(alloc) {
+        if let Ok(journal) = scene_of(alloc, Scene::TwoQueues) {
             return Some(journal);
         }
     }

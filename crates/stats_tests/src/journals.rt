@@ -5,129 +5,232 @@ use rt_notes::Journal;
 use rt_shares::Shares;
 use std::alloc::{AllocError, Global};
 
-/// The submission of this number from one actor to a core.
-pub fn submission(from: u8, to: u8, number: u64) -> JobId {
-    JobId {
-        from: ActorNo(from),
-        to: CoreNo(to),
-        number,
-    }
+/// The submissions of core 0 to itself.
+const OWN_1: JobId = JobId {
+    from: ActorNo(0),
+    to: CoreNo(0),
+    number: 1,
+};
+
+const OWN_2: JobId = JobId {
+    from: ActorNo(0),
+    to: CoreNo(0),
+    number: 2,
+};
+
+const OWN_3: JobId = JobId {
+    from: ActorNo(0),
+    to: CoreNo(0),
+    number: 3,
+};
+
+const OWN_4: JobId = JobId {
+    from: ActorNo(0),
+    to: CoreNo(0),
+    number: 4,
+};
+
+/// The submissions of core 0 to core 1, and of the outside actor to it.
+const CROSS_1: JobId = JobId {
+    from: ActorNo(0),
+    to: CoreNo(1),
+    number: 1,
+};
+
+const CROSS_2: JobId = JobId {
+    from: ActorNo(0),
+    to: CoreNo(1),
+    number: 2,
+};
+
+const CLOSING: JobId = JobId {
+    from: ActorNo(2),
+    to: CoreNo(1),
+    number: 1,
+};
+
+/// The submissions of the outside actor to the only core.
+pub const FIRST: JobId = JobId {
+    from: ActorNo(1),
+    to: CoreNo(0),
+    number: 1,
+};
+
+const SECOND: JobId = JobId {
+    from: ActorNo(1),
+    to: CoreNo(0),
+    number: 2,
+};
+
+const THIRD: JobId = JobId {
+    from: ActorNo(1),
+    to: CoreNo(0),
+    number: 3,
+};
+
+const Q0: QueueNo = QueueNo(0);
+
+const Q1: QueueNo = QueueNo(1);
+
+/// A journal of at most 32 notes. Each table of notes stands in a function of its own, and a note that tells shares is made there.
+#[derive(Clone, Copy)]
+pub enum Scene {
+    /// Queues 0 and 1 share core 0, the second with half the shares of the first.
+    TwoQueues,
+    /// Core 1 of two is closed in mode `Finish`, and finishes the two jobs that were sent before.
+    ClosedCore,
+    /// Queue 1 of core 0 is closed in mode `Return`, and hands two jobs back. A third one goes back at its delivery.
+    HandedBack,
+    /// Queue 0 gets a quarter of its shares between two polls of 30 ns.
+    FewerShares,
+    /// Three jobs in queue 0: the second is being polled, and the others wait.
+    OneOut,
 }
 
+/// The notes of two queues, behind the creation of the second.
+const SHARING: [Note<u64>; 22] = [
+    Note::Sent(OWN_1, Order::Job(Q0, ())),
+    Note::Sent(OWN_2, Order::Job(Q1, ())),
+    Note::Took(OWN_1, Q0),
+    Note::Took(OWN_2, Q1),
+    Note::Pick(Q0, 0),
+    Note::Start(OWN_1),
+    Note::Yield(OWN_1, 30),
+    Note::Pick(Q1, 0),
+    Note::Start(OWN_2),
+    Note::Yield(OWN_2, 30),
+    Note::Pick(Q0, 30),
+    Note::Resume(OWN_1),
+    Note::Yield(OWN_1, 30),
+    Note::Pick(Q0, 60),
+    Note::Resume(OWN_1),
+    Note::Done(OWN_1, 30, 0),
+    Note::Pick(Q1, 60),
+    Note::Resume(OWN_2),
+    Note::Yield(OWN_2, 30),
+    Note::Pick(Q1, 120),
+    Note::Resume(OWN_2),
+    Note::Done(OWN_2, 30, 0),
+];
+
+const FINISHING: [Note<u64>; 13] = [
+    Note::Answered(CLOSING, Answer::Closed),
+    Note::CoreClosed(Mode::Finish),
+    Note::Shut(ActorNo(0), 2),
+    Note::Shut(ActorNo(1), 0),
+    Note::Shut(ActorNo(2), 1),
+    Note::Took(CROSS_1, Q0),
+    Note::Took(CROSS_2, Q0),
+    Note::Pick(Q0, 0),
+    Note::Start(CROSS_1),
+    Note::Done(CROSS_1, 5, 1),
+    Note::Pick(Q0, 5),
+    Note::Start(CROSS_2),
+    Note::Done(CROSS_2, 5, 2),
+];
+
+/// The notes of a queue that hands back, behind its creation.
+const RETURNING: [Note<u64>; 12] = [
+    Note::Took(OWN_1, Q1),
+    Note::Took(OWN_2, Q1),
+    Note::Pick(Q1, 0),
+    Note::Start(OWN_1),
+    Note::Yield(OWN_1, 20),
+    Note::Answered(OWN_3, Answer::Closed),
+    Note::QueueClosed(Q1, Mode::Return),
+    Note::Back(OWN_4, Reason::QueueClosed),
+    Note::Pick(Q1, 20),
+    Note::Returned(OWN_2, Reason::QueueReturned),
+    Note::Pick(Q1, 20),
+    Note::Returned(OWN_1, Reason::QueueReturned),
+];
+
+/// The notes before queue 0 gets fewer shares.
+const BEFORE: [Note<u64>; 5] = [
+    Note::Took(OWN_1, Q0),
+    Note::Pick(Q0, 0),
+    Note::Start(OWN_1),
+    Note::Yield(OWN_1, 30),
+    Note::Answered(OWN_2, Answer::SharesSet),
+];
+
+/// The notes afterwards.
+const AFTER: [Note<u64>; 3] = [
+    Note::Pick(Q0, 30),
+    Note::Resume(OWN_1),
+    Note::Done(OWN_1, 30, 1),
+];
+
+const POLLED: [Note<u64>; 8] = [
+    Note::Took(FIRST, Q0),
+    Note::Took(SECOND, Q0),
+    Note::Took(THIRD, Q0),
+    Note::Pick(Q0, 0),
+    Note::Start(FIRST),
+    Note::Yield(FIRST, 10),
+    Note::Pick(Q0, 10),
+    Note::Start(SECOND),
+];
+
 /// These shares, else 1000.
-pub fn shares(weight: u32) -> Shares {
+fn shares(weight: u32) -> Shares {
     match Shares::try_new(weight) {
         Ok(shares) => shares,
         Err(_) => Shares::default(),
     }
 }
 
-/// The journal of these notes, if there are at most 32.
-pub fn journal_of(alloc: Global, notes: &[Note<u64>]) -> Result<Journal<u64>, AllocError> {
-    let mut journal: Journal<u64> = Journal::try_with_room(alloc, 32)?;
-    if notes.len() <= 32 {
+/// Adds these notes, if there is room for them.
+fn add(journal: &mut Journal<u64>, notes: &[Note<u64>]) {
+    if notes.len() <= journal.free() as usize {
         journal.push_all(notes);
     }
+}
+
+fn share(journal: &mut Journal<u64>) {
+    add(journal, &[Note::Created(Q1, shares(500))]);
+    add(journal, &SHARING);
+}
+
+fn finish(journal: &mut Journal<u64>) {
+    add(journal, &FINISHING);
+}
+
+fn hand_back(journal: &mut Journal<u64>) {
+    add(journal, &[Note::Created(Q1, shares(1000))]);
+    add(journal, &RETURNING);
+}
+
+fn lessen(journal: &mut Journal<u64>) {
+    add(journal, &BEFORE);
+    add(journal, &[Note::SharesSet(Q0, shares(250))]);
+    add(journal, &AFTER);
+}
+
+fn poll(journal: &mut Journal<u64>) {
+    add(journal, &POLLED);
+}
+
+fn fill(journal: &mut Journal<u64>, scene: Scene) {
+    match scene {
+        Scene::TwoQueues => share(journal),
+        Scene::ClosedCore => finish(journal),
+        Scene::HandedBack => hand_back(journal),
+        Scene::FewerShares => lessen(journal),
+        Scene::OneOut => poll(journal),
+    }
+}
+
+/// The journal of this scene.
+pub fn scene_of(alloc: Global, scene: Scene) -> Result<Journal<u64>, AllocError> {
+    let mut journal: Journal<u64> = Journal::try_with_room(alloc, 32)?;
+    fill(&mut journal, scene);
     Ok(journal)
 }
 
-/// Queues 0 and 1 share core 0, the second with half the shares of the first.
-pub fn two_queues(alloc: Global) -> Result<Journal<u64>, AllocError> {
-    let notes = [
-        Note::Created(QueueNo(1), shares(500)),
-        Note::Sent(submission(0, 0, 1), Order::Job(QueueNo(0), ())),
-        Note::Sent(submission(0, 0, 2), Order::Job(QueueNo(1), ())),
-        Note::Took(submission(0, 0, 1), QueueNo(0)),
-        Note::Took(submission(0, 0, 2), QueueNo(1)),
-        Note::Pick(QueueNo(0), 0),
-        Note::Start(submission(0, 0, 1)),
-        Note::Yield(submission(0, 0, 1), 30),
-        Note::Pick(QueueNo(1), 0),
-        Note::Start(submission(0, 0, 2)),
-        Note::Yield(submission(0, 0, 2), 30),
-        Note::Pick(QueueNo(0), 30),
-        Note::Resume(submission(0, 0, 1)),
-        Note::Yield(submission(0, 0, 1), 30),
-        Note::Pick(QueueNo(0), 60),
-        Note::Resume(submission(0, 0, 1)),
-        Note::Done(submission(0, 0, 1), 30, 0),
-        Note::Pick(QueueNo(1), 60),
-        Note::Resume(submission(0, 0, 2)),
-        Note::Yield(submission(0, 0, 2), 30),
-        Note::Pick(QueueNo(1), 120),
-        Note::Resume(submission(0, 0, 2)),
-        Note::Done(submission(0, 0, 2), 30, 0),
-    ];
-    journal_of(alloc, &notes)
-}
-
-/// Core 1 of two is closed in mode `Finish`, and finishes the two jobs that were sent before.
-pub fn closed_core(alloc: Global) -> Result<Journal<u64>, AllocError> {
-    let notes = [
-        Note::Answered(submission(2, 1, 1), Answer::Closed),
-        Note::CoreClosed(Mode::Finish),
-        Note::Shut(ActorNo(0), 2),
-        Note::Shut(ActorNo(1), 0),
-        Note::Shut(ActorNo(2), 1),
-        Note::Took(submission(0, 1, 1), QueueNo(0)),
-        Note::Took(submission(0, 1, 2), QueueNo(0)),
-        Note::Pick(QueueNo(0), 0),
-        Note::Start(submission(0, 1, 1)),
-        Note::Done(submission(0, 1, 1), 5, 1),
-        Note::Pick(QueueNo(0), 5),
-        Note::Start(submission(0, 1, 2)),
-        Note::Done(submission(0, 1, 2), 5, 2),
-    ];
-    journal_of(alloc, &notes)
-}
-
-/// Queue 1 of core 0 is closed in mode `Return`, and hands two jobs back. A third one goes back at its delivery.
-pub fn handed_back(alloc: Global) -> Result<Journal<u64>, AllocError> {
-    let notes = [
-        Note::Created(QueueNo(1), shares(1000)),
-        Note::Took(submission(0, 0, 1), QueueNo(1)),
-        Note::Took(submission(0, 0, 2), QueueNo(1)),
-        Note::Pick(QueueNo(1), 0),
-        Note::Start(submission(0, 0, 1)),
-        Note::Yield(submission(0, 0, 1), 20),
-        Note::Answered(submission(0, 0, 3), Answer::Closed),
-        Note::QueueClosed(QueueNo(1), Mode::Return),
-        Note::Back(submission(0, 0, 4), Reason::QueueClosed),
-        Note::Pick(QueueNo(1), 20),
-        Note::Returned(submission(0, 0, 2), Reason::QueueReturned),
-        Note::Pick(QueueNo(1), 20),
-        Note::Returned(submission(0, 0, 1), Reason::QueueReturned),
-    ];
-    journal_of(alloc, &notes)
-}
-
-/// Queue 0 gets a quarter of its shares between two polls of 30 ns.
-pub fn fewer_shares(alloc: Global) -> Result<Journal<u64>, AllocError> {
-    let notes = [
-        Note::Took(submission(0, 0, 1), QueueNo(0)),
-        Note::Pick(QueueNo(0), 0),
-        Note::Start(submission(0, 0, 1)),
-        Note::Yield(submission(0, 0, 1), 30),
-        Note::Answered(submission(0, 0, 2), Answer::SharesSet),
-        Note::SharesSet(QueueNo(0), shares(250)),
-        Note::Pick(QueueNo(0), 30),
-        Note::Resume(submission(0, 0, 1)),
-        Note::Done(submission(0, 0, 1), 30, 1),
-    ];
-    journal_of(alloc, &notes)
-}
-
-/// Three jobs in queue 0: the second is being polled, and the others wait.
-pub fn one_out(alloc: Global) -> Result<Journal<u64>, AllocError> {
-    let notes = [
-        Note::Took(submission(1, 0, 1), QueueNo(0)),
-        Note::Took(submission(1, 0, 2), QueueNo(0)),
-        Note::Took(submission(1, 0, 3), QueueNo(0)),
-        Note::Pick(QueueNo(0), 0),
-        Note::Start(submission(1, 0, 1)),
-        Note::Yield(submission(1, 0, 1), 10),
-        Note::Pick(QueueNo(0), 10),
-        Note::Start(submission(1, 0, 2)),
-    ];
-    journal_of(alloc, &notes)
+/// The journal of these notes, if there are at most 32.
+pub fn journal_of(alloc: Global, notes: &[Note<u64>]) -> Result<Journal<u64>, AllocError> {
+    let mut journal: Journal<u64> = Journal::try_with_room(alloc, 32)?;
+    add(&mut journal, notes);
+    Ok(journal)
 }

@@ -1,17 +1,60 @@
 //! The statistics of worked rows, as data.
 
-use crate::journals::{closed_core, fewer_shares, handed_back, one_out, two_queues};
+use crate::journals::{Scene, scene_of};
 use rt_ids::{CoreStats, QueueNo, QueueStats};
 use rt_notes::Journal;
 use rt_stats::{Sums, core_stats, gained, greatest_turn, queue_stats};
-use std::alloc::{AllocError, Global};
-use std::test::Fail;
+use std::alloc::Global;
 
 /// What a queue's line tells: queue, shares, picks, runtime, virtual runtime, waiting, finished, returned.
 type QueueRow = (u8, u32, u64, u128, u128, u64, u64, u64);
 
 /// What a core's line tells: turns, floor, held, drained.
 type CoreRow = (u64, u128, u64, bool);
+
+/// A journal, the cores of its house, the line of its core, and those of its one or two queues.
+type Row = (Scene, u8, CoreRow, QueueRow, QueueRow);
+
+/// Stands for the second queue where there is none.
+const NONE: QueueRow = (0, 0, 0, 0, 0, 0, 0, 0);
+
+static ROWS: [Row; 5] = [
+    (
+        Scene::TwoQueues,
+        1,
+        (6, 120, 0, false),
+        (0, 1000, 3, 90, 90, 0, 1, 0),
+        (1, 500, 3, 90, 180, 0, 1, 0),
+    ),
+    (
+        Scene::ClosedCore,
+        2,
+        (2, 5, 0, true),
+        (0, 1000, 2, 10, 10, 0, 2, 0),
+        NONE,
+    ),
+    (
+        Scene::HandedBack,
+        1,
+        (3, 20, 0, false),
+        (0, 1000, 0, 0, 0, 0, 0, 0),
+        (1, 1000, 3, 20, 20, 0, 0, 2),
+    ),
+    (
+        Scene::OneOut,
+        1,
+        (2, 10, 3, false),
+        (0, 1000, 2, 10, 10, 2, 0, 0),
+        NONE,
+    ),
+    (
+        Scene::FewerShares,
+        1,
+        (2, 30, 0, false),
+        (0, 250, 2, 60, 150, 0, 1, 0),
+        NONE,
+    ),
+];
 
 fn is_row(stats: &QueueStats, row: &QueueRow) -> bool {
     let (_, shares, selected, runtime, virtual_runtime, waiting, finished, returned) = *row;
@@ -29,85 +72,87 @@ fn is_core_row(stats: &CoreStats, row: &CoreRow) -> bool {
     stats.turns == turns && stats.floor == floor && stats.held == held && stats.drained == drained
 }
 
-/// Whether a journal has these lines, in a house of so many cores, and no further queue.
-fn tells(
-    alloc: Global,
-    journal: &Journal<u64>,
-    cores: u8,
-    core: &CoreRow,
-    queues: &[QueueRow],
-) -> Result<bool, AllocError> {
-    let sums = Sums::of(alloc, journal)?;
-    let mut right = is_core_row(&core_stats(alloc, journal, cores)?, core);
-    for row in queues.iter() {
-        right = right
-            && match queue_stats(alloc, journal, QueueNo(row.0))? {
-                Some(stats) => is_row(&stats, row)
-                    && sums.queue_stats(QueueNo(row.0)) == Some(stats),
-                None => false,
-            };
+/// Whether the core has this line, in a house of so many cores.
+fn tells_core(alloc: Global, journal: &Journal<u64>, cores: u8, row: &CoreRow) -> bool {
+    match core_stats(alloc, journal, cores) {
+        Ok(stats) => is_core_row(&stats, row),
+        Err(_) => false,
     }
-    let last = queues.len().min(255) as u8;
-    Ok(right && queue_stats(alloc, journal, QueueNo(last))?.is_none())
+}
+
+/// Whether a queue has this line, and the sums of the whole journal say so too.
+fn tells_queue(alloc: Global, journal: &Journal<u64>, sums: &Sums, row: &QueueRow) -> bool {
+    match queue_stats(alloc, journal, QueueNo(row.0)) {
+        Ok(Some(stats)) => {
+            is_row(&stats, row) && sums.queue_stats(QueueNo(row.0)) == Some(stats)
+        }
+        _ => false,
+    }
+}
+
+/// Whether there is no such queue.
+fn has_no_queue(alloc: Global, journal: &Journal<u64>, queue: u8) -> bool {
+    matches!(queue_stats(alloc, journal, QueueNo(queue)), Ok(None))
+}
+
+/// Whether the journal has these lines of queues, and no further queue.
+fn tells_queues(alloc: Global, journal: &Journal<u64>, row: &Row) -> bool {
+    let Ok(sums) = Sums::of(alloc, journal) else {
+        return false;
+    };
+    tells_queue(alloc, journal, &sums, &row.3)
+        && if row.4.0 == 0 {
+            has_no_queue(alloc, journal, 1)
+        } else {
+            tells_queue(alloc, journal, &sums, &row.4) && has_no_queue(alloc, journal, 2)
+        }
+}
+
+/// Whether the journal of a row has its lines.
+fn tells(alloc: Global, row: &Row) -> bool {
+    match scene_of(alloc, row.0) {
+        Ok(journal) => {
+            tells_core(alloc, &journal, row.1, &row.2) && tells_queues(alloc, &journal, row)
+        }
+        Err(_) => false,
+    }
+}
+
+/// The number of rows before the first that isn't told so.
+fn rows_told(alloc: Global, rows: &[Row]) -> usize {
+    let mut told: usize = 0;
+    for row in rows {
+        if !tells(alloc, row) {
+            return told;
+        }
+        told = told.saturating_add(1);
+    }
+    told
 }
 
 #[test]
-fn two_queues_share(rt: HostRuntime) -> Result<(), Fail> {
-    let journal = two_queues(rt.alloc())?;
-    let core = (6, 120, 0, false);
-    let queues = [(0, 1000, 3, 90, 90, 0, 1, 0), (1, 500, 3, 90, 180, 0, 1, 0)];
-    let right = tells(rt.alloc(), &journal, 1, &core, &queues)?;
-    assert!(rt; right);
-    Ok(())
+fn journals_have_their_lines(rt: HostRuntime) {
+    assert_eq!(rt; rows_told(rt.alloc(), &ROWS), 5);
+}
+
+/// Whether a core of two that is closed is drained in a house of two, and not in one of three.
+fn drained_of_two(alloc: Global) -> bool {
+    match scene_of(alloc, Scene::ClosedCore) {
+        Ok(journal) => matches!(core_stats(alloc, &journal, 3), Ok(stats) if !stats.drained),
+        Err(_) => false,
+    }
 }
 
 #[test]
-fn a_closed_core_is_drained(rt: HostRuntime) -> Result<(), Fail> {
-    let journal = closed_core(rt.alloc())?;
-    let core = (2, 5, 0, true);
-    let queues = [(0, 1000, 2, 10, 10, 0, 2, 0)];
-    let right = tells(rt.alloc(), &journal, 2, &core, &queues)?;
-    let more_cores = core_stats(rt.alloc(), &journal, 3)?;
-    assert!(rt; right && !more_cores.drained);
-    Ok(())
-}
-
-#[test]
-fn jobs_that_go_back_at_delivery_are_not_returned(rt: HostRuntime) -> Result<(), Fail> {
-    let journal = handed_back(rt.alloc())?;
-    let core = (3, 20, 0, false);
-    let queues = [(0, 1000, 0, 0, 0, 0, 0, 0), (1, 1000, 3, 20, 20, 0, 0, 2)];
-    let right = tells(rt.alloc(), &journal, 1, &core, &queues)?;
-    assert!(rt; right);
-    Ok(())
-}
-
-#[test]
-fn a_job_that_is_out_does_not_wait(rt: HostRuntime) -> Result<(), Fail> {
-    let journal = one_out(rt.alloc())?;
-    let core = (2, 10, 3, false);
-    let queues = [(0, 1000, 2, 10, 10, 2, 0, 0)];
-    let right = tells(rt.alloc(), &journal, 1, &core, &queues)?;
-    assert!(rt; right);
-    Ok(())
-}
-
-#[test]
-fn fewer_shares_cost_more(rt: HostRuntime) -> Result<(), Fail> {
-    let journal = fewer_shares(rt.alloc())?;
-    let core = (2, 30, 0, false);
-    let queues = [(0, 250, 2, 60, 150, 0, 1, 0)];
-    let right = tells(rt.alloc(), &journal, 1, &core, &queues)?;
-    let greatest = greatest_turn(rt.alloc(), &journal, QueueNo(0))?;
-    assert!(rt; right && greatest == 120);
-    Ok(())
+fn a_core_of_more_is_not_drained(rt: HostRuntime) {
+    assert!(rt; drained_of_two(rt.alloc()));
 }
 
 /// Queue, two places, and what the queue gained between them.
 type GainRow = (u8, usize, usize, u128);
 
 /// The polls of queue 0 are settled at the places 7, 13 and 16, those of queue 1 at 10, 19 and 22.
-const GAINS: [GainRow; 10] = [
+static GAINS: [GainRow; 10] = [
     (0, 0, 23, 90),
     (1, 0, 23, 180),
     (0, 7, 8, 30),
@@ -120,17 +165,49 @@ const GAINS: [GainRow; 10] = [
     (1, 20, 100, 60),
 ];
 
-#[test]
-fn gains_between_places(rt: HostRuntime) -> Result<(), Fail> {
-    let journal = two_queues(rt.alloc())?;
-    for row in GAINS.iter() {
-        let (queue, from, to, wanted) = *row;
-        let gain = gained(rt.alloc(), &journal, QueueNo(queue), from, to)?;
-        assert!(rt; gain == wanted);
+/// The number of rows before the first that isn't gained so.
+fn rows_gained(alloc: Global, journal: &Journal<u64>, rows: &[GainRow]) -> usize {
+    let mut right: usize = 0;
+    for row in rows {
+        if gained(alloc, journal, QueueNo(row.0), row.1, row.2) != Ok(row.3) {
+            return right;
+        }
+        right = right.saturating_add(1);
     }
-    let first = greatest_turn(rt.alloc(), &journal, QueueNo(0))?;
-    let second = greatest_turn(rt.alloc(), &journal, QueueNo(1))?;
-    let third = greatest_turn(rt.alloc(), &journal, QueueNo(2))?;
-    assert!(rt; first == 30 && second == 60 && third == 0);
-    Ok(())
+    right
+}
+
+fn is_greatest(alloc: Global, journal: &Journal<u64>, queue: u8, charge: u64) -> bool {
+    greatest_turn(alloc, journal, QueueNo(queue)) == Ok(charge)
+}
+
+/// Whether these are the greatest charges of the two queues, and of one that isn't there.
+fn are_greatest(alloc: Global, journal: &Journal<u64>) -> bool {
+    is_greatest(alloc, journal, 0, 30)
+        && is_greatest(alloc, journal, 1, 60)
+        && is_greatest(alloc, journal, 2, 0)
+}
+
+fn gains_right(alloc: Global) -> bool {
+    match scene_of(alloc, Scene::TwoQueues) {
+        Ok(journal) => rows_gained(alloc, &journal, &GAINS) == 10 && are_greatest(alloc, &journal),
+        Err(_) => false,
+    }
+}
+
+#[test]
+fn gains_between_places(rt: HostRuntime) {
+    assert!(rt; gains_right(rt.alloc()));
+}
+
+fn costs_more(alloc: Global) -> bool {
+    match scene_of(alloc, Scene::FewerShares) {
+        Ok(journal) => is_greatest(alloc, &journal, 0, 120),
+        Err(_) => false,
+    }
+}
+
+#[test]
+fn fewer_shares_cost_more(rt: HostRuntime) {
+    assert!(rt; costs_more(rt.alloc()));
 }

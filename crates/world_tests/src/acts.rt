@@ -129,20 +129,20 @@ pub fn event_of(rt: &impl Abort, act: &Act) -> Event<ScriptJob>
     }
 }
 
-fn told_by(reply: Reply<ScriptJob>) -> Became {
+fn told_by(reply: &Reply<ScriptJob>) -> Became {
     match reply {
         Reply::Sent(_) => Became::Sent,
-        Reply::NotSent(SendError::Closed(_, count)) => Became::Closed(count),
+        Reply::NotSent(SendError::Closed(_, count)) => Became::Closed(*count),
         Reply::NotSent(SendError::Full(_)) => Became::Full,
         Reply::Noted => Became::Noted,
         Reply::Empty => Became::Empty,
         Reply::Idle => Became::Idle,
         Reply::NotClosed => Became::NotClosed,
         Reply::AlreadyShut => Became::AlreadyShut,
-        Reply::Collected(count) => Became::Collected(count),
-        Reply::Redeemed(Outcome::Finished(answer)) => Became::Redeemed(answer),
+        Reply::Collected(count) => Became::Collected(*count),
+        Reply::Redeemed(Outcome::Finished(answer)) => Became::Redeemed(*answer),
         Reply::Detached => Became::Detached,
-        Reply::NoTicket(error) => Became::NoTicket(error),
+        Reply::NoTicket(error) => Became::NoTicket(*error),
         Reply::NoActor(_) => Became::NoActor,
         Reply::NoRoom(_) => Became::NoRoom,
         _ => Became::Other,
@@ -154,7 +154,7 @@ pub fn run(rt: &impl Abort, world: &mut World<ScriptJob>, row: &[(Act, Became)])
     let mut all = true;
     for (act, want) in row {
         let reply = world.step(event_of(rt, act));
-        if told_by(reply) != *want {
+        if told_by(&reply) != *want {
             all = false;
         }
     }

@@ -83,19 +83,19 @@ fn orders_a_queue(rt: &impl Abort, world: &mut World<ScriptJob>) -> bool {
     false
 }
 
-/// Whether a world goes on as before behind the orders.
-fn goes_on(rt: &impl Abort, alloc: Global) -> bool {
+/// Whether this world goes on as before behind the orders.
+fn goes_on(rt: &impl Abort, world: &mut World<ScriptJob>) -> bool {
+    run(rt, world, &BEFORE) && orders_a_queue(rt, world) && run(rt, world, &AFTER)
+}
+
+fn new_world_goes_on(rt: &impl Abort, alloc: Global) -> bool {
     match opened(alloc) {
-        Ok(mut world) => {
-            run(rt, &mut world, &BEFORE)
-                && orders_a_queue(rt, &mut world)
-                && run(rt, &mut world, &AFTER)
-        }
+        Ok(mut world) => goes_on(rt, &mut world),
         Err(_) => false,
     }
 }
 
 #[test]
 fn an_order_is_given_again(rt: HostRuntime) {
-    assert!(rt; goes_on(&rt, rt.alloc()));
+    assert!(rt; new_world_goes_on(&rt, rt.alloc()));
 }

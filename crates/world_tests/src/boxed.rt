@@ -5,7 +5,7 @@ ghost use Rattle.rt_world.specs.Opening.{HasReadyEvent};
 use crate::model::tells;
 use rt_ids::{ActorNo, CoreNo, JobId, Note, Order, QueueNo};
 use rt_jobs::{AnyJob, OnceBox, Polled, Range, Step, Task, once_job, polled_job};
-use rt_world::{Event, Reply, World};
+use rt_world::{Event, Reply, World, WorldError};
 use std::alloc::{AllocError, Global};
 use std::process::Abort;
 
@@ -123,17 +123,37 @@ fn turns(world: &mut World<AnyJob>) -> bool {
     all
 }
 
+fn seven_comes(rt: &impl Abort, alloc: Global, world: &mut World<AnyJob>) -> bool {
+    match seven(alloc) {
+        Ok(job) => comes(rt, world, job),
+        Err(_) => false,
+    }
+}
+
+fn nine_comes(rt: &impl Abort, alloc: Global, world: &mut World<AnyJob>) -> bool {
+    match nine(alloc) {
+        Ok(job) => comes(rt, world, job),
+        Err(_) => false,
+    }
+}
+
 /// Whether both jobs run to their ends in a world of one core, with these notes.
-fn run_both(rt: &impl Abort, alloc: Global) -> Option<bool> {
-    let first = seven(alloc).ok()?;
-    let second = nine(alloc).ok()?;
-    let mut world: World<AnyJob> = World::try_new(alloc, alloc, 1, 4, 100).ok()?;
-    let one = comes(rt, &mut world, first);
-    let two = comes(rt, &mut world, second);
-    Some(one && two && turns(&mut world) && tells(&world, SELF, &NOTES))
+fn run_both(rt: &impl Abort, alloc: Global, world: &mut World<AnyJob>) -> bool {
+    seven_comes(rt, alloc, world)
+        && nine_comes(rt, alloc, world)
+        && turns(world)
+        && tells(world, SELF, &NOTES)
+}
+
+fn both_run(rt: &impl Abort, alloc: Global) -> bool {
+    let opened: Result<World<AnyJob>, WorldError> = World::try_new(alloc, alloc, 1, 4, 100);
+    match opened {
+        Ok(mut world) => run_both(rt, alloc, &mut world),
+        Err(_) => false,
+    }
 }
 
 #[test]
 fn boxed_jobs_run_as_any_other(rt: HostRuntime) {
-    assert!(rt; run_both(&rt, rt.alloc()) == Some(true));
+    assert!(rt; both_run(&rt, rt.alloc()));
 }

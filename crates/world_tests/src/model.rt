@@ -22,7 +22,9 @@ pub fn after(
     cap: u16,
     row: &[(Act, Became)],
 ) -> Option<World<ScriptJob>> {
-    let mut world: World<ScriptJob> = World::try_new(alloc, alloc, cores, cap, 100).ok()?;
+    let Ok(mut world) = World::try_new(alloc, alloc, cores, cap, 100) else {
+        return None;
+    };
     if run(rt, &mut world, row) {
         Some(world)
     } else {
@@ -95,14 +97,17 @@ fn numbers_out_of_range_are_refused(rt: HostRuntime) {
 }
 
 /// Whether these events, in a world of one core with links of one place and room for 7 notes, become what stands beside them.
-fn runs_in_little_room(rt: &impl Abort, alloc: Global) -> Option<bool> {
-    let mut world: World<ScriptJob> = World::try_new(alloc, alloc, 1, 1, 7).ok()?;
-    Some(run(rt, &mut world, &CANNOT_BE))
+fn runs_in_little_room(rt: &impl Abort, alloc: Global, row: &[(Act, Became)]) -> bool {
+    let opened: Result<World<ScriptJob>, WorldError> = World::try_new(alloc, alloc, 1, 1, 7);
+    match opened {
+        Ok(mut world) => run(rt, &mut world, row),
+        Err(_) => false,
+    }
 }
 
 #[test]
 fn an_event_that_cannot_be_comes_back(rt: HostRuntime) {
-    assert!(rt; runs_in_little_room(&rt, rt.alloc()) == Some(true));
+    assert!(rt; runs_in_little_room(&rt, rt.alloc(), &CANNOT_BE));
 }
 
 #[test]
@@ -150,12 +155,14 @@ fn a_run_answers_the_journals(rt: HostRuntime) -> Result<(), Fail> {
 }
 
 /// Whether outcomes come back so, and core 0 has made one turn.
-fn outcomes_right(rt: &impl Abort, alloc: Global) -> Option<bool> {
-    let world = after(rt, alloc, 1, 1, &OUTCOMES)?;
-    Some(has_turns(&world, 0, 1) && !has_turns(&world, 1, 0))
+fn outcomes_right(rt: &impl Abort, alloc: Global, row: &[(Act, Became)]) -> bool {
+    match after(rt, alloc, 1, 1, row) {
+        Some(world) => has_turns(&world, 0, 1) && !has_turns(&world, 1, 0),
+        None => false,
+    }
 }
 
 #[test]
 fn outcomes_come_back(rt: HostRuntime) {
-    assert!(rt; outcomes_right(&rt, rt.alloc()) == Some(true));
+    assert!(rt; outcomes_right(&rt, rt.alloc(), &OUTCOMES));
 }
