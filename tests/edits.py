@@ -1,0 +1,312 @@
+"""Tries the edits of crates/NAME/edits/, which the gate does not try: the prover must refuse each.
+
+  tests/edits [--jobs N] [--gate] [--alone] [NAME..]
+  tests/edits --look [NAME..]
+
+NAME..    these crates alone; without a name every crate that has edits
+--jobs N  this many crates side by side (1 if left out; a check takes up to 4 GB)
+--gate    the edits of must-fail/ too, which the gate tries
+--alone   each edit in a check of its own, of the whole crate
+--look    proves nothing: names each edit, of must-fail/ and tested-edits/ too, that can't be applied, in a second for all.
+          The last line is 'N passed, M failed', and the status is 0 if each can be.
+
+Edits of one crate that change different functions are tried together: one check proves all the functions that they change, and
+nothing else. An edit is refused if a goal of its own function is open. Whatever isn't refused so, or changes more than the bodies
+of functions, is tried alone by `rt must-fail`, which checks the whole crate. An edit with a line 'compiler: CODE' must be refused
+by the compiler with that error, before anything is proved.
+
+Works on a copy. The libraries that were built on this machine are taken along, and the others are built.
+The last line counts the edits that were refused, those that still prove, and those that can't be applied.
+The status is 0 if all were refused, 1 if not, 2 if the words are wrong.
+"""
+import re
+import shutil
+import subprocess
+import sys
+import tempfile
+from concurrent.futures import ThreadPoolExecutor
+from pathlib import Path
+
+ROOT = Path(__file__).resolve().parent.parent
+
+# How many functions one check proves at most, so that its memory stays small.
+MOST = 12
+
+# What a proof file says of a name that an edit took away. It tells nothing of the contract.
+NAMES = re.compile(r"has no field|is not in scope|has no `|was not admitted")
+BY_NAME = "only because a proof file names what the edit took away"
+
+
+class Edit:
+    """An edit: the pairs of texts that it replaces, by file, and what was found out of it."""
+
+    def __init__(self, path):
+        self.path = path
+        self.name = path.stem
+        self.compiler = None
+        self.pairs = []
+        self.functions = set()
+        self.said = None
+        file, old = None, None
+        for line in path.read_text().split("\n"):
+            if line.startswith("file: "):
+                file = line[6:].strip()
+            elif line.startswith("compiler: "):
+                self.compiler = line[10:].strip()
+            elif line.startswith("old: "):
+                old = line[5:]
+            elif line.startswith("new:"):
+                self.pairs.append((file, old, line[4:].removeprefix(" ")))
+
+    def apply(self, folder, texts):
+        """Changes these texts by file, which are read from the crate's folder at need, or says why it can't."""
+        if not self.pairs:
+            return "it replaces nothing"
+        for file, old, new in self.pairs:
+            if not file or not old or not (folder / file).is_file():
+                return f"there is no file {file}"
+            text = texts.get(file) or (folder / file).read_text()
+            found = text.count(old)
+            if found != 1:
+                return f"its text stands {found} times in {file}: {old}"
+            texts[file] = text.replace(old, new)
+        return None
+
+
+def edits_of(crate, *kinds):
+    return [Edit(path) for kind in kinds for path in sorted((ROOT / "crates" / crate / kind).glob("*.edit"))]
+
+
+def look(crates):
+    passed, failed = 0, 0
+    for crate in crates:
+        for edit in edits_of(crate, "edits", "must-fail", "tested-edits"):
+            why = edit.apply(ROOT / "crates" / crate, {})
+            passed, failed = passed + (not why), failed + bool(why)
+            if why:
+                print(f"{edit.path.relative_to(ROOT)}: {why}")
+    print(f"{passed} passed, {failed} failed")
+    return 1 if failed else 0
+
+
+HEAD = re.compile(r"^([ \t]*)(?:pub(?:\([a-z]+\))? )?(?:const |unsafe )*fn (\w+)", re.MULTILINE)
+IMPL = re.compile(r"^impl\b([^{]*)\{", re.MULTILINE)
+
+
+def owner_of(head):
+    """The type of an `impl`, with its trait behind it, as the check names them together."""
+    flat = head.replace("->", "")
+    while "<" in flat and flat != (shorter := re.sub(r"<[^<>]*>", "", flat)):
+        flat = shorter
+    words = re.split(r"\bwhere\b", flat)[0].split(" for ")
+    trait, kind = (words[0], words[1]) if words[1:] else ("", words[0])
+    return "".join(it.strip().split("::")[-1] for it in (kind, trait))
+
+
+def function_at(file, text, place):
+    """The function whose body this place of a file is in: its module, its type with its trait, and its name. None elsewhere."""
+    found = None
+    for head in HEAD.finditer(text):
+        if head.start() > place:
+            break
+        found = head
+    if not found or not re.search(r"\{$", text[found.start() : place], re.MULTILINE):
+        return None
+    end = re.compile(rf"^{found[1]}\}}", re.MULTILINE).search(text, found.end())
+    if end and end.start() < place:
+        return None
+    owner = ""
+    if found[1]:
+        impls = [it for it in IMPL.finditer(text) if it.start() < found.start()]
+        if not impls:
+            return None
+        owner = owner_of(impls[-1][1])
+    module = [it for it in Path(file).with_suffix("").parts[1:] if it not in ("lib", "main")]
+    return "::".join(module), owner, found[2]
+
+
+def named(crate, functions, place):
+    """The one function of the check's list that stands there, by the name that the check gives it, or None."""
+    module, owner, name = place
+    end = f"::{owner}::{name}" if owner else "::".join(["", *filter(None, [module]), name])
+    fitting = [it for it in functions if f"::{it}".endswith(end)]
+    near = [it for it in fitting if f"::{it}".startswith(f"::{module}::")] if len(fitting) > 1 else fitting
+    return near[0] if len(near) == 1 else None
+
+
+def changed_functions(crate, edit, folder, functions):
+    """The functions whose bodies an edit changes. None if it changes anything else."""
+    found = set()
+    for file, old, _ in edit.pairs:
+        text = (folder / file).read_text()
+        place = text.find(old)
+        at = file.startswith("src/") and place >= 0 and function_at(file, text, place + len(old) - len(old.lstrip()))
+        name = at and named(crate, functions, at)
+        if not name:
+            return None
+        found.add(name)
+    return found
+
+
+class Copy:
+    """A crate in a copy of the repository, in which its edits are tried."""
+
+    def __init__(self, crate, room):
+        self.crate = crate
+        self.top = room / crate
+        leave = shutil.ignore_patterns(".git", "out", "benches", "edits", "must-fail", "tested-edits")
+        shutil.copytree(ROOT, self.top, ignore=leave)
+        self.folder = self.top / "crates" / crate
+
+    def rt(self, *words):
+        said = subprocess.run(["rt", *words], cwd=self.folder, stdin=subprocess.DEVNULL, capture_output=True, text=True, errors="replace")
+        return (said.stdout + said.stderr).split("\n")
+
+    def with_edits(self, edits, *words):
+        """What rt says of the crate with these edits."""
+        texts = {}
+        for edit in edits:
+            edit.apply(self.folder, texts)
+        were = {file: (self.folder / file).read_text() for file in texts}
+        try:
+            for file, text in texts.items():
+                (self.folder / file).write_text(text)
+            return self.rt(*words)
+        finally:
+            for file, text in were.items():
+                (self.folder / file).write_text(text)
+
+    def alone(self, edits):
+        """Tries each edit alone, by `rt must-fail`."""
+        (self.folder / "must-fail").mkdir(exist_ok=True)
+        for edit in edits:
+            shutil.copy(edit.path, self.folder / "must-fail")
+        said = self.rt("must-fail", self.crate)
+        for edit in edits:
+            mark = f"must-fail {self.crate}/{edit.path.name}: "
+            edit.said = next((it.split(mark)[1] for it in said if mark in it), "NOT TRIED: " + " ".join(said[-4:]))
+        shutil.rmtree(self.folder / "must-fail")
+
+
+def goal_of(crate, function, said):
+    """What a check said of an open goal of this function, or else of a name that its proof misses. Nothing if it is proved."""
+    line = next((it for it in said if re.match(rf"fn {crate}::{re.escape(function)}: (?:not proved|no proof)", it)), None)
+    if not line:
+        return None
+    # The check names the goals that have no answer.
+    open_ = re.search(r"did not prove (.*)", line)
+    if open_:
+        return f"refused: {function}: not proved: {open_[1][:120]}"
+    *path, name = function.split("::")
+    proof = re.compile(rf"(?:\./)?proofs/{'/'.join([*map(re.escape, path), ''])}\+?{re.escape(name)}/\S+ error: (.*)")
+    errors = [it[1] for it in map(proof.match, said) if it]
+    goal = next((it for it in errors if not NAMES.search(it)), None)
+    if goal:
+        return f"refused: {function}: {goal[:120]}"
+    return f"refused ({BY_NAME}): {function}: {errors[0][:120]}" if errors else None
+
+
+def judge(copy, edits):
+    """Tries edits of different functions in one check. Those that it doesn't refuse are left for a try alone."""
+    words = [word for edit in edits for function in sorted(edit.functions) for word in ("--only", function)]
+    said = copy.with_edits(edits, "check", "--jobs", "1", *words)
+    if not any(it.startswith("only=") for it in said):
+        # An edit that the compiler refuses takes the others along.
+        half = len(edits) // 2
+        for part in (edits[:half], edits[half:]) if half else ():
+            judge(copy, part)
+        return
+    for edit in edits:
+        goals = [it for it in (goal_of(copy.crate, function, said) for function in sorted(edit.functions)) if it]
+        edit.said = next((it for it in goals if BY_NAME not in it), goals[0] if goals else None)
+
+
+def batches(edits):
+    """The edits in groups, no two of which change one function."""
+    found = []
+    for edit in edits:
+        for group in found:
+            taken = set().union(*(it.functions for it in group))
+            if not taken & edit.functions and len(taken | edit.functions) <= MOST:
+                group.append(edit)
+                break
+        else:
+            found.append([edit])
+    return found
+
+
+def by_compiler(copy, edit):
+    said = copy.with_edits([edit], "check", "--only", "")
+    error = next((it for it in said if f"error[{edit.compiler}]" in it), None)
+    edit.said = f"refused: {error[:160]}" if error else f"NOT REFUSED by the compiler: no error[{edit.compiler}]"
+
+
+def try_crate(crate, kinds, each_alone, room):
+    """Tries the edits of a crate, and answers them."""
+    edits = edits_of(crate, *kinds)
+    folder = ROOT / "crates" / crate
+    for edit in edits:
+        why = edit.apply(folder, {})
+        edit.said = why and f"BAD EDIT: {why}"
+    left = [it for it in edits if not it.said]
+    copy = Copy(crate, room)
+    for edit in [it for it in left if it.compiler]:
+        by_compiler(copy, edit)
+    left = [it for it in left if not it.compiler]
+    if not each_alone and left:
+        said = copy.rt("check", "--jobs", "1")
+        functions = [it[1] for it in (re.match(rf"fn {crate}::(\S+): proved", line) for line in said) if it]
+        for edit in left:
+            edit.functions = changed_functions(crate, edit, folder, functions)
+        for group in batches([it for it in left if it.functions]):
+            judge(copy, group)
+    left = [it for it in left if not it.said]
+    if left:
+        copy.alone(left)
+    shutil.rmtree(copy.top, ignore_errors=True)
+    for edit in edits:
+        print(f"{crate}/{edit.name}: {edit.said}", flush=True)
+    return edits
+
+
+def stop(why):
+    print(why, file=sys.stderr)
+    sys.exit(2)
+
+
+def main(words):
+    jobs, kinds, each_alone, is_look, names = 1, ["edits"], False, False, []
+    while words:
+        word = words.pop(0)
+        if word == "--jobs" and words and words[0].isdigit() and int(words[0]):
+            jobs = int(words.pop(0))
+        elif word == "--gate":
+            kinds = ["edits", "must-fail"]
+        elif word == "--alone":
+            each_alone = True
+        elif word == "--look":
+            is_look = True
+        elif word.startswith("-"):
+            stop(__doc__.strip())
+        else:
+            names.append(word)
+    here = sorted(it.name for it in (ROOT / "crates").iterdir())
+    for name in names:
+        if name not in here:
+            stop(f"tests/edits: no crate {name}")
+    if is_look:
+        return look(names or here)
+    crates = names or [it for it in here if edits_of(it, *kinds)]
+    with tempfile.TemporaryDirectory() as room, ThreadPoolExecutor(jobs) as pool:
+        tried = [edit for it in pool.map(lambda crate: try_crate(crate, kinds, each_alone, Path(room)), crates) for edit in it]
+    refused = sum(it.said.startswith("refused") for it in tried)
+    proved = sum(it.said.startswith("NOT REFUSED") for it in tried)
+    by_name = sum(BY_NAME in it.said for it in tried)
+    if by_name:
+        print(f"of these, refused by a name alone: {by_name}")
+    print(f"{refused} refused, {proved} proved, {len(tried) - refused - proved} not applied")
+    return 0 if refused == len(tried) else 1
+
+
+if __name__ == "__main__":
+    sys.exit(main(sys.argv[1:]))
