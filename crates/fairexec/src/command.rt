@@ -21,10 +21,10 @@ pub const JOURNAL: &str = "journal";
 /// The flag by which a run prints its statistics.
 pub const STATS: &str = "stats";
 
-/// The version of the program, and behind it the toolchain that proved it.
+/// The version of the program, and behind it the logic of the toolchain that proved it.
 const VERSION: &str = "\
 0.3.0
-proved with rattle-kit-13b logic dac8208d650f15bf";
+proved with Rattle, logic dac8208d650f15bf";
 
 /// What follows the options in the help of the program.
 const AFTER_HELP: &str = "\
