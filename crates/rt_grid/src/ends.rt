@@ -8,6 +8,12 @@ use rt_ring::{RingIn, RingOut};
 use std::alloc::{AllocError, Global};
 use std::marker::Model;
 
+/// So many ends more than an actor has find room behind its own, 128 bytes and more.
+///
+/// An actor writes to its ends at each step, from a thread of its own. Had another actor's lists begun on the same cache line, or on the
+/// one that a processor fetches along with it, each of the two would take that line from the other again and again.
+const APART: usize = 2;
+
 /// One actor's ends of the links, by the number of the actor at the other side. They may go to any thread.
 ///
 /// The outside actor receives from nobody, so it has no `ins`.
@@ -33,15 +39,15 @@ impl<J: Task> Ends<J> {
     pub(crate) fn bare(
         alloc: Global,
         number: ActorNo,
-        outs: usize,
-        ins: usize,
+        outs: u8,
+        ins: u16,
     ) -> Result<Self, AllocError>
         ensures { IfOk result (λ ends. ends ≡ record { number = number; outs = []; ins = [] }) }
     {
         Ok(Ends {
             number,
-            outs: Vec::with_capacity(alloc, outs)?,
-            ins: Vec::with_capacity(alloc, ins)?,
+            outs: Vec::with_capacity(alloc, outs as usize + APART)?,
+            ins: Vec::with_capacity(alloc, ins as usize + APART)?,
         })
     }
 

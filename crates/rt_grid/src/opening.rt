@@ -55,11 +55,11 @@ fn bare<J: Task>(alloc: Global, cores: u8, cap: u16) -> Result<Vec<Ends<J>>, All
     ensures { IfOk result (λ all. IsOpening cores cap 0 0 all.items) }
 {
     let _ = cap;
-    let count = cores as usize + 1;
-    let mut all = Vec::with_capacity(alloc, count)?;
+    let count = cores as u16 + 1;
+    let mut all = Vec::with_capacity(alloc, count as usize)?;
     for number in 0..count {
-        let ins = if number < cores as usize { count } else { 0 };
-        all.push(Ends::bare(alloc, ActorNo(number as u8), cores as usize, ins)?)?;
+        let ins = if number < cores as u16 { count } else { 0 };
+        all.push(Ends::bare(alloc, ActorNo(number as u8), cores, ins)?)?;
     }
     Ok(all)
 }
