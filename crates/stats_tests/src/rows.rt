@@ -19,6 +19,7 @@ type Row = (Scene, u8, CoreRow, QueueRow, QueueRow);
 const NONE: QueueRow = (0, 0, 0, 0, 0, 0, 0, 0);
 
 static ROWS: [Row; 5] = [
+    // Two queues share.
     (
         Scene::TwoQueues,
         1,
@@ -26,6 +27,7 @@ static ROWS: [Row; 5] = [
         (0, 1000, 3, 90, 90, 0, 1, 0),
         (1, 500, 3, 90, 180, 0, 1, 0),
     ),
+    // A closed core is drained.
     (
         Scene::ClosedCore,
         2,
@@ -33,6 +35,7 @@ static ROWS: [Row; 5] = [
         (0, 1000, 2, 10, 10, 0, 2, 0),
         NONE,
     ),
+    // A job that goes back at its delivery isn't returned.
     (
         Scene::HandedBack,
         1,
@@ -40,6 +43,7 @@ static ROWS: [Row; 5] = [
         (0, 1000, 0, 0, 0, 0, 0, 0),
         (1, 1000, 3, 20, 20, 0, 0, 2),
     ),
+    // A job that is out doesn't wait.
     (
         Scene::OneOut,
         1,
@@ -47,6 +51,7 @@ static ROWS: [Row; 5] = [
         (0, 1000, 2, 10, 10, 2, 0, 0),
         NONE,
     ),
+    // Fewer shares cost more.
     (
         Scene::FewerShares,
         1,
@@ -135,8 +140,8 @@ fn journals_have_their_lines(rt: HostRuntime) {
     assert_eq!(rt; rows_told(rt.alloc(), &ROWS), 5);
 }
 
-/// Whether a core of two that is closed is drained in a house of two, and not in one of three.
-fn drained_of_two(alloc: Global) -> bool {
+/// Whether the closed core of a house of two, which is drained there, isn't drained in a house of three.
+fn waits_for_more(alloc: Global) -> bool {
     match scene_of(alloc, Scene::ClosedCore) {
         Ok(journal) => matches!(core_stats(alloc, &journal, 3), Ok(stats) if !stats.drained),
         Err(_) => false,
@@ -145,7 +150,7 @@ fn drained_of_two(alloc: Global) -> bool {
 
 #[test]
 fn a_core_of_more_is_not_drained(rt: HostRuntime) {
-    assert!(rt; drained_of_two(rt.alloc()));
+    assert!(rt; waits_for_more(rt.alloc()));
 }
 
 /// Queue, two places, and what the queue gained between them.
