@@ -13,8 +13,7 @@ use Rattle.rt_world.proofs.DeterminedRefusals.{refused-earlier, refused-later, e
 use Rattle.rt_world.proofs.DeterminedSends.{sends_once}
 use Rattle.rt_world.proofs.DeterminedDeliveries.{delivers_once}
 use Rattle.rt_world.proofs.DeterminedTurns.{turns_once}
-use Rattle.rt_world.proofs.DeterminedShuts.{shuts_once}
-use Rattle.rt_world.proofs.DeterminedTickets.{collects_once, redeems_once, detaches_once}
+use Rattle.rt_world.proofs.DeterminedTickets.{collects_once, redeems_once, detaches_once, shuts_once}
 
 module _ {J : Type 0} (same : J → J → Type 0) (made : J → ℕ) (polls : Owed J ℕ) (answers : J → ℕ → Type 0) where
   module _ (event : Event J) (old new : WorldView J ℕ) (answer : Reply J) where

@@ -1,4 +1,4 @@
--- What a sender does with its outcomes has one result, except for how far a job got that comes back.
+-- What a sender does with its outcomes, and the shutting of a gate, have one result, except for how far a job got that comes back.
 use Rattle.std.proofs.Common.{◌≡◌, ℕ, refl, sym, ◌∙◌, ap, subst, inl, inr, [], ◌∷◌}
 use Rattle.std.specs.Option.{IsSome}
 use Rattle.std.specs.Prelude.{is_some}
@@ -13,6 +13,7 @@ use Rattle.rt_ids.specs.Collecting.{IsRedeemable, IsDetachable}
 use Rattle.rt_ids.specs.Outcomes.{outcome_note}
 use Rattle.rt_ids.proofs.Collected.{nothing_collected_under}
 use Rattle.rt_world.specs.declared.event.Reply.TheVariants as reply
+use Rattle.rt_world.specs.Closings.{Shuts}
 use Rattle.rt_world.specs.Collections.{WasAccepted, RefusesTicket, Collects, Detaches, Redeems}
 use Rattle.rt_world.specs.Determined.{AreAlike}
 
@@ -98,3 +99,21 @@ module _ {J : Type 0} (same : J → J → Type 0) (answers : J → ℕ → Type 
   redeems_once (reply.NoTicket error) (reply.NoTicket other_error) first second = (first.1 ∙ sym second.1, inl (ap reply.NoTicket (refused_once name its error other_error first.0 second.0)))
   redeems_once (reply.NoTicket error) _ first second = absurd second
   redeems_once _ _ first second = absurd first
+
+module _ {J T : Type 0} (core sender : ℕ) (old new other : WorldView J T) where
+  -- shutting a gate has one result
+  pub shuts_once : (answer other_answer : Reply J) → Shuts core sender old new answer → Shuts core sender old other other_answer →
+      (new ≡ other) × (answer ≡ other_answer)
+  shuts_once reply.Noted reply.Noted first second = (first.2 ∙ sym second.2, refl)
+  shuts_once reply.Noted reply.NotClosed first second = absurd (none_there _ first.0 second.0)
+  shuts_once reply.Noted reply.AlreadyShut first second = absurd (none_there _ second.1 first.1)
+  shuts_once reply.NotClosed reply.Noted first second = absurd (none_there _ second.0 first.0)
+  shuts_once reply.NotClosed reply.NotClosed first second = (first.1 ∙ sym second.1, refl)
+  shuts_once reply.NotClosed reply.AlreadyShut first second = absurd (none_there _ second.0 first.0)
+  shuts_once reply.AlreadyShut reply.Noted first second = absurd (none_there _ first.1 second.1)
+  shuts_once reply.AlreadyShut reply.NotClosed first second = absurd (none_there _ first.0 second.0)
+  shuts_once reply.AlreadyShut reply.AlreadyShut first second = (first.2 ∙ sym second.2, refl)
+  shuts_once reply.Noted _ first second = absurd second
+  shuts_once reply.NotClosed _ first second = absurd second
+  shuts_once reply.AlreadyShut _ first second = absurd second
+  shuts_once _ _ first second = absurd first

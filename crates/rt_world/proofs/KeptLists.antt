@@ -1,14 +1,15 @@
--- Each event keeps how many journals there are, and how many lists of orders.
-use Rattle.std.proofs.Common.{append_assoc, ◌≡◌, ℕ, List, [], ◌∷◌, ◌++◌, length, refl, sym, ◌∙◌, ap, subst, ◌⊎◌, inl, inr, ⊎_elim, get_or, set}
+-- What each event leaves: as many journals and lists of orders as before, each journal behind what it got, and no refusal told, if no queue is ordered.
+use Rattle.std.proofs.Common.{append_assoc, ◌≡◌, ℕ, ◌+◌, false, List, [], ◌∷◌, ◌++◌, length, refl, sym, ◌∙◌, ap, subst, inl, inr, ⊎_elim, get_or, set}
 use Rattle.std.specs.Prelude.{unwrap_or}
-use Rattle.std.proofs.lemmas.Bool.{cases_eq, cases_lt}
-use Rattle.std.proofs.lemmas.List.{length-set, get_or-set_same, get_or-set_other, set_past}
-use Rattle.rt_world.proofs.Words.{JobId, Note, Order, Journal, Owed, Event, Reply, WorldView, journal_at, noted, Happens}
+use Rattle.std.proofs.lemmas.List.{length-set}
+use Rattle.rt_world.proofs.Words.{Some, slice_get, JobId, Note, Order, Journal, Owed, Event, Reply, WorldView, journal_at, noted, Happens}
 use Rattle.rt_ids.specs.declared.note.Note.TheVariants as writes
+use Rattle.rt_ids.specs.declared.order.Order.TheVariants.{Create}
 use Rattle.rt_ids.specs.declared.order.Reason.{Reason}
 use Rattle.rt_ids.specs.declared.names.TicketError.TheVariants.{Unknown, Gone}
 use Rattle.rt_ids.specs.declared.order.SendError.TheVariants.{Closed, Full, Spent}
-use Rattle.rt_ids.specs.Filters.{accepted_orders}
+use Rattle.rt_ids.specs.Filters.{accepted_orders, name_started}
+use Rattle.rt_ids.specs.Journal.{is_told}
 use Rattle.rt_ids.specs.Outcomes.{outcome_note}
 use Rattle.rt_jobs.specs.Calls.{Call, Makes}
 use Rattle.rt_jobs.specs.Calls.Call.{Submit, Redeem as RedeemCall, Detach as DetachCall}
@@ -16,36 +17,30 @@ use Rattle.rt_world.specs.declared.event.Event.TheVariants.{Send, Deliver, Turn,
 use Rattle.rt_world.specs.declared.event.Reply.TheVariants as reply
 use Rattle.rt_world.specs.State.{without_job, sent_at, with_sent}
 use Rattle.rt_world.specs.Sends.{Sends, sent_reply}
-use Rattle.rt_world.specs.Deliveries.{Delivers}
+use Rattle.rt_world.specs.Deliveries.{Delivers, next_place}
 use Rattle.rt_world.specs.Calls.{CallsAt}
 use Rattle.rt_world.specs.Turns.{pick_notes, settle_note, Turns}
 use Rattle.rt_world.specs.Closings.{Shuts}
 use Rattle.rt_world.specs.Collections.{collected_notes, uncollected, Collects, Redeems, Detaches, redeemed_reply, detached_reply}
 use Rattle.rt_world.specs.Runs.{Steps}
 use Rattle.rt_world.specs.Opening.{HasAllLists}
+use Rattle.rt_world.specs.Determined.{tells_refusal}
+use Rattle.rt_world.specs.Creations.{IsNoCreation, OrdersNoQueue, CallNoQueues, PollsOrderNone}
+use Rattle.rt_world.proofs.Places.{set_or, set_each}
+use Rattle.rt_world.proofs.PlainNotes.{last_or, plain_after, collected_plain, pick_plain, settle_plain, delivery_plain, no_creation}
 
 -- as many rows as before, each as long as before
-pub record KeepsRows {A : Type 0} (old new : List (List A)) : Type 0 where
-  pub same_count : length new ≡ length old
-  pub same_rows : (place : ℕ) → length (get_or new place []) ≡ length (get_or old place [])
-
-pub same_rows : {A : Type 0} (rows : List (List A)) → KeepsRows rows rows
-same_rows rows = record { same_count = refl; same_rows = λ place. refl }
+record KeepsRows {A : Type 0} (old new : List (List A)) : Type 0 where
+  same_count : length new ≡ length old
+  same_rows : (place : ℕ) → length (get_or new place []) ≡ length (get_or old place [])
 
 -- a row is replaced by one that is as long
-pub KeepsRows-set : {A : Type 0} (rows : List (List A)) (row : ℕ) (items : List A) → length items ≡ length (get_or rows row []) → KeepsRows rows (set rows row items)
+KeepsRows-set : {A : Type 0} (rows : List (List A)) (row : ℕ) (items : List A) → length items ≡ length (get_or rows row []) → KeepsRows rows (set rows row items)
 KeepsRows-set rows row items same = record {
   same_count = length-set rows row items;
-  same_rows = λ place. ⊎_elim (here place) (λ other. ap length (get_or-set_other rows row place items [] other)) (cases_eq place row);
+  same_rows = λ place.
+      ⊎_elim (λ here. ap length here.1 ∙ (same ∙ ap (λ at. length (get_or rows at [])) (sym here.0))) (λ other. ap length other) (set_or rows row items place []);
 }
-  where
-    here : (place : ℕ) → place ≡ row → length (get_or (set rows row items) place []) ≡ length (get_or rows place [])
-    here place is =
-        subst (λ at. length (get_or (set rows row items) at []) ≡ length (get_or rows at [])) (sym is)
-        (
-        ⊎_elim (λ within. ap length (get_or-set_same rows row items [] within) ∙ same) (λ past. ap (λ all. length (get_or all row [])) (set_past rows row items past))
-        (cases_lt row (length rows))
-        )
 
 -- the notes of a turn that hands a job back, the newest first
 abbrev pub back_notes : {T : Type 0} → JobId → Reason → ℕ → ℕ → List (Note T)
@@ -55,151 +50,159 @@ back_notes name reason queue runtime = writes.Returned name reason ∷ writes.Pi
 abbrev pub Extends : {T : Type 0} → List (Journal T) → List (Journal T) → Type 0
 Extends {T} old new = (core : ℕ) → (notes : Journal T) × (get_or new core [] ≡ notes ++ get_or old core [])
 
--- a journal that got some notes has its old ones behind them
-pub extends-set : {T : Type 0} (journals : List (Journal T)) (actor : ℕ) (notes : List (Note T)) → Extends journals (set journals actor (notes ++ get_or journals actor []))
-extends-set journals actor notes core =
-    ⊎_elim
-    (
-    λ here.
-    ⊎_elim
-    (
-    λ within. (
-      notes,
-      ap (λ at. get_or (set journals actor (notes ++ get_or journals actor [])) at []) here
-          ∙ (get_or-set_same journals actor (notes ++ get_or journals actor []) [] within ∙ ap (λ at. notes ++ get_or journals at []) (sym here)),
-    )
-    )
-    (λ past. ([], ap (λ all. get_or all core []) (set_past journals actor (notes ++ get_or journals actor []) past))) (cases_lt actor (length journals))
-    )
-    (λ other. ([], get_or-set_other journals actor core (notes ++ get_or journals actor []) [] other)) (cases_eq core actor)
+-- no order of a link is for a new queue
+abbrev pub OrderNone : {J : Type 0} → List (Order J) → Type 0
+OrderNone orders = (place weight : ℕ) → slice_get orders place ≡ Some (Create weight) → ⊥
 
-module _ {J T : Type 0} where
-  -- one journal is longer by some notes, and there are as many lists of orders as before
-  pub record IsLonger (old new : WorldView J T) : Type 0 where
-    pub actor : ℕ
-    pub notes : List (Note T)
-    pub sent : List (List (List (Order J)))
-    pub kept : KeepsRows old.sent sent
-    pub is : new ≡ record (noted actor notes old) { sent = sent }
+-- no queue was ordered, and no refusal told
+pub record IsPlain {J T : Type 0} (world : WorldView J T) : Type 0 where
+  pub orders : (sender core : ℕ) → OrderNone (sent_at sender core world)
+  pub told : (actor : ℕ) → tells_refusal (journal_at actor world) ≡ false
 
-  pub keeps_lists : (old new : WorldView J T) → IsLonger old new → HasAllLists old → HasAllLists new
-  keeps_lists old new longer lists = subst (λ world. HasAllLists world) (sym longer.is) (record {
-    journals_are = length-set old.journals longer.actor (longer.notes ++ journal_at longer.actor old) ∙ lists.journals_are;
-    senders_are = longer.kept.same_count ∙ lists.senders_are;
-    links_are = λ sender there. longer.kept.same_rows sender ∙ lists.links_are sender there;
-  })
+-- some events later: each journal has its old notes behind what it got, there are as many lists as before, and no refusal is told, if the events order no queue
+pub record IsLater {J T : Type 0} (none : Type 0) (old new : WorldView J T) : Type 0 where
+  pub journals : Extends old.journals new.journals
+  pub lists : HasAllLists old → HasAllLists new
+  pub plain : none → IsPlain old → IsPlain new
 
-  -- some events later: each journal has its old notes behind what it got, and there are as many lists as before
-  pub record IsLater (old new : WorldView J T) : Type 0 where
-    pub journals : Extends old.journals new.journals
-    pub lists : HasAllLists old → HasAllLists new
+module _ {J T : Type 0} {none : Type 0} {old new : WorldView J T} where
+  later_same : new ≡ old → IsLater none old new
+  later_same same = record {
+    journals = λ actor. ([], ap (journal_at actor) same);
+    lists = λ lists. subst (λ world. HasAllLists world) (sym same) lists;
+    plain = λ orders plain. subst (λ world. IsPlain world) (sym same) plain;
+  }
 
-  pub later_same : (old new : WorldView J T) → new ≡ old → IsLater old new
-  later_same old new same = record { journals = λ actor. ([], ap (journal_at actor) same); lists = λ lists. subst (λ world. HasAllLists world) (sym same) lists }
-
-  pub later_then : (old middle new : WorldView J T) → IsLater old middle → IsLater middle new → IsLater old new
-  later_then old middle new first rest = record {
+  later_then : {middle : WorldView J T} → IsLater none old middle → IsLater none middle new → IsLater none old new
+  later_then first rest = record {
     journals = λ actor.
         let one = first.journals actor in
         let two = rest.journals actor in
         (two.0 ++ one.0, two.1 ∙ (ap (λ front. two.0 ++ front) one.1 ∙ sym (append_assoc two.0 one.0 (journal_at actor old))));
     lists = λ lists. rest.lists (first.lists lists);
+    plain = λ orders plain. rest.plain orders (first.plain orders plain);
   }
 
-  pub later_longer : (old new : WorldView J T) → IsLonger old new → IsLater old new
-  later_longer old new longer = record {
-    journals = λ actor. let more = extends-set old.journals longer.actor longer.notes actor in (more.0, ap (journal_at actor) longer.is ∙ more.1);
-    lists = keeps_lists old new longer;
-  }
+  later_if : {other : Type 0} → (none → other) → IsLater other old new → IsLater none old new
+  later_if orders later = record { journals = later.journals; lists = later.lists; plain = λ none plain. later.plain (orders none) plain }
 
-  pub later : (old new : WorldView J T) → (new ≡ old) ⊎ IsLonger old new → IsLater old new
-  later old new found = ⊎_elim (later_same old new) (later_longer old new) found
+  -- one journal is longer by some notes, and there are as many lists of orders as before
+  later_longer : (actor : ℕ) (notes : List (Note T)) (sent : List (List (List (Order J)))) → KeepsRows old.sent sent →
+      (none → IsPlain old → (tells_refusal notes ≡ false) × ((sender core : ℕ) → OrderNone (get_or (get_or sent sender []) core []))) →
+      new ≡ record (noted actor notes old) { sent = sent } → IsLater none old new
+  later_longer actor notes sent kept more is = record {
+    journals = λ core.
+        ⊎_elim (λ here. (notes, ap (journal_at core) is ∙ (here.1 ∙ ap (λ at. notes ++ journal_at at old) (sym here.0)))) (λ other. ([], ap (journal_at core) is ∙ other))
+        (set_or old.journals actor (notes ++ journal_at actor old) core []);
+    lists = λ lists. subst (λ world. HasAllLists world) (sym is) (record {
+      journals_are = length-set old.journals actor (notes ++ journal_at actor old) ∙ lists.journals_are;
+      senders_are = kept.same_count ∙ lists.senders_are;
+      links_are = λ sender there. kept.same_rows sender ∙ lists.links_are sender there;
+    });
+    plain = λ orders plain. subst (λ world. IsPlain world) (sym is) (record {
+      orders = (more orders plain).1;
+      told = λ at.
+          set_each old.journals actor (notes ++ journal_at actor old) at [] (λ journal. tells_refusal journal ≡ false)
+          (plain_after notes (journal_at actor old) (more orders plain).0 (plain.told actor)) (plain.told at);
+    });
+  }
 
   -- one journal got some notes
-  pub later_noted : (actor : ℕ) (notes : List (Note T)) (old new : WorldView J T) → new ≡ noted actor notes old → IsLater old new
-  later_noted actor notes old new is = later_longer old new (record { actor = actor; notes = notes; sent = old.sent; kept = same_rows old.sent; is = is })
+  pub later_noted : (actor : ℕ) (notes : List (Note T)) → (none → IsPlain old → tells_refusal notes ≡ false) → new ≡ noted actor notes old → IsLater none old new
+  later_noted actor notes told is =
+      later_longer actor notes old.sent (record { same_count = refl; same_rows = λ place. refl }) (λ orders plain. (told orders plain, plain.orders)) is
 
-  -- one more order of a link keeps the rows of links
-  sent_rows : (sender core : ℕ) (order : Order J) (world : WorldView J T) → KeepsRows world.sent (with_sent sender core order world)
-  sent_rows sender core order world =
-      KeepsRows-set world.sent sender (set (get_or world.sent sender []) core (sent_at sender core world ++ order ∷ []))
-      (length-set (get_or world.sent sender []) core (sent_at sender core world ++ order ∷ []))
+module _ {J T : Type 0} where
+  -- one more order of a link is for no new queue, if it is none itself
+  sent_none : (sender core : ℕ) (order : Order J) (world : WorldView J T) → IsNoCreation order → IsPlain world →
+      (from to : ℕ) → OrderNone (get_or (get_or (with_sent sender core order world) from []) to [])
+  sent_none sender core order world none plain from to =
+      let last : OrderNone (sent_at sender core world ++ order ∷ []) = λ place weight at.
+      ⊎_elim (plain.orders sender core place weight) (λ is. subst IsNoCreation is none) (last_or (sent_at sender core world) order (Create weight) place at) in
+      set_each world.sent sender (set (get_or world.sent sender []) core (sent_at sender core world ++ order ∷ [])) from [] (λ row. OrderNone (get_or row to []))
+      (set_each (get_or world.sent sender []) core (sent_at sender core world ++ order ∷ []) to [] OrderNone last (plain.orders sender to)) (plain.orders from to)
 
-  sends : (sender core : ℕ) (order : Order J) (old new : WorldView J T) (answer : Reply J) → Sends sender core order old new answer → (new ≡ old) ⊎ IsLonger old new
+  sends : (sender core : ℕ) (order : Order J) (old new : WorldView J T) (answer : Reply J) → Sends sender core order old new answer → IsLater (IsNoCreation order) old new
   sends sender core order old new (reply.Sent name) happens =
-      inr (record { actor = sender; notes = writes.Sent name (without_job order) ∷ []; sent = with_sent sender core order old; kept = sent_rows sender core order old; is = happens.2 })
-  sends sender core order old new (reply.NotSent (Closed back final)) happens = inl happens.2
-  sends sender core order old new (reply.NotSent (Full back)) happens = inl happens.2
-  sends sender core order old new (reply.NotSent (Spent back)) happens = inl happens.3
+      let orders = sent_at sender core old ++ order ∷ [] in
+      later_longer sender (writes.Sent name (without_job order) ∷ []) (with_sent sender core order old)
+      (KeepsRows-set old.sent sender (set (get_or old.sent sender []) core orders) (length-set (get_or old.sent sender []) core orders))
+      (λ none plain. (refl, sent_none sender core order old none plain)) happens.2
+  sends sender core order old new (reply.NotSent (Closed back final)) happens = later_same happens.2
+  sends sender core order old new (reply.NotSent (Full back)) happens = later_same happens.2
+  sends sender core order old new (reply.NotSent (Spent back)) happens = later_same happens.3
   sends sender core order old new _ happens = absurd happens
 
-  delivers : (core sender : ℕ) (old new : WorldView J T) (answer : Reply J) → Delivers core sender old new answer → (new ≡ old) ⊎ IsLonger old new
+  delivers : {none : Type 0} (core sender : ℕ) (old new : WorldView J T) (answer : Reply J) → Delivers core sender old new answer → IsLater none old new
   delivers core sender old new reply.Noted happens =
-      inr (record { actor = core; notes = happens.2; sent = old.sent; kept = same_rows old.sent; is = happens.4 })
-  delivers core sender old new reply.Empty happens = inl happens.1
+      let created = λ (plain : IsPlain old) (weight : ℕ) (is : happens.0 ≡ Create weight).
+      plain.orders sender core (next_place sender core old) weight (happens.1 ∙ ap (λ order. Some order) is) in
+      later_noted core happens.2
+      (λ none plain. delivery_plain (record { from = sender; to = core; number = next_place sender core old + 1 }) happens.0 (journal_at core old) happens.2 (no_creation happens.0 (created plain)) happens.3)
+      happens.4
+  delivers core sender old new reply.Empty happens = later_same happens.1
   delivers core sender old new _ happens = absurd happens
 
-  shuts : (core sender : ℕ) (old new : WorldView J T) (answer : Reply J) → Shuts core sender old new answer → (new ≡ old) ⊎ IsLonger old new
-  shuts core sender old new reply.Noted happens =
-      inr (record { actor = core; notes = writes.Shut sender (length (accepted_orders core (journal_at sender old))) ∷ []; sent = old.sent; kept = same_rows old.sent; is = happens.2 })
-  shuts core sender old new reply.NotClosed happens = inl happens.1
-  shuts core sender old new reply.AlreadyShut happens = inl happens.2
+  shuts : {none : Type 0} (core sender : ℕ) (old new : WorldView J T) (answer : Reply J) → Shuts core sender old new answer → IsLater none old new
+  shuts core sender old new reply.Noted happens = later_noted core (writes.Shut sender (length (accepted_orders core (journal_at sender old))) ∷ []) (λ none plain. refl) happens.2
+  shuts core sender old new reply.NotClosed happens = later_same happens.1
+  shuts core sender old new reply.AlreadyShut happens = later_same happens.2
   shuts core sender old new _ happens = absurd happens
 
-  collects : (sender core : ℕ) (old new : WorldView J T) (answer : Reply J) → Collects sender core old new answer → (new ≡ old) ⊎ IsLonger old new
+  collects : {none : Type 0} (sender core : ℕ) (old new : WorldView J T) (answer : Reply J) → Collects sender core old new answer → IsLater none old new
   collects sender core old new (reply.Collected count) happens =
-      inr (record { actor = sender; notes = collected_notes (uncollected sender core old); sent = old.sent; kept = same_rows old.sent; is = happens.1 })
+      later_noted sender (collected_notes (uncollected sender core old)) (λ none plain. collected_plain (uncollected sender core old)) happens.1
   collects sender core old new _ happens = absurd happens
 
-  detaches : (sender : ℕ) (name : JobId) (old new : WorldView J T) (answer : Reply J) → Detaches sender name old new answer → (new ≡ old) ⊎ IsLonger old new
-  detaches sender name old new reply.Detached happens =
-      inr (record { actor = sender; notes = writes.Detached name ∷ []; sent = old.sent; kept = same_rows old.sent; is = happens.1 })
-  detaches sender name old new (reply.NoTicket Unknown) happens = inl happens.1
-  detaches sender name old new (reply.NoTicket Gone) happens = inl happens.1
+  detaches : {none : Type 0} (sender : ℕ) (name : JobId) (old new : WorldView J T) (answer : Reply J) → Detaches sender name old new answer → IsLater none old new
+  detaches sender name old new reply.Detached happens = later_noted sender (writes.Detached name ∷ []) (λ none plain. refl) happens.1
+  detaches sender name old new (reply.NoTicket Unknown) happens = later_same happens.1
+  detaches sender name old new (reply.NoTicket Gone) happens = later_same happens.1
   detaches sender name old new _ happens = absurd happens
 
 module _ {J : Type 0} (same : J → J → Type 0) (made : J → ℕ) (polls : Owed J ℕ) (answers : J → ℕ → Type 0) where
-  redeems : (sender : ℕ) (name : JobId) (old new : WorldView J ℕ) (answer : Reply J) → Redeems same answers sender name old new answer → (new ≡ old) ⊎ IsLonger old new
-  redeems sender name old new (reply.Redeemed outcome) happens =
-      inr (record { actor = sender; notes = writes.Redeemed name (outcome_note outcome) ∷ []; sent = old.sent; kept = same_rows old.sent; is = happens.3 })
-  redeems sender name old new (reply.NoTicket error) happens = inl happens.1
+  redeems : {none : Type 0} (sender : ℕ) (name : JobId) (old new : WorldView J ℕ) (answer : Reply J) → Redeems same answers sender name old new answer → IsLater none old new
+  redeems sender name old new (reply.Redeemed outcome) happens = later_noted sender (writes.Redeemed name (outcome_note outcome) ∷ []) (λ none plain. refl) happens.3
+  redeems sender name old new (reply.NoTicket error) happens = later_same happens.1
   redeems sender name old new _ happens = absurd happens
 
-  -- what a call of a post does
-  called : (core : ℕ) (call : Call J ℕ) (old new : WorldView J ℕ) → CallsAt same answers core old call new → IsLater old new
-  called core (Submit to order answer) old new (inl none) = later_same old new none.2
-  called core (Submit to order answer) old new (inr sent) = later old new (sends core to order old new (sent_reply answer) sent.1)
-  called core (RedeemCall name answer) old new does = later old new (redeems core name old new (redeemed_reply answer) does)
-  called core (DetachCall name answer) old new does = later old new (detaches core name old new (detached_reply answer) does)
+  -- what the calls of a post do
+  called : (core : ℕ) (calls : List (Call J ℕ)) (old new : WorldView J ℕ) → Makes (CallsAt same answers core) calls old new → IsLater (CallNoQueues calls) old new
+  called core [] old new makes = later_same makes
+  called core (Submit to order answer ∷ calls) old new makes =
+      later_then (later_if (λ none. none.0) (submitted makes.1)) (later_if (λ none. none.1) (called core calls makes.0 new makes.2))
+    where
+      submitted : CallsAt same answers core old (Submit to order answer) makes.0 → IsLater (IsNoCreation order) old makes.0
+      submitted (inl none) = later_same none.2
+      submitted (inr sent) = sends core to order old makes.0 (sent_reply answer) sent.1
+  called core (RedeemCall name answer ∷ calls) old new makes = later_then (redeems core name old makes.0 (redeemed_reply answer) makes.1) (called core calls makes.0 new makes.2)
+  called core (DetachCall name answer ∷ calls) old new makes = later_then (detaches core name old makes.0 (detached_reply answer) makes.1) (called core calls makes.0 new makes.2)
 
-  all_called : (core : ℕ) (calls : List (Call J ℕ)) (old new : WorldView J ℕ) → Makes (CallsAt same answers core) calls old new → IsLater old new
-  all_called core [] old new makes = later_same old new makes
-  all_called core (call ∷ calls) old new makes = later_then old makes.0 new (called core call old makes.0 makes.1) (all_called core calls makes.0 new makes.2)
-
-  turns : (core spent : ℕ) (old new : WorldView J ℕ) (answer : Reply J) → Turns same made polls answers core spent old new answer → IsLater old new
+  turns : (core spent : ℕ) (old new : WorldView J ℕ) (answer : Reply J) → Turns same made polls answers core spent old new answer → IsLater (PollsOrderNone polls) old new
   turns core spent old new reply.Noted (inl poll) =
-      let notes = pick_notes poll.name poll.queue poll.runtime (journal_at core old) in
-      later_then old (noted core notes old) new (later_noted core notes old (noted core notes old) refl)
-      (later_then (noted core notes old) poll.posted new (all_called core poll.calls (noted core notes old) poll.posted poll.posts)
-      (later_noted core (settle_note poll.name (unwrap_or poll.told spent) poll.step ∷ []) poll.posted new poll.notes))
-  turns core spent old new reply.Noted (inr back) = later_noted core (back_notes back.name back.reason back.queue back.runtime) old new back.notes
-  turns core spent old new reply.Idle happens = later_same old new happens.1
-  turns core spent old new reply.Spent happens = later_same old new happens.2
+      let picked = pick_notes poll.name poll.queue poll.runtime (journal_at core old) in
+      later_then {middle = noted core picked old}
+      (later_noted core picked (λ none plain. pick_plain ℕ poll.name poll.queue poll.runtime (is_told name_started poll.name (journal_at core old))) refl)
+      (later_then (later_if (λ none. none _ _ _ _ _ poll.owed) (called core poll.calls (noted core picked old) poll.posted poll.posts))
+      (later_noted core (settle_note poll.name (unwrap_or poll.told spent) poll.step ∷ []) (λ none plain. settle_plain poll.name (unwrap_or poll.told spent) poll.step) poll.notes))
+  turns core spent old new reply.Noted (inr back) = later_noted core (back_notes back.name back.reason back.queue back.runtime) (λ none plain. refl) back.notes
+  turns core spent old new reply.Idle happens = later_same happens.1
+  turns core spent old new reply.Spent happens = later_same happens.2
   turns core spent old new _ happens = absurd happens
 
-  steps : (event : Event J) (old new : WorldView J ℕ) (answer : Reply J) → Steps same made polls answers event old new answer → IsLater old new
-  steps (Send sender core order) old new answer happens = later old new (sends sender core order old new answer happens)
-  steps (Deliver core sender) old new answer happens = later old new (delivers core sender old new answer happens)
-  steps (Turn core spent) old new answer happens = turns core spent old new answer happens
-  steps (Shut core sender) old new answer happens = later old new (shuts core sender old new answer happens)
-  steps (Collect sender core) old new answer happens = later old new (collects sender core old new answer happens)
-  steps (Redeem sender name) old new answer happens = later old new (redeems sender name old new answer happens)
-  steps (Detach sender name) old new answer happens = later old new (detaches sender name old new answer happens)
+  steps : (event : Event J) (old new : WorldView J ℕ) (answer : Reply J) → Steps same made polls answers event old new answer → IsLater (OrdersNoQueue event × PollsOrderNone polls) old new
+  steps (Send sender core order) old new answer happens = later_if (λ none. none.0) (sends sender core order old new answer happens)
+  steps (Deliver core sender) old new answer happens = delivers core sender old new answer happens
+  steps (Turn core spent) old new answer happens = later_if (λ none. none.1) (turns core spent old new answer happens)
+  steps (Shut core sender) old new answer happens = shuts core sender old new answer happens
+  steps (Collect sender core) old new answer happens = collects sender core old new answer happens
+  steps (Redeem sender name) old new answer happens = redeems sender name old new answer happens
+  steps (Detach sender name) old new answer happens = detaches sender name old new answer happens
 
   -- what an event leaves
-  pub is_later : (event : Event J) (old new : WorldView J ℕ) (answer : Reply J) → Happens same made polls answers event old new answer → IsLater old new
-  is_later event old new (reply.NoActor back) happens = later_same old new happens.2
-  is_later event old new (reply.NoRoom back) happens = later_same old new happens.3
+  pub is_later : (event : Event J) (old new : WorldView J ℕ) (answer : Reply J) → Happens same made polls answers event old new answer → IsLater (OrdersNoQueue event × PollsOrderNone polls) old new
+  is_later event old new (reply.NoActor back) happens = later_same happens.2
+  is_later event old new (reply.NoRoom back) happens = later_same happens.3
   is_later event old new answer happens = steps event old new answer happens.2
 
   pub happens_keep : (event : Event J) (old new : WorldView J ℕ) (answer : Reply J) → Happens same made polls answers event old new answer → HasAllLists old → HasAllLists new

@@ -29,15 +29,7 @@ module _ (journal : Journal ℕ) (queue runtime : ℕ) (at : runtime ≡ virtual
 
   -- queue 0 alone may have work
   pub right_of_one : IsLeast 0 → ((other : ℕ) → (other == 0) ≡ false → has_work other journal ≡ false) → IsRightPick queue runtime journal
-  right_of_one zero none = record {
-    at = at;
-    eligible = record { work = work; nobody_out = nobody };
-    least = λ other ready. by_test other (other == 0) refl ready.work;
-  }
-    where
-      by_test : (other : ℕ) (is_zero : Bool) → (other == 0) ≡ is_zero → has_work other journal ≡ true → KeyAtMost runtime queue (virtual_runtime other journal) other
-      by_test other true same work = subst IsLeast (sym (eqb-true other 0 same)) zero work
-      by_test other false same work = absurd (true≢false (sym work ∙ none other same))
+  right_of_one zero none = right_of_two zero (λ work. absurd (true≢false (sym work ∙ none 1 refl))) (λ other same differs. none other same)
 
 -- a turn is left after a few
 pub few_turns : (count : ℕ) → count ≤ 50 → count < 2 ^ 64 - 1
@@ -46,7 +38,3 @@ few_turns count few = omega arith
 -- a number is left after a few
 pub few_names : (number : ℕ) → number ≤ 50 → number < 2 ^ 63
 few_names number few = omega arith
-
--- the journal of an actor has room for one event
-pub some_room : (room used : ℕ) → 100 ≤ room → used ≤ 84 → room < used + 16 → ⊥
-some_room room used enough few full = omega arith

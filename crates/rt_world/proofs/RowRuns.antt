@@ -1,17 +1,34 @@
 -- A run that is written down is the only one of its events.
-use Rattle.std.proofs.Common.{◌≡◌, ℕ, ◌≤◌, Bool, true, false, List, [], ◌∷◌, inl, inr, refl, sym, ◌∙◌, ap, subst}
+use Rattle.std.proofs.Common.{◌≡◌, ℕ, ◌+◌, ◌<◌, ◌≤◌, Bool, true, false, List, [], ◌∷◌, length, inl, inr, refl, sym, ◌∙◌, ap, subst}
 use Rattle.std.specs.Prelude.{◌&&◌}
 use Rattle.std.proofs.lemmas.Bool.{true≢false, and_parts}
-use Rattle.rt_world.proofs.Words.{Journal, Event, Reply, WorldView, Happens}
+use Rattle.rt_world.proofs.Words.{None, Some, JobId, Journal, IsRightPick, Order, Event, Reply, WorldView, Happens, journal_at, noted}
+use Rattle.rt_ids.specs.declared.note.Note.TheVariants.{Sent}
+use Rattle.rt_ids.specs.declared.order.Order.TheVariants.{Job}
+use Rattle.rt_ids.specs.Commands.{return_reason}
+use Rattle.rt_ids.specs.Filters.{accepted_orders}
+use Rattle.rt_ids.specs.Lawful.{IsNextSent}
+use Rattle.rt_ids.specs.Lines.{line}
+use Rattle.rt_ids.specs.Orders.{IsSpelledOrder}
+use Rattle.rt_ids.specs.Outstanding.{outstanding_count}
+use Rattle.rt_ids.specs.Picks.{turns}
+use Rattle.rt_jobs.specs.declared.job.Step.{Step}
 use Rattle.rt_jobs.specs.Scripts.{Script}
+use Rattle.rt_jobs.specs.Steps.{IfDone}
+use Rattle.rt_world.specs.declared.event.Event.TheVariants.{Send, Turn}
 use Rattle.rt_world.specs.declared.event.Reply.TheVariants as reply
+use Rattle.rt_world.specs.Closings.{IsGateOpen}
+use Rattle.rt_world.specs.Sends.{AreThere}
+use Rattle.rt_world.specs.State.{without_job, terms_at, order_under, with_sent, IsNearlyFull}
+use Rattle.rt_world.specs.Turns.{pick_notes, polls_made, settle_note}
 use Rattle.rt_world.specs.Creations.{OrderNoQueues, with_creations}
 use Rattle.rt_world.specs.ScriptRuns.{ScriptSame, script_made, ScriptPolls, ScriptAnswers, IsScriptRun}
 use Rattle.rt_world.specs.Determined.{AreAlike, AreAllAlike}
-use Rattle.rt_world.specs.Rows.{RunsJust}
+use Rattle.rt_world.specs.Rows.{name, RunsJust}
 use Rattle.rt_world.proofs.DeterminedOpenings.{fresh_once}
 use Rattle.rt_world.proofs.DeterminedScripts.{scripts_owe_one, scripts_order_none}
 use Rattle.rt_world.proofs.NoRefusals.{jobs_once}
+use Rattle.rt_world.proofs.RowPicks.{few_turns, few_names}
 use Rattle.rt_world.proofs.UnbegunCreations.{unbegun_fresh, unbegun_creations, first_world, fresh_first}
 
 -- whether a reply is no redeemed outcome
@@ -35,23 +52,73 @@ module _ {J : Type 0} (same : J → J → Type 0) (answers : J → ℕ → Type 
       let parts = and_parts (is_plain_reply answer) (are_plain replies) plain in
       (λ i. same_reply answer alike.0 parts.0 alike.3 i ∷ same_replies replies alike.1 parts.1 alike.4 i) ∙ sym alike.2
 
--- a run of script jobs, put together event by event
-pub record Run (events : List (Event Script)) (start end : WorldView Script ℕ) (replies : List (Reply Script)) : Type 0 where
-  pub told : IsScriptRun events start end replies
-
--- one event, and then the others
-pub and_then : {event : Event Script} {events : List (Event Script)} {start end : WorldView Script ℕ} {answer : Reply Script} {replies : List (Reply Script)} (between : WorldView Script ℕ) →
-    Happens ScriptSame script_made ScriptPolls ScriptAnswers event start between answer → Run events between end replies → Run (event ∷ events) start end (answer ∷ replies)
-and_then {answer = answer} {replies = replies} between did later = record { told = (between, answer, replies, did, later.told, refl) }
-
-pub no_more : {world : WorldView Script ℕ} → Run [] world world []
-no_more = record { told = (refl, refl) }
+-- one event of script jobs
+abbrev Occurs : Event Script → WorldView Script ℕ → WorldView Script ℕ → Reply Script → Type 0
+Occurs = Happens ScriptSame script_made ScriptPolls ScriptAnswers
 
 -- a run with these replies, which ends with these journals
 pub record IsRow (start : WorldView Script ℕ) (events : List (Event Script)) (journals : List (Journal ℕ)) (replies : List (Reply Script)) : Type 0 where
   pub end : WorldView Script ℕ
-  pub run : Run events start end replies
+  pub run : IsScriptRun events start end replies
   pub ends : end.journals ≡ journals
+
+pub no_more : {world : WorldView Script ℕ} {journals : List (Journal ℕ)} → world.journals ≡ journals → IsRow world [] journals []
+no_more {world} ends = record { end = world; run = (refl, refl); ends = ends }
+
+module _ {event : Event Script} {events : List (Event Script)} {world : WorldView Script ℕ} {journals : List (Journal ℕ)} {answer : Reply Script} {replies : List (Reply Script)} where
+  -- one event, and then the others
+  and_then : (between : WorldView Script ℕ) → Occurs event world between answer → IsRow between events journals replies → IsRow world (event ∷ events) journals (answer ∷ replies)
+  and_then between did later = record { end = later.end; run = (between, answer, replies, did, later.run, refl); ends = later.ends }
+
+  -- an event that changes nothing
+  pub telling : Occurs event world world answer → IsRow world events journals replies → IsRow world (event ∷ events) journals (answer ∷ replies)
+  telling = and_then world
+
+  -- an event of which one actor makes these notes
+  pub noting : (actor : ℕ) (notes : Journal ℕ) → Occurs event world (noted actor notes world) answer → IsRow (noted actor notes world) events journals replies →
+      IsRow world (event ∷ events) journals (answer ∷ replies)
+  noting actor notes = and_then (noted actor notes world)
+
+module _ {events : List (Event Script)} {world : WorldView Script ℕ} {journals : List (Journal ℕ)} {replies : List (Reply Script)} where
+  -- an order is accepted
+  pub sending : {sender core number : ℕ} {order : Order Script} → AreThere world.cores (Send sender core order) → (IsNearlyFull sender world → ⊥) →
+      number ≡ length (accepted_orders core (journal_at sender world)) + 1 → number ≤ 50 → outstanding_count core (journal_at sender world) < world.cap →
+      IsSpelledOrder (without_job order) → IsGateOpen sender core world →
+      IsRow (record (noted sender (Sent (name sender core number) (without_job order) ∷ []) world) { sent = with_sent sender core order world }) events journals replies →
+      IsRow world (Send sender core order ∷ events) journals (reply.Sent (name sender core number) ∷ replies)
+  sending {sender = sender} {core = core} {number = number} {order = order} there room next few credit spelled open_gate =
+      let its : IsNextSent (terms_at sender world) (name sender core number) (without_job order) (journal_at sender world) =
+      record { sender = refl; receiver = there.1; next = next; in_range = few_names number few; credit = credit; spelled = spelled } in
+      and_then _ (there, room, (its, refl, refl, open_gate))
+
+  -- a job is polled, and calls nothing of its post
+  pub polling : {core spent : ℕ} (queue runtime time : ℕ) (its : JobId) (others : List JobId) (job : Script) (step : Step ℕ) →
+      core < world.cores → (IsNearlyFull core world → ⊥) → turns (journal_at core world) ≤ 50 → IsRightPick queue runtime (journal_at core world) →
+      line queue (journal_at core world) ≡ its ∷ others → return_reason queue (journal_at core world) ≡ None → order_under its world ≡ Some (Job queue job) →
+      ScriptPolls job (job.polled + polls_made its (journal_at core world)) [] step (Some time) → IfDone step (ScriptAnswers job) →
+      IsRow (noted core (settle_note its time step ∷ []) (noted core (pick_notes its queue runtime (journal_at core world)) world)) events journals replies →
+      IsRow world (Turn core spent ∷ events) journals (reply.Noted ∷ replies)
+  polling queue runtime time its others job step there room few right first kept task owed answered =
+      and_then _ (there, room, inl (record {
+        turn_left = few_turns _ few;
+        queue = queue;
+        runtime = runtime;
+        right = right;
+        name = its;
+        others = others;
+        first = first;
+        kept = kept;
+        job = job;
+        task = task;
+        calls = [];
+        step = step;
+        told = Some time;
+        owed = owed;
+        answered = answered;
+        posted = _;
+        posts = refl;
+        notes = refl;
+      }))
 
 module _ (cores cap : ℕ) (queues : List (ℕ × ℕ)) (events : List (Event Script)) (journals : List (Journal ℕ)) (replies : List (Reply Script)) (none : OrderNoQueues events) (plain : are_plain replies ≡ true)
     (row : (room : ℕ) → 100 ≤ room → IsRow (with_creations queues (first_world Script ℕ cores cap room)) events journals replies) where
@@ -60,7 +127,7 @@ module _ (cores cap : ℕ) (queues : List (ℕ × ℕ)) (events : List (Event Sc
       let same : empty ≡ first_world Script ℕ cores cap room = fresh_once cores cap room empty (first_world Script ℕ cores cap room) fresh (fresh_first Script ℕ cores cap room) in
       let found = row room enough in
       let run : IsScriptRun events (with_creations queues empty) found.end replies =
-      subst (λ world. IsScriptRun events (with_creations queues world) found.end replies) (sym same) found.run.told in
+      subst (λ world. IsScriptRun events (with_creations queues world) found.end replies) (sym same) found.run in
       record {
         end = found.end;
         run = run;

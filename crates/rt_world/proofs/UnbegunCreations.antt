@@ -9,8 +9,8 @@ use Rattle.rt_ids.specs.Commands.{IsOpening}
 use Rattle.rt_world.specs.State.{WorldView, journal_at, noted}
 use Rattle.rt_world.specs.Opening.{IsUnbegun, IsFresh}
 use Rattle.rt_world.specs.Creations.{with_creations}
-use Rattle.rt_world.proofs.KeptLists.{same_rows, keeps_lists}
-use Rattle.rt_world.proofs.WorldAfter.{set_or}
+use Rattle.rt_world.proofs.KeptLists.{later_noted}
+use Rattle.rt_world.proofs.Places.{set_each}
 
 module _ {J T : Type 0} where
   pub unbegun_fresh : (cores cap room : ℕ) (world : WorldView J T) → IsFresh cores cap room world → IsUnbegun world
@@ -19,13 +19,9 @@ module _ {J T : Type 0} where
   -- one more queue
   unbegun_created : (core queue weight : ℕ) (world : WorldView J T) → IsUnbegun world → IsUnbegun (noted core (writes.Created queue weight ∷ []) world)
   unbegun_created core queue weight world unbegun = record {
-    lists =
-        keeps_lists world (noted core (writes.Created queue weight ∷ []) world)
-        (record { actor = core; notes = writes.Created queue weight ∷ []; sent = world.sent; kept = same_rows world.sent; is = refl }) unbegun.lists;
+    lists = (later_noted {none = Unit {0}} {old = world} {new = noted core (writes.Created queue weight ∷ []) world} core (writes.Created queue weight ∷ []) (λ none plain. refl) refl).lists unbegun.lists;
     no_order = unbegun.no_order;
-    opening = λ actor.
-        ⊎_elim (λ is. subst IsOpening (sym is) (unbegun.opening core)) (λ is. subst IsOpening (sym is) (unbegun.opening actor))
-        (set_or world.journals core (writes.Created queue weight ∷ journal_at core world) actor []);
+    opening = λ actor. set_each world.journals core (writes.Created queue weight ∷ journal_at core world) actor [] IsOpening (unbegun.opening core) (unbegun.opening actor);
   }
 
   pub unbegun_creations : (creations : List (ℕ × ℕ)) (world : WorldView J T) → IsUnbegun world → IsUnbegun (with_creations creations world)

@@ -1,32 +1,19 @@
 -- A world stays one where one actor makes a step.
-use Rattle.std.proofs.Common.{◌≡◌, ◌≢◌, ℕ, ◌<◌, ◌≤◌, List, length, sym, ◌∙◌, ap, subst, ◌⊎◌, inl, inr, ⊎_elim, arith, get_or, set, get_or-set_same, get_or-set_other}
-use Rattle.std.proofs.lemmas.Bool.{cases_eq, cases_lt}
-use Rattle.std.proofs.lemmas.List.{set_past}
+use Rattle.std.proofs.Common.{◌≡◌, ◌≢◌, ℕ, ◌<◌, ◌≤◌, List, length, sym, ◌∙◌, ap, subst, ⊎_elim, arith, get_or, set, get_or-set_same, get_or-set_other}
+use Rattle.std.proofs.lemmas.Bool.{cases_eq}
 use Rattle.rt_world.proofs.Words.{None, Owed, Whole, out_of, inward_of, RecordedView, IsRecorded, Fits, IsOutOf, IsInOf, row_of, link_at, Parts, core_at, desks, desk_at, IsWorld, IsAtRest}
 use Rattle.rt_journal.specs.Submissions.{DeskView, IsWritten, terms_of_desk, opened_desk}
 use Rattle.rt_journal.specs.Steps.{opened_beside}
 use Rattle.rt_journal.specs.Tickets.{HasLane}
 use Rattle.rt_world.specs.Inside.{seat_of}
 use Rattle.rt_world.proofs.Desks.{desk_count}
+use Rattle.rt_world.proofs.Places.{set_each}
 use Rattle.rt_world.proofs.LinkSteps.{OnlyReceived, OnlySent, out_stays, lane_stays, in_stays}
-
--- after one place of a list was set, each place has the new item or what it had
-pub set_or : {A : Type 0} (items : List A) (place : ℕ) (item : A) (at : ℕ) (default : A) →
-    (get_or (set items place item) at default ≡ item) ⊎ (get_or (set items place item) at default ≡ get_or items at default)
-set_or items place item at default =
-    ⊎_elim
-    (
-    λ here.
-    ⊎_elim (λ within. inl (ap (λ at. get_or (set items place item) at default) here ∙ get_or-set_same items place item default within))
-    (λ past. inr (ap (λ all. get_or all at default) (set_past items place item past))) (cases_lt place (length items))
-    )
-    (λ other. inr (get_or-set_other items place at item default other)) (cases_eq at place)
 
 -- no core has a job out, where the one that made a step has none
 pub rest_after : {J T : Type 0} (old : Parts J T) (core : ℕ) (now : RecordedView J T) (links : List (List (Whole J T))) → IsAtRest old → now.core.out ≡ None →
     IsAtRest (record old { inside = set old.inside core now; links = links })
-rest_after old core now links rest out other there =
-    ⊎_elim (λ is. ap (λ view. view.core.out) is ∙ out) (λ is. ap (λ view. view.core.out) is ∙ rest other there) (set_or old.inside core now other (opened_beside 0 0 0 0))
+rest_after old core now links rest out other there = set_each old.inside core now other (opened_beside 0 0 0 0) (λ view. view.core.out ≡ None) out (rest other there)
 
 module _ {J T : Type 0} {same : J → J → Type 0} {made : J → ℕ} {polls : Owed J T} {answers : J → T → Type 0} {old : Parts J T}
     (world : IsWorld same made polls answers old) (actor : ℕ) (inside : List (RecordedView J T)) (outside : DeskView J T) (links : List (List (Whole J T))) (desk : DeskView J T) where

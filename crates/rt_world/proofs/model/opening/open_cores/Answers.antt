@@ -1,5 +1,5 @@
 use Rattle.std.proofs.Common.{◌≡◌, ◌∙◌, arith, refl}
-use Rattle.rt_world.proofs.PartOpening.{AreFirstOpened-push}
+use Rattle.rt_world.proofs.Opening.{AreFirstOpened-push}
 use Rattle.rt_world.proofs.model.opening.open_cores.Goals as goal
 
 pub loop-core-preserved : goal.loop-core-preserved

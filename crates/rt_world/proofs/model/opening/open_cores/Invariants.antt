@@ -1,5 +1,5 @@
 use Rattle.std.proofs.Common.{◌≤◌, vec_capacity}
-use Rattle.rt_world.proofs.PartOpening.{AreFirstOpened}
+use Rattle.rt_world.proofs.Opening.{AreFirstOpened}
 use Rattle.rt_world.proofs.model.opening.open_cores.Given as goal
 
 abbrev pub invariant-loop-core : goal.invariant-loop-core

@@ -1,6 +1,6 @@
 use Rattle.std.proofs.Common.{arith}
 use Rattle.std.proofs.lemmas.List.{map-append}
-use Rattle.rt_world.proofs.LinkOpening.{AreFreshRows-push}
+use Rattle.rt_world.proofs.Opening.{AreFreshRows-push}
 use Rattle.rt_world.proofs.model.opening.open_links.Goals as goal
 
 pub loop-sender-preserved : goal.loop-sender-preserved

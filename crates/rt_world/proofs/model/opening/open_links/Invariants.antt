@@ -1,5 +1,5 @@
 use Rattle.std.proofs.Common.{◌≤◌, map, vec_capacity, vec_items}
-use Rattle.rt_world.proofs.LinkOpening.{AreFreshRows}
+use Rattle.rt_world.proofs.Opening.{AreFreshRows}
 use Rattle.rt_world.proofs.model.opening.open_links.Given as goal
 
 abbrev pub invariant-loop-sender : goal.invariant-loop-sender

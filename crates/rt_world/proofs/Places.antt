@@ -1,0 +1,18 @@
+-- A list of which one place was set, read at any place.
+use Rattle.std.proofs.Common.{◌≡◌, ℕ, List, length, sym, ◌∙◌, ap, subst, ◌⊎◌, inl, inr, ⊎_elim, get_or, set, get_or-set_same, get_or-set_other}
+use Rattle.std.proofs.lemmas.Bool.{cases_eq, cases_lt}
+use Rattle.std.proofs.lemmas.List.{set_past}
+
+module _ {A : Type 0} (items : List A) (place : ℕ) (item : A) (at : ℕ) (default : A) where
+  -- the place that was set has the new item, and each other place what it had
+  pub set_or : ((at ≡ place) × (get_or (set items place item) at default ≡ item)) ⊎ (get_or (set items place item) at default ≡ get_or items at default)
+  set_or =
+      ⊎_elim
+      (λ here.
+      ⊎_elim (λ within. inl (here, ap (λ at. get_or (set items place item) at default) here ∙ get_or-set_same items place item default within))
+      (λ past. inr (ap (λ all. get_or all at default) (set_past items place item past))) (cases_lt place (length items)))
+      (λ other. inr (get_or-set_other items place at item default other)) (cases_eq at place)
+
+  -- what is so of the new item and of what was there is so of what is there
+  pub set_each : (Holds : A → Type 0) → Holds item → Holds (get_or items at default) → Holds (get_or (set items place item) at default)
+  set_each Holds new old = ⊎_elim (λ is. subst Holds (sym is.1) new) (λ is. subst Holds (sym is) old) set_or
