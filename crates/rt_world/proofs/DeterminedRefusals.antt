@@ -2,7 +2,7 @@
 use Rattle.std.proofs.Common.{append_assoc, ◌≡◌, ℕ, Bool, true, false, List, [], ◌∷◌, ◌++◌, refl, sym, ◌∙◌, ap, get_or}
 use Rattle.std.specs.Prelude.{◌||◌}
 use Rattle.std.proofs.Math.Bool.{or-true}
-use Rattle.rt_world.proofs.Words.{Journal, Owed, Event, Reply, WorldView, journal_at, Happens}
+use Rattle.rt_world.proofs.Words.{Journal, Owed, Event, Reply, WorldView, journal_at}
 use Rattle.rt_world.specs.Determined.{is_refusal, tells_refusal, WasRefused, WasRefusedSince, IsToldRun}
 use Rattle.rt_world.proofs.KeptLists.{Extends, is_later}
 

@@ -17,6 +17,7 @@ pub mod JobsHeld
 pub mod StatsTold
 pub mod Collecting
 pub mod Ticketing
+pub mod Acts
 pub mod Receiving
 pub mod Delivering
 pub mod Shutting

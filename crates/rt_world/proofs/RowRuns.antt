@@ -99,26 +99,30 @@ module _ {events : List (Event Script)} {world : WorldView Script ℕ} {journals
       IsRow (noted core (settle_note its time step ∷ []) (noted core (pick_notes its queue runtime (journal_at core world)) world)) events journals replies →
       IsRow world (Turn core spent ∷ events) journals (reply.Noted ∷ replies)
   polling queue runtime time its others job step there room few right first kept task owed answered =
-      and_then _ (there, room, inl (record {
-        turn_left = few_turns _ few;
-        queue = queue;
-        runtime = runtime;
-        right = right;
-        name = its;
-        others = others;
-        first = first;
-        kept = kept;
-        job = job;
-        task = task;
-        calls = [];
-        step = step;
-        told = Some time;
-        owed = owed;
-        answered = answered;
-        posted = _;
-        posts = refl;
-        notes = refl;
-      }))
+      and_then _ (
+        there,
+        room,
+        inl (record {
+          turn_left = few_turns _ few;
+          queue = queue;
+          runtime = runtime;
+          right = right;
+          name = its;
+          others = others;
+          first = first;
+          kept = kept;
+          job = job;
+          task = task;
+          calls = [];
+          step = step;
+          told = Some time;
+          owed = owed;
+          answered = answered;
+          posted = _;
+          posts = refl;
+          notes = refl;
+        }),
+      )
 
 module _ (cores cap : ℕ) (queues : List (ℕ × ℕ)) (events : List (Event Script)) (journals : List (Journal ℕ)) (replies : List (Reply Script)) (none : OrderNoQueues events) (plain : are_plain replies ≡ true)
     (row : (room : ℕ) → 100 ≤ room → IsRow (with_creations queues (first_world Script ℕ cores cap room)) events journals replies) where

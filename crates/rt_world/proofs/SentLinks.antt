@@ -18,7 +18,7 @@ use Rattle.rt_journal.specs.Submissions.{DeskView, Submits, numbered, terms_of_d
 use Rattle.rt_world.specs.State.{terms_at}
 use Rattle.rt_world.specs.Sends.{Sends, sent_reply}
 use Rattle.rt_world.proofs.Desks.{sent_at-world}
-use Rattle.rt_world.proofs.LinkRows.{with_link, sent-with_link}
+use Rattle.rt_world.proofs.LinkRows.{sent-with_link}
 use Rattle.rt_world.proofs.LinkSteps.{sender_rest, OnlySent}
 use Rattle.rt_world.proofs.CoreSteps.{journal_is}
 use Rattle.rt_world.proofs.Sending.{IsActing, its_seat, its_cap, its_notes, later, journals_noted, same_now}

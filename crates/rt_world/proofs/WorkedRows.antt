@@ -1,5 +1,5 @@
 -- The worked rows, each as its events come.
-use Rattle.std.proofs.Common.{ℕ, ◌<◌, [], ◌∷◌, refl, sym, inl, inr, arith}
+use Rattle.std.proofs.Common.{◌<◌, [], ◌∷◌, refl, sym, inl, inr, arith}
 use Rattle.std.proofs.lemmas.Bool.{true≢false}
 use Rattle.rt_ids.specs.declared.note.Note.TheVariants as writes
 use Rattle.rt_ids.specs.declared.order.Answer.TheVariants as answers
@@ -89,19 +89,22 @@ core_closes =
     noting 0 (writes.Shut 1 2 ∷ []) ((omega arith, omega arith), (λ full. omega arith), (refl, refl, refl)) (
     -- behind a shut gate nothing is sent
     telling ((omega arith, omega arith), (λ full. omega arith), (refl, refl, refl)) (
-    noting 0 (writes.Returned (name 1 0 1) CoreReturned ∷ writes.Pick 0 0 ∷ [])
-    (omega arith, (λ full. omega arith), inr (record {
-      turn_left = few_turns 0 (omega arith);
-      queue = 0;
-      runtime = 0;
-      right = right_of_one _ _ _ refl refl refl (λ work. inr (refl, omega arith)) (λ other zero. rw zero);
-      name = name 1 0 1;
-      others = [];
-      first = refl;
-      reason = CoreReturned;
-      returns = refl;
-      notes = refl;
-    })) (
+    noting 0 (writes.Returned (name 1 0 1) CoreReturned ∷ writes.Pick 0 0 ∷ []) (
+      omega arith,
+      (λ full. omega arith),
+      inr (record {
+        turn_left = few_turns 0 (omega arith);
+        queue = 0;
+        runtime = 0;
+        right = right_of_one _ _ _ refl refl refl (λ work. inr (refl, omega arith)) (λ other zero. rw zero);
+        name = name 1 0 1;
+        others = [];
+        first = refl;
+        reason = CoreReturned;
+        returns = refl;
+        notes = refl;
+      }),
+    ) (
     noting 0 (writes.Shut 0 0 ∷ []) ((omega arith, omega arith), (λ full. omega arith), (refl, refl, refl)) (
     telling ((omega arith, omega arith), (λ full. omega arith), (refl, refl, refl)) (
     no_more refl)))))))))))

@@ -3,6 +3,7 @@ pub mod Closings
 pub mod Collections
 pub mod Stats
 pub mod Sends
+pub mod Acts
 pub mod Deliveries
 pub mod Calls
 pub mod Beside

@@ -13,6 +13,7 @@ use rt_notes::{Assembly, Journal};
 use std::alloc::{AllocError, Allocator, Global};
 use std::marker::Model;
 
+mod acts;
 mod closings;
 mod events;
 mod opening;

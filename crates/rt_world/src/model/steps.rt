@@ -13,16 +13,17 @@ ghost use Rattle.rt_journal.specs.Turns.{IsBack};
 ghost use Rattle.rt_journal.specs.Whole.{MayAnswer};
 ghost use Rattle.rt_link.specs.Fits.{Fits};
 ghost use Rattle.rt_world.specs.State.{journal_at};
-ghost use Rattle.rt_world.specs.Sends.{Sends, sent_reply};
+ghost use Rattle.rt_world.specs.Sends.{Sends};
 ghost use Rattle.rt_world.specs.Deliveries.{Delivers, taken_reply};
 ghost use Rattle.rt_world.specs.Links.{GivesOnOne};
 ghost use Rattle.rt_world.specs.Turns.{Turns};
 ghost use Rattle.rt_world.specs.OneTurn as one;
 
 use super::World;
+use super::acts::Act;
 use crate::event::Reply;
 use rt_core::{Ahead, Next, PickError, Settled, Turn};
-use rt_ids::{ActorNo, CoreNo, JobId, Order, Reason, SendError, Ticket};
+use rt_ids::{ActorNo, CoreNo, JobId, Order, Reason};
 use rt_jobs::{Job, Task};
 use rt_journal::Recorded;
 use rt_link::PlainLink;
@@ -37,13 +38,7 @@ impl<J: Task<Out = u64>, A: Allocator + Clone> World<J, A> {
         requires ready { HasReadyJob J.done J.CanPoll order }
         ensures { Sends from to order self.old self.new result }
     {
-        let row = &mut self.links[from.0 as usize];
-        let link = &mut row[to.0 as usize];
-        if from.0 < self.cores {
-            let actor = &mut self.inside[from.0 as usize];
-            return reply_to(actor.submit(link, to, order));
-        }
-        reply_to(self.outside.submit(link, to, order))
+        self.act(from, to, Act::Send(order))
     }
 
     /// Takes the next submission of the actor to the core, which carries it out.
@@ -196,14 +191,4 @@ fn reply_if<J>(found: bool) -> Reply<J>
     ensures { result ≡ taken_reply found }
 {
     if found { Reply::Noted } else { Reply::Empty }
-}
-
-// What the sender is told.
-fn reply_to<J: Drop>(sent: Result<Ticket, SendError<J>>) -> Reply<J>
-    ensures { result ≡ sent_reply sent }
-{
-    match sent {
-        Ok(ticket) => Reply::Sent(ticket),
-        Err(error) => Reply::NotSent(error),
-    }
 }

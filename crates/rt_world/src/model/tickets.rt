@@ -3,11 +3,12 @@
 ghost use Rattle.std.specs.Prelude.{◌≡◌, ◌↔◌, ◌≤◌, ◌<◌, ◌+◌, ◌*◌, false, length, IsTrue};
 ghost use Rattle.rt_ids.specs.declared.names.TicketError.TheVariants.{Unknown};
 ghost use Rattle.rt_world.specs.State.{journal_at};
-ghost use Rattle.rt_world.specs.Collections.{RefusesTicket, Collects, Redeems, Detaches, redeemed_reply, detached_reply};
+ghost use Rattle.rt_world.specs.Collections.{RefusesTicket, Collects, Redeems, Detaches};
 
 use super::World;
+use super::acts::Act;
 use crate::event::Reply;
-use rt_ids::{ActorNo, CoreNo, Outcome, Ticket, TicketError};
+use rt_ids::{ActorNo, CoreNo, Ticket, TicketError};
 use rt_jobs::Task;
 use std::alloc::Allocator;
 
@@ -19,13 +20,7 @@ impl<J: Task<Out = u64>, A: Allocator + Clone> World<J, A> {
         requires room { length (journal_at from self.old) + self.old.cap ≤ self.old.room }
         ensures { Collects from to self.old self.new result }
     {
-        let row = &mut self.links[from.0 as usize];
-        let link = &mut row[to.0 as usize];
-        if from.0 < self.cores {
-            let actor = &mut self.inside[from.0 as usize];
-            return Reply::Collected(actor.collect_from(link, to));
-        }
-        Reply::Collected(self.outside.collect_from(link, to))
+        self.act(from, to, Act::Collect)
     }
 
     /// Whether the ticket is this actor's, and there is a core of its number.
@@ -50,25 +45,7 @@ impl<J: Task<Out = u64>, A: Allocator + Clone> World<J, A> {
         if !self.knows(from, ticket) {
             return Reply::NoTicket(TicketError::Unknown);
         }
-        self.redeem_at(from, ticket.name().to, ticket)
-    }
-
-    // The same, on the link to this core.
-    fn redeem_at(&mut self, from: ActorNo, to: CoreNo, ticket: Ticket) -> Reply<J>
-        requires sender { from ≤ self.old.cores }
-        requires core { ticket.to < self.old.cores }
-        requires same { to ≡ ticket.to }
-        requires own { ticket.from ≡ from }
-        requires room { length (journal_at from self.old) + 4 ≤ self.old.room }
-        ensures { Redeems J.SameTask J.Answers from ticket self.old self.new result }
-    {
-        let row = &mut self.links[from.0 as usize];
-        let link = &mut row[to.0 as usize];
-        if from.0 < self.cores {
-            let actor = &mut self.inside[from.0 as usize];
-            return redeemed(actor.redeem(link, ticket));
-        }
-        redeemed(self.outside.redeem(link, ticket))
+        self.act(from, ticket.name().to, Act::Redeem(ticket))
     }
 
     /// Lets go of the outcome of a submission.
@@ -80,43 +57,6 @@ impl<J: Task<Out = u64>, A: Allocator + Clone> World<J, A> {
         if !self.knows(from, ticket) {
             return Reply::NoTicket(TicketError::Unknown);
         }
-        self.detach_at(from, ticket.name().to, ticket)
-    }
-
-    // The same, on the link to this core.
-    fn detach_at(&mut self, from: ActorNo, to: CoreNo, ticket: Ticket) -> Reply<J>
-        requires sender { from ≤ self.old.cores }
-        requires core { ticket.to < self.old.cores }
-        requires same { to ≡ ticket.to }
-        requires room { length (journal_at from self.old) + 4 ≤ self.old.room }
-        ensures { Detaches from ticket self.old self.new result }
-    {
-        let row = &mut self.links[from.0 as usize];
-        let link = &mut row[to.0 as usize];
-        if from.0 < self.cores {
-            let actor = &mut self.inside[from.0 as usize];
-            return detached(actor.detach(link, ticket));
-        }
-        detached(self.outside.detach(link, ticket))
-    }
-}
-
-// What the actor is told of a redeem.
-fn redeemed<J: Task<Out = u64>>(answer: Result<Outcome<J, u64>, TicketError>) -> Reply<J>
-    ensures { result ≡ redeemed_reply answer }
-{
-    match answer {
-        Ok(outcome) => Reply::Redeemed(outcome),
-        Err(error) => Reply::NoTicket(error),
-    }
-}
-
-// What the actor is told of a detach.
-fn detached<J: Task<Out = u64>>(answer: Result<(), TicketError>) -> Reply<J>
-    ensures { result ≡ detached_reply answer }
-{
-    match answer {
-        Ok(()) => Reply::Detached,
-        Err(error) => Reply::NoTicket(error),
+        self.act(from, ticket.name().to, Act::Detach(ticket))
     }
 }
