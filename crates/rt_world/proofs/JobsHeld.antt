@@ -1,7 +1,7 @@
 -- The jobs inside a core are those that its journal tells, in all queues together.
-use Rattle.std.proofs.Common.{◌≡◌, ℕ, zero, suc, ◌+◌, ◌<◌, ◌≤◌, List, [], ◌∷◌, length, refl, sym, ◌∙◌, ap, arith, get_or, ◌⊎◌, inl, inr}
+use Rattle.std.proofs.Common.{◌≡◌, ℕ, zero, suc, ◌+◌, ◌<◌, ◌≤◌, List, [], ◌∷◌, length, refl, sym, ◌∙◌, ap, arith, get_or, ⊎_elim}
 use Rattle.std.specs.Prelude.{Option, Some, None, is_some, sum_by, ◌==◌}
-use Rattle.std.proofs.lemmas.Bool.{cases_eq, cases_lt, eq-eqb, ne_eqb}
+use Rattle.std.proofs.lemmas.Bool.{cases_eq, eq-eqb, ne_eqb}
 use Rattle.std.proofs.lemmas.List.{length-map}
 use Rattle.std.proofs.lemmas.List.Sums.{sum_by-cons}
 use Rattle.rt_ids.specs.HandBacks.{jobs_below, jobs_held}
@@ -47,34 +47,22 @@ abbrev met : ℕ → ℕ → ℕ
 met queue = below (λ number. number_if (number == queue))
 
 -- it is met once, if it is among them
-one_below : (queue last : ℕ) → ((last ≤ queue) × (met queue last ≡ 0)) ⊎ ((queue < last) × (met queue last ≡ 1))
-one_below queue zero = inl (omega arith, refl)
-one_below queue (suc last) = by_place (cases_eq last queue) (one_below queue last)
-  where
-    by_place : (last ≡ queue) ⊎ (last ≡ queue → ⊥) → ((last ≤ queue) × (met queue last ≡ 0)) ⊎ ((queue < last) × (met queue last ≡ 1)) →
-        ((suc last ≤ queue) × (met queue (suc last) ≡ 0)) ⊎ ((queue < suc last) × (met queue (suc last) ≡ 1))
-    by_place (inl same) (inl past) = inr (omega (arith, same), omega (arith, past.1, ap number_if (eq-eqb last queue same)))
-    by_place (inl same) (inr within) = absurd (omega (arith, same, within.0))
-    by_place (inr apart) (inl past) = inl (further apart past.0, omega (arith, past.1, ap number_if (ne_eqb last queue apart)))
-      where
-        further : (last ≡ queue → ⊥) → last ≤ queue → suc last ≤ queue
-        further apart low = by_order (cases_lt last queue)
-          where
-            by_order : (last < queue) ⊎ (queue ≤ last) → suc last ≤ queue
-            by_order (inl less) = omega (arith, less)
-            by_order (inr more) = absurd (apart (omega (arith, low, more)))
-    by_place (inr apart) (inr within) = inr (omega (arith, within.0), omega (arith, within.1, ap number_if (ne_eqb last queue apart)))
+none_met : (queue last : ℕ) → last ≤ queue → met queue last ≡ 0
+none_met queue zero past = refl
+none_met queue (suc last) past = omega (arith, none_met queue last (omega (arith, past)), ap number_if (ne_eqb last queue (λ same. omega (arith, past, same))))
+
+once_met : (queue last : ℕ) → queue < last → met queue last ≡ 1
+once_met queue zero within = absurd (omega (arith, within))
+once_met queue (suc last) within =
+    ⊎_elim (λ same. omega (arith, none_met queue last (omega (arith, same)), ap number_if (eq-eqb last queue same)))
+    (λ apart. omega (arith, once_met queue last (omega (arith, within, apart)), ap number_if (ne_eqb last queue apart))) (cases_eq last queue)
 
 module _ {J : Type 0} where
   -- the job that is out is of one of the queues
   out_below : (count : ℕ) (out : Option (JobOut J)) → ((job : JobOut J) → out ≡ Some job → job.queue < count) →
       below (λ queue. number_if (is_number queue (state.queue_out out))) count ≡ number_if (is_some out)
   out_below count None there = none_below count
-  out_below count (Some job) there = by_place (one_below job.queue count)
-    where
-      by_place : ((count ≤ job.queue) × (met job.queue count ≡ 0)) ⊎ ((job.queue < count) × (met job.queue count ≡ 1)) → met job.queue count ≡ 1
-      by_place (inl past) = absurd (omega (arith, past.0, there job refl))
-      by_place (inr within) = within.1
+  out_below count (Some job) there = once_met job.queue count (there job refl)
 
 module _ {T : Type 0} (terms : Terms) (journal : Journal T) (notes : EachNote (MayStand terms) journal) where
   abbrev is_out : ℕ → ℕ

@@ -3,7 +3,7 @@ use Rattle.std.proofs.Common.{◌≡◌, ℕ, ◌<◌, ◌≤◌, List, [], ◌�
 use Rattle.std.specs.Prelude.{Result}
 use Rattle.std.proofs.lemmas.List.{set-set, length-set}
 use Rattle.std.proofs.lemmas.Option.{get_or_from_slice_get}
-use Rattle.rt_world.proofs.Words.{JobId, Order, Owed, Whole, Fits, out_of, RecordedView, IsRecorded, desk_of, no_link, row_of, link_at, Parts, core_at, desk_at, world_of, IsWorld, journal_at}
+use Rattle.rt_world.proofs.Words.{JobId, Reply, Order, Owed, Whole, Fits, out_of, RecordedView, IsRecorded, desk_of, no_link, row_of, link_at, Parts, core_at, desk_at, world_of, IsWorld, journal_at}
 use Rattle.rt_ids.specs.declared.names.TicketError.{TicketError}
 use Rattle.rt_ids.specs.declared.names.TicketError.TheVariants.{Unknown}
 use Rattle.rt_ids.specs.declared.order.Outcome.{Outcome}
@@ -18,14 +18,17 @@ use Rattle.rt_journal.specs.Steps.{opened_beside}
 use Rattle.rt_journal.specs.Submissions.{IsWritten, terms_of_desk}
 use Rattle.rt_journal.specs.Tickets.{RefusesTicket, RedeemsTicket, DetachesTicket, StaysBeside}
 use Rattle.rt_journal.proofs.SentNotes.{SaysNoMore, recorded_silent, ins_silent, submitted_silent, redeemed_silent, detached_silent}
+use Rattle.rt_world.specs.declared.model.acts.Act.{Act}
+use Rattle.rt_world.specs.declared.model.acts.Act.TheVariants as acts
+use Rattle.rt_world.specs.declared.model.acts.Act.TheVariants.{Send}
+use Rattle.rt_world.specs.Acts.{IsActOf, IsActAt, Acts, ActsOn, HasActed}
 use Rattle.rt_world.specs.Calls.{CallsAt}
 use Rattle.rt_world.specs.Collections.{Redeems, Detaches, redeemed_reply, detached_reply}
 use Rattle.rt_world.specs.Sends.{Sends, sent_reply}
 use Rattle.rt_world.proofs.LinkSteps.{OnlySent}
 use Rattle.rt_world.proofs.CoreSteps.{cores_are, desk_is, journal_is}
 use Rattle.rt_world.proofs.CoreSending.{IsDoneBy, IsCoreActing, core_sent, core_journals, core_rests}
-use Rattle.rt_world.proofs.SentLinks.{IsSubmitted, only_sent, sends_now}
-use Rattle.rt_world.proofs.Ticketing.{got_same, redeems_now, detaches_now}
+use Rattle.rt_world.proofs.Acts.{acted_on, acts_now}
 
 -- a core's desk and the links on which it sends
 abbrev pub Post : Type 0 → Type 0
@@ -75,8 +78,7 @@ module _ {J : Type 0} (same : J → J → Type 0) (made : J → ℕ) (polls : Ow
     its_number = sym (ap (λ desk. desk.actor) its_desk) ∙ ap (λ desk. desk.actor) (at.world.all_there.seats_are number (omega (arith, there)))
 
     -- a call on one link
-    module _ (to : ℕ) (next : Post J) (lent : LendsEnd (Fits same answers) out_of (λ link. link.credited) kept_by_sender to post next)
-        (only : OnlySent lent.end lent.later) (silent : SaysNoMore post.desk.journal.notes next.desk.journal.notes) where
+    module _ (to : ℕ) (next : Post J) (lent : LendsEnd (Fits same answers) out_of (λ link. link.credited) kept_by_sender to post next) where
       rest_is : next.desk ≡ record post.desk { journal = record post.desk.journal { notes = next.desk.journal.notes }; lanes = next.desk.lanes }
       rest_is = lent.stays.rest
 
@@ -86,95 +88,71 @@ module _ {J : Type 0} (same : J → J → Type 0) (made : J → ℕ) (polls : Ow
       pub link_is : lent.end ≡ link_at number to (parts post).links
       link_is = sym (ap (λ row. get_or row to (no_link number to)) row_is ∙ get_or_from_slice_get post.ends to lent.end (no_link number to) lent.is)
 
-      next_desk : next.desk ≡ desk_of (view next)
-      next_desk = λ i. record {
-        actor = (ap (λ desk. desk.actor) rest_is ∙ ap (λ desk. desk.actor) at.desk) i;
-        cores = (ap (λ desk. desk.cores) rest_is ∙ ap (λ desk. desk.cores) at.desk) i;
-        cap = (ap (λ desk. desk.cap) rest_is ∙ ap (λ desk. desk.cap) at.desk) i;
-        journal = next.desk.journal;
-        lanes = next.desk.lanes;
-      }
+      module _ (only : OnlySent lent.end lent.later) (silent : SaysNoMore post.desk.journal.notes next.desk.journal.notes) where
+        next_desk : next.desk ≡ desk_of (view next)
+        next_desk = λ i. record {
+          actor = (ap (λ desk. desk.actor) rest_is ∙ ap (λ desk. desk.actor) at.desk) i;
+          cores = (ap (λ desk. desk.cores) rest_is ∙ ap (λ desk. desk.cores) at.desk) i;
+          cap = (ap (λ desk. desk.cap) rest_is ∙ ap (λ desk. desk.cap) at.desk) i;
+          journal = next.desk.journal;
+          lanes = next.desk.lanes;
+        }
 
-      view_is : view next ≡ record (view post) { journal = record post.desk.journal { notes = next.desk.journal.notes }; lanes = next.desk.lanes }
-      view_is = λ i. record picked { journal = ap (λ desk. desk.journal) rest_is i; lanes = next.desk.lanes }
+        view_is : view next ≡ record (view post) { journal = record post.desk.journal { notes = next.desk.journal.notes }; lanes = next.desk.lanes }
+        view_is = λ i. record picked { journal = ap (λ desk. desk.journal) rest_is i; lanes = next.desk.lanes }
 
-      recorded : IsRecorded same made polls (view post)
-      recorded = subst (IsRecorded same made polls) core_is (at.world.recorded number there)
+        recorded : IsRecorded same made polls (view post)
+        recorded = subst (IsRecorded same made polls) core_is (at.world.recorded number there)
 
-      written : IsWritten (terms_of_desk (desk_of (view post))) next.desk.journal.notes
-      written = subst (λ terms. IsWritten terms next.desk.journal.notes) (ap terms_of_desk rest_is ∙ ap terms_of_desk at.desk) lent.stays.written
+        written : IsWritten (terms_of_desk (desk_of (view post))) next.desk.journal.notes
+        written = subst (λ terms. IsWritten terms next.desk.journal.notes) (ap terms_of_desk rest_is ∙ ap terms_of_desk at.desk) lent.stays.written
 
-      pub did : IsDoneBy same made polls answers to (view post) lent.end (view next) lent.later
-      did = record {
-        done = record {
-          only_sent = only;
-          stays = subst (λ desk. StaysBeside (Fits same answers) to desk (desk_of (view next)) (out_of lent.later) lent.later.credited) at.desk
-              (subst (λ desk. StaysBeside (Fits same answers) to post.desk desk (out_of lent.later) lent.later.credited) next_desk lent.stays);
-        };
-        rest = refl;
-        seat = record { number = refl; cores = refl; cap = refl; room = ap (λ desk. desk.journal.room) rest_is };
-        ins = λ from. subst (KeepsIn from (view post)) (sym view_is) (ins_silent (view post) next.desk.journal.notes next.desk.lanes silent from);
-        sound = subst (IsRecorded same made polls) (sym view_is) (recorded_silent (view post) next.desk.journal.notes next.desk.lanes silent recorded written);
-      }
+        pub did : IsDoneBy same made polls answers to (view post) lent.end (view next) lent.later
+        did = record {
+          done = record {
+            only_sent = only;
+            stays = subst (λ desk. StaysBeside (Fits same answers) to desk (desk_of (view next)) (out_of lent.later) lent.later.credited) at.desk
+                (subst (λ desk. StaysBeside (Fits same answers) to post.desk desk (out_of lent.later) lent.later.credited) next_desk lent.stays);
+          };
+          rest = refl;
+          seat = record { number = refl; cores = refl; cap = refl; room = ap (λ desk. desk.journal.room) rest_is };
+          ins = λ from. subst (KeepsIn from (view post)) (sym view_is) (ins_silent (view post) next.desk.journal.notes next.desk.lanes silent from);
+          sound = subst (IsRecorded same made polls) (sym view_is) (recorded_silent (view post) next.desk.journal.notes next.desk.lanes silent recorded written);
+        }
 
-      pub by : IsCoreActing (parts post) number to (view post) lent.end
-      by = record {
-        core = there;
-        actor_is = sym core_is;
-        acting = record { there = omega (arith, there); to_there = to_there; desk_is = ap desk_of (sym core_is) ∙ sym (desk_is at.world number there); link_is = link_is };
-      }
+        pub by : IsCoreActing (parts post) number to (view post) lent.end
+        by = record {
+          core = there;
+          actor_is = sym core_is;
+          acting = record { there = omega (arith, there); to_there = to_there; desk_is = ap desk_of (sym core_is) ∙ sym (desk_is at.world number there); link_is = link_is };
+        }
 
-      -- the world after it is the one where the post stands as it does then
-      pub sent_is : core_sent at.world by did ≡ parts next
-      sent_is = λ i. record base {
-        inside = set-set base.inside number (view post) (view next) i;
-        links = (set-set base.links number post.ends (set (row_of number (parts post).links) to lent.later) ∙ ap (set base.links number) (ap (λ row. set row to lent.later) row_is ∙ sym lent.ends)) i;
-      }
+        -- the world after it is the one where the post stands as it does then
+        pub sent_is : core_sent at.world by did ≡ parts next
+        sent_is = λ i. record base {
+          inside = set-set base.inside number (view post) (view next) i;
+          links = (set-set base.links number post.ends (set (row_of number (parts post).links) to lent.later) ∙ ap (set base.links number) (ap (λ row. set row to lent.later) row_is ∙ sym lent.ends)) i;
+        }
 
-      pub next_at : Here next
-      next_at = record { world = subst (IsWorld same made polls answers) sent_is (core_rests at.world by did); desk = next_desk }
+        pub next_at : Here next
+        next_at = record { world = subst (IsWorld same made polls answers) sent_is (core_rests at.world by did); desk = next_desk }
 
     abbrev Now : Call J ℕ → Post J → Type 0
     Now call next = Here next × CallsAt same answers number (world_of (parts post)) call (world_of (parts next))
 
-    submit_now : (to : ℕ) (order : Order J) (answer : Result JobId (SendError J)) (next : Post J) →
-        SubmitsOn (Fits same answers) out_of (λ link. link.credited) kept_by_sender to order answer post next → Now (Submit to order answer) next
-    submit_now to order answer next on =
-        let lent = on.lent in
-        let submitted : IsSubmitted to order post.desk lent.end answer next.desk lent.later = record { submits = on.submits; sends = on.sends; credited = on.credited; untouched = lent.untouched } in
-        let only = only_sent to order post.desk lent.end answer next.desk lent.later submitted in
-        let silent = submitted_silent post.desk next.desk to order answer on.submits in
+    -- a call on one link is an act there
+    act_now : (to : ℕ) (act : Act J) (answer : Reply J) (next : Post J) (lent : LendsEnd (Fits same answers) out_of (λ link. link.credited) kept_by_sender to post next) →
+        IsActOf number act → IsActAt to act → SaysNoMore post.desk.journal.notes next.desk.journal.notes → ActsOn same answers to act post.desk lent.end answer next.desk lent.later →
+        Here next × Acts same answers number to act (world_of (parts post)) (world_of (parts next)) answer
+    act_now to act answer next lent own there silent acts =
+        let acted : HasActed same answers to act post.desk lent.end answer next.desk lent.later = record { acts = acts; stays = lent.stays; untouched = lent.untouched } in
+        let only = (acted_on act acted).only_sent in
         let its = next_at to next lent only silent in
-        let its_own = subst (λ desk. IsSubmitted to order desk lent.end answer (desk_of (view next)) lent.later) at.desk
-        (subst (λ desk. IsSubmitted to order post.desk lent.end answer desk lent.later) its.desk submitted) in
-        let sends = sends_now at.world (by to next lent only silent).acting its_own (core_journals at.world (by to next lent only silent) (did to next lent only silent)) in
-        (its, inr (to_there to next lent only silent, subst (λ then. Sends number to order (world_of (parts post)) (world_of then) (sent_reply answer)) (sent_is to next lent only silent) sends))
-
-    redeem_now : (name : JobId) (answer : Result (Outcome J ℕ) TicketError) (next : Post J) →
-        RedeemsOn (Fits same answers) out_of (λ link. link.credited) kept_by_sender name answer post next → Now (Redeem name answer) next
-    redeem_now name answer next on =
-        let lent = on.lent in
-        let only = got_same lent.end lent.later lent.untouched on.out in
-        let silent = redeemed_silent post.desk next.desk name answer on.redeems in
-        let its = next_at name.to next lent only silent in
-        let core = by name.to next lent only silent in
-        let redeems = subst (λ desk. RedeemsTicket name desk answer (desk_of (view next))) at.desk (subst (RedeemsTicket name post.desk answer) its.desk on.redeems) in
-        let done = redeems_now at.world name core.acting (desk_of (view next)) lent.later (core_journals at.world core (did name.to next lent only silent))
-        (ap (λ out. out.sent) on.out) (on.knows.0 ∙ its_number) answer redeems on.given on.fits in
-        (its, subst (λ then. Redeems same answers number name (world_of (parts post)) (world_of then) (redeemed_reply answer)) (sent_is name.to next lent only silent) done)
-
-    detach_now : (name : JobId) (answer : Result (Unit {0}) TicketError) (next : Post J) →
-        DetachesOn (Fits same answers) out_of (λ link. link.credited) kept_by_sender name answer post next → Now (Detach name answer) next
-    detach_now name answer next on =
-        let lent = on.lent in
-        let only = got_same lent.end lent.later lent.untouched on.out in
-        let silent = detached_silent post.desk next.desk name answer on.detaches in
-        let its = next_at name.to next lent only silent in
-        let core = by name.to next lent only silent in
-        let detaches = subst (λ desk. DetachesTicket name desk answer (desk_of (view next))) at.desk (subst (DetachesTicket name post.desk answer) its.desk on.detaches) in
-        let done = detaches_now at.world name core.acting (desk_of (view next)) lent.later (core_journals at.world core (did name.to next lent only silent))
-        (ap (λ out. out.sent) on.out) answer detaches in
-        (its, subst (λ then. Detaches number name (world_of (parts post)) (world_of then) (detached_reply answer)) (sent_is name.to next lent only silent) done)
+        let core = by to next lent only silent in
+        let its_own = subst (λ desk. HasActed same answers to act desk lent.end answer (desk_of (view next)) lent.later) at.desk
+        (subst (λ desk. HasActed same answers to act post.desk lent.end answer desk lent.later) its.desk acted) in
+        let done = acts_now at.world core.acting (core_journals at.world core (did to next lent only silent)) act own there its_own in
+        (its, subst (λ then. Acts same answers number to act (world_of (parts post)) (world_of then) answer) (sent_is to next lent only silent) done)
 
     -- nothing changed
     same_at : (next : Post J) → next ≡ post → Here next
@@ -189,13 +167,19 @@ module _ {J : Type 0} (same : J → J → Type 0) (made : J → ℕ) (polls : Ow
     -- each call does in the world what the event of its name does
     pub call_now : (call : Call J ℕ) (next : Post J) → Does (Fits same answers) out_of (λ link. link.credited) kept_by_sender post call next → Now call next
     call_now (Submit to order answer) next (inl none) = (same_at next none.2, inl (subst (λ cores. cores ≤ to) its_cores none.0, none.1, same_world next none.2))
-    call_now (Submit to order answer) next (inr on) = submit_now to order answer next on
+    call_now (Submit to order answer) next (inr on) =
+        let done = act_now to (Send order) (sent_reply answer) next on.lent tt tt (submitted_silent post.desk next.desk to order answer on.submits) (answer, refl, on.submits, on.sends, on.credited) in
+        (done.0, inr (to_there to next on.lent, done.1))
     call_now (Redeem name answer) next (inl none) =
         (same_at next none.3, subst (λ answer. Redeems same answers number name (world_of (parts post)) (world_of (parts next)) (redeemed_reply answer)) (sym none.1) (unknown name none.2, same_world next none.3))
-    call_now (Redeem name answer) next (inr on) = redeem_now name answer next on
+    call_now (Redeem name answer) next (inr on) =
+        act_now name.to (acts.Redeem name) (redeemed_reply answer) next on.lent (on.knows.0 ∙ its_number) refl (redeemed_silent post.desk next.desk name answer on.redeems)
+        (answer, refl, on.redeems, on.given, on.fits, on.out)
     call_now (Detach name answer) next (inl none) =
         (same_at next none.3, subst (λ answer. Detaches number name (world_of (parts post)) (world_of (parts next)) (detached_reply answer)) (sym none.1) (unknown name none.2, same_world next none.3))
-    call_now (Detach name answer) next (inr on) = detach_now name answer next on
+    call_now (Detach name answer) next (inr on) =
+        act_now name.to (acts.Detach name) (detached_reply answer) next on.lent (on.knows.0 ∙ its_number) refl (detached_silent post.desk next.desk name answer on.detaches)
+        (answer, refl, on.detaches, on.out)
 
   -- and so do all of them, one after another
   pub calls_now : (calls : List (Call J ℕ)) (post later : Post J) → Here post → Makes (Does (Fits same answers) out_of (λ link. link.credited) kept_by_sender) calls post later →

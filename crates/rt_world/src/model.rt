@@ -1,11 +1,12 @@
 //! The cores of one executor as one value, moved by events.
 
-ghost use Rattle.std.specs.Prelude.{◌≡◌, ◌≤◌};
+ghost use Rattle.std.specs.Prelude.{◌≡◌, ◌≤◌, ◌<◌};
 ghost use Rattle.rt_ids.specs.Joining.{AreJoined};
 ghost use Rattle.rt_ids.specs.Sound.{IsSound};
+ghost use Rattle.rt_journal.specs.Recorded.{IsRecorded};
 ghost use Rattle.rt_world.specs.State.{journal_at, assembly_of};
 
-use rt_ids::ActorNo;
+use rt_ids::{ActorNo, CoreNo};
 use rt_jobs::Task;
 use rt_journal::{Recorded, RecordedDesk};
 use rt_link::PlainLink;
@@ -96,6 +97,18 @@ impl<J: Task<Out = u64>, A: Allocator + Clone> World<J, A> {
         Assembly::of(self.cores, self.cap, gathered)
     }
 
+    // The core of this number, beside its journal.
+    fn recorded(&self, core: CoreNo) -> &Recorded<J, A>
+        requires { core < self.now.cores }
+        ensures number { result.now.core.core ≡ core }
+        ensures cores { result.now.core.cores ≡ self.now.cores }
+        ensures notes { result.now.journal.notes ≡ journal_at core self.now }
+        ensures room { result.now.journal.room ≡ self.now.room }
+        ensures sound { IsRecorded J.SameTask J.made J.Polls result.now }
+    {
+        &self.inside[core.0 as usize]
+    }
+
     /// How many cores there are. The outside actor has the number behind them.
     pub fn cores(&self) -> u8
         ensures { result ≡ self.now.cores }
@@ -110,7 +123,7 @@ impl<J: Task<Out = u64>, A: Allocator + Clone> World<J, A> {
         ensures room { result.now.room ≡ self.now.room }
     {
         if actor.0 < self.cores {
-            self.inside[actor.0 as usize].journal()
+            self.recorded(CoreNo(actor.0)).journal()
         } else {
             self.outside.journal()
         }

@@ -20,7 +20,7 @@ impl<J: Task<Out = u64>, A: Allocator + Clone> World<J, A> {
         requires { core < self.now.cores }
         ensures { result ≡ is_some (core_mode (journal_at core self.now)) }
     {
-        self.inside[core.0 as usize].is_closed()
+        self.recorded(core).is_closed()
     }
 
     /// Whether the core has shut the gate of this actor.
@@ -29,7 +29,7 @@ impl<J: Task<Out = u64>, A: Allocator + Clone> World<J, A> {
         requires sender { from ≤ self.now.cores }
         ensures { result ≡ is_some (final_count from (journal_at core self.now)) }
     {
-        self.inside[core.0 as usize].gate(from).is_some()
+        self.recorded(core).gate(from).is_some()
     }
 
     /// Whether the core is drained: each gate is shut, all that was accepted is delivered, and no queue has work. It takes the same
@@ -38,7 +38,7 @@ impl<J: Task<Out = u64>, A: Allocator + Clone> World<J, A> {
         requires { core < self.now.cores }
         ensures { IsTrue result ↔ IsDrained self.now.cores (journal_at core self.now) }
     {
-        self.inside[core.0 as usize].is_drained()
+        self.recorded(core).is_drained()
     }
 
     /// Shuts the gate of the actor, if the core is closed and the gate isn't shut.

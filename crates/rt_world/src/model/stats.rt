@@ -21,6 +21,6 @@ impl<J: Task<Out = u64>, A: Allocator + Clone> World<J, A> {
         if core.0 >= self.cores {
             return None;
         }
-        Some(self.inside[core.0 as usize].core().stats())
+        Some(self.recorded(core).core().stats())
     }
 }

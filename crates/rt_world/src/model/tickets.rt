@@ -30,7 +30,7 @@ impl<J: Task<Out = u64>, A: Allocator + Clone> World<J, A> {
         ensures unknown { result ≡ false → RefusesTicket ticket Unknown (journal_at from self.now) }
     {
         if from.0 < self.cores {
-            self.inside[from.0 as usize].knows(ticket)
+            self.recorded(CoreNo(from.0)).knows(ticket)
         } else {
             self.outside.knows(ticket)
         }

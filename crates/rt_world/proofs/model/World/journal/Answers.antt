@@ -1,20 +1,6 @@
 use Rattle.std.proofs.Common.{◌≡◌, ◌≤◌, ◌<◌, sym, ◌∙◌, ap, arith}
-use Rattle.rt_world.proofs.CoreSteps.{viewed, journal_is, room_is}
 use Rattle.rt_world.proofs.Sending.{outside_notes, outside_room}
 use Rattle.rt_world.proofs.model.World.journal.Goals as goal
-
-pub returns-then-actor-self-clause-notes : goal.returns-then-actor-self-clause-notes
-returns-then-actor-self-clause-notes g c =
-    let there : c.actor.inside.0 < c.self.inside.cores = c.if-actor-self.true in
-    let view = viewed c.self.invariant.1 c.actor.inside.0 there c.index.result.now c.index.ensures in
-    rw (← c.self.view_is, ← c.actor.view_is)
-    (ap (λ journal. journal.notes) c.journal.ensures ∙ (ap (λ at. at.journal.notes) view ∙ sym (journal_is c.self.invariant.1 c.actor.inside.0 there)))
-
-pub returns-then-actor-self-clause-room : goal.returns-then-actor-self-clause-room
-returns-then-actor-self-clause-room g c =
-    let there : c.actor.inside.0 < c.self.inside.cores = c.if-actor-self.true in
-    let view = viewed c.self.invariant.1 c.actor.inside.0 there c.index.result.now c.index.ensures in
-    rw (← c.self.view_is) (ap (λ journal. journal.room) c.journal.ensures ∙ (ap (λ at. at.journal.room) view ∙ room_is c.self.invariant.1 c.actor.inside.0 there))
 
 pub returns-else-actor-self-clause-notes : goal.returns-else-actor-self-clause-notes
 returns-else-actor-self-clause-notes g c =

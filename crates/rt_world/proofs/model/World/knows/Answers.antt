@@ -3,23 +3,8 @@ use Rattle.std.specs.Prelude.{◌↔◌, IsTrue}
 use Rattle.rt_ids.specs.declared.names.TicketError.TheVariants.{Unknown}
 use Rattle.rt_journal.specs.Tickets.{RefusesTicket}
 use Rattle.rt_world.specs.State.{journal_at}
-use Rattle.rt_world.proofs.CoreSteps.{viewed, journal_is, number_is, cores_are}
 use Rattle.rt_world.proofs.Sending.{outside_desk, outside_notes}
 use Rattle.rt_world.proofs.model.World.knows.Goals as goal
-
-pub returns-then-from-self : goal.returns-then-from-self
-returns-then-from-self g c =
-    let there = c.if-from-self.true in
-    let view = viewed c.self.invariant.1 c.from.inside.0 there c.index.result.now c.index.ensures in
-    let number : c.index.result.now.core.core ≡ c.args.from = ap (λ at. at.core.core) view ∙ (number_is c.self.invariant.1 c.from.inside.0 there ∙ c.from.view_is) in
-    let cores : c.index.result.now.core.cores ≡ c.args.self.now.cores = ap (λ at. at.core.cores) view ∙ (cores_are c.self.invariant.1 c.from.inside.0 there ∙ ap (λ world. world.cores) c.self.view_is) in
-    let notes : c.index.result.now.journal.notes ≡ journal_at c.args.from c.args.self.now =
-    ap (λ at. at.journal.notes) view ∙ (sym (journal_is c.self.invariant.1 c.from.inside.0 there) ∙ (λ i. journal_at (c.from.view_is i) (c.self.view_is i))) in
-    record {
-      knows = subst (λ actor. IsTrue c.knows.result ↔ ((c.args.ticket.from ≡ actor) × (c.args.ticket.to < c.args.self.now.cores))) number
-          (subst (λ count. IsTrue c.knows.result ↔ ((c.args.ticket.from ≡ c.index.result.now.core.core) × (c.args.ticket.to < count))) cores c.knows.ensures.knows);
-      unknown = λ no. subst (RefusesTicket c.args.ticket Unknown) notes (c.knows.ensures.unknown no);
-    }
 
 pub returns-else-from-self : goal.returns-else-from-self
 returns-else-from-self g c =

@@ -7,9 +7,7 @@ use Rattle.rt_ids.specs.Journal.{Journal}
 use Rattle.rt_taskqueue.specs.Queues.{queue_count}
 use Rattle.rt_core.specs.Closing as core
 use Rattle.rt_core.specs.Figures.{core_stats, queue_stats}
-use Rattle.rt_world.specs.State.{journal_at}
 use Rattle.rt_world.specs.Stats.{TellsCore, TellsQueues}
-use Rattle.rt_world.proofs.CoreSteps.{viewed, journal_is, cores_are}
 use Rattle.rt_world.proofs.StatsTold.{core_told, queues_told}
 use Rattle.rt_world.proofs.model.World.stats.Goals as goal
 
@@ -23,18 +21,13 @@ returns-then-core-self g c =
 
 pub returns : goal.returns
 returns g c =
-    let there = c.if-core-self.false in
-    let view = viewed c.self.invariant.1 c.core.inside.0 there c.index.result.now c.index.ensures in
-    let recorded = c.self.invariant.1.recorded c.core.inside.0 there in
-    let its = c.core-2.ensures ∙ ap (λ at. at.core) view in
-    let cores = cores_are c.self.invariant.1 c.core.inside.0 there ∙ ap (λ world. world.cores) c.self.view_is in
-    let notes = sym (journal_is c.self.invariant.1 c.core.inside.0 there) ∙ (λ i. journal_at (c.core.view_is i) (c.self.view_is i)) in
-    let told = core_told _ recorded c.stats.result.0 (subst (λ core. c.stats.result.0 ≡ core_stats core c.stats.result.0.drained) its c.stats.ensures.core)
+    let its = c.core-2.ensures in
+    let told = core_told _ c.recorded.ensures.sound c.stats.result.0 (subst (λ core. c.stats.result.0 ≡ core_stats core c.stats.result.0.drained) its c.stats.ensures.core)
     (subst (λ view. IsTrue c.stats.result.0.drained ↔ core.IsDrained view) its c.stats.ensures.drained) in
-    let all = queues_told _ recorded (array_vec_len c.stats.result.1) c.stats.result.1.items (c.stats.ensures.count ∙ ap (λ core. queue_count core.queues) its)
+    let all = queues_told _ c.recorded.ensures.sound (array_vec_len c.stats.result.1) c.stats.result.1.items (c.stats.ensures.count ∙ ap (λ core. queue_count core.queues) its)
     (subst (λ core. (queue : _) → queue < queue_count core.queues → slice_get c.stats.result.1.items queue ≡ Some (queue_stats queue core)) its c.stats.ensures.queues) in
     record {
-      missing = ((λ none. absurd (true≢false none)), (λ past. absurd (omega (arith, past, there, c.core.view_is, ap (λ world. world.cores) c.self.view_is))));
-      core = told_of cores notes told;
-      queues = subst (λ notes. TellsQueues notes (array_vec_len c.stats.result.1) c.stats.result.1.items) notes all;
+      missing = ((λ none. absurd (true≢false none)), (λ past. absurd (omega (arith, past, c.if-core-self.false, c.core.view_is, ap (λ world. world.cores) c.self.view_is))));
+      core = told_of c.recorded.ensures.cores c.recorded.ensures.notes told;
+      queues = subst (λ notes. TellsQueues notes (array_vec_len c.stats.result.1) c.stats.result.1.items) c.recorded.ensures.notes all;
     }
