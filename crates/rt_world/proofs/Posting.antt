@@ -88,71 +88,58 @@ module _ {J : Type 0} (same : J → J → Type 0) (made : J → ℕ) (polls : Ow
       pub link_is : lent.end ≡ link_at number to (parts post).links
       link_is = sym (ap (λ row. get_or row to (no_link number to)) row_is ∙ get_or_from_slice_get post.ends to lent.end (no_link number to) lent.is)
 
-      module _ (only : OnlySent lent.end lent.later) (silent : SaysNoMore post.desk.journal.notes next.desk.journal.notes) where
-        next_desk : next.desk ≡ desk_of (view next)
-        next_desk = λ i. record {
-          actor = (ap (λ desk. desk.actor) rest_is ∙ ap (λ desk. desk.actor) at.desk) i;
-          cores = (ap (λ desk. desk.cores) rest_is ∙ ap (λ desk. desk.cores) at.desk) i;
-          cap = (ap (λ desk. desk.cap) rest_is ∙ ap (λ desk. desk.cap) at.desk) i;
-          journal = next.desk.journal;
-          lanes = next.desk.lanes;
-        }
+      next_desk : next.desk ≡ desk_of (view next)
+      next_desk = λ i. record {
+        actor = (ap (λ desk. desk.actor) rest_is ∙ ap (λ desk. desk.actor) at.desk) i;
+        cores = (ap (λ desk. desk.cores) rest_is ∙ ap (λ desk. desk.cores) at.desk) i;
+        cap = (ap (λ desk. desk.cap) rest_is ∙ ap (λ desk. desk.cap) at.desk) i;
+        journal = next.desk.journal;
+        lanes = next.desk.lanes;
+      }
 
-        view_is : view next ≡ record (view post) { journal = record post.desk.journal { notes = next.desk.journal.notes }; lanes = next.desk.lanes }
-        view_is = λ i. record picked { journal = ap (λ desk. desk.journal) rest_is i; lanes = next.desk.lanes }
+      view_is : view next ≡ record (view post) { journal = record post.desk.journal { notes = next.desk.journal.notes }; lanes = next.desk.lanes }
+      view_is = λ i. record picked { journal = ap (λ desk. desk.journal) rest_is i; lanes = next.desk.lanes }
 
-        recorded : IsRecorded same made polls (view post)
-        recorded = subst (IsRecorded same made polls) core_is (at.world.recorded number there)
+      by : IsCoreActing (parts post) number to (view post) lent.end
+      by = record {
+        core = there;
+        actor_is = sym core_is;
+        acting = record { there = omega (arith, there); to_there = to_there; desk_is = ap desk_of (sym core_is) ∙ sym (desk_is at.world number there); link_is = link_is };
+      }
 
-        written : IsWritten (terms_of_desk (desk_of (view post))) next.desk.journal.notes
-        written = subst (λ terms. IsWritten terms next.desk.journal.notes) (ap terms_of_desk rest_is ∙ ap terms_of_desk at.desk) lent.stays.written
+      -- a call on one link is an act there
+      module _ (act : Act J) (answer : Reply J) (own : IsActOf number act) (here : IsActAt to act) (silent : SaysNoMore post.desk.journal.notes next.desk.journal.notes)
+          (acts : ActsOn same answers to act post.desk lent.end answer next.desk lent.later) where
+        acted : HasActed same answers to act (desk_of (view post)) lent.end answer (desk_of (view next)) lent.later
+        acted = subst (λ desk. HasActed same answers to act desk lent.end answer (desk_of (view next)) lent.later) at.desk
+            (subst (λ desk. HasActed same answers to act post.desk lent.end answer desk lent.later) next_desk (record { acts = acts; stays = lent.stays; untouched = lent.untouched }))
 
-        pub did : IsDoneBy same made polls answers to (view post) lent.end (view next) lent.later
-        did = record {
-          done = record {
-            only_sent = only;
-            stays = subst (λ desk. StaysBeside (Fits same answers) to desk (desk_of (view next)) (out_of lent.later) lent.later.credited) at.desk
-                (subst (λ desk. StaysBeside (Fits same answers) to post.desk desk (out_of lent.later) lent.later.credited) next_desk lent.stays);
-          };
-          rest = refl;
-          seat = record { number = refl; cores = refl; cap = refl; room = ap (λ desk. desk.journal.room) rest_is };
-          ins = λ from. subst (KeepsIn from (view post)) (sym view_is) (ins_silent (view post) next.desk.journal.notes next.desk.lanes silent from);
-          sound = subst (IsRecorded same made polls) (sym view_is) (recorded_silent (view post) next.desk.journal.notes next.desk.lanes silent recorded written);
-        }
-
-        pub by : IsCoreActing (parts post) number to (view post) lent.end
-        by = record {
-          core = there;
-          actor_is = sym core_is;
-          acting = record { there = omega (arith, there); to_there = to_there; desk_is = ap desk_of (sym core_is) ∙ sym (desk_is at.world number there); link_is = link_is };
-        }
+        did : IsDoneBy same made polls answers to (view post) lent.end (view next) lent.later
+        did =
+            let recorded = subst (IsRecorded same made polls) core_is (at.world.recorded number there) in
+            record {
+              done = acted_on act acted;
+              rest = refl;
+              seat = record { number = refl; cores = refl; cap = refl; room = ap (λ desk. desk.journal.room) rest_is };
+              ins = λ from. subst (KeepsIn from (view post)) (sym view_is) (ins_silent (view post) next.desk.journal.notes next.desk.lanes silent from);
+              sound = subst (IsRecorded same made polls) (sym view_is) (recorded_silent (view post) next.desk.journal.notes next.desk.lanes silent recorded acted.stays.written);
+            }
 
         -- the world after it is the one where the post stands as it does then
-        pub sent_is : core_sent at.world by did ≡ parts next
+        sent_is : core_sent at.world by did ≡ parts next
         sent_is = λ i. record base {
           inside = set-set base.inside number (view post) (view next) i;
           links = (set-set base.links number post.ends (set (row_of number (parts post).links) to lent.later) ∙ ap (set base.links number) (ap (λ row. set row to lent.later) row_is ∙ sym lent.ends)) i;
         }
 
-        pub next_at : Here next
-        next_at = record { world = subst (IsWorld same made polls answers) sent_is (core_rests at.world by did); desk = next_desk }
+        act_now : Here next × Acts same answers number to act (world_of (parts post)) (world_of (parts next)) answer
+        act_now = (
+          record { world = subst (IsWorld same made polls answers) sent_is (core_rests at.world by did); desk = next_desk },
+          subst (λ then. Acts same answers number to act (world_of (parts post)) (world_of then) answer) sent_is (acts_now at.world by.acting (core_journals at.world by did) act own here acted),
+        )
 
     abbrev Now : Call J ℕ → Post J → Type 0
     Now call next = Here next × CallsAt same answers number (world_of (parts post)) call (world_of (parts next))
-
-    -- a call on one link is an act there
-    act_now : (to : ℕ) (act : Act J) (answer : Reply J) (next : Post J) (lent : LendsEnd (Fits same answers) out_of (λ link. link.credited) kept_by_sender to post next) →
-        IsActOf number act → IsActAt to act → SaysNoMore post.desk.journal.notes next.desk.journal.notes → ActsOn same answers to act post.desk lent.end answer next.desk lent.later →
-        Here next × Acts same answers number to act (world_of (parts post)) (world_of (parts next)) answer
-    act_now to act answer next lent own there silent acts =
-        let acted : HasActed same answers to act post.desk lent.end answer next.desk lent.later = record { acts = acts; stays = lent.stays; untouched = lent.untouched } in
-        let only = (acted_on act acted).only_sent in
-        let its = next_at to next lent only silent in
-        let core = by to next lent only silent in
-        let its_own = subst (λ desk. HasActed same answers to act desk lent.end answer (desk_of (view next)) lent.later) at.desk
-        (subst (λ desk. HasActed same answers to act post.desk lent.end answer desk lent.later) its.desk acted) in
-        let done = acts_now at.world core.acting (core_journals at.world core (did to next lent only silent)) act own there its_own in
-        (its, subst (λ then. Acts same answers number to act (world_of (parts post)) (world_of then) answer) (sent_is to next lent only silent) done)
 
     -- nothing changed
     same_at : (next : Post J) → next ≡ post → Here next
@@ -168,17 +155,17 @@ module _ {J : Type 0} (same : J → J → Type 0) (made : J → ℕ) (polls : Ow
     pub call_now : (call : Call J ℕ) (next : Post J) → Does (Fits same answers) out_of (λ link. link.credited) kept_by_sender post call next → Now call next
     call_now (Submit to order answer) next (inl none) = (same_at next none.2, inl (subst (λ cores. cores ≤ to) its_cores none.0, none.1, same_world next none.2))
     call_now (Submit to order answer) next (inr on) =
-        let done = act_now to (Send order) (sent_reply answer) next on.lent tt tt (submitted_silent post.desk next.desk to order answer on.submits) (answer, refl, on.submits, on.sends, on.credited) in
+        let done = act_now to next on.lent (Send order) (sent_reply answer) tt tt (submitted_silent post.desk next.desk to order answer on.submits) (answer, refl, on.submits, on.sends, on.credited) in
         (done.0, inr (to_there to next on.lent, done.1))
     call_now (Redeem name answer) next (inl none) =
         (same_at next none.3, subst (λ answer. Redeems same answers number name (world_of (parts post)) (world_of (parts next)) (redeemed_reply answer)) (sym none.1) (unknown name none.2, same_world next none.3))
     call_now (Redeem name answer) next (inr on) =
-        act_now name.to (acts.Redeem name) (redeemed_reply answer) next on.lent (on.knows.0 ∙ its_number) refl (redeemed_silent post.desk next.desk name answer on.redeems)
+        act_now name.to next on.lent (acts.Redeem name) (redeemed_reply answer) (on.knows.0 ∙ its_number) refl (redeemed_silent post.desk next.desk name answer on.redeems)
         (answer, refl, on.redeems, on.given, on.fits, on.out)
     call_now (Detach name answer) next (inl none) =
         (same_at next none.3, subst (λ answer. Detaches number name (world_of (parts post)) (world_of (parts next)) (detached_reply answer)) (sym none.1) (unknown name none.2, same_world next none.3))
     call_now (Detach name answer) next (inr on) =
-        act_now name.to (acts.Detach name) (detached_reply answer) next on.lent (on.knows.0 ∙ its_number) refl (detached_silent post.desk next.desk name answer on.detaches)
+        act_now name.to next on.lent (acts.Detach name) (detached_reply answer) (on.knows.0 ∙ its_number) refl (detached_silent post.desk next.desk name answer on.detaches)
         (answer, refl, on.detaches, on.out)
 
   -- and so do all of them, one after another
