@@ -8,7 +8,7 @@ use Rattle.rt_world.proofs.LinkRows.{with_link}
 use Rattle.rt_world.proofs.LinkSteps.{in_stays}
 use Rattle.rt_world.proofs.WorldAfter.{rest_after}
 use Rattle.rt_world.proofs.CoreSteps.{desk_is, viewed, parts_now, rests}
-use Rattle.rt_world.proofs.Sending.{IsDoneOn, IsActing, changes, all_sent, others_received, outs_sent, lanes_sent}
+use Rattle.rt_world.proofs.Sending.{IsDoneOn, IsActing, changes, all_sent, others_received, senders_sent}
 
 -- what a call of a core on the sender's end says of it
 pub record IsDoneBy {J T : Type 0} (same : J → J → Type 0) (made : J → ℕ) (polls : Owed J T) (answers : J → T → Type 0)
@@ -61,8 +61,7 @@ module _ {J T : Type 0} {same : J → J → Type 0} {made : J → ℕ} {polls : 
         links_are = (changes world by.acting did.done).same_cores;
         received = others_received world by.acting did.done;
         sent = λ from core away. all_sent world by.acting did.done from core;
-        outs = outs_sent world by.acting did.done;
-        lanes = lanes_sent world by.acting did.done;
+        senders = senders_sent world by.acting did.done;
         ins = λ from known.
             in_stays from now _ _ (all_sent world by.acting did.done from sender)
             ((core_did.ins from).each _ (world.beside.ins from sender known by.core));

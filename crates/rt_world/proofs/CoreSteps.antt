@@ -1,14 +1,14 @@
 -- A step of one core: what it is in its world.
 use Rattle.std.proofs.Common.{◌≡◌, ◌≢◌, ℕ, ◌+◌, ◌<◌, ◌≤◌, List, [], ◌++◌, length, sym, ◌∙◌, ap, subst, arith, get_or, set, get_or-set_same, get_or-set_other, length-set}
 use Rattle.std.proofs.lemmas.List.{get_or_default, set-get_or}
-use Rattle.rt_world.proofs.Words.{noted, map, Note, Owed, Whole, out_of, inward_of, RecordedView, IsRecorded, desk_of, Fits, IsOutOf, IsInOf, journal_at, link_at, Parts, core_at, desk_at, world_of, IsWorld}
+use Rattle.rt_world.proofs.Words.{noted, map, Note, Owed, Whole, inward_of, RecordedView, IsRecorded, desk_of, Fits, IsInOf, journal_at, link_at, Parts, core_at, desk_at, world_of, IsWorld}
 use Rattle.rt_journal.specs.Steps.{opened_beside, with_notes}
-use Rattle.rt_journal.specs.Ends.{IsSameSeat}
-use Rattle.rt_journal.specs.Tickets.{HasLane}
+use Rattle.rt_journal.specs.Ends.{IsSameSeat, KeepsOuts}
+use Rattle.rt_world.specs.Links.{ChangesLink}
 use Rattle.rt_world.specs.Inside.{notes_at, seat_of}
 use Rattle.rt_world.proofs.Desks.{desk_at-core, desks-core, journal_at-world, journals-noted}
-use Rattle.rt_world.proofs.LinkSteps.{OnlyReceived, OnlySent, lane_stays}
-use Rattle.rt_world.proofs.WorldAfter.{IsStep, world_after}
+use Rattle.rt_world.proofs.LinkSteps.{OnlyReceived, OnlySent, IsSenderOn, sender_stays, received-same, sent-same, each_link, other_link}
+use Rattle.rt_world.proofs.WorldAfter.{IsStep, world_after, world_sender}
 
 module _ {J T : Type 0} {same : J → J → Type 0} {made : J → ℕ} {polls : Owed J T} {answers : J → T → Type 0} {old : Parts J T}
     (world : IsWorld same made polls answers old) (core : ℕ) (there : core < old.cores) where
@@ -46,10 +46,8 @@ module _ {J T : Type 0} {same : J → J → Type 0} {made : J → ℕ} {polls : 
   free more room = omega (arith, room, ap length journal_is, room_is)
 
   -- the ends on which the core sends are beside what it says
-  pub core_outs : (to : ℕ) → to < old.cores → IsOutOf to (desk_of (core_at core old)) (out_of (link_at core to old.links)) (link_at core to old.links).credited
-  core_outs to known =
-      subst (λ desk. IsOutOf to desk (out_of (link_at core to old.links)) (link_at core to old.links).credited) desk_is
-      (world.beside.outs core to (omega (arith, there)) known)
+  pub core_sender : (to : ℕ) → to < old.cores → IsSenderOn (Fits same answers) to (desk_of (core_at core old)) (link_at core to old.links)
+  core_sender to known = subst (λ desk. IsSenderOn (Fits same answers) to desk (link_at core to old.links)) desk_is (world_sender world core to (omega (arith, there)) known)
 
   module _ (now : RecordedView J T) (links : List (List (Whole J T))) where
     abbrev pub parts_now : Parts J T
@@ -63,8 +61,7 @@ module _ {J T : Type 0} {same : J → J → Type 0} {made : J → ℕ} {polls : 
       pub links_are : (sender : ℕ) → length (get_or links sender []) ≡ length (get_or old.links sender [])
       pub received : (sender to : ℕ) → sender ≢ core → OnlyReceived (link_at sender to old.links) (link_at sender to links)
       pub sent : (sender to : ℕ) → to ≢ core → OnlySent (link_at sender to old.links) (link_at sender to links)
-      pub outs : (to : ℕ) → to < old.cores → IsOutOf to (desk_of now) (out_of (link_at core to links)) (link_at core to links).credited
-      pub lanes : (to : ℕ) → to < old.cores → HasLane (Fits same answers) to (desk_of now) (out_of (link_at core to links)) (link_at core to links).credited
+      pub senders : (to : ℕ) → to < old.cores → IsSenderOn (Fits same answers) to (desk_of now) (link_at core to links)
       pub ins : (sender : ℕ) → sender ≤ old.cores → IsInOf sender now (inward_of (link_at sender core links))
 
     core_now : core_at core parts_now ≡ now
@@ -94,21 +91,40 @@ module _ {J T : Type 0} {same : J → J → Type 0} {made : J → ℕ} {polls : 
       written = world.outside;
       received = did.received;
       sent = did.sent;
-      outs = did.outs;
-      lanes = did.lanes;
+      senders = did.senders;
       ins = λ sender known core_known. subst (λ view. IsInOf sender view (inward_of (link_at sender core links))) (sym core_now) (did.ins sender known);
     }
-
-    -- a core that sends nothing keeps its lanes
-    pub lanes_kept : now.lanes ≡ (core_at core old).lanes → ((to : ℕ) → OnlyReceived (link_at core to old.links) (link_at core to links)) →
-        (to : ℕ) → to < old.cores → HasLane (Fits same answers) to (desk_of now) (out_of (link_at core to links)) (link_at core to links).credited
-    lanes_kept same_lanes received to known =
-        lane_stays (Fits same answers) to (desk_at core old) (desk_of now) (link_at core to old.links) (link_at core to links)
-        (same_lanes ∙ sym (ap (λ desk. desk.lanes) desk_is)) (received to) (world.beside.lanes core to (omega (arith, there)) known)
 
     -- the world is one again
     pub rests : DidStep → IsWorld same made polls answers parts_now
     rests did = world_after world core (set old.inside core now) old.outside links (desk_of now) (step_of did)
+
+    -- what a call that sends nothing says: at most one link to the core changed, in what its receiver does
+    pub record DidReceive : Type 0 where
+      pub recorded : IsRecorded same made polls now
+      pub seat : IsSameSeat (core_at core old) now
+      pub outs : KeepsOuts (desk_of (core_at core old)) (desk_of now)
+      pub lanes : now.lanes ≡ (core_at core old).lanes
+      pub sender : ℕ
+      pub link : Whole J T
+      pub changes : ChangesLink old.links links sender core link
+      pub received : OnlyReceived (link_at sender core old.links) link
+      pub ins : (from : ℕ) → from ≤ old.cores → IsInOf from now (inward_of (link_at from core links))
+
+    pub receives : DidReceive → IsWorld same made polls answers parts_now
+    receives did = rests (record {
+      recorded = did.recorded;
+      seat = did.seat;
+      rows_are = did.changes.same_rows;
+      links_are = did.changes.same_cores;
+      received = λ from to away. all from to;
+      sent = λ from to away. other_link OnlySent sent-same old.links links did.sender core did.link did.changes from to (λ one two. away two);
+      senders = λ to known. sender_stays did.lanes (all core to) (λ is. (did.outs to).each _ _ is) (core_sender to known);
+      ins = did.ins;
+    })
+      where
+        all : (from to : ℕ) → OnlyReceived (link_at from to old.links) (link_at from to links)
+        all = each_link OnlyReceived received-same old.links links did.sender core did.link did.changes did.received
 
     -- its journal is longer by these notes
     pub journals_now : (notes : List (Note T)) → now.journal ≡ with_notes notes (core_at core old).journal →

@@ -7,7 +7,6 @@ use Rattle.rt_link.specs.Whole.{fresh}
 use Rattle.rt_journal.specs.Submissions.{DeskView, IsWritten, opened_desk, terms_of_desk}
 use Rattle.rt_journal.specs.Steps.{opened_beside}
 use Rattle.rt_link.specs.Ends.{SoundOut}
-use Rattle.rt_journal.specs.Tickets.{HasLane}
 use Rattle.rt_journal.proofs.LaneEnds.{fresh_has_lane}
 use Rattle.rt_journal.proofs.Opened.{recorded-opened}
 use Rattle.rt_world.specs.State.{sent_at}
@@ -15,6 +14,7 @@ use Rattle.rt_world.specs.Links.{AreFresh}
 use Rattle.rt_world.specs.Inside.{AreOpened}
 use Rattle.rt_world.specs.Opening.{IsFresh}
 use Rattle.rt_world.proofs.Desks.{desk_count, desk_at-core, desk_at-outside, journal_at-world, sent_at-world}
+use Rattle.rt_world.proofs.LinkSteps.{IsSenderOn}
 use Rattle.rt_world.proofs.Hollow.{world_lists}
 
 none≢some : {A : Type 0} (item : A) → None ≡ Some item → ⊥
@@ -60,6 +60,14 @@ module _ {J T : Type 0} (same : J → J → Type 0) (made : J → ℕ) (polls : 
       desk_at-outside parts actor (cores_open.cores_are ∙ last) ∙ (outside_open ∙ ap (λ number. opened_desk number cores cap room) last))
       (cases_lt actor cores)
 
+  senders : (sender core : ℕ) → sender ≤ cores → core < cores → IsSenderOn (Fits same answers) core (desk_at sender parts) (link_at sender core links)
+  senders sender core known core_known =
+      subst (IsSenderOn (Fits same answers) core (desk_at sender parts)) (sym (links_open.each_fresh sender core known core_known))
+      (subst (λ desk. IsSenderOn (Fits same answers) core desk (fresh sender core cap 0)) (sym (desk_is sender known)) (record {
+        out = out_of-opened sender core cores cap room core_known;
+        lane = fresh_has_lane (Fits same answers) core sender cores cap room (out_of (fresh sender core cap 0)) core_known (refl, refl, refl, refl, refl, sound_at_opening sender core cores cap room);
+      }))
+
   -- the parts that were just opened make a world at rest
   pub world_at_opening : IsWorld same made polls answers parts
   world_at_opening = record {
@@ -72,13 +80,8 @@ module _ {J T : Type 0} (same : J → J → Type 0) (made : J → ℕ) (polls : 
     recorded = λ core known. subst (IsRecorded same made polls) (sym (cores_open.each_opened core known)) (recorded-opened same made polls core cores cap room known);
     outside = written;
     beside = record {
-      outs = λ sender core known core_known.
-          subst (λ link. IsOutOf core (desk_at sender parts) (out_of link) link.credited) (sym (links_open.each_fresh sender core known core_known))
-          (subst (λ desk. IsOutOf core desk (out_of (fresh sender core cap 0)) 0) (sym (desk_is sender known)) (out_of-opened sender core cores cap room core_known));
-      lanes = λ sender core known core_known.
-          subst (λ link. HasLane (Fits same answers) core (desk_at sender parts) (out_of link) link.credited) (sym (links_open.each_fresh sender core known core_known))
-          (subst (λ desk. HasLane (Fits same answers) core desk (out_of (fresh sender core cap 0)) 0) (sym (desk_is sender known))
-          (fresh_has_lane (Fits same answers) core sender cores cap room (out_of (fresh sender core cap 0)) core_known (refl, refl, refl, refl, refl, sound_at_opening sender core cores cap room)));
+      outs = λ sender core known core_known. (senders sender core known core_known).out;
+      lanes = λ sender core known core_known. (senders sender core known core_known).lane;
       ins = λ sender core known core_known.
           subst (λ link. IsInOf sender (core_at core parts) (inward_of link)) (sym (links_open.each_fresh sender core known core_known))
           (subst (λ view. IsInOf sender view (inward_of (fresh sender core cap 0))) (sym (cores_open.each_opened core core_known)) (in_of-opened sender core cores cap room known));

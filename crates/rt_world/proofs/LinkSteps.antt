@@ -60,22 +60,25 @@ module _ {J T : Type 0} where
     shut = shut i;
   }
 
-  -- the end of the other stays beside its actor
-  pub out_stays : (core : ℕ) (desk : DeskView J T) (old new : Whole J T) → OnlyReceived old new →
-      IsOutOf core desk (out_of old) old.credited → IsOutOf core desk (out_of new) new.credited
-  out_stays core desk old new received is =
-      subst (IsOutOf core desk (out_of new)) (sym (ap (λ link. link.credited) received.rest))
-      (sees_more_out core desk (out_of old) (out_of new) old.credited (record { rest = ap out_of received.rest; seen = received.given }) is)
+  -- a sender's end and its lane are beside its desk
+  pub record IsSenderOn (fits : Order J → Outcome J T → Type 0) (core : ℕ) (desk : DeskView J T) (link : Whole J T) : Type 0 where
+    pub out : IsOutOf core desk (out_of link) link.credited
+    pub lane : HasLane fits core desk (out_of link) link.credited
 
-  -- and so does its lane, where the actor's lanes are the same
-  pub lane_stays : (fits : Order J → Outcome J T → Type 0) (core : ℕ) (desk later : DeskView J T) (old new : Whole J T) → later.lanes ≡ desk.lanes → OnlyReceived old new →
-      HasLane fits core desk (out_of old) old.credited → HasLane fits core later (out_of new) new.credited
-  lane_stays fits core desk later old new lanes received has =
-      let seen = sees_more_lane fits core desk (out_of old) (out_of new) old.credited (record { rest = ap out_of received.rest; seen = received.given }) has in
+  -- they stay so, where the receiver alone did something, and the actor's lanes are the same
+  pub sender_stays : {fits : Order J → Outcome J T → Type 0} {core : ℕ} {desk later : DeskView J T} {old new : Whole J T} → later.lanes ≡ desk.lanes → OnlyReceived old new →
+      (IsOutOf core desk (out_of old) old.credited → IsOutOf core later (out_of old) old.credited) → IsSenderOn fits core desk old → IsSenderOn fits core later new
+  sender_stays {fits = fits} {core = core} {desk = desk} {later = later} {old = old} {new = new} lanes received kept is =
+      let credited = sym (ap (λ link. link.credited) received.rest) in
+      let seen = sees_more_lane fits core desk (out_of old) (out_of new) old.credited (record { rest = ap out_of received.rest; seen = received.given }) is.lane in
       record {
-        lane = seen.lane;
-        is = ap (λ all. slice_get all core) lanes ∙ seen.is;
-        lane_of = subst (λ credited. IsLaneOf fits seen.lane (out_of new) credited) (sym (ap (λ link. link.credited) received.rest)) seen.lane_of;
+        out = subst (IsOutOf core later (out_of new)) credited
+            (sees_more_out core later (out_of old) (out_of new) old.credited (record { rest = ap out_of received.rest; seen = received.given }) (kept is.out));
+        lane = record {
+          lane = seen.lane;
+          is = ap (λ all. slice_get all core) lanes ∙ seen.is;
+          lane_of = subst (λ credited. IsLaneOf fits seen.lane (out_of new) credited) credited seen.lane_of;
+        };
       }
 
   pub in_stays : (sender : ℕ) (view : RecordedView J T) (old new : Whole J T) → OnlySent old new → IsInOf sender view (inward_of old) → IsInOf sender view (inward_of new)

@@ -23,9 +23,9 @@ use Rattle.rt_world.specs.Calls.{CallsAt}
 use Rattle.rt_world.specs.OneTurn as one
 use Rattle.rt_world.specs.State.{order_under}
 use Rattle.rt_world.specs.Turns.{pick_notes, IsPoll, Turns}
-use Rattle.rt_world.proofs.CoreSteps.{cores_are, number_is, parts_now, lanes_kept, rests, journal_is, core_outs, core_noted}
+use Rattle.rt_world.proofs.CoreSteps.{cores_are, number_is, parts_now, receives, journal_is, core_noted}
 use Rattle.rt_world.proofs.Desks.{sent_at-world}
-use Rattle.rt_world.proofs.LinkSteps.{received-same, sent-same}
+use Rattle.rt_world.proofs.LinkSteps.{received-same, no_change}
 use Rattle.rt_world.proofs.OneTurn.{polls_made-picked}
 use Rattle.rt_world.proofs.Posting.{Post, parts_at, IsAt, calls_now}
 use Rattle.rt_world.proofs.Turning.{quiet, quiet_rests, quiet_at_rest, quiet_noted, handed_back, unchanged}
@@ -62,15 +62,15 @@ module _ {J : Type 0} {same : J → J → Type 0} {made : J → ℕ} {polls : Ow
 
       -- the world after the pick
       picked_world : IsWorld same made polls answers (parts_now world number there did.turn.picked old.links)
-      picked_world = rests world number there did.turn.picked old.links (record {
+      picked_world = receives world number there did.turn.picked old.links (record {
         recorded = did.turn.sound;
         seat = did.turn.stays.seat;
-        rows_are = refl;
-        links_are = λ sender. refl;
-        received = λ sender to away. received-same (link_at sender to old.links);
-        sent = λ sender to away. sent-same (link_at sender to old.links);
-        outs = λ to known. (did.turn.stays.outs to).each _ _ (core_outs world number there to known);
-        lanes = lanes_kept world number there did.turn.picked old.links did.turn.stays.lanes (λ to. received-same (link_at number to old.links));
+        outs = did.turn.stays.outs;
+        lanes = did.turn.stays.lanes;
+        sender = number;
+        link = link_at number number old.links;
+        changes = no_change old.links number number;
+        received = received-same (link_at number number old.links);
         ins = λ sender known. (did.turn.keeps sender).each _ (world.beside.ins sender number known there);
       })
 

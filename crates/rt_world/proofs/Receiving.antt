@@ -9,8 +9,8 @@ use Rattle.rt_journal.specs.Ends.{KeepsIn, KeepsOuts, IsSameSeat}
 use Rattle.rt_world.specs.Links.{ChangesLink}
 use Rattle.rt_world.proofs.Borrowed.{IsLent, lent_link}
 use Rattle.rt_world.proofs.LinkRows.{with_link, ChangesLink-with_link}
-use Rattle.rt_world.proofs.LinkSteps.{as_long, OnlyReceived, OnlySent, received-same, sent-same, each_link, other_link, out_stays}
-use Rattle.rt_world.proofs.CoreSteps.{core_outs, journal_is, room_is, viewed, parts_now, lanes_kept, rests}
+use Rattle.rt_world.proofs.LinkSteps.{as_long, OnlyReceived}
+use Rattle.rt_world.proofs.CoreSteps.{journal_is, room_is, viewed, parts_now, receives}
 use Rattle.rt_world.proofs.WorldAfter.{rest_after}
 
 -- a core and the link of a sender to it, as their world has them
@@ -101,9 +101,6 @@ module _ {J T : Type 0} {same : J → J → Type 0} {made : J → ℕ} {polls : 
   changes =
       ChangesLink-with_link old.links sender core after (omega (arith, world.all_there.rows_are, there)) (omega (arith, world.all_there.links_are sender there, core_there))
 
-  all_received : (r e : ℕ) → OnlyReceived (link_at r e old.links) (link_at r e links)
-  all_received = each_link OnlyReceived received-same old.links links sender core after changes did.received
-
   ins : (from : ℕ) → from ≤ old.cores → IsInOf from now (inward_of (link_at from core links))
   ins from known =
       ⊎_elim
@@ -116,16 +113,14 @@ module _ {J T : Type 0} {same : J → J → Type 0} {made : J → ℕ} {polls : 
 
   pub receives_rests : IsWorld same made polls answers (parts_now world core core_there now links)
   receives_rests =
-      rests world core core_there now links (record {
+      receives world core core_there now links (record {
         recorded = did.keeps.sound;
         seat = did.keeps.seat;
-        rows_are = changes.same_rows;
-        links_are = changes.same_cores;
-        received = λ from to away. all_received from to;
-        sent = λ from to away. other_link OnlySent sent-same old.links links sender core after changes from to (λ one two. away two);
-        outs = λ to known.
-            out_stays to (desk_of now) _ _ (all_received core to)
-            ((did.keeps.outs to).each _ _ (core_outs world core core_there to known));
-        lanes = lanes_kept world core core_there now links did.keeps.lanes (λ to. all_received core to);
+        outs = did.keeps.outs;
+        lanes = did.keeps.lanes;
+        sender = sender;
+        link = after;
+        changes = changes;
+        received = did.received;
         ins = ins;
       })

@@ -2,17 +2,17 @@
 use Rattle.std.proofs.Common.{◌≡◌, ◌≢◌, ℕ, ◌+◌, ◌<◌, ◌≤◌, List, ◌++◌, length, refl, sym, ◌∙◌, ap, subst, ⊎_elim, arith, get_or, set, map}
 use Rattle.std.proofs.lemmas.Bool.{cases_eq}
 use Rattle.std.proofs.lemmas.List.{set-get_or}
-use Rattle.rt_world.proofs.Words.{Note, Order, Journal, Owed, Whole, Fits, out_of, IsOutOf, WorldView, journal_at, noted, link_at, Parts, desks, desk_at, world_of, IsWorld}
+use Rattle.rt_world.proofs.Words.{Note, Order, Journal, Owed, Whole, Fits, out_of, WorldView, journal_at, noted, link_at, Parts, desks, desk_at, world_of, IsWorld}
 use Rattle.rt_ids.specs.declared.order.Outcome.{Outcome}
 use Rattle.rt_journal.specs.Submissions.{DeskView, opened_desk}
-use Rattle.rt_journal.specs.Tickets.{HasLane, StaysBeside}
+use Rattle.rt_journal.specs.Tickets.{StaysBeside}
 use Rattle.rt_world.specs.Links.{ChangesLink}
 use Rattle.rt_world.specs.Inside.{seat_of}
 use Rattle.rt_world.proofs.Desks.{desk_at-outside, desks-outside, journal_at-world, journals-noted}
 use Rattle.rt_world.proofs.Borrowed.{IsLent, lent_link}
 use Rattle.rt_world.proofs.LinkRows.{with_link, same_sent, ChangesLink-with_link}
-use Rattle.rt_world.proofs.LinkSteps.{OnlyReceived, OnlySent, received-same, sent-same, each_link, other_link}
-use Rattle.rt_world.proofs.WorldAfter.{world_after}
+use Rattle.rt_world.proofs.LinkSteps.{OnlyReceived, OnlySent, IsSenderOn, received-same, sent-same, each_link, other_link}
+use Rattle.rt_world.proofs.WorldAfter.{world_after, world_sender}
 
 -- what a call on the sender's end says of its desk, and of the link
 pub record IsDoneOn {J T : Type 0} (fits : Order J → Outcome J T → Type 0) (to : ℕ) (desk : DeskView J T) (link : Whole J T) (now : DeskView J T) (after : Whole J T) : Type 0 where
@@ -29,18 +29,10 @@ pub record IsActing {J T : Type 0} (old : Parts J T) (sender to : ℕ) (desk : D
 module _ {J T : Type 0} {same : J → J → Type 0} {made : J → ℕ} {polls : Owed J T} {answers : J → T → Type 0} {old : Parts J T}
     {sender to : ℕ} {desk : DeskView J T} {link : Whole J T} (world : IsWorld same made polls answers old) (acting : IsActing old sender to desk link) where
   -- the link's end is beside the sender
-  pub its_end : IsOutOf to desk (out_of link) link.credited
-  its_end =
-      subst (λ at. IsOutOf to desk (out_of at) at.credited) (sym acting.link_is)
-      (subst (λ at. IsOutOf to at (out_of (link_at sender to old.links)) (link_at sender to old.links).credited) (sym acting.desk_is)
-      (world.beside.outs sender to acting.there acting.to_there))
-
-  -- and so is its lane
-  pub its_lane : HasLane (Fits same answers) to desk (out_of link) link.credited
-  its_lane =
-      subst (λ at. HasLane (Fits same answers) to desk (out_of at) at.credited) (sym acting.link_is)
-      (subst (λ at. HasLane (Fits same answers) to at (out_of (link_at sender to old.links)) (link_at sender to old.links).credited)
-      (sym acting.desk_is) (world.beside.lanes sender to acting.there acting.to_there))
+  pub its_sender : IsSenderOn (Fits same answers) to desk link
+  its_sender =
+      subst (IsSenderOn (Fits same answers) to desk) (sym acting.link_is)
+      (subst (λ at. IsSenderOn (Fits same answers) to at (link_at sender to old.links)) (sym acting.desk_is) (world_sender world sender to acting.there acting.to_there))
 
   pub its_seat : desk ≡ seat_of sender (desk_at sender old) old
   its_seat = acting.desk_is ∙ world.all_there.seats_are sender acting.there
@@ -108,26 +100,19 @@ module _ {J T : Type 0} {same : J → J → Type 0} {made : J → ℕ} {polls : 
     pub others_received : (r e : ℕ) → r ≢ sender → OnlyReceived (link_at r e old.links) (link_at r e links)
     others_received r e away = other_link OnlyReceived received-same old.links links sender to after changes r e (λ one two. away one)
 
-    pub outs_sent : (e : ℕ) → e < old.cores → IsOutOf e now (out_of (link_at sender e links)) (link_at sender e links).credited
-    outs_sent e known =
+    pub senders_sent : (e : ℕ) → e < old.cores → IsSenderOn (Fits same answers) e now (link_at sender e links)
+    senders_sent e known =
         ⊎_elim
-        (λ one. subst (λ at. IsOutOf at now (out_of (link_at sender at links)) (link_at sender at links).credited) (sym one)
-        (subst (λ link. IsOutOf to now (out_of link) link.credited) (sym changes.changed) done_there.stays.beside))
-        (λ away. subst (λ link. IsOutOf e now (out_of link) link.credited) (sym (changes.others sender e (λ one two. away two)))
-        ((done_there.stays.others e away).each _ _ (world.beside.outs sender e acting.there known)))
-        (cases_eq e to)
-
-    pub lanes_sent : (e : ℕ) → e < old.cores → HasLane (Fits same answers) e now (out_of (link_at sender e links)) (link_at sender e links).credited
-    lanes_sent e known =
-        ⊎_elim
-        (λ one. subst (λ at. HasLane (Fits same answers) at now (out_of (link_at sender at links)) (link_at sender at links).credited) (sym one)
-        (subst (λ link. HasLane (Fits same answers) to now (out_of link) link.credited) (sym changes.changed) done_there.stays.lane))
-        (λ away. subst (λ link. HasLane (Fits same answers) e now (out_of link) link.credited) (sym (changes.others sender e (λ one two. away two))) (elsewhere away (world.beside.lanes sender e acting.there known)))
+        (λ one. subst (λ at. IsSenderOn (Fits same answers) at now (link_at sender at links)) (sym one)
+        (subst (IsSenderOn (Fits same answers) to now) (sym changes.changed) (record { out = done_there.stays.beside; lane = done_there.stays.lane })))
+        (λ away. subst (IsSenderOn (Fits same answers) e now) (sym (changes.others sender e (λ one two. away two))) (elsewhere away (world_sender world sender e acting.there known)))
         (cases_eq e to)
       where
-        elsewhere : e ≢ to → HasLane (Fits same answers) e (desk_at sender old) (out_of (link_at sender e old.links)) (link_at sender e old.links).credited →
-            HasLane (Fits same answers) e now (out_of (link_at sender e old.links)) (link_at sender e old.links).credited
-        elsewhere away has = record { lane = has.lane; is = done_there.stays.lanes e away ∙ has.is; lane_of = has.lane_of }
+        elsewhere : e ≢ to → IsSenderOn (Fits same answers) e (desk_at sender old) (link_at sender e old.links) → IsSenderOn (Fits same answers) e now (link_at sender e old.links)
+        elsewhere away has = record {
+          out = (done_there.stays.others e away).each _ _ has.out;
+          lane = record { lane = has.lane.lane; is = done_there.stays.lanes e away ∙ has.lane.is; lane_of = has.lane.lane_of };
+        }
 
 -- the outside actor's desk, and the room that it has
 module _ {J T : Type 0} {same : J → J → Type 0} {made : J → ℕ} {polls : Owed J T} {answers : J → T → Type 0} {old : Parts J T}
@@ -182,7 +167,6 @@ module _ {J T : Type 0} {same : J → J → Type 0} {made : J → ℕ} {polls : 
         written = did.stays.written;
         received = others_received world acting did;
         sent = λ from core away. all_sent world acting did from core;
-        outs = outs_sent world acting did;
-        lanes = lanes_sent world acting did;
+        senders = senders_sent world acting did;
         ins = λ from known core_known. absurd (omega (arith, core_known, is_last));
       })

@@ -23,7 +23,7 @@ use Rattle.rt_world.specs.Collections.{WasAccepted, collected_notes, uncollected
 use Rattle.rt_world.proofs.Desks.{sent_at-world}
 use Rattle.rt_world.proofs.LinkSteps.{sender_rest, as_long, OnlySent}
 use Rattle.rt_world.proofs.CoreSteps.{journal_is, number_is}
-use Rattle.rt_world.proofs.Sending.{IsDoneOn, IsActing, its_end, its_lane, its_seat, its_notes, later, noted_now, same_now}
+use Rattle.rt_world.proofs.Sending.{IsDoneOn, IsActing, its_sender, its_seat, its_notes, later, noted_now, same_now}
 use Rattle.rt_world.proofs.Collecting.{are_of}
 
 slice_get-take : {A : Type 0} (items : List A) (count place : ℕ) → place < count → slice_get (take count items) place ≡ slice_get items place
@@ -105,7 +105,7 @@ module _ {J : Type 0} {same : J → J → Type 0} {made : J → ℕ} {polls : Ow
   -- the number of an outcome that was got is one of those that were sent
   in_range : (outcome : Outcome J ℕ) → IsGot (out_of link) name.number outcome → (link.base < name.number) × (name.number ≤ link.base + length link.sent)
   in_range outcome got =
-      let lane = (its_lane world acting).lane_of in
+      let lane = (its_sender world acting).lane.lane_of in
       let at = lane.named.0 got.place (name.number, outcome) (slice_get-take link.given link.got got.place got.got ∙ got.is) in
       (at.0, at.2)
 
@@ -115,7 +115,7 @@ module _ {J : Type 0} {same : J → J → Type 0} {made : J → ℕ} {polls : Ow
       by_found : (found : Option (Order J)) → slice_get link.sent (name.number - link.base - 1) ≡ found → IfSome found (λ order. Fits same answers order outcome) → FitsUnder same answers name (world_of old) outcome
       by_found None at fits = let range = in_range outcome got in absurd (omega (arith, slice_get-behind link.sent (name.number - link.base - 1) at, range.0, range.1))
       by_found (Some order) at fits =
-          let base : link.base ≡ 0 = (its_end world acting).base in
+          let base : link.base ≡ 0 = (its_sender world acting).out.base in
           let its_sent = sent_at-world old name.from name.to ∙ (ap (λ from. (link_at from name.to old.links).sent) own ∙ ap (λ link. link.sent) (sym acting.link_is)) in
           let place : name.number - 1 ≡ name.number - link.base - 1 = omega (arith, base) in (
             order,

@@ -15,11 +15,11 @@ use Rattle.rt_world.specs.Turns.{IsHandBack}
 use Rattle.rt_world.specs.OneTurn as one
 use Rattle.rt_world.specs.Opening.{CreatesAtOpening}
 use Rattle.rt_world.proofs.LinkRows.{same_sent}
-use Rattle.rt_world.proofs.LinkSteps.{OnlyReceived, OnlySent, received-same, received-given, sent-same, each_link, other_link, out_stays}
+use Rattle.rt_world.proofs.LinkSteps.{IsSenderOn, received-given}
 use Rattle.rt_world.proofs.WorldAfter.{rest_after}
 use Rattle.rt_world.proofs.LentLinks.{no_gift}
 use Rattle.rt_world.proofs.OneTurn.{beside_then}
-use Rattle.rt_world.proofs.CoreSteps.{cores_are, desk_is, parts_now, lanes_kept, rests, journal_is, core_outs, core_noted, core_unchanged}
+use Rattle.rt_world.proofs.CoreSteps.{cores_are, parts_now, receives, journal_is, core_sender, core_noted, core_unchanged}
 
 -- a core that makes a step has each end beside it, and nothing is owed
 pub all_beside : {J T : Type 0} {same : J → J → Type 0} {made : J → ℕ} {polls : Owed J T} {answers : J → T → Type 0} {old : Parts J T}
@@ -38,17 +38,14 @@ pub all_outs : {J T : Type 0} {same : J → J → Type 0} {made : J → ℕ} {po
     (world : IsWorld same made polls answers old) (core : ℕ) (there : core < old.cores) → one.HasOuts (Fits same answers) core (core_at core old) old.links
 all_outs {same = same} {answers = answers} {old = old} world core there = record {
   count = world.all_there.links_are core (omega (arith, there)) ∙ sym (cores_are world core there);
-  beside = λ to end is. subst (λ link. IsOutOf to (desk_of (core_at core old)) (out_of link) link.credited) (link_is to end is)
-      (core_outs world core there to (its to end is));
-  lanes = λ to end is. subst (λ link. HasLane (Fits same answers) to (desk_of (core_at core old)) (out_of link) link.credited) (link_is to end is)
-      (subst (λ desk. HasLane (Fits same answers) to desk (out_of (link_at core to old.links)) (link_at core to old.links).credited) (desk_is world core there) (world.beside.lanes core to (omega (arith, there)) (its to end is)));
+  beside = λ to end is. (at_end to end is).out;
+  lanes = λ to end is. (at_end to end is).lane;
 }
   where
-    its : (to : ℕ) (end : Whole _ _) → slice_get (row_of core old.links) to ≡ Some end → to < old.cores
-    its to end is = omega (arith, slice_get_within (row_of core old.links) to end is, world.all_there.links_are core (omega (arith, there)))
-
-    link_is : (to : ℕ) (end : Whole _ _) → slice_get (row_of core old.links) to ≡ Some end → link_at core to old.links ≡ end
-    link_is to end is = get_or_from_slice_get (row_of core old.links) to end (no_link core to) is
+    at_end : (to : ℕ) (end : Whole _ _) → slice_get (row_of core old.links) to ≡ Some end → IsSenderOn (Fits same answers) to (desk_of (core_at core old)) end
+    at_end to end is =
+        subst (IsSenderOn (Fits same answers) to (desk_of (core_at core old))) (get_or_from_slice_get (row_of core old.links) to end (no_link core to) is)
+        (core_sender world core there to (omega (arith, slice_get_within (row_of core old.links) to end is, world.all_there.links_are core (omega (arith, there)))))
 
 module _ {J T : Type 0} {same : J → J → Type 0} {made : J → ℕ} {polls : Owed J T} {answers : J → T → Type 0} {old : Parts J T}
     (world : IsWorld same made polls answers old) (core : ℕ) (there : core < old.cores) (now : RecordedView J T) (links : List (List (Whole J T)))
@@ -59,24 +56,17 @@ module _ {J T : Type 0} {same : J → J → Type 0} {made : J → ℕ} {polls : 
   abbrev pub quiet : Parts J T
   quiet = parts_now world core there now links
 
-  all_received : (from to : ℕ) → OnlyReceived (link_at from to old.links) (link_at from to links)
-  all_received =
-      each_link OnlyReceived received-same old.links links stays.links.sender core stays.links.link stays.links.changes
-      (received-given (link_at stays.links.sender core old.links) stays.links.link stays.links.given stays.links.gives)
-
   -- the core stays beside its ends, on which at most an outcome was given: the world is at rest again
   pub quiet_rests : IsWorld same made polls answers quiet
-  quiet_rests = rests world core there now links (record {
+  quiet_rests = receives world core there now links (record {
     recorded = stays.recorded;
     seat = stays.seat;
-    rows_are = stays.links.changes.same_rows;
-    links_are = stays.links.changes.same_cores;
-    received = λ from to away. all_received from to;
-    sent = λ from to away. other_link OnlySent sent-same old.links links stays.links.sender core stays.links.link stays.links.changes from to (λ one two. away two);
-    outs = λ to known.
-        out_stays to (desk_of now) _ _ (all_received core to)
-        ((stays.outs to).each _ _ (core_outs world core there to known));
-    lanes = lanes_kept world core there now links stays.lanes (λ to. all_received core to);
+    outs = stays.outs;
+    lanes = stays.lanes;
+    sender = stays.links.sender;
+    link = stays.links.link;
+    changes = stays.links.changes;
+    received = received-given (link_at stays.links.sender core old.links) stays.links.link stays.links.given stays.links.gives;
     ins = λ sender known. stays.ins.ins sender (subst (λ cores. sender ≤ cores) (sym (stays.seat.cores ∙ cores_are world core there)) known);
   })
 

@@ -1,5 +1,5 @@
 -- A world stays one where one actor makes a step.
-use Rattle.std.proofs.Common.{◌≡◌, ◌≢◌, ℕ, ◌<◌, ◌≤◌, List, length, sym, ◌∙◌, ap, subst, ⊎_elim, arith, get_or, set, get_or-set_same, get_or-set_other}
+use Rattle.std.proofs.Common.{◌≡◌, ◌≢◌, ℕ, ◌<◌, ◌≤◌, List, length, refl, sym, ◌∙◌, ap, subst, ⊎_elim, arith, get_or, set, get_or-set_same, get_or-set_other}
 use Rattle.std.proofs.lemmas.Bool.{cases_eq}
 use Rattle.rt_world.proofs.Words.{None, Owed, Whole, out_of, inward_of, RecordedView, IsRecorded, Fits, IsOutOf, IsInOf, row_of, link_at, Parts, core_at, desks, desk_at, IsWorld, IsAtRest}
 use Rattle.rt_journal.specs.Submissions.{DeskView, IsWritten, terms_of_desk, opened_desk}
@@ -8,12 +8,17 @@ use Rattle.rt_journal.specs.Tickets.{HasLane}
 use Rattle.rt_world.specs.Inside.{seat_of}
 use Rattle.rt_world.proofs.Desks.{desk_count}
 use Rattle.rt_world.proofs.Places.{set_each}
-use Rattle.rt_world.proofs.LinkSteps.{OnlyReceived, OnlySent, out_stays, lane_stays, in_stays}
+use Rattle.rt_world.proofs.LinkSteps.{OnlyReceived, OnlySent, IsSenderOn, sender_stays, in_stays}
 
 -- no core has a job out, where the one that made a step has none
 pub rest_after : {J T : Type 0} (old : Parts J T) (core : ℕ) (now : RecordedView J T) (links : List (List (Whole J T))) → IsAtRest old → now.core.out ≡ None →
     IsAtRest (record old { inside = set old.inside core now; links = links })
 rest_after old core now links rest out other there = set_each old.inside core now other (opened_beside 0 0 0 0) (λ view. view.core.out ≡ None) out (rest other there)
+
+-- a sender's end of each link is beside it
+pub world_sender : {J T : Type 0} {same : J → J → Type 0} {made : J → ℕ} {polls : Owed J T} {answers : J → T → Type 0} {old : Parts J T} → IsWorld same made polls answers old →
+    (sender core : ℕ) → sender ≤ old.cores → core < old.cores → IsSenderOn (Fits same answers) core (desk_at sender old) (link_at sender core old.links)
+world_sender world sender core known core_known = record { out = world.beside.outs sender core known core_known; lane = world.beside.lanes sender core known core_known }
 
 module _ {J T : Type 0} {same : J → J → Type 0} {made : J → ℕ} {polls : Owed J T} {answers : J → T → Type 0} {old : Parts J T}
     (world : IsWorld same made polls answers old) (actor : ℕ) (inside : List (RecordedView J T)) (outside : DeskView J T) (links : List (List (Whole J T))) (desk : DeskView J T) where
@@ -33,8 +38,7 @@ module _ {J T : Type 0} {same : J → J → Type 0} {made : J → ℕ} {polls : 
     pub written : IsWritten (terms_of_desk outside) outside.journal.notes
     pub received : (sender core : ℕ) → sender ≢ actor → OnlyReceived (link_at sender core old.links) (link_at sender core links)
     pub sent : (sender core : ℕ) → core ≢ actor → OnlySent (link_at sender core old.links) (link_at sender core links)
-    pub outs : (core : ℕ) → core < old.cores → IsOutOf core desk (out_of (link_at actor core links)) (link_at actor core links).credited
-    pub lanes : (core : ℕ) → core < old.cores → HasLane (Fits same answers) core desk (out_of (link_at actor core links)) (link_at actor core links).credited
+    pub senders : (core : ℕ) → core < old.cores → IsSenderOn (Fits same answers) core desk (link_at actor core links)
     pub ins : (sender : ℕ) → sender ≤ old.cores → actor < old.cores → IsInOf sender (core_at actor new) (inward_of (link_at sender actor links))
 
   module _ (step : IsStep) where
@@ -61,23 +65,13 @@ module _ {J T : Type 0} {same : J → J → Type 0} {made : J → ℕ} {polls : 
         (λ away. subst (IsRecorded same made polls) (sym (step.other_cores core away)) (world.recorded core known))
         (cases_eq core actor)
 
-    outs_now : (sender core : ℕ) → sender ≤ old.cores → core < old.cores → IsOutOf core (desk_at sender new) (out_of (link_at sender core links)) (link_at sender core links).credited
-    outs_now sender core known core_known =
+    senders_now : (sender core : ℕ) → sender ≤ old.cores → core < old.cores → IsSenderOn (Fits same answers) core (desk_at sender new) (link_at sender core links)
+    senders_now sender core known core_known =
         ⊎_elim
-        (λ one. subst (λ at. IsOutOf core (desk_at at new) (out_of (link_at at core links)) (link_at at core links).credited) (sym one)
-        (subst (λ now. IsOutOf core now (out_of (link_at actor core links)) (link_at actor core links).credited) (sym desk_now) (step.outs core core_known)))
-        (λ away. subst (λ now. IsOutOf core now (out_of (link_at sender core links)) (link_at sender core links).credited) (sym (desk_elsewhere sender away))
-        (out_stays core (desk_at sender old) (link_at sender core old.links) (link_at sender core links) (step.received sender core away) (world.beside.outs sender core known core_known)))
-        (cases_eq sender actor)
-
-    lanes_now : (sender core : ℕ) → sender ≤ old.cores → core < old.cores → HasLane (Fits same answers) core (desk_at sender new) (out_of (link_at sender core links)) (link_at sender core links).credited
-    lanes_now sender core known core_known =
-        ⊎_elim
-        (λ one. subst (λ at. HasLane (Fits same answers) core (desk_at at new) (out_of (link_at at core links)) (link_at at core links).credited) (sym one)
-        (subst (λ now. HasLane (Fits same answers) core now (out_of (link_at actor core links)) (link_at actor core links).credited) (sym desk_now) (step.lanes core core_known)))
-        (λ away.
-        lane_stays (Fits same answers) core (desk_at sender old) (desk_at sender new) (link_at sender core old.links) (link_at sender core links)
-        (ap (λ desk. desk.lanes) (desk_elsewhere sender away)) (step.received sender core away) (world.beside.lanes sender core known core_known))
+        (λ one. subst (λ at. IsSenderOn (Fits same answers) core (desk_at at new) (link_at at core links)) (sym one)
+        (subst (λ now. IsSenderOn (Fits same answers) core now (link_at actor core links)) (sym desk_now) (step.senders core core_known)))
+        (λ away. subst (λ now. IsSenderOn (Fits same answers) core now (link_at sender core links)) (sym (desk_elsewhere sender away))
+        (sender_stays refl (step.received sender core away) (λ is. is) (world_sender world sender core known core_known)))
         (cases_eq sender actor)
 
     ins_now : (sender core : ℕ) → sender ≤ old.cores → core < old.cores → IsInOf sender (core_at core new) (inward_of (link_at sender core links))
@@ -99,5 +93,9 @@ module _ {J T : Type 0} {same : J → J → Type 0} {made : J → ℕ} {polls : 
       };
       recorded = recorded_now;
       outside = step.written;
-      beside = record { outs = outs_now; lanes = lanes_now; ins = ins_now };
+      beside = record {
+        outs = λ sender core known core_known. (senders_now sender core known core_known).out;
+        lanes = λ sender core known core_known. (senders_now sender core known core_known).lane;
+        ins = ins_now;
+      };
     }

@@ -4,7 +4,7 @@ use Rattle.rt_world.specs.Acts.{IsActOf}
 use Rattle.rt_world.proofs.Acts.{acted_on, acts_now, its_notes_fit}
 use Rattle.rt_world.proofs.Borrowed.{IsLent, row_within, lent_within, lent_links}
 use Rattle.rt_world.proofs.CoreSending.{IsDoneBy, core_acting, core_rests, core_at_rest, core_journals}
-use Rattle.rt_world.proofs.Sending.{its_end, its_lane, outside_acting, outside_rests, outside_journals}
+use Rattle.rt_world.proofs.Sending.{its_sender, outside_acting, outside_rests, outside_journals}
 use Rattle.rt_world.proofs.model.World.act.Given.{Over}
 use Rattle.rt_world.proofs.model.World.act.Goals as goal
 use Rattle.rt_world.proofs.model.World.act.Goals.{After-index_mut-row, After-core_acts}
@@ -32,8 +32,8 @@ pub core_acts-requires : goal.core_acts-requires
 core_acts-requires g c =
     let by = core_acting c.self.invariant.1 (lent g (goal.at.core_acts-requires g c).After-index_mut-row _ c.to.view_is) c.index_mut-link.ensures.value c.if-from-self.true c.index_mut-actor.ensures.value in
     record {
-      beside = its_end c.self.invariant.1 by.acting;
-      lane = its_lane c.self.invariant.1 by.acting;
+      beside = (its_sender c.self.invariant.1 by.acting).out;
+      lane = (its_sender c.self.invariant.1 by.acting).lane;
       at = c.requires.at;
       room = its_notes_fit c.self.invariant.1 by.acting c.from.view_is c.self.view_is c.args.act c.requires.room;
       ready = c.requires.ready;
@@ -73,8 +73,8 @@ desk_acts-requires g c =
     let row = lent g (goal.at.desk_acts-requires g c).After-index_mut-row _ c.to.view_is in
     let acting = outside_acting c.self.invariant.1 row c.index_mut-link.ensures.value (omega (arith, row.there, c.if-from-self.false)) in
     record {
-      beside = its_end c.self.invariant.1 acting;
-      lane = its_lane c.self.invariant.1 acting;
+      beside = (its_sender c.self.invariant.1 acting).out;
+      lane = (its_sender c.self.invariant.1 acting).lane;
       at = c.requires.at;
       room = its_notes_fit c.self.invariant.1 acting c.from.view_is c.self.view_is c.args.act c.requires.room;
       ready = c.requires.ready;
