@@ -19,8 +19,7 @@ pub mod Collecting
 pub mod Ticketing
 pub mod Acts
 pub mod Receiving
-pub mod Delivering
-pub mod Shutting
+pub mod Received
 pub mod OneTurn
 pub mod Turning
 pub mod Gathered

@@ -1,17 +1,13 @@
--- A world at rest stays one as a core does something on the link of a sender.
-use Rattle.std.proofs.Common.{◌≡◌, ◌≢◌, ℕ, ◌+◌, ◌<◌, ◌≤◌, List, length, sym, ◌∙◌, ap, subst, ⊎_elim, arith, get_or}
-use Rattle.std.proofs.lemmas.Bool.{cases_eq}
-use Rattle.rt_world.proofs.Words.{Owed, Whole, inward_of, RecordedView, IsRecorded, desk_of, IsInOf, WorldView, journal_at, link_at, Parts, core_at, world_of, IsWorld, IsAtRest}
+-- A core does something on the link of a sender.
+use Rattle.std.proofs.Common.{◌≡◌, ℕ, ◌+◌, ◌<◌, ◌≤◌, Bool, List, length, sym, ◌∙◌, ap, subst, arith, get_or}
+use Rattle.rt_world.proofs.Words.{Order, Owed, Whole, inward_of, RecordedView, IsInOf, WorldView, journal_at, link_at, Parts, core_at, world_of, IsWorld}
+use Rattle.rt_ids.specs.declared.order.Outcome.{Outcome}
 use Rattle.rt_link.specs.Whole.{kept_by_receiver}
 use Rattle.rt_link.specs.Ends.{StartsWith}
 use Rattle.rt_link.specs.Calls.{SeesMore}
-use Rattle.rt_journal.specs.Ends.{KeepsIn, KeepsOuts, IsSameSeat}
-use Rattle.rt_world.specs.Links.{ChangesLink}
 use Rattle.rt_world.proofs.Borrowed.{IsLent, lent_link}
-use Rattle.rt_world.proofs.LinkRows.{with_link, ChangesLink-with_link}
 use Rattle.rt_world.proofs.LinkSteps.{as_long, OnlyReceived}
-use Rattle.rt_world.proofs.CoreSteps.{journal_is, room_is, viewed, parts_now, receives}
-use Rattle.rt_world.proofs.WorldAfter.{rest_after}
+use Rattle.rt_world.proofs.CoreSteps.{journal_is, room_is, viewed}
 
 -- a core and the link of a sender to it, as their world has them
 pub record IsReceiving {J T : Type 0} (old : Parts J T) (sender core : ℕ) (view : RecordedView J T) (link : Whole J T) : Type 0 where
@@ -74,53 +70,22 @@ module _ {J T : Type 0} (link after : Whole J T) (more : SeesMore (inward_of lin
     given = given;
   }
 
--- what each call on a receiver's end keeps
-pub record KeepsReceiver {J T : Type 0} (same : J → J → Type 0) (made : J → ℕ) (polls : Owed J T) (sender : ℕ) (view now : RecordedView J T) (after : Whole J T) : Type 0 where
-  pub beside : IsInOf sender now (inward_of after)
-  pub others : (other : ℕ) → other ≢ sender → KeepsIn other view now
-  pub outs : KeepsOuts (desk_of view) (desk_of now)
-  pub lanes : now.lanes ≡ view.lanes
-  pub seat : IsSameSeat view now
-  pub sound : IsRecorded same made polls now
+-- what the core did on the link: it took, gave an outcome or shut the gate; and it sees what it saw
+pub record DidOnLink {J T : Type 0} (link after : Whole J T) : Type 0 where
+  pub rest : inward_of after ≡ record (inward_of link) { seen = after.sent; taken = after.taken; given = after.given; shut = after.shut }
+  pub more : SeesMore (inward_of link) (inward_of after)
+  pub given : StartsWith after.given link.given
 
--- what a call on a receiver's end says of the core, and of the link
-pub record DidReceive {J T : Type 0} (same : J → J → Type 0) (made : J → ℕ) (polls : Owed J T)
-    (sender : ℕ) (view : RecordedView J T) (link : Whole J T) (now : RecordedView J T) (after : Whole J T) : Type 0 where
-  pub received : OnlyReceived link after
-  pub at_rest : now.core.out ≡ view.core.out
-  pub keeps : KeepsReceiver same made polls sender view now after
-
-module _ {J T : Type 0} {same : J → J → Type 0} {made : J → ℕ} {polls : Owed J T} {answers : J → T → Type 0} {old : Parts J T}
-    (world : IsWorld same made polls answers old) (sender core : ℕ) (there : sender ≤ old.cores) (core_there : core < old.cores)
-    (now : RecordedView J T) (after : Whole J T)
-    (did : DidReceive same made polls sender (core_at core old) (link_at sender core old.links) now after) where
-  abbrev links : List (List (Whole J T))
-  links = with_link old.links sender core after
-
-  changes : ChangesLink old.links links sender core after
-  changes =
-      ChangesLink-with_link old.links sender core after (omega (arith, world.all_there.rows_are, there)) (omega (arith, world.all_there.links_are sender there, core_there))
-
-  ins : (from : ℕ) → from ≤ old.cores → IsInOf from now (inward_of (link_at from core links))
-  ins from known =
-      ⊎_elim
-      (λ one. subst (λ at. IsInOf at now (inward_of (link_at at core links))) (sym one) (subst (λ link. IsInOf sender now (inward_of link)) (sym changes.changed) did.keeps.beside))
-      (λ away. subst (λ link. IsInOf from now (inward_of link)) (sym (changes.others from core (λ one two. away one))) ((did.keeps.others from away).each _ (world.beside.ins from core known core_there)))
-      (cases_eq from sender)
-
-  pub receives_at_rest : IsAtRest old → IsAtRest (parts_now world core core_there now links)
-  receives_at_rest rest = rest_after old core now links rest (did.at_rest ∙ rest core core_there)
-
-  pub receives_rests : IsWorld same made polls answers (parts_now world core core_there now links)
-  receives_rests =
-      receives world core core_there now links (record {
-        recorded = did.keeps.sound;
-        seat = did.keeps.seat;
-        outs = did.keeps.outs;
-        lanes = did.keeps.lanes;
-        sender = sender;
-        link = after;
-        changes = changes;
-        received = did.received;
-        ins = ins;
-      })
+pub on_link : {J T : Type 0} {link after : Whole J T} {seen : List (Order J)} {taken : ℕ} {given : List (ℕ × Outcome J T)} {shut : Bool} →
+    inward_of after ≡ record (inward_of link) { seen = seen; taken = taken; given = given; shut = shut } →
+    SeesMore (inward_of link) (inward_of after) → StartsWith after.given link.given → DidOnLink link after
+on_link {link = link} is more given = record {
+  rest = is ∙ (λ i. record (inward_of link) {
+    seen = sym (ap (λ end. end.seen) is) i;
+    taken = sym (ap (λ end. end.taken) is) i;
+    given = sym (ap (λ end. end.given) is) i;
+    shut = sym (ap (λ end. end.shut) is) i;
+  });
+  more = more;
+  given = given;
+}

@@ -5,6 +5,7 @@ pub mod Stats
 pub mod Sends
 pub mod Acts
 pub mod Deliveries
+pub mod Receipts
 pub mod Calls
 pub mod Beside
 pub mod OneTurn

@@ -18,6 +18,7 @@ mod acts;
 mod closings;
 mod events;
 mod opening;
+mod receipts;
 mod sound;
 mod stats;
 mod steps;

@@ -9,6 +9,7 @@ ghost use Rattle.rt_world.specs.State.{journal_at, noted};
 ghost use Rattle.rt_world.specs.Closings.{IsGateOpen, Shuts};
 
 use super::World;
+use super::receipts::Receipt;
 use crate::event::Reply;
 use rt_ids::{ActorNo, CoreNo};
 use rt_jobs::Task;
@@ -54,21 +55,7 @@ impl<J: Task<Out = u64>, A: Allocator + Clone> World<J, A> {
         if self.is_shut(core, from) {
             return Reply::AlreadyShut;
         }
-        self.shut_gate(core, from);
+        drop(self.receive(core, from, Receipt::Shut));
         Reply::Noted
-    }
-
-    // Shuts the gate of the actor.
-    fn shut_gate(&mut self, core: CoreNo, from: ActorNo)
-        requires core { core < self.old.cores }
-        requires sender { from ≤ self.old.cores }
-        requires room { length (journal_at core self.old) + 4 ≤ self.old.room }
-        requires closed { IsSome (core_mode (journal_at core self.old)) }
-        requires is_open { IsGateOpen from core self.old }
-        ensures { self.new ≡ noted core (writes.Shut from (length (accepted_orders core (journal_at from self.old))) ∷ []) self.old }
-    {
-        let row = &mut self.links[from.0 as usize];
-        let link = &mut row[core.0 as usize];
-        self.inside[core.0 as usize].shut(link, from);
     }
 }

@@ -14,13 +14,14 @@ ghost use Rattle.rt_journal.specs.Whole.{MayAnswer};
 ghost use Rattle.rt_link.specs.Fits.{Fits};
 ghost use Rattle.rt_world.specs.State.{journal_at};
 ghost use Rattle.rt_world.specs.Sends.{Sends};
-ghost use Rattle.rt_world.specs.Deliveries.{Delivers, taken_reply};
+ghost use Rattle.rt_world.specs.Deliveries.{Delivers};
 ghost use Rattle.rt_world.specs.Links.{GivesOnOne};
 ghost use Rattle.rt_world.specs.Turns.{Turns};
 ghost use Rattle.rt_world.specs.OneTurn as one;
 
 use super::World;
 use super::acts::Act;
+use super::receipts::Receipt;
 use crate::event::Reply;
 use rt_core::{Ahead, Next, PickError, Settled, Turn};
 use rt_ids::{ActorNo, CoreNo, JobId, Order, Reason};
@@ -48,9 +49,7 @@ impl<J: Task<Out = u64>, A: Allocator + Clone> World<J, A> {
         requires room { length (journal_at core self.old) + 4 ≤ self.old.room }
         ensures { Delivers core from self.old self.new result }
     {
-        let row = &mut self.links[from.0 as usize];
-        let link = &mut row[core.0 as usize];
-        reply_if(self.inside[core.0 as usize].deliver(link))
+        self.receive(core, from, Receipt::Take)
     }
 }
 
@@ -184,11 +183,4 @@ fn give_back_on<J: Task<Out = u64>, A: Allocator + Clone>(
     let row = &mut links[name.from.0 as usize];
     let link = &mut row[number];
     core.give_back(link, name, reason, order);
-}
-
-// What the core is told.
-fn reply_if<J>(found: bool) -> Reply<J>
-    ensures { result ≡ taken_reply found }
-{
-    if found { Reply::Noted } else { Reply::Empty }
 }

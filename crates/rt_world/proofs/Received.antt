@@ -1,0 +1,169 @@
+-- A world at rest stays one as a core takes the next order of a sender, or shuts the gate, and that is the step of its event.
+use Rattle.std.proofs.Common.{◌≡◌, ℕ, zero, suc, ◌+◌, ◌≤◌, Bool, true, false, List, [], ◌∷◌, length, refl, sym, ◌∙◌, ap, subst, ⊎_elim, arith}
+use Rattle.std.proofs.lemmas.Bool.{cases_eq}
+use Rattle.std.proofs.lemmas.List.{append-nil}
+use Rattle.rt_world.proofs.Words.{Option, Some, None, slice_get, Owed, Whole, inward_of, RecordedView, IsInOf, Reply, journal_at, noted, link_at, Parts, core_at, desk_at, world_of, IsWorld, IsAtRest}
+use Rattle.rt_ids.specs.declared.order.Envelope.{Envelope}
+use Rattle.rt_ids.specs.declared.order.Outcome.{Outcome}
+use Rattle.rt_ids.specs.Filters.{accepted_orders, delivered_names}
+use Rattle.rt_link.specs.declared.ends.Inward.{Inward}
+use Rattle.rt_link.specs.Ends.{StartsWith}
+use Rattle.rt_link.specs.Calls.{Takes}
+use Rattle.rt_journal.specs.Ends.{Gives}
+use Rattle.rt_journal.specs.Steps.{Delivers as DeliversTo}
+use Rattle.rt_journal.proofs.GivenEnds.{gave_rest}
+use Rattle.rt_journal.proofs.NumberedOrders.{length-numbered}
+use Rattle.rt_ids.specs.declared.note.Note.TheVariants as writes
+use Rattle.rt_world.specs.declared.model.receipts.Receipt.{Receipt}
+use Rattle.rt_world.specs.declared.model.receipts.Receipt.TheVariants.{Take, Shut}
+use Rattle.rt_world.specs.Links.{ChangesLink}
+use Rattle.rt_world.specs.State.{sent_at}
+use Rattle.rt_world.specs.Deliveries.{Delivers, IsDelivery, next_place, taken_reply}
+use Rattle.rt_world.specs.Receipts.{HasReceived, ReceivesOn, Receives}
+use Rattle.rt_world.proofs.Desks.{journal_at-world, sent_at-world}
+use Rattle.rt_world.proofs.LinkRows.{with_link, same_sent, ChangesLink-with_link}
+use Rattle.rt_world.proofs.Receiving.{IsReceiving, received_there, sent_is, only_received, DidOnLink, on_link}
+use Rattle.rt_world.proofs.CoreSteps.{number_is, parts_now, journal_is, core_noted, core_unchanged, receives}
+use Rattle.rt_world.proofs.WorldAfter.{rest_after}
+
+slice_get-end : {A : Type 0} (items : List A) (place : ℕ) → length items ≡ place → slice_get items place ≡ None
+slice_get-end [] zero is = refl
+slice_get-end [] (suc place) is = refl
+slice_get-end (item ∷ items) zero is = absurd (omega (arith, is))
+slice_get-end (item ∷ items) (suc place) is = slice_get-end items place (omega (arith, is))
+
+-- what was given before is given still
+given_more : {J T : Type 0} (taken : Inward J T) (after : Whole J T) (number : ℕ) (outcome : Option (Outcome J T)) → Gives taken number outcome (inward_of after) → StartsWith after.given taken.given
+given_more taken after number None gives = ([], ap (λ end. end.given) gives ∙ sym (append-nil taken.given))
+given_more taken after number (Some outcome) gives = ((number, outcome) ∷ [], ap (λ end. end.given) gives)
+
+-- the core took an order, and gave its outcome, if there is one yet
+module _ {J T : Type 0} (link after : Whole J T) (taken : Inward J T) (envelope : Envelope J) (outcome : Option (Outcome J T)) (takes : Takes (inward_of link) taken (Some envelope))
+    (gives : Gives taken envelope.name.number outcome (inward_of after)) where
+  rest_is : inward_of after ≡ record taken { given = after.given }
+  rest_is = gave_rest taken envelope.name.number outcome (inward_of after) gives
+
+  seen_is : after.sent ≡ taken.seen
+  seen_is = ap (λ end. end.seen) rest_is
+
+  took_on_link : DidOnLink link after
+  took_on_link =
+      on_link (rest_is ∙ (λ i. record (takes.0 i) { given = after.given }))
+      (subst (λ seen. StartsWith seen link.sent × (link.shut ≡ true → seen ≡ link.sent)) (sym seen_is) takes.1)
+      (subst (StartsWith after.given) (ap (λ end. end.given) takes.0) (given_more taken after envelope.name.number outcome gives))
+
+module _ {J T : Type 0} {same : J → J → Type 0} {made : J → ℕ} {polls : Owed J T} {answers : J → T → Type 0} {old : Parts J T} {sender core : ℕ} {what : Receipt}
+    {its_view now : RecordedView J T} {its_link after : Whole J T} {answer : Reply J} (world : IsWorld same made polls answers old)
+    (by : IsReceiving old sender core its_view its_link) (it_did : HasReceived same made polls sender what its_view its_link answer now after) where
+  abbrev view : RecordedView J T
+  view = core_at core old
+
+  abbrev link : Whole J T
+  link = link_at sender core old.links
+
+  abbrev links : List (List (Whole J T))
+  links = with_link old.links sender core after
+
+  did : HasReceived same made polls sender what view link answer now after
+  did = received_there world by (λ view link. HasReceived same made polls sender what view link answer now after) it_did
+
+  did_on_link : DidOnLink link after × (now.core.out ≡ view.core.out)
+  did_on_link = by_what what did.receives
+    where
+      by_found : (found : Bool) → DeliversTo view (inward_of link) now (inward_of after) found → DidOnLink link after × (now.core.out ≡ view.core.out)
+      by_found true delivers = (took_on_link link after delivers.1.0 delivers.0 delivers.1.1 delivers.1.2 delivers.1.3, delivers.2.out)
+      by_found false delivers =
+          (on_link delivers.0.0 delivers.0.1 ([], ap (λ end. end.given) delivers.0.0 ∙ sym (append-nil link.given)), ap (λ view. view.core.out) delivers.1)
+
+      by_what : (what : Receipt) → ReceivesOn sender what view link answer now after → DidOnLink link after × (now.core.out ≡ view.core.out)
+      by_what Take receives = by_found receives.0 receives.2
+      by_what Shut receives = (on_link receives.2.0 receives.2.1 ([], ap (λ end. end.given) receives.2.0 ∙ sym (append-nil link.given)), receives.3.out)
+
+  same_orders : after.sent ≡ link.sent
+  same_orders = sent_is link after did_on_link.0.more did.untouched did_on_link.0.rest
+
+  changes : ChangesLink old.links links sender core after
+  changes =
+      ChangesLink-with_link old.links sender core after (omega (arith, world.all_there.rows_are, by.there)) (omega (arith, world.all_there.links_are sender by.there, by.core_there))
+
+  ins : (from : ℕ) → from ≤ old.cores → IsInOf from now (inward_of (link_at from core links))
+  ins from known =
+      ⊎_elim
+      (λ one. subst (λ at. IsInOf at now (inward_of (link_at at core links))) (sym one) (subst (λ link. IsInOf sender now (inward_of link)) (sym changes.changed) did.beside))
+      (λ away. subst (λ link. IsInOf from now (inward_of link)) (sym (changes.others from core (λ one two. away one))) ((did.others from away).each _ (world.beside.ins from core known by.core_there)))
+      (cases_eq from sender)
+
+  abbrev pub received : Parts J T
+  received = parts_now world core by.core_there now links
+
+  pub received_at_rest : IsAtRest old → IsAtRest received
+  received_at_rest rest = rest_after old core now links rest (did_on_link.1 ∙ rest core by.core_there)
+
+  pub received_rests : IsWorld same made polls answers received
+  received_rests =
+      receives world core by.core_there now links (record {
+        recorded = did.sound;
+        seat = did.seat;
+        outs = did.outs;
+        lanes = did.lanes;
+        sender = sender;
+        link = after;
+        changes = changes;
+        received = only_received link after did_on_link.0.more did.untouched did_on_link.0.rest did_on_link.0.given;
+        ins = ins;
+      })
+
+  its_end : IsInOf sender view (inward_of link)
+  its_end = world.beside.ins sender core by.there by.core_there
+
+  same_lists : (world_of received).sent ≡ (world_of old).sent
+  same_lists = same_sent old.links sender core after same_orders
+
+  -- the next place is the one that the link says
+  place_is : next_place sender core (world_of old) ≡ link.taken
+  place_is = ap (λ journal. length (delivered_names sender journal)) (journal_is world core by.core_there) ∙ its_end.taken
+
+  next_order : slice_get (sent_at sender core (world_of old)) (next_place sender core (world_of old)) ≡ slice_get link.sent link.taken
+  next_order = ap (λ orders. slice_get orders (next_place sender core (world_of old))) (sent_at-world old sender core) ∙ ap (slice_get link.sent) place_is
+
+  name_is : (envelope : Envelope J) → envelope.name ≡ record { from = link.from; to = link.to; number = link.base + link.taken + 1 } →
+      envelope.name ≡ record { from = sender; to = core; number = next_place sender core (world_of old) + 1 }
+  name_is envelope is = is ∙ (λ i. record { from = its_end.from i; to = (its_end.to ∙ number_is world core by.core_there) i; number = counts i })
+    where
+      counts : link.base + link.taken + 1 ≡ next_place sender core (world_of old) + 1
+      counts = omega (arith, its_end.base, place_is)
+
+  -- the delivery is the step of its event
+  delivers_now : (found : Bool) → DeliversTo view (inward_of link) now (inward_of after) found → Delivers core sender (world_of old) (world_of received) (taken_reply found)
+  delivers_now true delivers = (
+    delivers.0.order,
+    next_order ∙ (ap (λ orders. slice_get orders link.taken) (sym same_orders ∙ seen_is link after delivers.1.0 delivers.0 delivers.1.1 delivers.1.2 delivers.1.3) ∙ delivers.1.2.3),
+    delivers.2.notes,
+    subst (λ journal. IsDelivery (record { from = sender; to = core; number = next_place sender core (world_of old) + 1 }) delivers.0.order journal delivers.2.notes) (sym (journal_is world core by.core_there))
+        (subst (λ name. IsDelivery name delivers.0.order view.journal.notes delivers.2.notes) (name_is delivers.0 delivers.1.2.2) delivers.2.delivery),
+    core_noted world core by.core_there now links delivers.2.notes delivers.2.journal same_lists,
+  )
+  delivers_now false delivers = (
+    next_order ∙ slice_get-end link.sent link.taken (ap length (sym same_orders) ∙ delivers.0.2),
+    core_unchanged world core by.core_there now links delivers.1 same_lists,
+  )
+
+  -- a final count is the number of orders that were accepted
+  counts : (count : ℕ) → count ≡ after.base + length after.sent → count ≡ length (accepted_orders core (journal_at sender (world_of old)))
+  counts count is =
+      let accepted =
+      ap (λ notes. length (accepted_orders core notes)) (journal_at-world old sender)
+      ∙ (ap length (world.beside.outs sender core by.there by.core_there).accepted ∙ length-numbered (desk_at sender old).actor core 0 link.sent) in
+      omega (arith, is, ap (λ end. end.base) did_on_link.0.rest, its_end.base, ap length same_orders, accepted)
+
+  -- and so is the shutting of a gate
+  pub receives_now : Receives core sender what (world_of old) (world_of received) answer
+  receives_now = by_what what did.receives
+    where
+      by_what : (what : Receipt) → ReceivesOn sender what view link answer now after → Receives core sender what (world_of old) (world_of received) answer
+      by_what Take receives = subst (Delivers core sender (world_of old) (world_of received)) (sym receives.1) (delivers_now receives.0 receives.2)
+      by_what Shut receives = (
+        receives.1,
+        core_noted world core by.core_there now links (writes.Shut sender receives.0 ∷ []) receives.3.journal same_lists
+            ∙ ap (λ count. noted core (writes.Shut sender count ∷ []) (world_of old)) (counts receives.0 receives.2.2),
+      )
