@@ -2,7 +2,7 @@
 use Rattle.std.proofs.Common.{append_assoc, ◌≡◌, ℕ, Bool, true, false, List, [], ◌∷◌, ◌++◌, refl, sym, ◌∙◌, ap, get_or}
 use Rattle.std.specs.Prelude.{◌||◌}
 use Rattle.std.proofs.Math.Bool.{or-true}
-use Rattle.rt_world.proofs.Words.{Journal, Owed, Event, Reply, WorldView, journal_at}
+use Rattle.rt_world.proofs.Words.{Journal, Owed, Event, Reply, WorldView, journal_at, Happens}
 use Rattle.rt_world.specs.Determined.{is_refusal, tells_refusal, WasRefused, WasRefusedSince, IsToldRun}
 use Rattle.rt_world.proofs.KeptLists.{Extends, is_later}
 
@@ -48,6 +48,12 @@ pub was_refused : {T : Type 0} {old new : List (Journal T)} → WasRefusedSince 
 was_refused {T} {old} refused = (refused.core, ap tells_refusal refused.since ∙ tells-added refused.notes (get_or old refused.core []) refused.told)
 
 module _ {J : Type 0} (same : J → J → Type 0) (made : J → ℕ) (polls : Owed J ℕ) (answers : J → ℕ → Type 0) where
+  -- each event keeps what was told
+  pub refused-happens : (event : Event J) (old new : WorldView J ℕ) (answer : Reply J) → Happens same made polls answers event old new answer → WasRefused old.journals → WasRefused new.journals
+  refused-happens event old new answer happens refused =
+      let more = (is_later same made polls answers event old new answer happens).journals refused.0 in
+      (refused.0, ap tells_refusal more.1 ∙ tells-longer more.0 (journal_at refused.0 old) refused.1)
+
   pub extends-run : (events : List (Event J)) (old new : WorldView J ℕ) (replies : List (Reply J)) → IsToldRun same made polls answers events old new replies → Extends old.journals new.journals
   extends-run [] old new replies run core = ([], ap (journal_at core) run.0)
   extends-run (event ∷ events) old new replies run core =

@@ -1,6 +1,7 @@
 -- What each event leaves: as many journals and lists of orders as before, each journal behind what it got, and no refusal told, if no queue is ordered.
 use Rattle.std.proofs.Common.{append_assoc, ◌≡◌, ℕ, ◌+◌, false, List, [], ◌∷◌, ◌++◌, length, refl, sym, ◌∙◌, ap, subst, inl, inr, ⊎_elim, get_or, set}
 use Rattle.std.specs.Prelude.{unwrap_or}
+use Rattle.std.proofs.lemmas.Bool.{false_from_ne_true, true≢false}
 use Rattle.std.proofs.lemmas.List.{length-set}
 use Rattle.rt_world.proofs.Words.{Some, slice_get, JobId, Note, Order, Journal, Owed, Event, Reply, WorldView, journal_at, noted, Happens}
 use Rattle.rt_ids.specs.declared.note.Note.TheVariants as writes
@@ -24,7 +25,7 @@ use Rattle.rt_world.specs.Closings.{Shuts}
 use Rattle.rt_world.specs.Collections.{collected_notes, uncollected, Collects, Redeems, Detaches, redeemed_reply, detached_reply}
 use Rattle.rt_world.specs.Runs.{Steps}
 use Rattle.rt_world.specs.Opening.{HasAllLists}
-use Rattle.rt_world.specs.Determined.{tells_refusal}
+use Rattle.rt_world.specs.Determined.{tells_refusal, WasRefused}
 use Rattle.rt_world.specs.Creations.{IsNoCreation, OrdersNoQueue, CallNoQueues, PollsOrderNone}
 use Rattle.rt_world.proofs.Places.{set_or, set_each}
 use Rattle.rt_world.proofs.PlainNotes.{last_or, plain_after, collected_plain, pick_plain, settle_plain, delivery_plain, no_creation}
@@ -57,7 +58,7 @@ OrderNone orders = (place weight : ℕ) → slice_get orders place ≡ Some (Cre
 -- no queue was ordered, and no refusal told
 pub record IsPlain {J T : Type 0} (world : WorldView J T) : Type 0 where
   pub orders : (sender core : ℕ) → OrderNone (sent_at sender core world)
-  pub told : (actor : ℕ) → tells_refusal (journal_at actor world) ≡ false
+  pub told : WasRefused world.journals → ⊥
 
 -- some events later: each journal has its old notes behind what it got, there are as many lists as before, and no refusal is told, if the events order no queue
 pub record IsLater {J T : Type 0} (none : Type 0) (old new : WorldView J T) : Type 0 where
@@ -101,9 +102,12 @@ module _ {J T : Type 0} {none : Type 0} {old new : WorldView J T} where
     });
     plain = λ orders plain. subst (λ world. IsPlain world) (sym is) (record {
       orders = (more orders plain).1;
-      told = λ at.
-          set_each old.journals actor (notes ++ journal_at actor old) at [] (λ journal. tells_refusal journal ≡ false)
-          (plain_after notes (journal_at actor old) (more orders plain).0 (plain.told actor)) (plain.told at);
+      told = λ refused.
+          let silent = λ (at : ℕ). false_from_ne_true (tells_refusal (journal_at at old)) (λ told. plain.told (at, told)) in
+          true≢false
+          (sym refused.1
+          ∙ set_each old.journals actor (notes ++ journal_at actor old) refused.0 [] (λ journal. tells_refusal journal ≡ false)
+          (plain_after notes (journal_at actor old) (more orders plain).0 (silent actor)) (silent refused.0));
     });
   }
 

@@ -1,16 +1,17 @@
 -- A core is lent the link of one sender, and gives an outcome on it.
-use Rattle.std.proofs.Common.{◌≡◌, ◌≢◌, ℕ, ◌<◌, ◌≤◌, List, [], ◌∷◌, ◌++◌, length, refl, sym, ◌∙◌, ap, subst, ⊎_elim, cond, arith, get_or, set}
-use Rattle.std.proofs.lemmas.Bool.{cases_eq, eq-eqb}
+use Rattle.std.proofs.Common.{◌≡◌, ◌≢◌, ℕ, ◌<◌, ◌≤◌, List, [], ◌∷◌, ◌++◌, length, refl, sym, ◌∙◌, ap, subst, cond, arith, get_or, set}
+use Rattle.std.proofs.lemmas.Bool.{eq-eqb}
 use Rattle.std.proofs.lemmas.List.{append-nil, length-map, set-get_or}
 use Rattle.rt_world.proofs.Words.{map, Option, Some, None, JobId, Whole, inward_of, RecordedView, IsInOf, no_link, row_of, link_at}
 use Rattle.rt_ids.specs.declared.note.OutcomeNote.{OutcomeNote}
 use Rattle.rt_ids.specs.declared.order.Outcome.{Outcome}
 use Rattle.rt_link.specs.declared.ends.Inward.{Inward}
 use Rattle.rt_link.specs.Whole.{kept_by_receiver}
-use Rattle.rt_journal.specs.Ends.{IsInOwing, Gives, IsSameSeat, told_under}
+use Rattle.rt_journal.specs.Ends.{IsInOwing, Gives, told_under}
 use Rattle.rt_journal.proofs.DeliveredEnds.{told_elsewhere}
 use Rattle.rt_world.specs.Links.{with_link, ChangesLink, GivesOnOne}
 use Rattle.rt_world.specs.OneTurn.{none_owed, IsBesideAll}
+use Rattle.rt_world.proofs.Places.{by_place}
 use Rattle.rt_world.proofs.LinkRows as by_rows
 use Rattle.rt_world.proofs.LinkSteps.{no_change}
 
@@ -112,21 +113,17 @@ module _ {J T V : Type 0} {items : V → List (Whole J T)} {rows : List V} {numb
             changes = changes;
           }
 
-      pub none_left : (now : RecordedView J T) → IsSameSeat view now → IsInOf sender now (inward_of after) →
-          ((other : ℕ) → other ≢ sender → (inward : Inward J T) → IsInOwing other (owed other) view inward → IsInOf other now inward) →
-          IsBesideAll number none_owed now new_links
-      none_left now seat here others = record {
-        rows = λ s there. subst (λ count. s < count) (sym changes.same_rows) (beside.rows s (its s there));
-        cores = λ s there. subst (λ count. number < count) (sym (changes.same_cores s)) (beside.cores s (its s there));
-        ins = λ s there.
-            ⊎_elim
-            (λ one. subst (λ at. IsInOf at now (inward_of (link_at at number new_links))) (sym one) (subst (λ link. IsInOf sender now (inward_of link)) (sym changes.changed) here))
-            (λ away. subst (λ link. IsInOf s now (inward_of link)) (sym (changes.others s number (λ one two. away one))) (others s away _ (beside.ins s (its s there))))
-            (cases_eq s sender);
+      pub none_left : IsInOf sender view (inward_of after) →
+          ((other : ℕ) → other ≢ sender → (inward : Inward J T) → IsInOwing other (owed other) view inward → IsInOf other view inward) →
+          IsBesideAll number none_owed view new_links
+      none_left here others = record {
+        rows = λ s there. subst (λ count. s < count) (sym changes.same_rows) (beside.rows s there);
+        cores = λ s there. subst (λ count. number < count) (sym (changes.same_cores s)) (beside.cores s there);
+        ins =
+            by_place (λ at. at ≤ view.core.cores → IsInOf at view (inward_of (link_at at number new_links))) sender
+            (λ there. subst (λ link. IsInOf sender view (inward_of link)) (sym changes.changed) here)
+            (λ s away there. subst (λ link. IsInOf s view (inward_of link)) (sym (changes.others s number (λ one two. away one))) (others s away _ (beside.ins s there)));
       }
-        where
-          its : (s : ℕ) → s ≤ now.core.cores → s ≤ view.core.cores
-          its s there = subst (λ count. s ≤ count) seat.cores there
 
 module _ {T : Type 0} (name : JobId) (what : OutcomeNote T) where
   -- what is owed under a name is owed to its sender

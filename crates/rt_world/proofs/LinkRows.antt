@@ -1,10 +1,10 @@
 -- Rows of links, of which one link changes.
-use Rattle.std.proofs.Common.{◌≡◌, ◌≢◌, ℕ, ◌<◌, List, [], length, get_or, set, map, sym, ap, ◌∙◌, subst, ⊎_elim}
-use Rattle.std.proofs.lemmas.Bool.{cases_eq}
+use Rattle.std.proofs.Common.{◌≡◌, ◌≢◌, ℕ, ◌<◌, List, [], length, get_or, set, map, refl, sym, ap, ◌∙◌}
 use Rattle.std.proofs.lemmas.List.{get_or-map, get_or_default, length-set, map-set, get_or-set_same, get_or-set_other, set-get_or}
 use Rattle.rt_ids.specs.declared.order.Order.{Order}
 use Rattle.rt_link.specs.declared.plain.Whole.{Whole}
 use Rattle.rt_journal.proofs.NumberedOrders as by_place
+use Rattle.rt_world.proofs.Places.{by_place}
 pub use Rattle.rt_world.specs.Links.{with_link}
 use Rattle.rt_world.specs.Links.{no_link, row_of, link_at, ChangesLink}
 
@@ -19,12 +19,10 @@ module _ {J T : Type 0} (links : List (List (Whole J T))) (s d : ℕ) (link : Wh
   row_of-with_link_other other differs = get_or-set_other links s other (set (row_of s links) d link) [] differs
 
   link_at-with_link_other : s < length links → (r e : ℕ) → (r ≡ s → e ≡ d → ⊥) → link_at r e now ≡ link_at r e links
-  link_at-with_link_other in_rows r e differs =
-      ⊎_elim
-      (λ same. subst (λ n. link_at n e now ≡ link_at n e links) (sym same)
-      (ap (λ row. get_or row e (no_link s e)) (row_of-with_link in_rows) ∙ get_or-set_other (row_of s links) d e link (no_link s e) (differs same)))
-      (λ other. ap (λ row. get_or row e (no_link r e)) (row_of-with_link_other r other))
-      (cases_eq r s)
+  link_at-with_link_other in_rows r e =
+      by_place (λ n. (n ≡ s → e ≡ d → ⊥) → link_at n e now ≡ link_at n e links) s
+      (λ differs. ap (λ row. get_or row e (no_link s e)) (row_of-with_link in_rows) ∙ get_or-set_other (row_of s links) d e link (no_link s e) (differs refl))
+      (λ n other differs. ap (λ row. get_or row e (no_link n e)) (row_of-with_link_other n other)) r
 
   pub ChangesLink-with_link : s < length links → d < length (row_of s links) → ChangesLink links now s d link
   ChangesLink-with_link in_rows in_row =
@@ -32,12 +30,9 @@ module _ {J T : Type 0} (links : List (List (Whole J T))) (s d : ℕ) (link : Wh
         changed = ap (λ row. get_or row d (no_link s d)) (row_of-with_link in_rows) ∙ get_or-set_same (row_of s links) d link (no_link s d) in_row;
         others = link_at-with_link_other in_rows;
         same_rows = length-set links s (set (row_of s links) d link);
-        same_cores = λ r.
-            ⊎_elim
-            (λ same. subst (λ n. length (row_of n now) ≡ length (row_of n links)) (sym same)
-            (ap length (row_of-with_link in_rows) ∙ length-set (row_of s links) d link))
-            (λ other. ap length (row_of-with_link_other r other))
-            (cases_eq r s);
+        same_cores =
+            by_place (λ n. length (row_of n now) ≡ length (row_of n links)) s (ap length (row_of-with_link in_rows) ∙ length-set (row_of s links) d link)
+            (λ n other. ap length (row_of-with_link_other n other));
       }
 
   abbrev sent_lists : List (List (Whole J T)) → List (List (List (Order J)))

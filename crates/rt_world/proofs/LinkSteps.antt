@@ -1,6 +1,5 @@
 -- What one end of a plain link does, as the other end sees it.
-use Rattle.std.proofs.Common.{◌≡◌, ℕ, Bool, true, List, [], ◌∷◌, ◌++◌, length, refl, sym, ◌∙◌, ap, subst, ⊎_elim, arith, get_or}
-use Rattle.std.proofs.lemmas.Bool.{cases_eq}
+use Rattle.std.proofs.Common.{◌≡◌, ℕ, Bool, true, List, [], ◌∷◌, ◌++◌, length, refl, sym, ◌∙◌, ap, subst, arith, get_or}
 use Rattle.std.proofs.lemmas.List.{append-nil, length-append}
 use Rattle.rt_world.proofs.Words.{Order, Whole, out_of, inward_of, slice_get, RecordedView, IsOutOf, IsInOf, link_at}
 use Rattle.rt_ids.specs.declared.order.Outcome.{Outcome}
@@ -12,6 +11,7 @@ use Rattle.rt_journal.specs.Tickets.{HasLane}
 use Rattle.rt_journal.proofs.LaneEnds.{sees_more_lane}
 use Rattle.rt_journal.proofs.EndsKept.{sees_more_in, sees_more_out}
 use Rattle.rt_world.specs.Links.{ChangesLink}
+use Rattle.rt_world.proofs.Places.{by_place}
 
 -- a list that is as long as its beginning is the same
 pub as_long : {A : Type 0} (whole front : List A) → StartsWith whole front → length whole ≡ length front → whole ≡ front
@@ -85,27 +85,21 @@ module _ {J T : Type 0} where
   in_stays sender view old new sent is =
       sees_more_in sender view (inward_of old) (inward_of new) (ap inward_of sent.rest) (sent.sent, sent.gate) is
 
-  -- what is so of each link and itself, and of the one that changed, is so of all links of a world before and after
-  pub each_link : (P : Whole J T → Whole J T → Type 0) → ((link : Whole J T) → P link link) →
-      (old new : List (List (Whole J T))) (s d : ℕ) (link : Whole J T) → ChangesLink old new s d link → P (link_at s d old) link →
-      (r e : ℕ) → P (link_at r e old) (link_at r e new)
-  each_link P same old new s d link changes here r e =
-      ⊎_elim
-      (λ one. ⊎_elim
-      (λ two. subst (λ a. P (link_at a e old) (link_at a e new)) (sym one)
-      (subst (λ b. P (link_at s b old) (link_at s b new)) (sym two) (subst (P (link_at s d old)) (sym changes.changed) here)))
-      (λ away. apart (λ a b. away b)) (cases_eq e d))
-      (λ away. apart (λ a b. away a))
-      (cases_eq r s)
-    where
-      apart : (r ≡ s → e ≡ d → ⊥) → P (link_at r e old) (link_at r e new)
-      apart differs = subst (P (link_at r e old)) (sym (changes.others r e differs)) (same (link_at r e old))
-
-  -- the same, of a link that didn't change
+  -- what is so of each link and itself is so of each link that didn't change
   pub other_link : (P : Whole J T → Whole J T → Type 0) → ((link : Whole J T) → P link link) →
       (old new : List (List (Whole J T))) (s d : ℕ) (link : Whole J T) → ChangesLink old new s d link → (r e : ℕ) → (r ≡ s → e ≡ d → ⊥) →
       P (link_at r e old) (link_at r e new)
   other_link P same old new s d link changes r e differs = subst (P (link_at r e old)) (sym (changes.others r e differs)) (same (link_at r e old))
+
+  -- and of all, if it is so of the one that changed
+  pub each_link : (P : Whole J T → Whole J T → Type 0) → ((link : Whole J T) → P link link) →
+      (old new : List (List (Whole J T))) (s d : ℕ) (link : Whole J T) → ChangesLink old new s d link → P (link_at s d old) link →
+      (r e : ℕ) → P (link_at r e old) (link_at r e new)
+  each_link P same old new s d link changes here r e =
+      by_place (λ r. P (link_at r e old) (link_at r e new)) s
+      (by_place (λ e. P (link_at s e old) (link_at s e new)) d (subst (P (link_at s d old)) (sym changes.changed) here)
+      (λ e away. other_link P same old new s d link changes s e (λ one two. away two)) e)
+      (λ r away. other_link P same old new s d link changes r e (λ one two. away one)) r
 
   -- no link changed
   pub no_change : (links : List (List (Whole J T))) (s d : ℕ) → ChangesLink links links s d (link_at s d links)

@@ -5,25 +5,21 @@ use Rattle.std.proofs.lemmas.Option.{none-some}
 use Rattle.rt_world.proofs.Words.{slice_get, Owed, Event, Reply, WorldView, journal_at}
 use Rattle.rt_ids.specs.declared.order.Order.TheVariants.{Create}
 use Rattle.rt_world.specs.Opening.{IsUnbegun}
-use Rattle.rt_world.specs.Determined.{WasRefusedSince, IsToldRun}
+use Rattle.rt_world.specs.Determined.{IsToldRun}
 use Rattle.rt_world.specs.Creations.{OrderNoQueues, PollsOrderNone, RunOfJobsIsDetermined}
 use Rattle.rt_world.proofs.PlainNotes.{opening_plain}
 use Rattle.rt_world.proofs.KeptLists.{IsPlain, is_later}
 use Rattle.rt_world.proofs.DeterminedRefusals.{was_refused}
 use Rattle.rt_world.proofs.DeterminedRuns.{run_once}
 
-module _ {J T : Type 0} (world : WorldView J T) where
-  plain_unbegun : IsUnbegun world → IsPlain world
-  plain_unbegun unbegun = record {
-    orders = λ sender core place weight at. none-some (Create weight) (sym (ap (λ orders. slice_get orders place) (unbegun.no_order sender core)) ∙ at);
-    told = λ actor. opening_plain (journal_at actor world) (unbegun.opening actor);
-  }
-
-  none_refused : (old : WorldView J T) → IsPlain world → WasRefusedSince old.journals world.journals → ⊥
-  none_refused old plain told = let refused = was_refused told in true≢false (sym refused.1 ∙ plain.told refused.0)
+pub plain_unbegun : {J T : Type 0} (world : WorldView J T) → IsUnbegun world → IsPlain world
+plain_unbegun world unbegun = record {
+  orders = λ sender core place weight at. none-some (Create weight) (sym (ap (λ orders. slice_get orders place) (unbegun.no_order sender core)) ∙ at);
+  told = λ refused. true≢false (sym refused.1 ∙ opening_plain (journal_at refused.0 world) (unbegun.opening refused.0));
+}
 
 module _ {J : Type 0} (same : J → J → Type 0) (made : J → ℕ) (polls : Owed J ℕ) (answers : J → ℕ → Type 0) where
-  run_plain : PollsOrderNone polls → (events : List (Event J)) → OrderNoQueues events → (old new : WorldView J ℕ) (replies : List (Reply J)) →
+  pub run_plain : PollsOrderNone polls → (events : List (Event J)) → OrderNoQueues events → (old new : WorldView J ℕ) (replies : List (Reply J)) →
       IsToldRun same made polls answers events old new replies → IsPlain old → IsPlain new
   run_plain polls_none [] none old new replies run plain = subst (λ world. IsPlain world) (sym run.0) plain
   run_plain polls_none (event ∷ events) none old new replies run plain =
@@ -34,5 +30,6 @@ module _ {J : Type 0} (same : J → J → Type 0) (made : J → ℕ) (polls : Ow
       let plain = plain_unbegun old unbegun in
       ⊎_elim (λ same. same)
       (λ refused.
-      absurd (⊎_elim (none_refused new old (run_plain polls_none events none old new replies run plain)) (none_refused other old (run_plain polls_none events none old other others other_run plain)) refused))
+      absurd (⊎_elim (λ told. (run_plain polls_none events none old new replies run plain).told (was_refused told))
+      (λ told. (run_plain polls_none events none old other others other_run plain).told (was_refused told)) refused))
       (run_once same made polls answers owes events old new other replies others unbegun.lists run other_run)

@@ -1,7 +1,11 @@
 -- A list of which one place was set, read at any place.
-use Rattle.std.proofs.Common.{◌≡◌, ℕ, List, length, sym, ◌∙◌, ap, subst, ◌⊎◌, inl, inr, ⊎_elim, get_or, set, get_or-set_same, get_or-set_other}
+use Rattle.std.proofs.Common.{◌≡◌, ◌≢◌, ℕ, List, length, sym, ◌∙◌, ap, subst, ◌⊎◌, inl, inr, ⊎_elim, get_or, set, get_or-set_same, get_or-set_other}
 use Rattle.std.proofs.lemmas.Bool.{cases_eq, cases_lt}
 use Rattle.std.proofs.lemmas.List.{set_past}
+
+-- what is so of one place, and of each other, is so of each
+pub by_place : (Holds : ℕ → Type 0) (at : ℕ) → Holds at → ((place : ℕ) → place ≢ at → Holds place) → (place : ℕ) → Holds place
+by_place Holds at here away place = ⊎_elim (λ one. subst Holds (sym one) here) (away place) (cases_eq place at)
 
 module _ {A : Type 0} (items : List A) (place : ℕ) (item : A) (at : ℕ) (default : A) where
   -- the place that was set has the new item, and each other place what it had

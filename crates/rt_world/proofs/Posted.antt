@@ -1,6 +1,5 @@
 -- The links of a core after a turn whose job called its post.
-use Rattle.std.proofs.Common.{◌≡◌, ◌≢◌, ℕ, ◌≤◌, List, [], length, sym, ap, subst, ⊎_elim, arith, get_or, set, get_or-set_same, get_or-set_other}
-use Rattle.std.proofs.lemmas.Bool.{cases_eq}
+use Rattle.std.proofs.Common.{◌≡◌, ◌≢◌, ℕ, ◌<◌, ◌≤◌, List, [], length, sym, ap, subst, arith, get_or, set, get_or-set_same, get_or-set_other}
 use Rattle.std.proofs.lemmas.List.{length-set}
 use Rattle.std.proofs.lemmas.Option.{slice_get-get_or}
 use Rattle.rt_world.proofs.Words.{Option, JobId, Whole, out_of, inward_of, RecordedView, no_link, row_of, link_at}
@@ -10,6 +9,7 @@ use Rattle.rt_journal.specs.Ends.{IsInOwing, LeavesOwed, IsSameSeat}
 use Rattle.rt_journal.specs.Posts.{SendsMore, HasPosted}
 use Rattle.rt_journal.specs.Whole.{post_of}
 use Rattle.rt_world.specs.OneTurn.{none_owed, IsBesideAll}
+use Rattle.rt_world.proofs.Places.{by_place}
 use Rattle.rt_world.proofs.LinkSteps.{sender_rest, OnlySent, in_stays}
 use Rattle.rt_world.proofs.SentLinks.{one_gate}
 
@@ -54,14 +54,11 @@ module _ {J T : Type 0} (number : ℕ) (view now picked left : RecordedView J T)
   pub beside_posted : IsBesideAll number owed now later
   beside_posted = record {
     rows = λ sender there. omega (arith, beside.rows sender (its sender there), length-set links number row);
-    cores = λ sender there.
-        ⊎_elim (λ one. omega (arith, ap (λ at. length (row_of at later)) one, ap length row_now, posted.count, beside.cores number known))
-        (λ away. omega (arith, ap length (row_elsewhere sender away), beside.cores sender (its sender there))) (cases_eq sender number);
-    ins = λ sender there.
-        ⊎_elim (λ one. subst (λ at. IsInOwing at (owed at) now (inward_of (link_at at number later))) (sym one) own)
-        (
-        λ away.
-        subst (λ link. IsInOwing sender (owed sender) now (inward_of link)) (ap (λ row. get_or row number (no_link sender number)) (sym (row_elsewhere sender away)))
-        ((owes sender).each _ (beside.ins sender (its sender there)))
-        ) (cases_eq sender number);
+    cores =
+        by_place (λ at. at ≤ now.core.cores → number < length (row_of at later)) number (λ there. omega (arith, ap length row_now, posted.count, beside.cores number known))
+        (λ sender away there. omega (arith, ap length (row_elsewhere sender away), beside.cores sender (its sender there)));
+    ins =
+        by_place (λ at. at ≤ now.core.cores → IsInOwing at (owed at) now (inward_of (link_at at number later))) number (λ there. own)
+        (λ sender away there. subst (λ link. IsInOwing sender (owed sender) now (inward_of link)) (ap (λ row. get_or row number (no_link sender number)) (sym (row_elsewhere sender away)))
+        ((owes sender).each _ (beside.ins sender (its sender there))));
   }

@@ -1,6 +1,5 @@
 -- A world at rest stays one as a core takes the next order of a sender, or shuts the gate, and that is the step of its event.
-use Rattle.std.proofs.Common.{◌≡◌, ℕ, zero, suc, ◌+◌, ◌≤◌, Bool, true, false, List, [], ◌∷◌, length, refl, sym, ◌∙◌, ap, subst, ⊎_elim, arith}
-use Rattle.std.proofs.lemmas.Bool.{cases_eq}
+use Rattle.std.proofs.Common.{◌≡◌, ℕ, zero, suc, ◌+◌, ◌≤◌, Bool, true, false, List, [], ◌∷◌, length, refl, sym, ◌∙◌, ap, subst, arith}
 use Rattle.std.proofs.lemmas.List.{append-nil}
 use Rattle.rt_world.proofs.Words.{Option, Some, None, slice_get, Owed, Whole, inward_of, RecordedView, IsInOf, Reply, journal_at, noted, link_at, Parts, core_at, desk_at, world_of, IsWorld, IsAtRest}
 use Rattle.rt_ids.specs.declared.order.Envelope.{Envelope}
@@ -20,6 +19,7 @@ use Rattle.rt_world.specs.Links.{ChangesLink}
 use Rattle.rt_world.specs.State.{sent_at}
 use Rattle.rt_world.specs.Deliveries.{Delivers, IsDelivery, next_place, taken_reply}
 use Rattle.rt_world.specs.Receipts.{HasReceived, ReceivesOn, Receives}
+use Rattle.rt_world.proofs.Places.{by_place}
 use Rattle.rt_world.proofs.Desks.{journal_at-world, sent_at-world}
 use Rattle.rt_world.proofs.LinkRows.{with_link, same_sent, ChangesLink-with_link}
 use Rattle.rt_world.proofs.Receiving.{IsReceiving, received_there, sent_is, only_received, DidOnLink, on_link}
@@ -87,11 +87,10 @@ module _ {J T : Type 0} {same : J → J → Type 0} {made : J → ℕ} {polls : 
       ChangesLink-with_link old.links sender core after (omega (arith, world.all_there.rows_are, by.there)) (omega (arith, world.all_there.links_are sender by.there, by.core_there))
 
   ins : (from : ℕ) → from ≤ old.cores → IsInOf from now (inward_of (link_at from core links))
-  ins from known =
-      ⊎_elim
-      (λ one. subst (λ at. IsInOf at now (inward_of (link_at at core links))) (sym one) (subst (λ link. IsInOf sender now (inward_of link)) (sym changes.changed) did.beside))
-      (λ away. subst (λ link. IsInOf from now (inward_of link)) (sym (changes.others from core (λ one two. away one))) ((did.others from away).each _ (world.beside.ins from core known by.core_there)))
-      (cases_eq from sender)
+  ins =
+      by_place (λ from. from ≤ old.cores → IsInOf from now (inward_of (link_at from core links))) sender
+      (λ known. subst (λ link. IsInOf sender now (inward_of link)) (sym changes.changed) did.beside)
+      (λ from away known. subst (λ link. IsInOf from now (inward_of link)) (sym (changes.others from core (λ one two. away one))) ((did.others from away).each _ (world.beside.ins from core known by.core_there)))
 
   abbrev pub received : Parts J T
   received = parts_now world core by.core_there now links

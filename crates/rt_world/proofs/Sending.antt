@@ -1,6 +1,5 @@
 -- A world at rest stays one as the outside actor does something on the link to a core.
-use Rattle.std.proofs.Common.{◌≡◌, ◌≢◌, ℕ, ◌+◌, ◌<◌, ◌≤◌, List, ◌++◌, length, refl, sym, ◌∙◌, ap, subst, ⊎_elim, arith, get_or, set, map}
-use Rattle.std.proofs.lemmas.Bool.{cases_eq}
+use Rattle.std.proofs.Common.{◌≡◌, ◌≢◌, ℕ, ◌+◌, ◌<◌, ◌≤◌, List, ◌++◌, length, refl, sym, ◌∙◌, ap, subst, arith, get_or, set, map}
 use Rattle.std.proofs.lemmas.List.{set-get_or}
 use Rattle.rt_world.proofs.Words.{Note, Order, Journal, Owed, Whole, Fits, out_of, WorldView, journal_at, noted, link_at, Parts, desks, desk_at, world_of, IsWorld}
 use Rattle.rt_ids.specs.declared.order.Outcome.{Outcome}
@@ -9,6 +8,7 @@ use Rattle.rt_journal.specs.Tickets.{StaysBeside}
 use Rattle.rt_world.specs.Links.{ChangesLink}
 use Rattle.rt_world.specs.Inside.{seat_of}
 use Rattle.rt_world.proofs.Desks.{desk_at-outside, desks-outside, journal_at-world, journals-noted}
+use Rattle.rt_world.proofs.Places.{by_place}
 use Rattle.rt_world.proofs.Borrowed.{IsLent, lent_link}
 use Rattle.rt_world.proofs.LinkRows.{with_link, same_sent, ChangesLink-with_link}
 use Rattle.rt_world.proofs.LinkSteps.{OnlyReceived, OnlySent, IsSenderOn, received-same, sent-same, each_link, other_link}
@@ -101,18 +101,15 @@ module _ {J T : Type 0} {same : J → J → Type 0} {made : J → ℕ} {polls : 
     others_received r e away = other_link OnlyReceived received-same old.links links sender to after changes r e (λ one two. away one)
 
     pub senders_sent : (e : ℕ) → e < old.cores → IsSenderOn (Fits same answers) e now (link_at sender e links)
-    senders_sent e known =
-        ⊎_elim
-        (λ one. subst (λ at. IsSenderOn (Fits same answers) at now (link_at sender at links)) (sym one)
-        (subst (IsSenderOn (Fits same answers) to now) (sym changes.changed) (record { out = done_there.stays.beside; lane = done_there.stays.lane })))
-        (λ away. subst (IsSenderOn (Fits same answers) e now) (sym (changes.others sender e (λ one two. away two))) (elsewhere away (world_sender world sender e acting.there known)))
-        (cases_eq e to)
-      where
-        elsewhere : e ≢ to → IsSenderOn (Fits same answers) e (desk_at sender old) (link_at sender e old.links) → IsSenderOn (Fits same answers) e now (link_at sender e old.links)
-        elsewhere away has = record {
+    senders_sent =
+        by_place (λ at. at < old.cores → IsSenderOn (Fits same answers) at now (link_at sender at links)) to
+        (λ known. subst (IsSenderOn (Fits same answers) to now) (sym changes.changed) (record { out = done_there.stays.beside; lane = done_there.stays.lane }))
+        (λ e away known.
+        let has = world_sender world sender e acting.there known in
+        subst (IsSenderOn (Fits same answers) e now) (sym (changes.others sender e (λ one two. away two))) (record {
           out = (done_there.stays.others e away).each _ _ has.out;
           lane = record { lane = has.lane.lane; is = done_there.stays.lanes e away ∙ has.lane.is; lane_of = has.lane.lane_of };
-        }
+        }))
 
 -- the outside actor's desk, and the room that it has
 module _ {J T : Type 0} {same : J → J → Type 0} {made : J → ℕ} {polls : Owed J T} {answers : J → T → Type 0} {old : Parts J T}

@@ -1,13 +1,12 @@
 -- A world stays one where one actor makes a step.
-use Rattle.std.proofs.Common.{◌≡◌, ◌≢◌, ℕ, ◌<◌, ◌≤◌, List, length, refl, sym, ◌∙◌, ap, subst, ⊎_elim, arith, get_or, set, get_or-set_same, get_or-set_other}
-use Rattle.std.proofs.lemmas.Bool.{cases_eq}
+use Rattle.std.proofs.Common.{◌≡◌, ◌≢◌, ℕ, ◌<◌, ◌≤◌, List, length, refl, sym, ◌∙◌, ap, subst, arith, get_or, set, get_or-set_same, get_or-set_other}
 use Rattle.rt_world.proofs.Words.{None, Owed, Whole, out_of, inward_of, RecordedView, IsRecorded, Fits, IsOutOf, IsInOf, row_of, link_at, Parts, core_at, desks, desk_at, IsWorld, IsAtRest}
 use Rattle.rt_journal.specs.Submissions.{DeskView, IsWritten, terms_of_desk, opened_desk}
 use Rattle.rt_journal.specs.Steps.{opened_beside}
 use Rattle.rt_journal.specs.Tickets.{HasLane}
 use Rattle.rt_world.specs.Inside.{seat_of}
 use Rattle.rt_world.proofs.Desks.{desk_count}
-use Rattle.rt_world.proofs.Places.{set_each}
+use Rattle.rt_world.proofs.Places.{set_each, by_place}
 use Rattle.rt_world.proofs.LinkSteps.{OnlyReceived, OnlySent, IsSenderOn, sender_stays, in_stays}
 
 -- no core has a job out, where the one that made a step has none
@@ -52,35 +51,29 @@ module _ {J T : Type 0} {same : J → J → Type 0} {made : J → ℕ} {polls : 
         ap (λ all. get_or all other (opened_desk 0 0 0 0)) step.desks_are ∙ get_or-set_other (desks old) actor other desk (opened_desk 0 0 0 0) away
 
     seats_now : (other : ℕ) → other ≤ old.cores → desk_at other new ≡ seat_of other (desk_at other new) new
-    seats_now other known =
-        ⊎_elim
-        (λ one. subst (λ at. desk_at at new ≡ seat_of at (desk_at at new) new) (sym one) (desk_now ∙ (step.seat ∙ ap (λ now. seat_of actor now old) (sym desk_now))))
-        (λ away. desk_elsewhere other away ∙ (world.all_there.seats_are other known ∙ ap (λ now. seat_of other now old) (sym (desk_elsewhere other away))))
-        (cases_eq other actor)
+    seats_now =
+        by_place (λ at. at ≤ old.cores → desk_at at new ≡ seat_of at (desk_at at new) new) actor (λ known. desk_now ∙ (step.seat ∙ ap (λ now. seat_of actor now old) (sym desk_now)))
+        (λ other away known. desk_elsewhere other away ∙ (world.all_there.seats_are other known ∙ ap (λ now. seat_of other now old) (sym (desk_elsewhere other away))))
 
     recorded_now : (core : ℕ) → core < old.cores → IsRecorded same made polls (core_at core new)
-    recorded_now core known =
-        ⊎_elim
-        (λ one. subst (λ at. IsRecorded same made polls (core_at at new)) (sym one) (step.recorded (subst (λ at. at < old.cores) one known)))
-        (λ away. subst (IsRecorded same made polls) (sym (step.other_cores core away)) (world.recorded core known))
-        (cases_eq core actor)
+    recorded_now =
+        by_place (λ at. at < old.cores → IsRecorded same made polls (core_at at new)) actor step.recorded
+        (λ core away known. subst (IsRecorded same made polls) (sym (step.other_cores core away)) (world.recorded core known))
 
     senders_now : (sender core : ℕ) → sender ≤ old.cores → core < old.cores → IsSenderOn (Fits same answers) core (desk_at sender new) (link_at sender core links)
     senders_now sender core known core_known =
-        ⊎_elim
-        (λ one. subst (λ at. IsSenderOn (Fits same answers) core (desk_at at new) (link_at at core links)) (sym one)
-        (subst (λ now. IsSenderOn (Fits same answers) core now (link_at actor core links)) (sym desk_now) (step.senders core core_known)))
-        (λ away. subst (λ now. IsSenderOn (Fits same answers) core now (link_at sender core links)) (sym (desk_elsewhere sender away))
-        (sender_stays refl (step.received sender core away) (λ is. is) (world_sender world sender core known core_known)))
-        (cases_eq sender actor)
+        by_place (λ at. at ≤ old.cores → IsSenderOn (Fits same answers) core (desk_at at new) (link_at at core links)) actor
+        (λ known. subst (λ now. IsSenderOn (Fits same answers) core now (link_at actor core links)) (sym desk_now) (step.senders core core_known))
+        (λ other away known. subst (λ now. IsSenderOn (Fits same answers) core now (link_at other core links)) (sym (desk_elsewhere other away))
+        (sender_stays refl (step.received other core away) (λ is. is) (world_sender world other core known core_known)))
+        sender known
 
     ins_now : (sender core : ℕ) → sender ≤ old.cores → core < old.cores → IsInOf sender (core_at core new) (inward_of (link_at sender core links))
-    ins_now sender core known core_known =
-        ⊎_elim
-        (λ one. subst (λ at. IsInOf sender (core_at at new) (inward_of (link_at sender at links))) (sym one) (step.ins sender known (subst (λ at. at < old.cores) one core_known)))
-        (λ away. subst (λ now. IsInOf sender now (inward_of (link_at sender core links))) (sym (step.other_cores core away))
-        (in_stays sender (core_at core old) (link_at sender core old.links) (link_at sender core links) (step.sent sender core away) (world.beside.ins sender core known core_known)))
-        (cases_eq core actor)
+    ins_now sender core known =
+        by_place (λ at. at < old.cores → IsInOf sender (core_at at new) (inward_of (link_at sender at links))) actor (step.ins sender known)
+        (λ other away core_known. subst (λ now. IsInOf sender now (inward_of (link_at sender other links))) (sym (step.other_cores other away))
+        (in_stays sender (core_at other old) (link_at sender other old.links) (link_at sender other links) (step.sent sender other away) (world.beside.ins sender other known core_known)))
+        core
 
     -- each actor and each end is as it should be again
     pub world_after : IsWorld same made polls answers new

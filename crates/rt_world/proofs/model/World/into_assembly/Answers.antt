@@ -82,19 +82,12 @@ of-requires g c =
     let items_are = all_gathered g at.After-push_reserved-2 (all_yielded g at.In-None) in
     ap length items_are ∙ (gathered_count (record { cores = c.self.inside.cores; cap = c.self.inside.cap; room = c.self.inside.room; inside = c.self.inside.inside.items; outside = c.self.inside.outside; links = map vec_items c.self.inside.links.items }) ∙ ap (λ count. count + 1) c.self.invariant.1.all_there.cores_are)
 
-pub returns-clause-value : goal.returns-clause-value
-returns-clause-value g c =
-    let at = goal.at.returns-clause-value g c in
-    value g at.After-of (all_gathered g at.After-push_reserved-2 (all_yielded g at.In-None)) ∙ ap (λ world. assembly_of world) c.self.view_is
-
-pub returns-clause-sound : goal.returns-clause-sound
-returns-clause-sound g c =
-    let at = goal.at.returns-clause-sound g c in
-    subst IsSound (sym (value g at.After-of (all_gathered g at.After-push_reserved-2 (all_yielded g at.In-None))))
-    (world_sound (parts g at.After-of) c.self.invariant.1 c.self.invariant.3)
-
-pub returns-clause-joined : goal.returns-clause-joined
-returns-clause-joined g c =
-    let at = goal.at.returns-clause-joined g c in
-    subst AreJoined (sym (value g at.After-of (all_gathered g at.After-push_reserved-2 (all_yielded g at.In-None))))
-    (world_joined (parts g at.After-of) c.self.invariant.1 c.self.invariant.3)
+pub returns : goal.returns
+returns g c =
+    let at = goal.at.returns g c in
+    let is = value g at.After-of (all_gathered g at.After-push_reserved-2 (all_yielded g at.In-None)) in
+    record {
+      value = is ∙ ap (λ world. assembly_of world) c.self.view_is;
+      sound = subst IsSound (sym is) (world_sound (parts g at.After-of) c.self.invariant.1 c.self.invariant.3);
+      joined = subst AreJoined (sym is) (world_joined (parts g at.After-of) c.self.invariant.1 c.self.invariant.3);
+    }

@@ -47,7 +47,6 @@ returns g c =
     record {
       links = gave_on_one row c.index_mut-link.ensures.value c.give_back.new.end c.args.name.number told c.give_back.ensures.gives c.give_back.ensures.untouched after_row refl;
       beside = none_left row c.index_mut-link.ensures.value c.give_back.new.end c.args.name.number told c.give_back.ensures.gives c.give_back.ensures.untouched after_row refl
-          c.args.core.now (record { number = refl; cores = refl; cap = refl; room = refl })
           (subst (λ from. IsInOf from c.args.core.now (inward_of c.give_back.new.end)) (sym from_is) c.give_back.ensures.beside)
           (λ other away. owed_elsewhere c.args.name (outcomes.Returned c.args.reason) c.args.core.now other (λ one. away (one ∙ sym from_is)));
     }

@@ -47,7 +47,6 @@ returns g c =
     record {
       links = gave_on_one row c.index_mut-link.ensures.value c.give_done.new.end c.args.name.number told c.give_done.ensures.gives c.give_done.ensures.untouched after_row refl;
       beside = none_left row c.index_mut-link.ensures.value c.give_done.new.end c.args.name.number told c.give_done.ensures.gives c.give_done.ensures.untouched after_row refl
-          c.args.core.now (record { number = refl; cores = refl; cap = refl; room = refl })
           (subst (λ from. IsInOf from c.args.core.now (inward_of c.give_done.new.end)) (sym from_is) c.give_done.ensures.beside)
           (λ other away inward. subst (λ owed. IsInOwing other owed c.args.core.now inward) (told_elsewhere c.args.name (option_map outcome_note told) other (λ one. away (one ∙ sym from_is))));
     }
