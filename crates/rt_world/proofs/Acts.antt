@@ -1,12 +1,8 @@
 -- What an actor did on its link, as its world sees it: whatever it was, the link's sender did it, and it is the step of its event.
-use Rattle.std.proofs.Common.{◌≡◌, ℕ, ◌+◌, ◌≤◌, List, length, sym, ◌∙◌, ap, subst, set, map}
-use Rattle.rt_world.proofs.Words.{Journal, Owed, Whole, Fits, Parts, Reply, WorldView, journal_at, desks, world_of, IsWorld}
-use Rattle.rt_journal.specs.Submissions.{DeskView}
-use Rattle.rt_world.specs.declared.model.acts.Act.{Act}
+use Rattle.rt_world.proofs.Words.{◌≡◌, ℕ, ◌+◌, ◌≤◌, List, length, sym, ◌∙◌, ap, subst, set, map, Journal, Owed, Whole, Fits, Parts, Reply, WorldView}
+use Rattle.rt_world.proofs.Words.{journal_at, desks, world_of, IsWorld, DeskView, Act, IsActOf, IsActAt, Acts, HasActed, Collects, Redeems, Detaches, Sends}
 use Rattle.rt_world.specs.declared.model.acts.Act.TheVariants.{Send, Collect, Redeem, Detach}
-use Rattle.rt_world.specs.Acts.{IsActOf, IsActAt, notes_for, Acts, HasActed}
-use Rattle.rt_world.specs.Collections.{Collects, Redeems, Detaches}
-use Rattle.rt_world.specs.Sends.{Sends}
+use Rattle.rt_world.specs.Acts.{notes_for}
 use Rattle.rt_world.proofs.LinkSteps.{OnlySent}
 use Rattle.rt_world.proofs.Sending.{IsDoneOn, IsActing, its_cap, its_room, later}
 use Rattle.rt_world.proofs.SentLinks.{IsSubmitted, only_sent, sends_now}

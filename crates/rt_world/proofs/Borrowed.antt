@@ -1,7 +1,6 @@
 -- What a step borrows of a world: a row of links, and a link of that row.
-use Rattle.std.proofs.Common.{◌≡◌, ℕ, ◌<◌, ◌≤◌, List, length, sym, ◌∙◌, ap, subst, arith, get_or, set}
-use Rattle.std.proofs.lemmas.List.{length-map}
-use Rattle.rt_world.proofs.Words.{map, Owed, Whole, row_of, link_at, Parts, IsWorld}
+use Rattle.rt_world.proofs.Words.{◌≡◌, ℕ, ◌<◌, ◌≤◌, List, length, sym, ◌∙◌, ap, subst, arith, get_or, set, length-map, map, Owed, Whole, row_of, link_at, Parts}
+use Rattle.rt_world.proofs.Words.{IsWorld}
 use Rattle.rt_world.proofs.LinkRows as by_rows
 
 module _ {J T V : Type 0} {same : J → J → Type 0} {made : J → ℕ} {polls : Owed J T} {answers : J → T → Type 0} {old : Parts J T}

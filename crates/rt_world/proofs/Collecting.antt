@@ -1,14 +1,9 @@
 -- What a sender collects is all that the core gave and that it hadn't collected.
-use Rattle.std.proofs.Common.{◌≡◌, ℕ, cond, List, [], ◌∷◌, ◌++◌, length, refl, sym, ◌∙◌, ap, arith, append_assoc}
-use Rattle.std.specs.Prelude.{Some, None}
-use Rattle.std.proofs.lemmas.Bool.{eq-eqb}
-use Rattle.std.proofs.lemmas.List.{append-nil, length-append}
-use Rattle.rt_ids.specs.declared.note.Note.{Note}
+use Rattle.rt_world.proofs.Words.{◌≡◌, ℕ, cond, List, [], ◌∷◌, ◌++◌, length, refl, sym, ◌∙◌, ap, arith, append_assoc, Some, None, eq-eqb, append-nil}
+use Rattle.rt_world.proofs.Words.{length-append, Note, Outcomes, collected_outcomes, Journal, collected_notes}
 use Rattle.rt_ids.specs.declared.note.Note.TheVariants as writes
-use Rattle.rt_ids.specs.Filters.{Outcomes, collected_outcomes}
-use Rattle.rt_ids.specs.Journal.{Journal, with_last}
+use Rattle.rt_ids.specs.Journal.{with_last}
 use Rattle.rt_journal.specs.Tickets.{AreCollected}
-use Rattle.rt_world.specs.Collections.{collected_notes}
 
 module _ {T : Type 0} where
   -- one outcome more is the newest note

@@ -1,7 +1,6 @@
 -- A world at rest stays one as a core does something on its link to another.
-use Rattle.std.proofs.Common.{◌≡◌, ℕ, ◌<◌, List, sym, ◌∙◌, ap, subst, arith, get_or, set, map}
-use Rattle.rt_world.proofs.Words.{Owed, Whole, Fits, RecordedView, IsRecorded, desk_of, Parts, core_at, desks, IsWorld, IsAtRest}
-use Rattle.rt_journal.specs.Ends.{KeepsIn, IsSameSeat}
+use Rattle.rt_world.proofs.Words.{◌≡◌, ℕ, ◌<◌, List, sym, ◌∙◌, ap, subst, arith, get_or, set, map, Owed, Whole, Fits, RecordedView, IsRecorded, desk_of, Parts}
+use Rattle.rt_world.proofs.Words.{core_at, desks, IsWorld, IsAtRest, KeepsIn, IsSameSeat}
 use Rattle.rt_world.proofs.Borrowed.{IsLent, lent_link}
 use Rattle.rt_world.proofs.Desks.{desks-core}
 use Rattle.rt_world.proofs.LinkRows.{with_link}

@@ -1,15 +1,11 @@
 -- The world that parts make, read off its actors.
-use Rattle.std.proofs.Common.{◌≡◌, ℕ, ◌+◌, ◌<◌, List, [], ◌∷◌, ◌++◌, length, sym, ◌∙◌, ap, subst, arith, get_or, set}
+use Rattle.rt_world.proofs.Words.{◌≡◌, ℕ, ◌+◌, ◌<◌, List, [], ◌∷◌, ◌++◌, length, sym, ◌∙◌, ap, subst, arith, get_or, set, length_push, length-map, get_or_push}
+use Rattle.rt_world.proofs.Words.{get_or_append_left, map-set, map, Note, RecordedView, desk_of, journal_at, row_of, link_at, no_link, Parts, core_at, desks}
+use Rattle.rt_world.proofs.Words.{desk_at, world_of, DeskView, opened_desk, opened_beside, get_or-map, sent_at, assembly_of, notes_at}
 use Rattle.std.proofs.Math.Seq.{set-append_seam}
-use Rattle.std.proofs.lemmas.List.{length_push, length-map, get_or_push, get_or_append_left, map-set, set-append_left}
+use Rattle.std.proofs.lemmas.List.{set-append_left}
 use Rattle.std.proofs.lemmas.Option.{unwrap_or-slice_get}
-use Rattle.rt_world.proofs.Words.{map, Note, RecordedView, desk_of, journal_at, row_of, link_at, no_link, Parts, core_at, desks, desk_at, world_of}
 use Rattle.rt_ids.specs.Assembly.{journal_of}
-use Rattle.rt_journal.specs.Submissions.{DeskView, opened_desk}
-use Rattle.rt_journal.specs.Steps.{opened_beside}
-use Rattle.rt_journal.proofs.NumberedOrders.{get_or-map}
-use Rattle.rt_world.specs.State.{sent_at, assembly_of}
-use Rattle.rt_world.specs.Inside.{notes_at}
 
 module _ {J T : Type 0} (parts : Parts J T) where
   pub desk_count : length (desks parts) ≡ length parts.inside + 1

@@ -1,18 +1,9 @@
 -- Calls of a post have one result, where they ask the same as long as they are answered alike.
-use Rattle.std.proofs.Common.{◌≡◌, ℕ, List, [], ◌∷◌, refl, sym, ◌∙◌, subst, inl, inr, arith}
-use Rattle.std.specs.Prelude.{Result, Ok, Err}
-use Rattle.rt_world.proofs.Words.{JobId, Order, WorldView}
-use Rattle.rt_ids.specs.declared.names.TicketError.{TicketError}
-use Rattle.rt_ids.specs.declared.order.Outcome.{Outcome}
-use Rattle.rt_ids.specs.declared.order.SendError.{SendError}
-use Rattle.rt_ids.specs.Outcomes.{outcome_note}
-use Rattle.rt_jobs.specs.Calls.{Call, Makes}
-use Rattle.rt_jobs.specs.Calls.Call.{Submit, Redeem, Detach}
+use Rattle.rt_world.proofs.Words.{◌≡◌, ℕ, List, [], ◌∷◌, refl, sym, ◌∙◌, subst, inl, inr, arith, Result, Ok, Err, JobId, Order, WorldView, TicketError, Outcome}
+use Rattle.rt_world.proofs.Words.{SendError, outcome_note, Call, Makes, Submit, Redeem, Detach, CallsAt, AskAlike, redeemed_reply, detached_reply, AreAlike}
+use Rattle.rt_world.proofs.Words.{sent_reply}
 use Rattle.rt_world.specs.declared.event.Reply.TheVariants as reply
-use Rattle.rt_world.specs.Calls.{CallsAt, AsksSame, AnsweredAlike, AskAlike, told_of}
-use Rattle.rt_world.specs.Collections.{redeemed_reply, detached_reply}
-use Rattle.rt_world.specs.Determined.{AreAlike}
-use Rattle.rt_world.specs.Sends.{sent_reply}
+use Rattle.rt_world.specs.Calls.{AsksSame, AnsweredAlike, told_of}
 use Rattle.rt_world.proofs.DeterminedSends.{sends_once}
 use Rattle.rt_world.proofs.DeterminedTickets.{redeems_once, detaches_once}
 

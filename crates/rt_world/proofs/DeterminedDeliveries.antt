@@ -1,19 +1,14 @@
 -- A delivery has one result, unless there was no memory for a queue.
-use Rattle.std.proofs.Common.{◌≡◌, ℕ, ◌+◌, ◌<◌, Bool, true, false, List, [], ◌∷◌, ◌++◌, length, refl, sym, ◌∙◌, ap, subst, ◌⊎◌, inl, inr, ⊎_elim}
-use Rattle.std.specs.Prelude.{nat_le}
-use Rattle.std.proofs.lemmas.List.{get_or-set_same}
-use Rattle.std.proofs.lemmas.Option.{none-some, same_Some}
-use Rattle.rt_world.proofs.Words.{Option, Some, None, JobId, Note, Order, Journal, Reply, WorldView, journal_at, noted}
+use Rattle.rt_world.proofs.Words.{◌≡◌, ℕ, ◌+◌, ◌<◌, Bool, true, false, List, [], ◌∷◌, ◌++◌, length, refl, sym, ◌∙◌, ap, subst, ◌⊎◌, inl, inr, ⊎_elim, nat_le}
+use Rattle.rt_world.proofs.Words.{get_or-set_same, none-some, same_Some, Option, Some, None, JobId, Note, Order, Journal, Reply, WorldView, journal_at, noted}
+use Rattle.rt_world.proofs.Words.{Answer, Job, Create, SetShares, Close, CloseCore, core_mode, created_count, effect_note, with_effect, IsDelivery, next_place}
+use Rattle.rt_world.proofs.Words.{Delivers, tells_refusal, WasRefusedSince}
 use Rattle.rt_ids.specs.declared.note.Note.TheVariants as writes
-use Rattle.rt_ids.specs.declared.order.Answer.{Answer}
 use Rattle.rt_ids.specs.declared.order.Answer.TheVariants as answers
 use Rattle.rt_ids.specs.declared.order.Mode.{Mode}
-use Rattle.rt_ids.specs.declared.order.Order.TheVariants.{Job, Create, SetShares, Close, CloseCore}
-use Rattle.rt_ids.specs.Closing.{core_mode}
-use Rattle.rt_ids.specs.Commands.{created_count, IsCreationAnswer, IsAnswer, effect_note}
+use Rattle.rt_ids.specs.Commands.{IsCreationAnswer, IsAnswer}
 use Rattle.rt_world.specs.declared.event.Reply.TheVariants as reply
-use Rattle.rt_world.specs.Deliveries.{with_effect, IsAnswered, IsDelivery, next_place, Delivers}
-use Rattle.rt_world.specs.Determined.{tells_refusal, WasRefusedSince}
+use Rattle.rt_world.specs.Deliveries.{IsAnswered}
 
 -- a creation has one answer, unless one of two says that there was no memory
 creation_once : (mode : Option Mode) (full : Bool) (next : ℕ) (answer other : Answer) → IsCreationAnswer mode full next answer → IsCreationAnswer mode full next other →

@@ -1,8 +1,6 @@
 -- Two fresh worlds of the same numbers are one.
-use Rattle.std.proofs.Common.{◌≡◌, ℕ, ◌+◌, ◌<◌, [], length, sym, ◌∙◌, ap, arith, get_or}
+use Rattle.rt_world.proofs.Words.{◌≡◌, ℕ, ◌+◌, ◌<◌, [], length, sym, ◌∙◌, ap, arith, get_or, WorldView, IsFresh}
 use Rattle.std.proofs.lemmas.List.{ext_get_or}
-use Rattle.rt_world.specs.State.{WorldView}
-use Rattle.rt_world.specs.Opening.{IsFresh}
 
 module _ {J T : Type 0} (cores cap room : ℕ) (world other : WorldView J T) (fresh : IsFresh cores cap room world) (other_fresh : IsFresh cores cap room other) where
   same_cores : world.cores ≡ other.cores

@@ -1,9 +1,7 @@
 -- What a journal told of a refusal, each longer one tells.
-use Rattle.std.proofs.Common.{append_assoc, ◌≡◌, ℕ, Bool, true, false, List, [], ◌∷◌, ◌++◌, refl, sym, ◌∙◌, ap, get_or}
-use Rattle.std.specs.Prelude.{◌||◌}
+use Rattle.rt_world.proofs.Words.{append_assoc, ◌≡◌, ℕ, Bool, true, false, List, [], ◌∷◌, ◌++◌, refl, sym, ◌∙◌, ap, get_or, ◌||◌, Journal, Owed, Event, Reply}
+use Rattle.rt_world.proofs.Words.{WorldView, journal_at, Happens, is_refusal, tells_refusal, WasRefused, WasRefusedSince, IsToldRun}
 use Rattle.std.proofs.Math.Bool.{or-true}
-use Rattle.rt_world.proofs.Words.{Journal, Owed, Event, Reply, WorldView, journal_at, Happens}
-use Rattle.rt_world.specs.Determined.{is_refusal, tells_refusal, WasRefused, WasRefusedSince, IsToldRun}
 use Rattle.rt_world.proofs.KeptLists.{Extends, is_later}
 
 module _ {T : Type 0} where

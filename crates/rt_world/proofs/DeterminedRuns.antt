@@ -1,13 +1,10 @@
 -- A run has one result, unless there was no memory for a queue.
-use Rattle.std.proofs.Common.{◌≡◌, ℕ, List, [], ◌∷◌, refl, sym, ◌∙◌, ap, subst, ◌⊎◌, inl, inr, ⊎_elim, arith}
-use Rattle.rt_world.proofs.Words.{Owed, Event, Reply, WorldView, Happens}
-use Rattle.rt_world.specs.declared.event.Event.TheVariants.{Send, Deliver, Turn, Shut, Collect, Redeem, Detach}
+use Rattle.rt_world.proofs.Words.{◌≡◌, ℕ, List, [], ◌∷◌, refl, sym, ◌∙◌, ap, subst, ◌⊎◌, inl, inr, ⊎_elim, arith, Owed, Event, Reply, WorldView, Happens, Send}
+use Rattle.rt_world.proofs.Words.{Deliver, Turn, Shut, Collect, IsNearlyFull, assembly_of, actor_of, AreThere, Steps, IsRun, HasAllLists, WasRefusedSince}
+use Rattle.rt_world.proofs.Words.{OwesOne, IsToldRun, AreAlike, AreAllAlike}
+use Rattle.rt_world.specs.declared.event.Event.TheVariants.{Redeem, Detach}
 use Rattle.rt_world.specs.declared.event.Reply.TheVariants as reply
-use Rattle.rt_world.specs.State.{IsNearlyFull, assembly_of}
-use Rattle.rt_world.specs.Sends.{actor_of, AreThere}
-use Rattle.rt_world.specs.Runs.{Steps, IsRun}
-use Rattle.rt_world.specs.Opening.{HasAllLists}
-use Rattle.rt_world.specs.Determined.{WasRefusedSince, OwesOne, IsToldRun, AreAlike, AreAllAlike, RunIsDetermined, AssemblyIsDetermined}
+use Rattle.rt_world.specs.Determined.{RunIsDetermined, AssemblyIsDetermined}
 use Rattle.rt_world.proofs.KeptLists.{Extends, is_later, happens_keep}
 use Rattle.rt_world.proofs.DeterminedRefusals.{refused-earlier, refused-later, extends-run}
 use Rattle.rt_world.proofs.DeterminedSends.{sends_once}

@@ -1,17 +1,10 @@
 -- A poll of a script job owes one step and one time, and asks one thing, so a run of script jobs has one result.
-use Rattle.std.proofs.Common.{◌≡◌, ℕ, List, [], refl, sym, ◌∙◌, subst}
-use Rattle.std.specs.Prelude.{Option, Some, None, slice_get, Result, Ok, Err}
-use Rattle.rt_ids.specs.declared.names.JobId.{JobId}
-use Rattle.rt_ids.specs.declared.order.SendError.{SendError}
-use Rattle.rt_jobs.specs.Calls.{Call}
-use Rattle.rt_jobs.specs.declared.job.Step.{Step}
+use Rattle.rt_world.proofs.Words.{◌≡◌, ℕ, List, [], refl, sym, ◌∙◌, subst, Option, Some, None, slice_get, Result, Ok, Err, JobId, SendError, Call, Step, Script}
+use Rattle.rt_world.proofs.Words.{AskAlike, CallNoQueues, PollsOrderNone, OwesOne, ScriptSame, script_made, ScriptPolls, ScriptAnswers}
 use Rattle.rt_jobs.specs.declared.poll.Poll.{Poll}
 use Rattle.rt_jobs.specs.declared.poll.Poll.TheVariants as poll
-use Rattle.rt_jobs.specs.Scripts.{Script, Does, SendsSmall, detach_calls}
-use Rattle.rt_world.specs.Calls.{AskAlike}
-use Rattle.rt_world.specs.Creations.{CallNoQueues, PollsOrderNone}
-use Rattle.rt_world.specs.Determined.{OwesOne}
-use Rattle.rt_world.specs.ScriptRuns.{ScriptSame, script_made, ScriptPolls, ScriptAnswers, ScriptRunIsDetermined}
+use Rattle.rt_jobs.specs.Scripts.{Does, SendsSmall, detach_calls}
+use Rattle.rt_world.specs.ScriptRuns.{ScriptRunIsDetermined}
 use Rattle.rt_world.proofs.DeterminedRuns.{run_once}
 
 module _ (calls others : List (Call Script ℕ)) where

@@ -1,17 +1,9 @@
 -- A send has one result.
-use Rattle.std.proofs.Common.{◌≡◌, ℕ, ◌+◌, [], ◌∷◌, length, sym, ◌∙◌, ap, arith}
-use Rattle.std.proofs.lemmas.Option.{none-some, same_Some}
-use Rattle.rt_world.proofs.Words.{JobId, Order, Journal, Reply, WorldView, journal_at, noted}
+use Rattle.rt_world.proofs.Words.{◌≡◌, ℕ, ◌+◌, [], ◌∷◌, length, sym, ◌∙◌, ap, arith, none-some, same_Some, JobId, Order, Journal, Reply, WorldView, journal_at}
+use Rattle.rt_world.proofs.Words.{noted, SendError, Closed, Full, Spent, accepted_orders, outstanding_count, IsNextSent, terms_at, without_job, with_sent}
+use Rattle.rt_world.proofs.Words.{Sends}
 use Rattle.rt_ids.specs.declared.note.Note.TheVariants as writes
-use Rattle.rt_ids.specs.declared.order.SendError.{SendError}
-use Rattle.rt_ids.specs.declared.order.SendError.TheVariants.{Closed, Full, Spent}
-use Rattle.rt_ids.specs.Filters.{accepted_orders}
-use Rattle.rt_ids.specs.Outstanding.{outstanding_count}
-use Rattle.rt_ids.specs.Lawful.{IsNextSent}
-use Rattle.rt_world.specs.State.{terms_at}
 use Rattle.rt_world.specs.declared.event.Reply.TheVariants as reply
-use Rattle.rt_world.specs.State.{without_job, with_sent}
-use Rattle.rt_world.specs.Sends.{Sends}
 
 module _ {J T : Type 0} (sender core : ℕ) (order : Order J) (old : WorldView J T) where
   abbrev journal : Journal T

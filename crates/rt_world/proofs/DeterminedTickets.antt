@@ -1,21 +1,12 @@
 -- What a sender does with its outcomes, and the shutting of a gate, have one result, except for how far a job got that comes back.
-use Rattle.std.proofs.Common.{◌≡◌, ℕ, refl, sym, ◌∙◌, ap, subst, inl, inr, [], ◌∷◌}
+use Rattle.rt_world.proofs.Words.{◌≡◌, ℕ, refl, sym, ◌∙◌, ap, subst, inl, inr, [], ◌∷◌, is_some, true≢false, none-some, same_Some, Option, None, JobId, Journal}
+use Rattle.rt_world.proofs.Words.{Fits, Reply, WorldView, journal_at, noted, TicketError, Unknown, Gone, Pending, OutcomeNote, IsRedeemable, IsDetachable}
+use Rattle.rt_world.proofs.Words.{outcome_note, Shuts, WasAccepted, Collects, Detaches, Redeems, AreAlike}
 use Rattle.std.specs.Option.{IsSome}
-use Rattle.std.specs.Prelude.{is_some}
-use Rattle.std.proofs.lemmas.Bool.{true≢false}
-use Rattle.std.proofs.lemmas.Option.{none-some, same_Some}
-use Rattle.rt_world.proofs.Words.{Option, None, JobId, Journal, Fits, Reply, WorldView, journal_at, noted}
-use Rattle.rt_ids.specs.declared.names.TicketError.{TicketError}
-use Rattle.rt_ids.specs.declared.names.TicketError.TheVariants.{Unknown, Gone, Pending}
 use Rattle.rt_ids.specs.declared.note.Note.TheVariants as writes
-use Rattle.rt_ids.specs.declared.note.OutcomeNote.{OutcomeNote}
-use Rattle.rt_ids.specs.Collecting.{IsRedeemable, IsDetachable}
-use Rattle.rt_ids.specs.Outcomes.{outcome_note}
 use Rattle.rt_ids.proofs.Collected.{nothing_collected_under}
 use Rattle.rt_world.specs.declared.event.Reply.TheVariants as reply
-use Rattle.rt_world.specs.Closings.{Shuts}
-use Rattle.rt_world.specs.Collections.{WasAccepted, RefusesTicket, Collects, Detaches, Redeems}
-use Rattle.rt_world.specs.Determined.{AreAlike}
+use Rattle.rt_world.specs.Collections.{RefusesTicket}
 
 none_there : {A : Type 0} (found : Option A) → IsSome found → found ≡ None → ⊥
 none_there found some none = true≢false (sym some ∙ ap is_some none)

@@ -1,25 +1,11 @@
 -- A turn has one result, if each poll owes one step and one time.
-use Rattle.std.proofs.Common.{◌≡◌, ℕ, ◌+◌, ◌-◌, ◌^◌, ◌<◌, ◌⊎◌, inl, inr, false, List, [], ◌∷◌, refl, sym, ◌∙◌, ap, subst, ⊎_elim, arith}
-use Rattle.std.specs.Prelude.{unwrap_or}
-use Rattle.std.proofs.lemmas.Bool.{true≢false}
-use Rattle.std.proofs.lemmas.Option.{none-some, same_Some}
-use Rattle.rt_world.proofs.Words.{Option, Some, JobId, Order, Journal, IsRightPick, Owed, Reply, WorldView, journal_at, noted}
-use Rattle.rt_ids.specs.declared.order.Order.TheVariants.{Job}
-use Rattle.rt_ids.specs.declared.order.Reason.{Reason}
-use Rattle.rt_ids.specs.Commands.{return_reason}
-use Rattle.rt_ids.specs.Keys.{KeyAtMost}
-use Rattle.rt_ids.specs.Lines.{line}
-use Rattle.rt_ids.specs.Picks.{turns}
-use Rattle.rt_ids.specs.Runtimes.{virtual_runtime}
-use Rattle.rt_ids.specs.Work.{has_work}
-use Rattle.rt_jobs.specs.Calls.{Makes}
-use Rattle.rt_jobs.specs.declared.job.Step.{Step}
+use Rattle.rt_world.proofs.Words.{◌≡◌, ℕ, ◌+◌, ◌-◌, ◌^◌, ◌<◌, ◌⊎◌, inl, inr, false, List, [], ◌∷◌, refl, sym, ◌∙◌, ap, subst, ⊎_elim, arith, unwrap_or}
+use Rattle.rt_world.proofs.Words.{true≢false, none-some, same_Some, Option, Some, JobId, Order, Journal, IsRightPick, Owed, Reply, WorldView, journal_at, noted}
+use Rattle.rt_world.proofs.Words.{Job, Reason, return_reason, KeyAtMost, line, turns, virtual_runtime, has_work, Makes, Step, order_under, CallsAt, pick_notes}
+use Rattle.rt_world.proofs.Words.{settle_note, IsPoll, IsHandBack, Turns, OwesOne}
 use Rattle.rt_journal.proofs.Ahead.{one_key}
 use Rattle.rt_world.specs.declared.event.Reply.TheVariants as reply
-use Rattle.rt_world.specs.State.{order_under}
-use Rattle.rt_world.specs.Calls.{CallsAt}
-use Rattle.rt_world.specs.Turns.{polls_made, pick_notes, settle_note, IsPoll, IsHandBack, Turns}
-use Rattle.rt_world.specs.Determined.{OwesOne}
+use Rattle.rt_world.specs.Turns.{polls_made}
 use Rattle.rt_world.proofs.DeterminedCalls.{calls_once}
 use Rattle.rt_world.proofs.KeptLists.{back_notes}
 

@@ -1,18 +1,14 @@
 -- A world as it opens: nothing was noted, and it is at rest.
-use Rattle.std.proofs.Common.{◌≡◌, ℕ, ◌+◌, ◌<◌, ◌≤◌, List, [], refl, sym, ◌∙◌, ap, subst, ⊎_elim, arith, get_or}
-use Rattle.std.proofs.lemmas.Bool.{cases_lt}
-use Rattle.std.proofs.lemmas.List.{get_or_past}
-use Rattle.rt_world.proofs.Words.{Some, None, Owed, Whole, out_of, inward_of, RecordedView, IsRecorded, desk_of, Fits, IsOutOf, IsInOf, journal_at, row_of, link_at, no_link, Parts, core_at, desks, desk_at, world_of, IsWorld, IsAtRest}
+use Rattle.rt_world.proofs.Words.{◌≡◌, ℕ, ◌+◌, ◌<◌, ◌≤◌, List, [], refl, sym, ◌∙◌, ap, subst, ⊎_elim, arith, get_or, cases_lt, get_or_past, Some, None, Owed}
+use Rattle.rt_world.proofs.Words.{Whole, out_of, inward_of, RecordedView, IsRecorded, desk_of, Fits, IsOutOf, IsInOf, journal_at, row_of, link_at, no_link}
+use Rattle.rt_world.proofs.Words.{Parts, core_at, desks, desk_at, world_of, IsWorld, IsAtRest, DeskView, IsWritten, opened_desk, terms_of_desk, opened_beside}
+use Rattle.rt_world.proofs.Words.{sent_at, IsFresh}
 use Rattle.rt_link.specs.Whole.{fresh}
-use Rattle.rt_journal.specs.Submissions.{DeskView, IsWritten, opened_desk, terms_of_desk}
-use Rattle.rt_journal.specs.Steps.{opened_beside}
 use Rattle.rt_link.specs.Ends.{SoundOut}
 use Rattle.rt_journal.proofs.LaneEnds.{fresh_has_lane}
 use Rattle.rt_journal.proofs.Opened.{recorded-opened}
-use Rattle.rt_world.specs.State.{sent_at}
 use Rattle.rt_world.specs.Links.{AreFresh}
 use Rattle.rt_world.specs.Inside.{AreOpened}
-use Rattle.rt_world.specs.Opening.{IsFresh}
 use Rattle.rt_world.proofs.Desks.{desk_count, desk_at-core, desk_at-outside, journal_at-world, sent_at-world}
 use Rattle.rt_world.proofs.LinkSteps.{IsSenderOn}
 use Rattle.rt_world.proofs.Hollow.{world_lists}

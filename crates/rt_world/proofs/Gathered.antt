@@ -1,7 +1,6 @@
 -- The journals of a world, gathered from its actors.
-use Rattle.std.proofs.Common.{◌≡◌, ◌+◌, List, [], ◌∷◌, ◌++◌, length, refl, sym, ◌∙◌, ap}
-use Rattle.std.proofs.lemmas.List.{length-map, length_push, map-append}
-use Rattle.rt_world.proofs.Words.{map, RecordedView, desk_of, Parts, world_of}
+use Rattle.rt_world.proofs.Words.{◌≡◌, ◌+◌, List, [], ◌∷◌, ◌++◌, length, refl, sym, ◌∙◌, ap, length-map, length_push, map-append, map, RecordedView, desk_of}
+use Rattle.rt_world.proofs.Words.{Parts, world_of}
 use Rattle.rt_notes.specs.Journals.{JournalView}
 
 module _ {J T : Type 0} where

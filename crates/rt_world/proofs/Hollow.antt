@@ -1,10 +1,7 @@
 -- A world without its lists is refused, and a world at rest has them.
-use Rattle.std.proofs.Common.{◌≡◌, ℕ, ◌+◌, [], length, ◌⊎◌, ⊎_elim, ◌∙◌, ap, arith}
-use Rattle.std.proofs.lemmas.List.{length-map}
-use Rattle.rt_world.proofs.Words.{map, Owed, WorldView, row_of, Parts, desks, world_of, IsWorld}
-use Rattle.rt_world.specs.Opening.{HasAllLists}
+use Rattle.rt_world.proofs.Words.{◌≡◌, ℕ, ◌+◌, [], length, ◌⊎◌, ⊎_elim, ◌∙◌, ap, arith, length-map, map, Owed, WorldView, row_of, Parts, desks, world_of}
+use Rattle.rt_world.proofs.Words.{IsWorld, HasAllLists, get_or-map}
 use Rattle.rt_world.specs.Hollow.{HollowIsRefused}
-use Rattle.rt_journal.proofs.NumberedOrders.{get_or-map}
 use Rattle.rt_world.proofs.Desks.{desk_count}
 
 no_lists : {J T : Type 0} (world : WorldView J T) → (world.journals ≡ []) ⊎ (world.sent ≡ []) → HasAllLists world → ⊥

@@ -1,18 +1,15 @@
 -- The jobs inside a core are those that its journal tells, in all queues together.
-use Rattle.std.proofs.Common.{◌≡◌, ℕ, zero, suc, ◌+◌, ◌<◌, ◌≤◌, List, [], ◌∷◌, length, refl, sym, ◌∙◌, ap, arith, get_or, ⊎_elim}
-use Rattle.std.specs.Prelude.{Option, Some, None, is_some, sum_by, ◌==◌}
-use Rattle.std.proofs.lemmas.Bool.{cases_eq, eq-eqb, ne_eqb}
-use Rattle.std.proofs.lemmas.List.{length-map}
+use Rattle.rt_world.proofs.Words.{◌≡◌, ℕ, zero, suc, ◌+◌, ◌<◌, ◌≤◌, List, [], ◌∷◌, length, refl, sym, ◌∙◌, ap, arith, get_or, ⊎_elim, Option, Some, None}
+use Rattle.rt_world.proofs.Words.{is_some, ◌==◌, cases_eq, eq-eqb, length-map, Journal, EachNote, MayStand, line, Terms, queue_count, waiting_of}
+use Rattle.std.specs.Prelude.{sum_by}
+use Rattle.std.proofs.lemmas.Bool.{ne_eqb}
 use Rattle.std.proofs.lemmas.List.Sums.{sum_by-cons}
 use Rattle.rt_ids.specs.HandBacks.{jobs_below, jobs_held}
-use Rattle.rt_ids.specs.Journal.{Journal, EachNote}
-use Rattle.rt_ids.specs.Lawful.{MayStand}
-use Rattle.rt_ids.specs.Lines.{line, queue_out}
+use Rattle.rt_ids.specs.Lines.{queue_out}
 use Rattle.rt_ids.specs.Names.{is_number}
-use Rattle.rt_ids.specs.Terms.{Terms}
 use Rattle.rt_ids.specs.Work.{number_if}
 use Rattle.rt_ids.proofs.Counts.{counts_agree}
-use Rattle.rt_taskqueue.specs.Queues.{QueueView, no_queue, queue_count, waiting_of, held_count}
+use Rattle.rt_taskqueue.specs.Queues.{QueueView, no_queue, held_count}
 use Rattle.rt_core.specs.State as state
 use Rattle.rt_core.specs.State.{CoreView, JobOut, inside_count}
 use Rattle.rt_journal.specs.Agreement.{IsKept}

@@ -1,32 +1,16 @@
 -- What each event leaves: as many journals and lists of orders as before, each journal behind what it got, and no refusal told, if no queue is ordered.
-use Rattle.std.proofs.Common.{append_assoc, ◌≡◌, ℕ, ◌+◌, false, List, [], ◌∷◌, ◌++◌, length, refl, sym, ◌∙◌, ap, subst, inl, inr, ⊎_elim, get_or, set}
-use Rattle.std.specs.Prelude.{unwrap_or}
-use Rattle.std.proofs.lemmas.Bool.{false_from_ne_true, true≢false}
-use Rattle.std.proofs.lemmas.List.{length-set}
-use Rattle.rt_world.proofs.Words.{Some, slice_get, JobId, Note, Order, Journal, Owed, Event, Reply, WorldView, journal_at, noted, Happens}
+use Rattle.rt_world.proofs.Words.{append_assoc, ◌≡◌, ℕ, ◌+◌, false, List, [], ◌∷◌, ◌++◌, length, refl, sym, ◌∙◌, ap, subst, inl, inr, ⊎_elim, get_or, set}
+use Rattle.rt_world.proofs.Words.{unwrap_or, true≢false, length-set, Some, slice_get, JobId, Note, Order, Journal, Owed, Event, Reply, WorldView, journal_at}
+use Rattle.rt_world.proofs.Words.{noted, Happens, Create, Reason, Unknown, Gone, Closed, Full, Spent, accepted_orders, name_started, is_told, outcome_note}
+use Rattle.rt_world.proofs.Words.{Call, Makes, Submit, Send, Deliver, Turn, Shut, Collect, without_job, sent_at, with_sent, Sends, sent_reply, Delivers}
+use Rattle.rt_world.proofs.Words.{next_place, CallsAt, pick_notes, settle_note, Turns, Shuts, collected_notes, uncollected, Collects, Redeems, Detaches}
+use Rattle.rt_world.proofs.Words.{redeemed_reply, detached_reply, Steps, HasAllLists, tells_refusal, WasRefused, IsNoCreation, CallNoQueues, PollsOrderNone}
+use Rattle.std.proofs.lemmas.Bool.{false_from_ne_true}
 use Rattle.rt_ids.specs.declared.note.Note.TheVariants as writes
-use Rattle.rt_ids.specs.declared.order.Order.TheVariants.{Create}
-use Rattle.rt_ids.specs.declared.order.Reason.{Reason}
-use Rattle.rt_ids.specs.declared.names.TicketError.TheVariants.{Unknown, Gone}
-use Rattle.rt_ids.specs.declared.order.SendError.TheVariants.{Closed, Full, Spent}
-use Rattle.rt_ids.specs.Filters.{accepted_orders, name_started}
-use Rattle.rt_ids.specs.Journal.{is_told}
-use Rattle.rt_ids.specs.Outcomes.{outcome_note}
-use Rattle.rt_jobs.specs.Calls.{Call, Makes}
-use Rattle.rt_jobs.specs.Calls.Call.{Submit, Redeem as RedeemCall, Detach as DetachCall}
-use Rattle.rt_world.specs.declared.event.Event.TheVariants.{Send, Deliver, Turn, Shut, Collect, Redeem, Detach}
+use Rattle.rt_jobs.specs.Calls.Call.{Redeem as RedeemCall, Detach as DetachCall}
+use Rattle.rt_world.specs.declared.event.Event.TheVariants.{Redeem, Detach}
 use Rattle.rt_world.specs.declared.event.Reply.TheVariants as reply
-use Rattle.rt_world.specs.State.{without_job, sent_at, with_sent}
-use Rattle.rt_world.specs.Sends.{Sends, sent_reply}
-use Rattle.rt_world.specs.Deliveries.{Delivers, next_place}
-use Rattle.rt_world.specs.Calls.{CallsAt}
-use Rattle.rt_world.specs.Turns.{pick_notes, settle_note, Turns}
-use Rattle.rt_world.specs.Closings.{Shuts}
-use Rattle.rt_world.specs.Collections.{collected_notes, uncollected, Collects, Redeems, Detaches, redeemed_reply, detached_reply}
-use Rattle.rt_world.specs.Runs.{Steps}
-use Rattle.rt_world.specs.Opening.{HasAllLists}
-use Rattle.rt_world.specs.Determined.{tells_refusal, WasRefused}
-use Rattle.rt_world.specs.Creations.{IsNoCreation, OrdersNoQueue, CallNoQueues, PollsOrderNone}
+use Rattle.rt_world.specs.Creations.{OrdersNoQueue}
 use Rattle.rt_world.proofs.Places.{set_or, set_each}
 use Rattle.rt_world.proofs.PlainNotes.{last_or, plain_after, collected_plain, pick_plain, settle_plain, delivery_plain, no_creation}
 

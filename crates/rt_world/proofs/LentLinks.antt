@@ -1,16 +1,9 @@
 -- A core is lent the link of one sender, and gives an outcome on it.
-use Rattle.std.proofs.Common.{◌≡◌, ◌≢◌, ℕ, ◌<◌, ◌≤◌, List, [], ◌∷◌, ◌++◌, length, refl, sym, ◌∙◌, ap, subst, cond, arith, get_or, set}
-use Rattle.std.proofs.lemmas.Bool.{eq-eqb}
-use Rattle.std.proofs.lemmas.List.{append-nil, length-map, set-get_or}
-use Rattle.rt_world.proofs.Words.{map, Option, Some, None, JobId, Whole, inward_of, RecordedView, IsInOf, no_link, row_of, link_at}
-use Rattle.rt_ids.specs.declared.note.OutcomeNote.{OutcomeNote}
-use Rattle.rt_ids.specs.declared.order.Outcome.{Outcome}
-use Rattle.rt_link.specs.declared.ends.Inward.{Inward}
-use Rattle.rt_link.specs.Whole.{kept_by_receiver}
-use Rattle.rt_journal.specs.Ends.{IsInOwing, Gives, told_under}
-use Rattle.rt_journal.proofs.DeliveredEnds.{told_elsewhere}
-use Rattle.rt_world.specs.Links.{with_link, ChangesLink, GivesOnOne}
-use Rattle.rt_world.specs.OneTurn.{none_owed, IsBesideAll}
+use Rattle.rt_world.proofs.Words.{◌≡◌, ◌≢◌, ℕ, ◌<◌, ◌≤◌, List, [], ◌∷◌, ◌++◌, length, refl, sym, ◌∙◌, ap, subst, cond, arith, get_or, set, eq-eqb, append-nil}
+use Rattle.rt_world.proofs.Words.{length-map, set-get_or, map, Option, Some, None, JobId, Whole, inward_of, RecordedView, IsInOf, no_link, row_of, link_at}
+use Rattle.rt_world.proofs.Words.{OutcomeNote, Outcome, Inward, kept_by_receiver, IsInOwing, Gives, told_under, told_elsewhere, ChangesLink, GivesOnOne}
+use Rattle.rt_world.proofs.Words.{none_owed, IsBesideAll}
+use Rattle.rt_world.specs.Links.{with_link}
 use Rattle.rt_world.proofs.Places.{by_place}
 use Rattle.rt_world.proofs.LinkRows as by_rows
 use Rattle.rt_world.proofs.LinkSteps.{no_change}

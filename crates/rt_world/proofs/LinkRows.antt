@@ -1,12 +1,10 @@
 -- Rows of links, of which one link changes.
-use Rattle.std.proofs.Common.{◌≡◌, ◌≢◌, ℕ, ◌<◌, List, [], length, get_or, set, map, refl, sym, ap, ◌∙◌}
-use Rattle.std.proofs.lemmas.List.{get_or-map, get_or_default, length-set, map-set, get_or-set_same, get_or-set_other, set-get_or}
-use Rattle.rt_ids.specs.declared.order.Order.{Order}
-use Rattle.rt_link.specs.declared.plain.Whole.{Whole}
+use Rattle.rt_world.proofs.Words.{◌≡◌, ◌≢◌, ℕ, ◌<◌, List, [], length, get_or, set, map, refl, sym, ap, ◌∙◌, get_or_default, length-set, map-set}
+use Rattle.rt_world.proofs.Words.{get_or-set_same, get_or-set_other, set-get_or, Order, Whole, no_link, row_of, link_at, ChangesLink}
+use Rattle.std.proofs.lemmas.List.{get_or-map}
 use Rattle.rt_journal.proofs.NumberedOrders as by_place
 use Rattle.rt_world.proofs.Places.{by_place}
 pub use Rattle.rt_world.specs.Links.{with_link}
-use Rattle.rt_world.specs.Links.{no_link, row_of, link_at, ChangesLink}
 
 module _ {J T : Type 0} (links : List (List (Whole J T))) (s d : ℕ) (link : Whole J T) where
   abbrev now : List (List (Whole J T))

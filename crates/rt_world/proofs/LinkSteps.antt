@@ -1,16 +1,10 @@
 -- What one end of a plain link does, as the other end sees it.
-use Rattle.std.proofs.Common.{◌≡◌, ℕ, Bool, true, List, [], ◌∷◌, ◌++◌, length, refl, sym, ◌∙◌, ap, subst, arith, get_or}
-use Rattle.std.proofs.lemmas.List.{append-nil, length-append}
-use Rattle.rt_world.proofs.Words.{Order, Whole, out_of, inward_of, slice_get, RecordedView, IsOutOf, IsInOf, link_at}
-use Rattle.rt_ids.specs.declared.order.Outcome.{Outcome}
-use Rattle.rt_link.specs.Ends.{StartsWith}
-use Rattle.rt_link.specs.Whole.{kept_by_sender}
+use Rattle.rt_world.proofs.Words.{◌≡◌, ℕ, Bool, true, List, [], ◌∷◌, ◌++◌, length, refl, sym, ◌∙◌, ap, subst, arith, get_or, append-nil, length-append, Order}
+use Rattle.rt_world.proofs.Words.{Whole, out_of, inward_of, slice_get, RecordedView, IsOutOf, IsInOf, link_at, Outcome, StartsWith, kept_by_sender, DeskView}
+use Rattle.rt_world.proofs.Words.{HasLane, ChangesLink}
 use Rattle.rt_desk.specs.Lanes.{IsLaneOf}
-use Rattle.rt_journal.specs.Submissions.{DeskView}
-use Rattle.rt_journal.specs.Tickets.{HasLane}
 use Rattle.rt_journal.proofs.LaneEnds.{sees_more_lane}
 use Rattle.rt_journal.proofs.EndsKept.{sees_more_in, sees_more_out}
-use Rattle.rt_world.specs.Links.{ChangesLink}
 use Rattle.rt_world.proofs.Places.{by_place}
 
 -- a list that is as long as its beginning is the same

@@ -1,12 +1,7 @@
 -- If no queue is ordered, no refusal is told.
-use Rattle.std.proofs.Common.{ℕ, List, [], ◌∷◌, sym, ◌∙◌, ap, subst, ⊎_elim}
-use Rattle.std.proofs.lemmas.Bool.{true≢false}
-use Rattle.std.proofs.lemmas.Option.{none-some}
-use Rattle.rt_world.proofs.Words.{slice_get, Owed, Event, Reply, WorldView, journal_at}
-use Rattle.rt_ids.specs.declared.order.Order.TheVariants.{Create}
-use Rattle.rt_world.specs.Opening.{IsUnbegun}
-use Rattle.rt_world.specs.Determined.{IsToldRun}
-use Rattle.rt_world.specs.Creations.{OrderNoQueues, PollsOrderNone, RunOfJobsIsDetermined}
+use Rattle.rt_world.proofs.Words.{ℕ, List, [], ◌∷◌, sym, ◌∙◌, ap, subst, ⊎_elim, true≢false, none-some, slice_get, Owed, Event, Reply, WorldView, journal_at}
+use Rattle.rt_world.proofs.Words.{Create, IsUnbegun, IsToldRun, OrderNoQueues, PollsOrderNone}
+use Rattle.rt_world.specs.Creations.{RunOfJobsIsDetermined}
 use Rattle.rt_world.proofs.PlainNotes.{opening_plain}
 use Rattle.rt_world.proofs.KeptLists.{IsPlain, is_later}
 use Rattle.rt_world.proofs.DeterminedRefusals.{was_refused}

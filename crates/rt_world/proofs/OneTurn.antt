@@ -1,23 +1,17 @@
 -- A pick and the poll that it begins are one turn of a core.
-use Rattle.std.proofs.Common.{◌≡◌, ℕ, ◌+◌, ◌≤◌, Bool, true, false, List, ◌∷◌, refl, sym, ◌∙◌, ap, subst, add-zero}
-use Rattle.std.specs.Prelude.{Result, Ok}
-use Rattle.rt_world.proofs.Words.{Option, Some, None, JobId, Order, Whole, inward_of, Journal, Owed, RecordedView, IsRecorded, link_at}
+use Rattle.rt_world.proofs.Words.{◌≡◌, ℕ, ◌+◌, ◌≤◌, Bool, true, false, List, ◌∷◌, refl, sym, ◌∙◌, ap, subst, Result, Ok, Option, Some, None, JobId, Order}
+use Rattle.rt_world.proofs.Words.{Whole, inward_of, Journal, Owed, RecordedView, IsRecorded, link_at, OutcomeNote, Job, Reason, polls_made, poll_note}
+use Rattle.rt_world.proofs.Words.{order_taken, IsInOwing, told_under, owed_back, GivesOnOne, none_owed, IsBesideAll, IsKeptBeside}
+use Rattle.std.proofs.Common.{add-zero}
 use Rattle.rt_ids.specs.declared.note.Note.TheVariants as writes
-use Rattle.rt_ids.specs.declared.note.OutcomeNote.{OutcomeNote}
 use Rattle.rt_ids.specs.declared.note.OutcomeNote.TheVariants as outcomes
-use Rattle.rt_ids.specs.declared.order.Order.TheVariants.{Job}
-use Rattle.rt_ids.specs.declared.order.Reason.{Reason}
 use Rattle.rt_core.specs.declared.turn.Turn.{Turn}
 use Rattle.rt_core.specs.declared.turn.Turn.TheVariants.{Back}
 use Rattle.rt_core.specs.declared.turn.PickError.{PickError}
 use Rattle.rt_core.specs.declared.turn.Settled.{Settled}
-use Rattle.rt_journal.specs.Polls.{polls_made, poll_note}
-use Rattle.rt_journal.specs.Recorded.{order_taken}
 use Rattle.rt_journal.specs.Turns.{IsHandBack, Picks}
-use Rattle.rt_journal.specs.Ends.{IsInOwing, told_under}
-use Rattle.rt_journal.specs.Owed.{IsSentUnder, owed_back}
-use Rattle.rt_world.specs.Links.{GivesOnOne}
-use Rattle.rt_world.specs.OneTurn.{none_owed, IsBesideAll, IsKeptBeside, StaysBeside, HandsOneBack, TurnsOwing}
+use Rattle.rt_journal.specs.Owed.{IsSentUnder}
+use Rattle.rt_world.specs.OneTurn.{StaysBeside, HandsOneBack, TurnsOwing}
 use Rattle.rt_world.proofs.LentLinks.{no_gift}
 
 -- so each end is beside the core, except for what is owed

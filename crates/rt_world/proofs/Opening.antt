@@ -1,11 +1,6 @@
 -- Cores and rows of links that were just opened, one after another.
-use Rattle.std.proofs.Common.{◌≡◌, ℕ, ◌+◌, ◌<◌, List, [], ◌∷◌, ◌++◌, length, sym, subst, ⊎_elim, arith, get_or}
-use Rattle.std.proofs.lemmas.Bool.{cases_lt}
-use Rattle.std.proofs.lemmas.List.{length_push, get_or_push, get_or_append_left}
-use Rattle.rt_journal.specs.Recorded.{RecordedView}
-use Rattle.rt_journal.specs.Steps.{opened_beside}
-use Rattle.rt_link.specs.declared.plain.Whole.{Whole}
-use Rattle.rt_world.specs.Links.{row_of, IsFreshRow}
+use Rattle.rt_world.proofs.Words.{◌≡◌, ℕ, ◌+◌, ◌<◌, List, [], ◌∷◌, ◌++◌, length, sym, subst, ⊎_elim, arith, get_or, cases_lt, length_push, get_or_push}
+use Rattle.rt_world.proofs.Words.{get_or_append_left, RecordedView, opened_beside, Whole, row_of, IsFreshRow}
 
 -- what is so of each item, by its place, and of one more is so of each
 each-push : {A : Type 0} (Holds : ℕ → A → Type 0) (items : List A) (item : A) (default : ℕ → A) (count : ℕ) → length items ≡ count →

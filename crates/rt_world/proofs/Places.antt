@@ -1,6 +1,6 @@
 -- A list of which one place was set, read at any place.
-use Rattle.std.proofs.Common.{◌≡◌, ◌≢◌, ℕ, List, length, sym, ◌∙◌, ap, subst, ◌⊎◌, inl, inr, ⊎_elim, get_or, set, get_or-set_same, get_or-set_other}
-use Rattle.std.proofs.lemmas.Bool.{cases_eq, cases_lt}
+use Rattle.rt_world.proofs.Words.{◌≡◌, ◌≢◌, ℕ, List, length, sym, ◌∙◌, ap, subst, ◌⊎◌, inl, inr, ⊎_elim, get_or, set, get_or-set_same, get_or-set_other}
+use Rattle.rt_world.proofs.Words.{cases_eq, cases_lt}
 use Rattle.std.proofs.lemmas.List.{set_past}
 
 -- what is so of one place, and of each other, is so of each

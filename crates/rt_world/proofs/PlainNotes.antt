@@ -1,23 +1,16 @@
 -- Notes that tell no refusal.
-use Rattle.std.proofs.Common.{◌≡◌, ℕ, zero, suc, Bool, true, false, cond, List, [], ◌∷◌, ◌++◌, refl, sym, ◌∙◌, ap, subst, ◌⊎◌, inl, inr}
-use Rattle.std.specs.Prelude.{◌||◌, nat_le}
+use Rattle.rt_world.proofs.Words.{◌≡◌, ℕ, zero, suc, Bool, true, false, cond, List, [], ◌∷◌, ◌++◌, refl, sym, ◌∙◌, ap, subst, ◌⊎◌, inl, inr, ◌||◌, nat_le}
+use Rattle.rt_world.proofs.Words.{Option, Some, None, slice_get, JobId, Note, Order, Journal, Answer, Job, Create, SetShares, Close, CloseCore, Reason}
+use Rattle.rt_world.proofs.Words.{created_count, effect_note, IsOpening, core_mode, Outcomes, Step, with_effect, IsDelivery, settle_note, collected_notes}
+use Rattle.rt_world.proofs.Words.{is_refusal, tells_refusal, IsNoCreation}
 use Rattle.std.proofs.lemmas.Bool.{or_parts}
-use Rattle.rt_world.proofs.Words.{Option, Some, None, slice_get, JobId, Note, Order, Journal}
 use Rattle.rt_ids.specs.declared.note.Note.TheVariants as writes
-use Rattle.rt_ids.specs.declared.order.Answer.{Answer}
 use Rattle.rt_ids.specs.declared.order.Answer.TheVariants as told_answers
-use Rattle.rt_ids.specs.declared.order.Order.TheVariants.{Job, Create, SetShares, Close, CloseCore}
-use Rattle.rt_ids.specs.declared.order.Reason.{Reason}
-use Rattle.rt_ids.specs.Commands.{created_count, refusal, effect_note, IsOpening}
-use Rattle.rt_ids.specs.Closing.{closes, core_mode, queue_mode}
-use Rattle.rt_ids.specs.Filters.{Outcomes}
-use Rattle.rt_jobs.specs.declared.job.Step.{Step}
+use Rattle.rt_ids.specs.Commands.{refusal}
+use Rattle.rt_ids.specs.Closing.{closes, queue_mode}
 use Rattle.rt_jobs.specs.declared.job.Step.TheVariants as steps
-use Rattle.rt_world.specs.Deliveries.{entry_note, with_effect, IsDelivery}
-use Rattle.rt_world.specs.Turns.{poll_note, settle_note}
-use Rattle.rt_world.specs.Collections.{collected_notes}
-use Rattle.rt_world.specs.Determined.{is_refusal, tells_refusal}
-use Rattle.rt_world.specs.Creations.{IsNoCreation}
+use Rattle.rt_world.specs.Deliveries.{entry_note}
+use Rattle.rt_world.specs.Turns.{poll_note}
 
 -- an item of a longer list is one of the shorter list, or the last
 pub last_or : {A : Type 0} (items : List A) (last item : A) (place : ℕ) → slice_get (items ++ last ∷ []) place ≡ Some item → (slice_get items place ≡ Some item) ⊎ (last ≡ item)

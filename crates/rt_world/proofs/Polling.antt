@@ -1,28 +1,14 @@
 -- A core's turn in its world: a job is picked, it is polled with its post, and the poll is settled; or it is handed back.
-use Rattle.std.proofs.Common.{◌≡◌, ℕ, ◌+◌, ◌-◌, ◌^◌, ◌<◌, ◌≤◌, List, [], ◌∷◌, refl, sym, ◌∙◌, ap, subst, inl, inr, arith, set, get_or-set_same}
-use Rattle.std.specs.Prelude.{unwrap_or}
-use Rattle.std.proofs.lemmas.List.{set-set, set-get_or}
-use Rattle.std.proofs.lemmas.Option.{same_Some}
-use Rattle.rt_world.proofs.Words.{Some, slice_get, JobId, Order, Journal, IsRightPick, Owed, Whole, RecordedView, Reply, row_of, link_at, Parts, core_at, world_of, IsWorld, IsAtRest, journal_at, noted}
+use Rattle.rt_world.proofs.Words.{◌≡◌, ℕ, ◌+◌, ◌-◌, ◌^◌, ◌<◌, ◌≤◌, List, [], ◌∷◌, refl, sym, ◌∙◌, ap, subst, inl, inr, arith, set, get_or-set_same, unwrap_or}
+use Rattle.rt_world.proofs.Words.{set-set, set-get_or, same_Some, Some, slice_get, JobId, Order, Journal, IsRightPick, Owed, Whole, RecordedView, Reply, row_of}
+use Rattle.rt_world.proofs.Words.{link_at, Parts, core_at, world_of, IsWorld, IsAtRest, journal_at, noted, Job, return_reason, name_started, is_told, line}
+use Rattle.rt_world.proofs.Words.{turns, has_work, Makes, polls_made, poll_note, order_taken, opened_beside, with_notes, post_of, CallsAt, order_under}
+use Rattle.rt_world.proofs.Words.{pick_notes, IsPoll, Turns}
 use Rattle.rt_ids.specs.declared.note.Note.TheVariants as writes
-use Rattle.rt_ids.specs.declared.order.Order.TheVariants.{Job}
-use Rattle.rt_ids.specs.Commands.{return_reason}
-use Rattle.rt_ids.specs.Filters.{name_started}
-use Rattle.rt_ids.specs.Journal.{is_told}
-use Rattle.rt_ids.specs.Lines.{line}
-use Rattle.rt_ids.specs.Picks.{turns}
-use Rattle.rt_ids.specs.Work.{has_work}
-use Rattle.rt_jobs.specs.Calls.{Makes}
-use Rattle.rt_journal.specs.Polls.{polls_made, poll_note, settle_note}
-use Rattle.rt_journal.specs.Recorded.{order_taken}
-use Rattle.rt_journal.specs.Steps.{opened_beside, with_notes}
-use Rattle.rt_journal.specs.Whole.{post_of}
+use Rattle.rt_journal.specs.Polls.{settle_note}
 use Rattle.rt_journal.proofs.SentNotes.{all_posted}
 use Rattle.rt_world.specs.declared.event.Reply.TheVariants as reply
-use Rattle.rt_world.specs.Calls.{CallsAt}
 use Rattle.rt_world.specs.OneTurn as one
-use Rattle.rt_world.specs.State.{order_under}
-use Rattle.rt_world.specs.Turns.{pick_notes, IsPoll, Turns}
 use Rattle.rt_world.proofs.CoreSteps.{cores_are, number_is, parts_now, receives, journal_is, core_noted}
 use Rattle.rt_world.proofs.Desks.{sent_at-world}
 use Rattle.rt_world.proofs.LinkSteps.{received-same, no_change}

@@ -1,14 +1,10 @@
 -- The links of a core after a turn whose job called its post.
-use Rattle.std.proofs.Common.{◌≡◌, ◌≢◌, ℕ, ◌<◌, ◌≤◌, List, [], length, sym, ap, subst, arith, get_or, set, get_or-set_same, get_or-set_other}
-use Rattle.std.proofs.lemmas.List.{length-set}
+use Rattle.rt_world.proofs.Words.{◌≡◌, ◌≢◌, ℕ, ◌<◌, ◌≤◌, List, [], length, sym, ap, subst, arith, get_or, set, get_or-set_same, get_or-set_other, length-set}
+use Rattle.rt_world.proofs.Words.{Option, JobId, Whole, out_of, inward_of, RecordedView, no_link, row_of, link_at, OutcomeNote, kept_by_sender, IsInOwing}
+use Rattle.rt_world.proofs.Words.{IsSameSeat, post_of, none_owed, IsBesideAll}
 use Rattle.std.proofs.lemmas.Option.{slice_get-get_or}
-use Rattle.rt_world.proofs.Words.{Option, JobId, Whole, out_of, inward_of, RecordedView, no_link, row_of, link_at}
-use Rattle.rt_ids.specs.declared.note.OutcomeNote.{OutcomeNote}
-use Rattle.rt_link.specs.Whole.{kept_by_sender}
-use Rattle.rt_journal.specs.Ends.{IsInOwing, LeavesOwed, IsSameSeat}
+use Rattle.rt_journal.specs.Ends.{LeavesOwed}
 use Rattle.rt_journal.specs.Posts.{SendsMore, HasPosted}
-use Rattle.rt_journal.specs.Whole.{post_of}
-use Rattle.rt_world.specs.OneTurn.{none_owed, IsBesideAll}
 use Rattle.rt_world.proofs.Places.{by_place}
 use Rattle.rt_world.proofs.LinkSteps.{sender_rest, OnlySent, in_stays}
 use Rattle.rt_world.proofs.SentLinks.{one_gate}

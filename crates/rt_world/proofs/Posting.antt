@@ -1,30 +1,16 @@
 -- What a job's calls of its post do in the world, while its core polls it.
-use Rattle.std.proofs.Common.{◌≡◌, ℕ, ◌<◌, ◌≤◌, List, [], ◌∷◌, refl, sym, ◌∙◌, ap, subst, inl, inr, arith, get_or, set, get_or-set_same}
-use Rattle.std.specs.Prelude.{Result}
-use Rattle.std.proofs.lemmas.List.{set-set, length-set}
-use Rattle.std.proofs.lemmas.Option.{get_or_from_slice_get}
-use Rattle.rt_world.proofs.Words.{JobId, Reply, Order, Owed, Whole, Fits, out_of, RecordedView, IsRecorded, desk_of, no_link, row_of, link_at, Parts, core_at, desk_at, world_of, IsWorld, journal_at}
-use Rattle.rt_ids.specs.declared.names.TicketError.{TicketError}
-use Rattle.rt_ids.specs.declared.names.TicketError.TheVariants.{Unknown}
-use Rattle.rt_ids.specs.declared.order.Outcome.{Outcome}
-use Rattle.rt_ids.specs.declared.order.SendError.{SendError}
-use Rattle.rt_jobs.specs.Calls.{Call, Makes}
-use Rattle.rt_jobs.specs.Calls.Call.{Submit, Redeem, Detach}
-use Rattle.rt_link.specs.Whole.{kept_by_sender}
+use Rattle.rt_world.proofs.Words.{◌≡◌, ℕ, ◌<◌, ◌≤◌, List, [], ◌∷◌, refl, sym, ◌∙◌, ap, subst, inl, inr, arith, get_or, set, get_or-set_same, Result, set-set}
+use Rattle.rt_world.proofs.Words.{length-set, get_or_from_slice_get, JobId, Reply, Order, Owed, Whole, Fits, out_of, RecordedView, IsRecorded, desk_of, no_link}
+use Rattle.rt_world.proofs.Words.{row_of, link_at, Parts, core_at, desk_at, world_of, IsWorld, journal_at, TicketError, Unknown, Outcome, SendError, Call}
+use Rattle.rt_world.proofs.Words.{Makes, Submit, Redeem, Detach, kept_by_sender, KeepsIn, opened_beside, IsWritten, terms_of_desk, RefusesTicket, RedeemsTicket}
+use Rattle.rt_world.proofs.Words.{DetachesTicket, StaysBeside, Act, IsActOf, IsActAt, Acts, HasActed, CallsAt, Redeems, Detaches, redeemed_reply}
+use Rattle.rt_world.proofs.Words.{detached_reply, Sends, sent_reply}
 use Rattle.rt_journal.specs.Calls.{Does, LendsEnd, SubmitsOn, RedeemsOn, DetachesOn}
-use Rattle.rt_journal.specs.Ends.{KeepsIn}
 use Rattle.rt_journal.specs.Posts.{PostView}
-use Rattle.rt_journal.specs.Steps.{opened_beside}
-use Rattle.rt_journal.specs.Submissions.{IsWritten, terms_of_desk}
-use Rattle.rt_journal.specs.Tickets.{RefusesTicket, RedeemsTicket, DetachesTicket, StaysBeside}
 use Rattle.rt_journal.proofs.SentNotes.{SaysNoMore, recorded_silent, ins_silent, submitted_silent, redeemed_silent, detached_silent}
-use Rattle.rt_world.specs.declared.model.acts.Act.{Act}
 use Rattle.rt_world.specs.declared.model.acts.Act.TheVariants as acts
 use Rattle.rt_world.specs.declared.model.acts.Act.TheVariants.{Send}
-use Rattle.rt_world.specs.Acts.{IsActOf, IsActAt, Acts, ActsOn, HasActed}
-use Rattle.rt_world.specs.Calls.{CallsAt}
-use Rattle.rt_world.specs.Collections.{Redeems, Detaches, redeemed_reply, detached_reply}
-use Rattle.rt_world.specs.Sends.{Sends, sent_reply}
+use Rattle.rt_world.specs.Acts.{ActsOn}
 use Rattle.rt_world.proofs.LinkSteps.{OnlySent}
 use Rattle.rt_world.proofs.CoreSteps.{cores_are, desk_is, journal_is}
 use Rattle.rt_world.proofs.CoreSending.{IsDoneBy, IsCoreActing, core_sent, core_journals, core_rests}

@@ -1,24 +1,19 @@
 -- A world at rest stays one as a core takes the next order of a sender, or shuts the gate, and that is the step of its event.
-use Rattle.std.proofs.Common.{◌≡◌, ℕ, zero, suc, ◌+◌, ◌≤◌, Bool, true, false, List, [], ◌∷◌, length, refl, sym, ◌∙◌, ap, subst, arith}
-use Rattle.std.proofs.lemmas.List.{append-nil}
-use Rattle.rt_world.proofs.Words.{Option, Some, None, slice_get, Owed, Whole, inward_of, RecordedView, IsInOf, Reply, journal_at, noted, link_at, Parts, core_at, desk_at, world_of, IsWorld, IsAtRest}
+use Rattle.rt_world.proofs.Words.{◌≡◌, ℕ, zero, suc, ◌+◌, ◌≤◌, Bool, true, false, List, [], ◌∷◌, length, refl, sym, ◌∙◌, ap, subst, arith, append-nil, Option}
+use Rattle.rt_world.proofs.Words.{Some, None, slice_get, Owed, Whole, inward_of, RecordedView, IsInOf, Reply, journal_at, noted, link_at, Parts, core_at}
+use Rattle.rt_world.proofs.Words.{desk_at, world_of, IsWorld, IsAtRest, Outcome, accepted_orders, Inward, StartsWith, Gives, ChangesLink, sent_at, Delivers}
+use Rattle.rt_world.proofs.Words.{IsDelivery, next_place, HasReceived}
 use Rattle.rt_ids.specs.declared.order.Envelope.{Envelope}
-use Rattle.rt_ids.specs.declared.order.Outcome.{Outcome}
-use Rattle.rt_ids.specs.Filters.{accepted_orders, delivered_names}
-use Rattle.rt_link.specs.declared.ends.Inward.{Inward}
-use Rattle.rt_link.specs.Ends.{StartsWith}
+use Rattle.rt_ids.specs.Filters.{delivered_names}
 use Rattle.rt_link.specs.Calls.{Takes}
-use Rattle.rt_journal.specs.Ends.{Gives}
 use Rattle.rt_journal.specs.Steps.{Delivers as DeliversTo}
 use Rattle.rt_journal.proofs.GivenEnds.{gave_rest}
 use Rattle.rt_journal.proofs.NumberedOrders.{length-numbered}
 use Rattle.rt_ids.specs.declared.note.Note.TheVariants as writes
 use Rattle.rt_world.specs.declared.model.receipts.Receipt.{Receipt}
 use Rattle.rt_world.specs.declared.model.receipts.Receipt.TheVariants.{Take, Shut}
-use Rattle.rt_world.specs.Links.{ChangesLink}
-use Rattle.rt_world.specs.State.{sent_at}
-use Rattle.rt_world.specs.Deliveries.{Delivers, IsDelivery, next_place, taken_reply}
-use Rattle.rt_world.specs.Receipts.{HasReceived, ReceivesOn, Receives}
+use Rattle.rt_world.specs.Deliveries.{taken_reply}
+use Rattle.rt_world.specs.Receipts.{ReceivesOn, Receives}
 use Rattle.rt_world.proofs.Places.{by_place}
 use Rattle.rt_world.proofs.Desks.{journal_at-world, sent_at-world}
 use Rattle.rt_world.proofs.LinkRows.{with_link, same_sent, ChangesLink-with_link}

@@ -1,9 +1,6 @@
 -- A core does something on the link of a sender.
-use Rattle.std.proofs.Common.{◌≡◌, ℕ, ◌+◌, ◌<◌, ◌≤◌, Bool, List, length, sym, ◌∙◌, ap, subst, arith, get_or}
-use Rattle.rt_world.proofs.Words.{Order, Owed, Whole, inward_of, RecordedView, IsInOf, WorldView, journal_at, link_at, Parts, core_at, world_of, IsWorld}
-use Rattle.rt_ids.specs.declared.order.Outcome.{Outcome}
-use Rattle.rt_link.specs.Whole.{kept_by_receiver}
-use Rattle.rt_link.specs.Ends.{StartsWith}
+use Rattle.rt_world.proofs.Words.{◌≡◌, ℕ, ◌+◌, ◌<◌, ◌≤◌, Bool, List, length, sym, ◌∙◌, ap, subst, arith, get_or, Order, Owed, Whole, inward_of, RecordedView}
+use Rattle.rt_world.proofs.Words.{IsInOf, WorldView, journal_at, link_at, Parts, core_at, world_of, IsWorld, Outcome, kept_by_receiver, StartsWith}
 use Rattle.rt_link.specs.Calls.{SeesMore}
 use Rattle.rt_world.proofs.Borrowed.{IsLent, lent_link}
 use Rattle.rt_world.proofs.LinkSteps.{as_long, OnlyReceived}

@@ -1,13 +1,8 @@
 -- The right pick of a journal that is written down.
-use Rattle.std.proofs.Common.{◌≡◌, ℕ, ◌-◌, ◌^◌, ◌<◌, ◌≤◌, Bool, true, false, [], refl, sym, ◌∙◌, subst, arith, eqb-true}
-use Rattle.std.specs.Prelude.{◌==◌}
-use Rattle.std.proofs.lemmas.Bool.{true≢false}
-use Rattle.rt_ids.specs.Journal.{Journal}
-use Rattle.rt_ids.specs.Keys.{KeyAtMost}
+use Rattle.rt_world.proofs.Words.{◌≡◌, ℕ, ◌-◌, ◌^◌, ◌<◌, ◌≤◌, Bool, true, false, [], refl, sym, ◌∙◌, subst, arith, ◌==◌, true≢false, Journal, KeyAtMost}
+use Rattle.rt_world.proofs.Words.{IsRightPick, virtual_runtime, has_work}
+use Rattle.std.proofs.Common.{eqb-true}
 use Rattle.rt_ids.specs.Lines.{jobs_out}
-use Rattle.rt_ids.specs.Picks.{IsRightPick}
-use Rattle.rt_ids.specs.Runtimes.{virtual_runtime}
-use Rattle.rt_ids.specs.Work.{has_work}
 
 module _ (journal : Journal ℕ) (queue runtime : ℕ) (at : runtime ≡ virtual_runtime queue journal) (work : has_work queue journal ≡ true) (nobody : jobs_out journal ≡ []) where
   -- a queue is at most what it is itself

@@ -1,30 +1,19 @@
 -- A run that is written down is the only one of its events.
-use Rattle.std.proofs.Common.{◌≡◌, ℕ, ◌+◌, ◌<◌, ◌≤◌, Bool, true, false, List, [], ◌∷◌, length, inl, inr, refl, sym, ◌∙◌, ap, subst}
+use Rattle.rt_world.proofs.Words.{◌≡◌, ℕ, ◌+◌, ◌<◌, ◌≤◌, Bool, true, false, List, [], ◌∷◌, length, inl, inr, refl, sym, ◌∙◌, ap, subst, true≢false, None, Some}
+use Rattle.rt_world.proofs.Words.{JobId, Journal, IsRightPick, Order, Event, Reply, WorldView, Happens, journal_at, noted, Job, return_reason, accepted_orders}
+use Rattle.rt_world.proofs.Words.{IsNextSent, line, outstanding_count, turns, Step, Script, Send, Turn, AreThere, without_job, terms_at, order_under, with_sent}
+use Rattle.rt_world.proofs.Words.{IsNearlyFull, pick_notes, settle_note, OrderNoQueues, with_creations, ScriptSame, script_made, ScriptPolls, ScriptAnswers}
+use Rattle.rt_world.proofs.Words.{AreAlike, AreAllAlike, name}
 use Rattle.std.specs.Prelude.{◌&&◌}
-use Rattle.std.proofs.lemmas.Bool.{true≢false, and_parts}
-use Rattle.rt_world.proofs.Words.{None, Some, JobId, Journal, IsRightPick, Order, Event, Reply, WorldView, Happens, journal_at, noted}
+use Rattle.std.proofs.lemmas.Bool.{and_parts}
 use Rattle.rt_ids.specs.declared.note.Note.TheVariants.{Sent}
-use Rattle.rt_ids.specs.declared.order.Order.TheVariants.{Job}
-use Rattle.rt_ids.specs.Commands.{return_reason}
-use Rattle.rt_ids.specs.Filters.{accepted_orders}
-use Rattle.rt_ids.specs.Lawful.{IsNextSent}
-use Rattle.rt_ids.specs.Lines.{line}
 use Rattle.rt_ids.specs.Orders.{IsSpelledOrder}
-use Rattle.rt_ids.specs.Outstanding.{outstanding_count}
-use Rattle.rt_ids.specs.Picks.{turns}
-use Rattle.rt_jobs.specs.declared.job.Step.{Step}
-use Rattle.rt_jobs.specs.Scripts.{Script}
 use Rattle.rt_jobs.specs.Steps.{IfDone}
-use Rattle.rt_world.specs.declared.event.Event.TheVariants.{Send, Turn}
 use Rattle.rt_world.specs.declared.event.Reply.TheVariants as reply
 use Rattle.rt_world.specs.Closings.{IsGateOpen}
-use Rattle.rt_world.specs.Sends.{AreThere}
-use Rattle.rt_world.specs.State.{without_job, terms_at, order_under, with_sent, IsNearlyFull}
-use Rattle.rt_world.specs.Turns.{pick_notes, polls_made, settle_note}
-use Rattle.rt_world.specs.Creations.{OrderNoQueues, with_creations}
-use Rattle.rt_world.specs.ScriptRuns.{ScriptSame, script_made, ScriptPolls, ScriptAnswers, IsScriptRun}
-use Rattle.rt_world.specs.Determined.{AreAlike, AreAllAlike}
-use Rattle.rt_world.specs.Rows.{name, RunsJust}
+use Rattle.rt_world.specs.Turns.{polls_made}
+use Rattle.rt_world.specs.ScriptRuns.{IsScriptRun}
+use Rattle.rt_world.specs.Rows.{RunsJust}
 use Rattle.rt_world.proofs.DeterminedOpenings.{fresh_once}
 use Rattle.rt_world.proofs.DeterminedScripts.{scripts_owe_one, scripts_order_none}
 use Rattle.rt_world.proofs.NoRefusals.{jobs_once}

@@ -1,7 +1,5 @@
 -- A run, one event longer.
-use Rattle.std.proofs.Common.{ℕ, List, [], ◌∷◌, ◌++◌, refl, subst}
-use Rattle.rt_world.proofs.Words.{Owed, Event, Reply, WorldView, Happens}
-use Rattle.rt_world.specs.Runs.{IsRun}
+use Rattle.rt_world.proofs.Words.{ℕ, List, [], ◌∷◌, ◌++◌, refl, subst, Owed, Event, Reply, WorldView, Happens, IsRun}
 
 module _ {J : Type 0} (same : J → J → Type 0) (made : J → ℕ) (polls : Owed J ℕ) (answers : J → ℕ → Type 0) where
   pub run_longer : (events : List (Event J)) (old between new : WorldView J ℕ) (event : Event J) (answer : Reply J) →

@@ -1,12 +1,7 @@
 -- A world at rest stays one as the outside actor does something on the link to a core.
-use Rattle.std.proofs.Common.{◌≡◌, ◌≢◌, ℕ, ◌+◌, ◌<◌, ◌≤◌, List, ◌++◌, length, refl, sym, ◌∙◌, ap, subst, arith, get_or, set, map}
-use Rattle.std.proofs.lemmas.List.{set-get_or}
-use Rattle.rt_world.proofs.Words.{Note, Order, Journal, Owed, Whole, Fits, out_of, WorldView, journal_at, noted, link_at, Parts, desks, desk_at, world_of, IsWorld}
-use Rattle.rt_ids.specs.declared.order.Outcome.{Outcome}
-use Rattle.rt_journal.specs.Submissions.{DeskView, opened_desk}
-use Rattle.rt_journal.specs.Tickets.{StaysBeside}
-use Rattle.rt_world.specs.Links.{ChangesLink}
-use Rattle.rt_world.specs.Inside.{seat_of}
+use Rattle.rt_world.proofs.Words.{◌≡◌, ◌≢◌, ℕ, ◌+◌, ◌<◌, ◌≤◌, List, ◌++◌, length, refl, sym, ◌∙◌, ap, subst, arith, get_or, set, map, set-get_or, Note, Order}
+use Rattle.rt_world.proofs.Words.{Journal, Owed, Whole, Fits, out_of, WorldView, journal_at, noted, link_at, Parts, desks, desk_at, world_of, IsWorld, Outcome}
+use Rattle.rt_world.proofs.Words.{DeskView, opened_desk, StaysBeside, ChangesLink, seat_of}
 use Rattle.rt_world.proofs.Desks.{desk_at-outside, desks-outside, journal_at-world, journals-noted}
 use Rattle.rt_world.proofs.Places.{by_place}
 use Rattle.rt_world.proofs.Borrowed.{IsLent, lent_link}

@@ -1,22 +1,15 @@
 -- A send as its world sees it: what the link's sender did on it, and what the sender is told.
-use Rattle.std.proofs.Common.{◌≡◌, ℕ, ◌<◌, ◌≤◌, Bool, true, false, List, [], ◌∷◌, ◌++◌, length, refl, sym, ◌∙◌, ap, subst, arith, get_or, set}
-use Rattle.std.specs.Prelude.{Result, Ok, Err}
-use Rattle.std.proofs.lemmas.Bool.{true≢false}
-use Rattle.std.proofs.lemmas.List.{append-nil}
-use Rattle.rt_world.proofs.Words.{Some, map, JobId, Order, Journal, Owed, Whole, out_of, inward_of, journal_at, Parts, desks, world_of, IsWorld}
+use Rattle.rt_world.proofs.Words.{◌≡◌, ℕ, ◌<◌, ◌≤◌, Bool, true, false, List, [], ◌∷◌, ◌++◌, length, refl, sym, ◌∙◌, ap, subst, arith, get_or, set, Result, Ok}
+use Rattle.rt_world.proofs.Words.{Err, true≢false, append-nil, Some, map, JobId, Order, Journal, Owed, Whole, out_of, inward_of, journal_at, Parts, desks}
+use Rattle.rt_world.proofs.Words.{world_of, IsWorld, SendError, Closed, Full, Spent, accepted_orders, IsNextSent, outstanding_count, kept_by_sender, DeskView}
+use Rattle.rt_world.proofs.Words.{terms_of_desk, terms_at, Sends, sent_reply}
 use Rattle.rt_ids.specs.declared.note.Note.TheVariants as writes
-use Rattle.rt_ids.specs.declared.order.SendError.{SendError}
-use Rattle.rt_ids.specs.declared.order.SendError.TheVariants.{Closed, Full, Spent, NoCore}
+use Rattle.rt_ids.specs.declared.order.SendError.TheVariants.{NoCore}
 use Rattle.rt_ids.specs.Closing.{final_count}
-use Rattle.rt_ids.specs.Filters.{accepted_orders}
-use Rattle.rt_ids.specs.Lawful.{IsNextSent}
 use Rattle.rt_ids.specs.Orders.{without_job}
-use Rattle.rt_ids.specs.Outstanding.{outstanding_count}
 use Rattle.rt_link.specs.Calls.{Sends as SendsOn, final_of}
-use Rattle.rt_link.specs.Whole.{gate_number, kept_by_sender}
-use Rattle.rt_journal.specs.Submissions.{DeskView, Submits, numbered, terms_of_desk}
-use Rattle.rt_world.specs.State.{terms_at}
-use Rattle.rt_world.specs.Sends.{Sends, sent_reply}
+use Rattle.rt_link.specs.Whole.{gate_number}
+use Rattle.rt_journal.specs.Submissions.{Submits, numbered}
 use Rattle.rt_world.proofs.Desks.{sent_at-world}
 use Rattle.rt_world.proofs.LinkRows.{sent-with_link}
 use Rattle.rt_world.proofs.LinkSteps.{sender_rest, OnlySent}

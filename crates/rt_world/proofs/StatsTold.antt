@@ -1,28 +1,19 @@
 -- What a core tells of itself in numbers, its journal tells.
-use Rattle.std.proofs.Common.{◌≡◌, ℕ, ◌-◌, ◌^◌, ◌<◌, ◌≤◌, min, List, [], ◌∷◌, length, sym, ◌∙◌, ap, arith}
-use Rattle.std.specs.Prelude.{◌↔◌, Some, slice_get, IsTrue}
-use Rattle.std.proofs.lemmas.List.{length-map}
-use Rattle.rt_ids.specs.declared.note.Note.{Note}
+use Rattle.rt_world.proofs.Words.{◌≡◌, ℕ, ◌-◌, ◌^◌, ◌<◌, ◌≤◌, List, [], ◌∷◌, length, sym, ◌∙◌, ap, arith, ◌↔◌, Some, slice_get, IsTrue, length-map, Note}
+use Rattle.rt_world.proofs.Words.{CoreStats, Journal, EachNote, MayStand, turns, virtual_runtime, Terms, Owed, queue_count, waiting_of, core_stats, queue_stats}
+use Rattle.rt_world.proofs.Words.{RecordedView, IsRecorded, TellsCore, TellsQueues}
+use Rattle.std.proofs.Common.{min}
 use Rattle.rt_ids.specs.declared.note.Note.TheVariants.{Pick}
-use Rattle.rt_ids.specs.declared.stats.CoreStats.{CoreStats}
 use Rattle.rt_ids.specs.declared.stats.QueueStats.{QueueStats}
-use Rattle.rt_ids.specs.Journal.{Journal, EachNote}
-use Rattle.rt_ids.specs.Lawful.{MayFollow, MayStand}
+use Rattle.rt_ids.specs.Lawful.{MayFollow}
 use Rattle.rt_ids.specs.Limits.{most_turns}
-use Rattle.rt_ids.specs.Picks.{turns}
-use Rattle.rt_ids.specs.Runtimes.{virtual_runtime}
-use Rattle.rt_ids.specs.Terms.{Terms}
 use Rattle.rt_ids.proofs.RuntimeBound.{no_runtime_wraps}
-use Rattle.rt_jobs.specs.Steps.{Owed}
 use Rattle.rt_stats.specs.Stats.{stats_of}
 use Rattle.rt_stats.specs.Sums.{waiting_count}
 use Rattle.rt_stats.proofs.WaitingLaw.{waiting_is_line}
-use Rattle.rt_taskqueue.specs.Queues.{queue_count, waiting_of}
 use Rattle.rt_core.specs.Closing as core
-use Rattle.rt_core.specs.Figures.{core_stats, queue_stats}
-use Rattle.rt_journal.specs.Recorded.{RecordedView, terms_at, IsRecorded}
+use Rattle.rt_journal.specs.Recorded.{terms_at}
 use Rattle.rt_journal.proofs.Drained.{drained_told, drained_here}
-use Rattle.rt_world.specs.Stats.{TellsCore, TellsQueues}
 use Rattle.rt_world.proofs.JobsHeld.{held_told}
 
 module _ {T : Type 0} (terms : Terms) where

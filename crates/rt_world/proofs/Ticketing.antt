@@ -1,25 +1,20 @@
 -- What a sender does with its outcomes, as its world sees it.
-use Rattle.std.proofs.Common.{◌≡◌, ℕ, zero, suc, ◌+◌, ◌-◌, ◌<◌, ◌≤◌, List, [], ◌∷◌, ◌++◌, length, take, drop, refl, sym, ◌∙◌, ap, subst, arith, get_or, set, map}
-use Rattle.std.specs.Prelude.{Result, Ok, Err, IfOk, IfSome}
+use Rattle.rt_world.proofs.Words.{◌≡◌, ℕ, zero, suc, ◌+◌, ◌-◌, ◌<◌, ◌≤◌, List, [], ◌∷◌, ◌++◌, length, refl, sym, ◌∙◌, ap, subst, arith, get_or, set, map}
+use Rattle.rt_world.proofs.Words.{Result, Ok, Err, append-nil, Option, Some, None, slice_get, JobId, Note, Order, Journal, Owed, Whole, Fits, out_of, WorldView}
+use Rattle.rt_world.proofs.Words.{journal_at, noted, link_at, Parts, desks, world_of, IsWorld, TicketError, Unknown, Gone, Pending, Outcome, IsRedeemable}
+use Rattle.rt_world.proofs.Words.{IsDetachable, collected_outcomes, outcome_note, StartsWith, kept_by_sender, DeskView, RefusesTicket, RedeemsTicket}
+use Rattle.rt_world.proofs.Words.{DetachesTicket, WasAccepted, collected_notes, uncollected, Collects, Redeems, Detaches, redeemed_reply, detached_reply}
+use Rattle.std.proofs.Common.{take, drop}
+use Rattle.std.specs.Prelude.{IfOk, IfSome}
 use Rattle.std.proofs.Math.Seq.{drop-append_seam, take-length, take-nil}
-use Rattle.std.proofs.lemmas.List.{append-nil}
-use Rattle.rt_world.proofs.Words.{Option, Some, None, slice_get, JobId, Note, Order, Journal, Owed, Whole, Fits, out_of, WorldView, journal_at, noted, link_at, Parts, desks, world_of, IsWorld}
-use Rattle.rt_ids.specs.declared.names.TicketError.{TicketError}
-use Rattle.rt_ids.specs.declared.names.TicketError.TheVariants.{Unknown, Gone, Pending}
 use Rattle.rt_ids.specs.declared.note.Note.TheVariants as writes
-use Rattle.rt_ids.specs.declared.order.Outcome.{Outcome}
-use Rattle.rt_ids.specs.Collecting.{IsRedeemable, IsDetachable}
-use Rattle.rt_ids.specs.Filters.{given_outcomes, collected_outcomes}
-use Rattle.rt_ids.specs.Outcomes.{outcome_note}
-use Rattle.rt_link.specs.Ends.{StartsWith}
-use Rattle.rt_link.specs.Whole.{kept_by_sender}
+use Rattle.rt_ids.specs.Filters.{given_outcomes}
 use Rattle.rt_link.proofs.Lists.{slice_get-behind}
 use Rattle.rt_desk.specs.Lanes.{IsGot, FitsSent}
-use Rattle.rt_journal.specs.Submissions.{DeskView}
 use Rattle.rt_journal.specs.Ends.{named_outcomes}
-use Rattle.rt_journal.specs.Tickets.{CollectsFrom, GetsAll, RefusesTicket, RedeemsTicket, DetachesTicket}
+use Rattle.rt_journal.specs.Tickets.{CollectsFrom, GetsAll}
 use Rattle.rt_world.specs.declared.event.Reply.TheVariants as reply
-use Rattle.rt_world.specs.Collections.{WasAccepted, collected_notes, uncollected, Collects, Redeems, Detaches, FitsUnder, redeemed_reply, detached_reply}
+use Rattle.rt_world.specs.Collections.{FitsUnder}
 use Rattle.rt_world.proofs.Desks.{sent_at-world}
 use Rattle.rt_world.proofs.LinkSteps.{sender_rest, as_long, OnlySent}
 use Rattle.rt_world.proofs.CoreSteps.{journal_is, number_is}

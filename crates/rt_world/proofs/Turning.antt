@@ -1,17 +1,12 @@
 -- A world stays one as a core makes a step that sends nothing, or creates a queue before the first event.
-use Rattle.std.proofs.Common.{◌≡◌, ℕ, ◌+◌, ◌-◌, ◌^◌, ◌<◌, ◌≤◌, [], ◌∷◌, sym, ◌∙◌, ap, subst, arith}
-use Rattle.std.specs.Prelude.{List, Result, Ok, Err}
-use Rattle.std.proofs.lemmas.Option.{slice_get_within, get_or_from_slice_get}
-use Rattle.rt_world.proofs.Words.{map, Some, None, slice_get, Note, IsRightPick, Owed, RecordedView, desk_of, Whole, Fits, out_of, IsOutOf, journal_at, noted, no_link, row_of, link_at, Parts, core_at, world_of, IsWorld, IsAtRest}
+use Rattle.rt_world.proofs.Words.{◌≡◌, ℕ, ◌+◌, ◌-◌, ◌^◌, ◌<◌, ◌≤◌, [], ◌∷◌, sym, ◌∙◌, ap, subst, arith, List, Result, Ok, Err, get_or_from_slice_get, map, Some}
+use Rattle.rt_world.proofs.Words.{None, slice_get, Note, IsRightPick, Owed, RecordedView, desk_of, Whole, Fits, out_of, IsOutOf, journal_at, noted, no_link}
+use Rattle.rt_world.proofs.Words.{row_of, link_at, Parts, core_at, world_of, IsWorld, IsAtRest, created_count, return_reason, line, turns, CreatesQueue}
+use Rattle.rt_world.proofs.Words.{with_notes, HasLane, IsHandBack}
+use Rattle.std.proofs.lemmas.Option.{slice_get_within}
 use Rattle.rt_ids.specs.declared.note.Note.TheVariants as writes
-use Rattle.rt_ids.specs.Commands.{created_count, return_reason}
-use Rattle.rt_ids.specs.Lines.{line}
-use Rattle.rt_ids.specs.Picks.{turns}
 use Rattle.rt_taskqueue.specs.declared.queues.CreateError.{CreateError}
 use Rattle.rt_taskqueue.specs.declared.queues.CreateError.TheVariants.{TooMany, Memory}
-use Rattle.rt_journal.specs.Steps.{CreatesQueue, with_notes}
-use Rattle.rt_journal.specs.Tickets.{HasLane}
-use Rattle.rt_world.specs.Turns.{IsHandBack}
 use Rattle.rt_world.specs.OneTurn as one
 use Rattle.rt_world.specs.Opening.{CreatesAtOpening}
 use Rattle.rt_world.proofs.LinkRows.{same_sent}

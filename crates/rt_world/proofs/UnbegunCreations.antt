@@ -1,14 +1,9 @@
 -- A fresh world has begun nothing, nor has it with the queues that were made in it.
-use Rattle.std.proofs.Common.{◌≡◌, ℕ, ◌+◌, List, [], ◌∷◌, length, refl, sym, ◌∙◌, ap, subst, ⊎_elim, arith, get_or, replicate}
-use Rattle.std.proofs.lemmas.Bool.{cases_lt}
-use Rattle.std.proofs.lemmas.List.{length-replicate, get_or-replicate, get_or_past}
+use Rattle.rt_world.proofs.Words.{◌≡◌, ℕ, ◌+◌, List, [], ◌∷◌, length, refl, sym, ◌∙◌, ap, subst, ⊎_elim, arith, get_or, cases_lt, get_or_past, Order}
+use Rattle.rt_world.proofs.Words.{created_count, IsOpening, WorldView, journal_at, noted, IsUnbegun, IsFresh, with_creations}
+use Rattle.std.proofs.Common.{replicate}
+use Rattle.std.proofs.lemmas.List.{length-replicate, get_or-replicate}
 use Rattle.rt_ids.specs.declared.note.Note.TheVariants as writes
-use Rattle.rt_ids.specs.declared.order.Order.{Order}
-use Rattle.rt_ids.specs.Commands.{created_count}
-use Rattle.rt_ids.specs.Commands.{IsOpening}
-use Rattle.rt_world.specs.State.{WorldView, journal_at, noted}
-use Rattle.rt_world.specs.Opening.{IsUnbegun, IsFresh}
-use Rattle.rt_world.specs.Creations.{with_creations}
 use Rattle.rt_world.proofs.KeptLists.{later_noted}
 use Rattle.rt_world.proofs.Places.{set_each}
 

@@ -1,14 +1,12 @@
 -- The worked rows, each as its events come.
-use Rattle.std.proofs.Common.{◌<◌, [], ◌∷◌, refl, sym, inl, inr, arith}
-use Rattle.std.proofs.lemmas.Bool.{true≢false}
+use Rattle.rt_world.proofs.Words.{◌<◌, [], ◌∷◌, refl, sym, inl, inr, arith, true≢false, Job, CloseCore, name}
 use Rattle.rt_ids.specs.declared.note.Note.TheVariants as writes
 use Rattle.rt_ids.specs.declared.order.Answer.TheVariants as answers
 use Rattle.rt_ids.specs.declared.order.Mode.TheVariants.{Return}
-use Rattle.rt_ids.specs.declared.order.Order.TheVariants.{Job, CloseCore}
 use Rattle.rt_ids.specs.declared.order.Reason.TheVariants.{CoreReturned}
 use Rattle.rt_jobs.specs.declared.job.Step.TheVariants as steps
 use Rattle.rt_jobs.specs.declared.poll.Poll.TheVariants as poll
-use Rattle.rt_world.specs.Rows.{name, job_of}
+use Rattle.rt_world.specs.Rows.{job_of}
 use Rattle.rt_world.specs.WorkedRows.{OneJob, three_polls, TwoQueues, short_job, TwoSenders}
 use Rattle.rt_world.specs.ClosedRow.{CoreCloses}
 use Rattle.rt_world.proofs.RowPicks.{right_of_one, right_of_two, few_turns}

@@ -1,14 +1,9 @@
 -- The journals of a world at rest are joined, and so they are sound together.
-use Rattle.std.proofs.Common.{ℕ, ◌+◌, [], refl, sym, ◌∙◌, ap, subst, arith}
-use Rattle.std.proofs.lemmas.List.{length-map, append-nil}
-use Rattle.rt_world.proofs.Words.{Owed, out_of, inward_of, link_at, Parts, core_at, desks, desk_at, world_of, IsWorld, IsAtRest}
-use Rattle.rt_ids.specs.Joining.{AreJoined}
-use Rattle.rt_ids.specs.Sound.{IsSound}
+use Rattle.rt_world.proofs.Words.{ℕ, ◌+◌, [], refl, sym, ◌∙◌, ap, subst, arith, length-map, append-nil, Owed, out_of, inward_of, link_at, Parts, core_at, desks}
+use Rattle.rt_world.proofs.Words.{desk_at, world_of, IsWorld, IsAtRest, AreJoined, IsSound, IsWritten, terms_of_desk, assembly_of}
 use Rattle.rt_ids.proofs.Joining.{joining_is_sound}
-use Rattle.rt_journal.specs.Submissions.{IsWritten, terms_of_desk}
 use Rattle.rt_journal.specs.Together.{AreTogether, IsAssemblyOf}
 use Rattle.rt_journal.proofs.Together.{together_joined}
-use Rattle.rt_world.specs.State.{assembly_of}
 use Rattle.rt_world.proofs.Desks.{desk_count, desk_at-core, desk_at-outside, journal_of-world}
 
 module _ {J : Type 0} {same : J → J → Type 0} {made : J → ℕ} {polls : Owed J ℕ} {answers : J → ℕ → Type 0} (parts : Parts J ℕ) (world : IsWorld same made polls answers parts) (rest : IsAtRest parts) where

@@ -1,4 +1,4 @@
-use Rattle.std.proofs.Common.{ℕ}
+use Rattle.rt_world.proofs.Words.{ℕ}
 use Rattle.rt_world.proofs.Hollow.{hollow_refused}
 use Rattle.rt_world.proofs.laws.hollow_world_is_refused.Goals as goal
 

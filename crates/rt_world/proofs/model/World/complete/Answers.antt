@@ -1,5 +1,4 @@
-use Rattle.std.proofs.Common.{subst}
-use Rattle.rt_world.specs.Opening.{HasAllLists}
+use Rattle.rt_world.proofs.Words.{subst, HasAllLists}
 use Rattle.rt_world.proofs.Hollow.{world_lists}
 use Rattle.rt_world.proofs.model.World.complete.Goals as goal
 

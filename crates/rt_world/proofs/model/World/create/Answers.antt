@@ -1,10 +1,5 @@
-use Rattle.std.proofs.Common.{◌<◌, length, sym, ◌∙◌, ap, subst, arith}
-use Rattle.rt_ids.specs.Commands.{IsOpening}
-use Rattle.rt_journal.specs.Steps.{CreatesQueue}
-use Rattle.rt_world.specs.State.{journal_at}
-use Rattle.rt_world.specs.Opening.{IsUnbegun}
+use Rattle.rt_world.proofs.Words.{◌<◌, length, sym, ◌∙◌, ap, subst, arith, IsOpening, CreatesQueue, journal_at, IsUnbegun, none_owed, IsKeptBeside}
 use Rattle.rt_world.proofs.CoreSteps.{viewed, free, journal_is}
-use Rattle.rt_world.specs.OneTurn.{none_owed, IsKeptBeside}
 use Rattle.rt_world.proofs.Turning.{quiet_rests, quiet_at_rest, created_stays, creates_now}
 use Rattle.rt_world.proofs.model.World.create.Goals as goal
 

@@ -1,12 +1,5 @@
-use Rattle.std.proofs.Common.{◌≡◌, ◌+◌, [], ◌∷◌, ◌++◌, length, sym, ◌∙◌, ap, subst, arith, ℕ, vec_items}
-use Rattle.std.specs.Prelude.{map}
-use Rattle.std.proofs.lemmas.Iterator.Adapters.{YieldsList-from_vec}
-use Rattle.std.proofs.lemmas.Iterator.Consumers.{YieldsList-turn, YieldsList-end}
-use Rattle.std.proofs.lemmas.List.{map-id, map-append, length-map}
-use Rattle.rt_ids.specs.Joining.{AreJoined}
-use Rattle.rt_ids.specs.Sound.{IsSound}
-use Rattle.rt_world.specs.State.{assembly_of}
-use Rattle.rt_world.specs.Inside.{Parts, world_of}
+use Rattle.rt_world.proofs.Words.{◌≡◌, ◌+◌, [], ◌∷◌, ◌++◌, length, sym, ◌∙◌, ap, subst, arith, ℕ, vec_items, map, YieldsList-from_vec, YieldsList-turn}
+use Rattle.rt_world.proofs.Words.{YieldsList-end, map-id, map-append, length-map, AreJoined, IsSound, assembly_of, Parts, world_of}
 use Rattle.rt_world.proofs.Gathered.{journals_of, gathered_count, gathered_are}
 use Rattle.rt_world.proofs.WorldSound.{world_joined, world_sound}
 use Rattle.rt_world.proofs.model.World.into_assembly.Given.{Over}

@@ -1,4 +1,4 @@
-use Rattle.std.proofs.Common.{◌≡◌, ◌+◌, ◌≤◌, vec_capacity}
+use Rattle.rt_world.proofs.Words.{◌≡◌, ◌+◌, ◌≤◌, vec_capacity}
 use Rattle.rt_world.proofs.Gathered.{journals_of}
 use Rattle.rt_world.proofs.model.World.into_assembly.Given as goal
 

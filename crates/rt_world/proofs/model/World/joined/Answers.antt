@@ -1,6 +1,4 @@
-use Rattle.std.proofs.Common.{subst}
-use Rattle.rt_ids.specs.Joining.{AreJoined}
-use Rattle.rt_world.specs.State.{assembly_of}
+use Rattle.rt_world.proofs.Words.{subst, AreJoined, assembly_of}
 use Rattle.rt_world.proofs.WorldSound.{world_joined}
 use Rattle.rt_world.proofs.model.World.joined.Goals as goal
 

@@ -1,8 +1,4 @@
-use Rattle.std.proofs.Common.{◌≡◌, ◌<◌, sym, ◌∙◌, ap, subst, arith}
-use Rattle.std.specs.Prelude.{◌↔◌, IsTrue}
-use Rattle.rt_ids.specs.declared.names.TicketError.TheVariants.{Unknown}
-use Rattle.rt_journal.specs.Tickets.{RefusesTicket}
-use Rattle.rt_world.specs.State.{journal_at}
+use Rattle.rt_world.proofs.Words.{◌≡◌, ◌<◌, sym, ◌∙◌, ap, subst, arith, ◌↔◌, IsTrue, Unknown, RefusesTicket, journal_at}
 use Rattle.rt_world.proofs.Sending.{outside_desk, outside_notes}
 use Rattle.rt_world.proofs.model.World.knows.Goals as goal
 

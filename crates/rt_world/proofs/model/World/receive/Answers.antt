@@ -1,6 +1,5 @@
-use Rattle.std.proofs.Common.{◌≡◌, ℕ, ◌≤◌, refl, sym, ap, subst, arith, vec_items}
-use Rattle.rt_world.proofs.Words.{map, with_item, inward_of, IsInOf}
-use Rattle.rt_world.specs.Receipts.{MayReceive, HasReceived}
+use Rattle.rt_world.proofs.Words.{◌≡◌, ℕ, ◌≤◌, refl, sym, ap, subst, arith, vec_items, map, with_item, inward_of, IsInOf, HasReceived}
+use Rattle.rt_world.specs.Receipts.{MayReceive}
 use Rattle.rt_world.proofs.Borrowed.{IsLent, row_within, lent_within, lent_links}
 use Rattle.rt_world.proofs.Receiving.{receiving, receiver_notes, receiver_room, may_take}
 use Rattle.rt_world.proofs.Received.{received_rests, received_at_rest, receives_now}

@@ -1,6 +1,4 @@
-use Rattle.std.proofs.Common.{◌<◌, sym, ◌∙◌, ap, subst, arith}
-use Rattle.rt_journal.specs.Recorded.{IsRecorded}
-use Rattle.rt_world.specs.State.{journal_at}
+use Rattle.rt_world.proofs.Words.{◌<◌, sym, ◌∙◌, ap, subst, arith, IsRecorded, journal_at}
 use Rattle.rt_world.proofs.CoreSteps.{viewed, journal_is, room_is, cores_are, number_is}
 use Rattle.rt_world.proofs.model.World.recorded.Goals as goal
 

@@ -1,10 +1,6 @@
-use Rattle.std.proofs.Common.{refl, sym, subst, ◌∙◌}
-use Rattle.std.proofs.lemmas.Iterator.Adapters.{YieldsList-from_vec}
-use Rattle.std.proofs.lemmas.Iterator.Consumers.{YieldsList-turn, YieldsList-end}
-use Rattle.std.proofs.lemmas.List.{map-id}
+use Rattle.rt_world.proofs.Words.{refl, sym, subst, ◌∙◌, YieldsList-from_vec, YieldsList-turn, YieldsList-end, map-id, IsRun}
 use Rattle.rt_jobs.specs.Ready.{HasReadyJob}
 use Rattle.rt_world.specs.Opening.{HasReadyEvent}
-use Rattle.rt_world.specs.Runs.{IsRun}
 use Rattle.rt_world.proofs.RunSteps.{run_longer}
 use Rattle.rt_world.proofs.model.World.run.Goals as goal
 

@@ -1,4 +1,4 @@
-use Rattle.rt_world.specs.Runs.{IsRun}
+use Rattle.rt_world.proofs.Words.{IsRun}
 use Rattle.rt_world.proofs.model.World.run.Given as goal
 
 -- the events so far have run

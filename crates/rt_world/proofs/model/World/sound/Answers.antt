@@ -1,6 +1,4 @@
-use Rattle.std.proofs.Common.{subst}
-use Rattle.rt_ids.specs.Sound.{IsSound}
-use Rattle.rt_world.specs.State.{assembly_of}
+use Rattle.rt_world.proofs.Words.{subst, IsSound, assembly_of}
 use Rattle.rt_world.proofs.WorldSound.{world_sound}
 use Rattle.rt_world.proofs.model.World.sound.Goals as goal
 

@@ -1,13 +1,7 @@
-use Rattle.std.proofs.Common.{◌≡◌, ℕ, ◌<◌, ◌≤◌, refl, sym, ◌∙◌, ap, subst, arith}
-use Rattle.std.specs.Prelude.{◌↔◌, IsTrue, Some, slice_get}
-use Rattle.std.proofs.lemmas.Bool.{true≢false}
+use Rattle.rt_world.proofs.Words.{◌≡◌, ℕ, ◌<◌, ◌≤◌, refl, sym, ◌∙◌, ap, subst, arith, ◌↔◌, IsTrue, Some, slice_get, true≢false, CoreStats, Journal, queue_count}
+use Rattle.rt_world.proofs.Words.{core_stats, queue_stats, TellsCore, TellsQueues}
 use Rattle.arrayvec.specs.ArrayVec.{array_vec_len}
-use Rattle.rt_ids.specs.declared.stats.CoreStats.{CoreStats}
-use Rattle.rt_ids.specs.Journal.{Journal}
-use Rattle.rt_taskqueue.specs.Queues.{queue_count}
 use Rattle.rt_core.specs.Closing as core
-use Rattle.rt_core.specs.Figures.{core_stats, queue_stats}
-use Rattle.rt_world.specs.Stats.{TellsCore, TellsQueues}
 use Rattle.rt_world.proofs.StatsTold.{core_told, queues_told}
 use Rattle.rt_world.proofs.model.World.stats.Goals as goal
 

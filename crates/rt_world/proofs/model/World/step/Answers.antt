@@ -1,8 +1,6 @@
-use Rattle.std.proofs.Common.{◌≡◌, ◌+◌, ◌*◌, ◌≤◌, ◌<◌, ℕ, length, ⊎_elim, refl, sym, ◌∙◌, ap, subst, arith}
+use Rattle.rt_world.proofs.Words.{◌≡◌, ◌+◌, ◌*◌, ◌≤◌, ◌<◌, ℕ, length, ⊎_elim, refl, sym, ◌∙◌, ap, subst, arith, cases_lt, true≢false, journal_at, actor_of}
+use Rattle.rt_world.proofs.Words.{AreThere}
 use Rattle.std.proofs.Math.Nat.{mul-le-mul_right}
-use Rattle.std.proofs.lemmas.Bool.{cases_lt, true≢false}
-use Rattle.rt_world.specs.State.{journal_at}
-use Rattle.rt_world.specs.Sends.{actor_of, AreThere}
 use Rattle.rt_world.proofs.model.World.step.Goals as goal
 
 -- the room for one event is room for all outcomes of a link

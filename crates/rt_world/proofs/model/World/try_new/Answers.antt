@@ -1,4 +1,4 @@
-use Rattle.std.proofs.Common.{refl, arith}
+use Rattle.rt_world.proofs.Words.{refl, arith}
 use Rattle.rt_world.proofs.Fresh.{world_at_opening, rest_at_opening, fresh_at_opening}
 use Rattle.rt_world.proofs.model.World.try_new.Goals as goal
 

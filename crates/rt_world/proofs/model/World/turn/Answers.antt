@@ -1,6 +1,5 @@
-use Rattle.std.proofs.Common.{◌≡◌, ℕ, ◌≤◌, ◌<◌, ◌+◌, ◌*◌, length, sym, ◌∙◌, ap, subst, arith, vec_items}
+use Rattle.rt_world.proofs.Words.{◌≡◌, ℕ, ◌≤◌, ◌<◌, ◌+◌, ◌*◌, length, sym, ◌∙◌, ap, subst, arith, vec_items, map, Fits, IsRecorded, journal_at}
 use Rattle.std.proofs.Math.Nat.{mul_comm, mul_assoc}
-use Rattle.rt_world.proofs.Words.{map, Fits, IsRecorded, journal_at}
 use Rattle.rt_world.specs.OneTurn as one
 use Rattle.rt_world.proofs.CoreSteps.{viewed, free, cores_are, core_cap}
 use Rattle.rt_world.proofs.Turning.{all_beside, all_outs}

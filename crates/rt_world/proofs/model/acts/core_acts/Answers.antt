@@ -1,4 +1,4 @@
-use Rattle.std.proofs.Common.{◌≤◌, refl, arith}
+use Rattle.rt_world.proofs.Words.{◌≤◌, refl, arith}
 use Rattle.rt_world.proofs.model.acts.core_acts.Goals as goal
 
 pub submit-requires-clause-room : goal.submit-requires-clause-room

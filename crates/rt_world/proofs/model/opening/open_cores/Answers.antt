@@ -1,4 +1,4 @@
-use Rattle.std.proofs.Common.{◌≡◌, ◌∙◌, arith, refl}
+use Rattle.rt_world.proofs.Words.{◌≡◌, ◌∙◌, arith, refl}
 use Rattle.rt_world.proofs.Opening.{AreFirstOpened-push}
 use Rattle.rt_world.proofs.model.opening.open_cores.Goals as goal
 

@@ -1,4 +1,4 @@
-use Rattle.std.proofs.Common.{◌≤◌, vec_capacity}
+use Rattle.rt_world.proofs.Words.{◌≤◌, vec_capacity}
 use Rattle.rt_world.proofs.Opening.{AreFirstOpened}
 use Rattle.rt_world.proofs.model.opening.open_cores.Given as goal
 

@@ -1,5 +1,4 @@
-use Rattle.std.proofs.Common.{arith}
-use Rattle.std.proofs.lemmas.List.{map-append}
+use Rattle.rt_world.proofs.Words.{arith, map-append}
 use Rattle.rt_world.proofs.Opening.{AreFreshRows-push}
 use Rattle.rt_world.proofs.model.opening.open_links.Goals as goal
 

@@ -1,4 +1,4 @@
-use Rattle.std.proofs.Common.{◌≤◌, map, vec_capacity, vec_items}
+use Rattle.rt_world.proofs.Words.{◌≤◌, map, vec_capacity, vec_items}
 use Rattle.rt_world.proofs.Opening.{AreFreshRows}
 use Rattle.rt_world.proofs.model.opening.open_links.Given as goal
 

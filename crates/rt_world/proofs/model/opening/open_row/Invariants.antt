@@ -1,5 +1,4 @@
-use Rattle.std.proofs.Common.{◌≤◌, vec_capacity}
-use Rattle.rt_world.specs.Links.{IsFreshRow}
+use Rattle.rt_world.proofs.Words.{◌≤◌, vec_capacity, IsFreshRow}
 use Rattle.rt_world.proofs.model.opening.open_row.Given as goal
 
 abbrev pub invariant-loop-core : goal.invariant-loop-core

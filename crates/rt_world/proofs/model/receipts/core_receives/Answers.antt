@@ -1,6 +1,4 @@
-use Rattle.std.proofs.Common.{◌≡◌, refl, sym, ◌∙◌, subst, arith}
-use Rattle.rt_world.proofs.Words.{inward_of, IsInOf}
-use Rattle.rt_journal.specs.Ends.{KeepsIn}
+use Rattle.rt_world.proofs.Words.{◌≡◌, refl, sym, ◌∙◌, subst, arith, inward_of, IsInOf, KeepsIn}
 use Rattle.rt_world.proofs.model.receipts.core_receives.Goals as goal
 
 pub deliver-requires-clause-beside : goal.deliver-requires-clause-beside

@@ -1,8 +1,6 @@
-use Rattle.std.proofs.Common.{◌≡◌, ◌≤◌, ◌∙◌, refl, sym, ap, subst, arith, vec_items}
-use Rattle.rt_world.proofs.Words.{Some, with_item, inward_of, IsInOf}
+use Rattle.rt_world.proofs.Words.{◌≡◌, ◌≤◌, ◌∙◌, refl, sym, ap, subst, arith, vec_items, Some, with_item, inward_of, IsInOf, IsInOwing, told_under}
 use Rattle.rt_ids.specs.declared.note.OutcomeNote.TheVariants as outcomes
 use Rattle.rt_ids.specs.declared.order.Outcome.TheVariants as outcome
-use Rattle.rt_journal.specs.Ends.{IsInOwing, told_under}
 use Rattle.rt_world.proofs.LentLinks.{IsLentOwing, row_within, link_within, lent, gave_on_one, none_left, owed_here, owed_elsewhere}
 use Rattle.rt_world.proofs.model.steps.give_back_on.Given.{Over}
 use Rattle.rt_world.proofs.model.steps.give_back_on.Goals as goal

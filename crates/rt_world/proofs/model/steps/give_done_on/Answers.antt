@@ -1,12 +1,7 @@
-use Rattle.std.proofs.Common.{◌≡◌, ◌≤◌, ◌∙◌, refl, sym, ap, subst, arith, vec_items}
+use Rattle.rt_world.proofs.Words.{◌≡◌, ◌≤◌, ◌∙◌, refl, sym, ap, subst, arith, vec_items, with_item, outcome_note, inward_of, IsInOf, IsInOwing, told_elsewhere}
+use Rattle.rt_world.proofs.Words.{owed_settled}
 use Rattle.std.specs.Option.{option_map}
-use Rattle.std.specs.Vec.{with_item}
-use Rattle.rt_ids.specs.Outcomes.{outcome_note}
-use Rattle.rt_link.specs.Whole.{inward_of}
-use Rattle.rt_journal.specs.Ends.{IsInOf, IsInOwing}
 use Rattle.rt_journal.specs.Owed.{outcome_settled}
-use Rattle.rt_journal.proofs.DeliveredEnds.{told_elsewhere}
-use Rattle.rt_world.specs.OneTurn.{owed_settled}
 use Rattle.rt_world.proofs.LentLinks.{IsLentOwing, row_within, link_within, lent, gave_on_one, none_left}
 use Rattle.rt_world.proofs.model.steps.give_done_on.Given.{Over}
 use Rattle.rt_world.proofs.model.steps.give_done_on.Goals as goal

@@ -1,7 +1,4 @@
-use Rattle.std.proofs.Common.{vec_items}
-use Rattle.std.specs.Prelude.{map}
-use Rattle.rt_journal.specs.Owed.{owed_back}
-use Rattle.rt_world.specs.OneTurn.{IsKeptBeside}
+use Rattle.rt_world.proofs.Words.{vec_items, map, owed_back, IsKeptBeside}
 use Rattle.rt_world.proofs.OneTurn.{back_known, back_sent, back_owed, back_turns}
 use Rattle.rt_world.proofs.model.steps.hand_back.Goals as goal
 

@@ -1,8 +1,6 @@
-use Rattle.std.proofs.Common.{◌≤◌, sym, subst, arith, vec_items}
-use Rattle.std.proofs.lemmas.List.{map-set}
-use Rattle.rt_world.proofs.Words.{map, Fits, out_of, desk_of}
+use Rattle.rt_world.proofs.Words.{◌≤◌, sym, subst, arith, vec_items, map-set, map, Fits, out_of, desk_of, none_owed, owed_settled, IsBesideAll}
 use Rattle.rt_journal.specs.Posts.{AreOutsOf}
-use Rattle.rt_world.specs.OneTurn.{none_owed, owed_settled, IsBesideAll, TurnsOn}
+use Rattle.rt_world.specs.OneTurn.{TurnsOn}
 use Rattle.rt_world.proofs.LentLinks.{row_within}
 use Rattle.rt_world.proofs.LinkRows.{row_of-borrowed}
 use Rattle.rt_world.proofs.Posted.{beside_posted}

@@ -1,7 +1,5 @@
-use Rattle.std.proofs.Common.{inl, inr, refl, subst, vec_items}
-use Rattle.std.specs.Prelude.{map}
+use Rattle.rt_world.proofs.Words.{inl, inr, refl, subst, vec_items, map, GivesOnOne}
 use Rattle.rt_journal.proofs.Ahead.{idle, all_used}
-use Rattle.rt_world.specs.Links.{GivesOnOne}
 use Rattle.rt_world.proofs.OneTurn.{no_turn, turn_known}
 use Rattle.rt_world.proofs.model.steps.turn_of.Goals as goal
 
