@@ -9,6 +9,7 @@ use Rattle.rt_ids.specs.declared.order.Mode.{Mode}
 use Rattle.rt_ids.specs.Commands.{IsCreationAnswer, IsAnswer}
 use Rattle.rt_world.specs.declared.event.Reply.TheVariants as reply
 use Rattle.rt_world.specs.Deliveries.{IsAnswered}
+use Rattle.std.proofs.Math.Logic.{⊎_map}
 
 -- a creation has one answer, unless one of two says that there was no memory
 creation_once : (mode : Option Mode) (full : Bool) (next : ℕ) (answer other : Answer) → IsCreationAnswer mode full next answer → IsCreationAnswer mode full next other →
@@ -28,9 +29,7 @@ module _ {T : Type 0} (name : JobId) (order : Order (Unit {0})) (before : Journa
       IsAnswered name order before notes → IsAnswered name order before others →
       (notes ≡ others) ⊎ ((tells_refusal notes ≡ true) ⊎ (tells_refusal others ≡ true))
   answered_once notes others once first second =
-      ⊎_elim (λ same. inl (first.2 ∙ (ap notes_of same ∙ sym second.2)))
-      (λ refused. inr (⊎_elim (λ told. inl (ap tells_refusal first.2 ∙ told)) (λ told. inr (ap tells_refusal second.2 ∙ told)) refused))
-      (once first.0 second.0 first.1 second.1)
+      ⊎_map (λ same. first.2 ∙ (ap notes_of same ∙ sym second.2)) (⊎_map (λ told. ap tells_refusal first.2 ∙ told) (λ told. ap tells_refusal second.2 ∙ told)) (once first.0 second.0 first.1 second.1)
 
 module _ {J T : Type 0} (name : JobId) (before : Journal T) where
   delivery_once : (order : Order J) (notes others : List (Note T)) → IsDelivery name order before notes → IsDelivery name order before others →
@@ -69,8 +68,7 @@ module _ {J T : Type 0} (core sender : ℕ) (old : WorldView J T) (there : core 
   pub delivers_once : (new other : WorldView J T) (answer other_answer : Reply J) → Delivers core sender old new answer → Delivers core sender old other other_answer →
       ((new ≡ other) × (answer ≡ other_answer)) ⊎ (WasRefusedSince old.journals new.journals ⊎ WasRefusedSince old.journals other.journals)
   delivers_once new other reply.Noted reply.Noted first second =
-      ⊎_elim (λ same. inl (first.4 ∙ (ap (λ notes. noted core notes old) same ∙ sym second.4), refl))
-      (λ refused. inr (⊎_elim (λ told. inl (refused_here first.2 new first.4 told)) (λ told. inr (refused_here second.2 other second.4 told)) refused))
+      ⊎_map (λ same. (first.4 ∙ (ap (λ notes. noted core notes old) same ∙ sym second.4), refl)) (⊎_map (refused_here first.2 new first.4) (refused_here second.2 other second.4))
       (delivery_once name (journal_at core old) first.0 first.2 second.2 first.3 (subst (λ order. IsDelivery name order (journal_at core old) second.2) same_order second.3))
     where
       same_order : second.0 ≡ first.0

@@ -11,6 +11,7 @@ use Rattle.rt_world.proofs.DeterminedSends.{sends_once}
 use Rattle.rt_world.proofs.DeterminedDeliveries.{delivers_once}
 use Rattle.rt_world.proofs.DeterminedTurns.{turns_once}
 use Rattle.rt_world.proofs.DeterminedTickets.{collects_once, redeems_once, detaches_once, shuts_once}
+use Rattle.std.proofs.Math.Logic.{⊎_map}
 
 module _ {J : Type 0} (same : J → J → Type 0) (made : J → ℕ) (polls : Owed J ℕ) (answers : J → ℕ → Type 0) where
   module _ (event : Event J) (old new : WorldView J ℕ) (answer : Reply J) where
@@ -84,20 +85,14 @@ module _ {J : Type 0} (same : J → J → Type 0) (made : J → ℕ) (polls : Ow
     run_once [] old new other replies others lists run other_run = inl (run.0 ∙ sym other_run.0, alike_as replies [] others [] run.1 other_run.1 refl)
     run_once (event ∷ events) old new other replies others lists run other_run =
         ⊎_elim
-        (
-        λ one.
-        ⊎_elim (λ rest. inl (rest.0, alike_as replies (run.1 ∷ run.2) others (other_run.1 ∷ other_run.2) run.5 other_run.5 (other_run.1, other_run.2, refl, one.1, rest.1)))
-        (λ refused. inr (⊎_elim (λ told. inl (refused-earlier first_longer told)) (λ told. inr (refused-earlier first_longer told)) refused))
-        (
-        run_once events run.0 new other run.2 other_run.2 (happens_keep same made polls answers event old run.0 run.1 run.3 lists) run.4
-        (subst (λ world. IsToldRun same made polls answers events world other other_run.2) (sym one.0) other_run.4)
-        )
-        )
-        (
-        λ refused.
-        inr (⊎_elim (λ told. inl (refused-later (extends-run same made polls answers events run.0 new run.2 run.4) told))
-        (λ told. inr (refused-later (extends-run same made polls answers events other_run.0 other other_run.2 other_run.4) told)) refused)
-        )
+        (λ one.
+        ⊎_map (λ rest. (rest.0, alike_as replies (run.1 ∷ run.2) others (other_run.1 ∷ other_run.2) run.5 other_run.5 (other_run.1, other_run.2, refl, one.1, rest.1)))
+        (⊎_map (refused-earlier first_longer) (refused-earlier first_longer))
+        (run_once events run.0 new other run.2 other_run.2 (happens_keep same made polls answers event old run.0 run.1 run.3 lists) run.4
+        (subst (λ world. IsToldRun same made polls answers events world other other_run.2) (sym one.0) other_run.4)))
+        (λ refused.
+        inr (⊎_map (refused-later (extends-run same made polls answers events run.0 new run.2 run.4))
+        (refused-later (extends-run same made polls answers events other_run.0 other other_run.2 other_run.4)) refused))
         (happens_once event old run.0 other_run.0 run.1 other_run.1 lists run.3 other_run.3)
       where
         first_longer : Extends old.journals run.0.journals
@@ -114,10 +109,6 @@ module _ {J : Type 0} (same : J → J → Type 0) (made : J → ℕ) (polls : Ow
     assembly_once events old assembly other lists run other_run =
         let told = replies_of events old run.0 run.1 in
         let other_told = replies_of events old other_run.0 other_run.1 in
-        ⊎_elim (λ one. inl (run.2 ∙ (ap assembly_of one.0 ∙ sym other_run.2)))
-        (
-        λ refused.
-        inr (⊎_elim (λ at. inl (subst (λ assembly. WasRefusedSince old.journals assembly.journals) (sym run.2) at))
-        (λ at. inr (subst (λ assembly. WasRefusedSince old.journals assembly.journals) (sym other_run.2) at)) refused)
-        )
+        ⊎_map (λ one. run.2 ∙ (ap assembly_of one.0 ∙ sym other_run.2))
+        (⊎_map (subst (λ assembly. WasRefusedSince old.journals assembly.journals) (sym run.2)) (subst (λ assembly. WasRefusedSince old.journals assembly.journals) (sym other_run.2)))
         (run_once events old run.0 other_run.0 told.0 other_told.0 lists told.1 other_told.1)

@@ -12,9 +12,7 @@ use Rattle.rt_world.specs.Inside.{AreOpened}
 use Rattle.rt_world.proofs.Desks.{desk_count, desk_at-core, desk_at-outside, journal_at-world, sent_at-world}
 use Rattle.rt_world.proofs.LinkSteps.{IsSenderOn}
 use Rattle.rt_world.proofs.Hollow.{world_lists}
-
-none≢some : {A : Type 0} (item : A) → None ≡ Some item → ⊥
-none≢some item same = cc
+use Rattle.std.proofs.lemmas.Option.{none-some}
 
 -- the ends of a link that was just opened, beside actors that have noted nothing
 module _ {J T : Type 0} (sender core cores cap room : ℕ) where
@@ -37,7 +35,7 @@ module _ {J T : Type 0} (sender core cores cap room : ℕ) where
     taken = refl;
     given = refl;
     ungiven = tt;
-    orders = λ name order from at. absurd (none≢some order at);
+    orders = λ name order from at. absurd (none-some order at);
   }
 
 module _ {J T : Type 0} (same : J → J → Type 0) (made : J → ℕ) (polls : Owed J T) (answers : J → T → Type 0) (cores cap room : ℕ)

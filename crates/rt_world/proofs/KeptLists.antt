@@ -12,7 +12,8 @@ use Rattle.rt_world.specs.declared.event.Event.TheVariants.{Redeem, Detach}
 use Rattle.rt_world.specs.declared.event.Reply.TheVariants as reply
 use Rattle.rt_world.specs.Creations.{OrdersNoQueue}
 use Rattle.rt_world.proofs.Places.{set_or, set_each}
-use Rattle.rt_world.proofs.PlainNotes.{last_or, plain_after, collected_plain, pick_plain, settle_plain, delivery_plain, no_creation}
+use Rattle.rt_world.proofs.PlainNotes.{plain_after, collected_plain, pick_plain, settle_plain, delivery_plain, no_creation}
+use Rattle.rt_link.proofs.Lists.{slice_get-with_last}
 
 -- as many rows as before, each as long as before
 record KeepsRows {A : Type 0} (old new : List (List A)) : Type 0 where
@@ -106,7 +107,7 @@ module _ {J T : Type 0} where
       (from to : ℕ) → OrderNone (get_or (get_or (with_sent sender core order world) from []) to [])
   sent_none sender core order world none plain from to =
       let last : OrderNone (sent_at sender core world ++ order ∷ []) = λ place weight at.
-      ⊎_elim (plain.orders sender core place weight) (λ is. subst IsNoCreation is none) (last_or (sent_at sender core world) order (Create weight) place at) in
+      ⊎_elim (plain.orders sender core place weight) (λ is. subst IsNoCreation is.1 none) (slice_get-with_last (sent_at sender core world) order (Create weight) place at) in
       set_each world.sent sender (set (get_or world.sent sender []) core (sent_at sender core world ++ order ∷ [])) from [] (λ row. OrderNone (get_or row to []))
       (set_each (get_or world.sent sender []) core (sent_at sender core world ++ order ∷ []) to [] OrderNone last (plain.orders sender to)) (plain.orders from to)
 

@@ -24,7 +24,6 @@ pub mod OneTurn
 pub mod Turning
 pub mod Gathered
 pub mod WorldSound
-pub mod RunSteps
 pub mod PlainNotes
 pub mod KeptLists
 pub mod DeterminedRefusals

@@ -7,14 +7,6 @@ use Rattle.rt_journal.proofs.LaneEnds.{sees_more_lane}
 use Rattle.rt_journal.proofs.EndsKept.{sees_more_in, sees_more_out}
 use Rattle.rt_world.proofs.Places.{by_place}
 
--- a list that is as long as its beginning is the same
-pub as_long : {A : Type 0} (whole front : List A) → StartsWith whole front → length whole ≡ length front → whole ≡ front
-as_long {A} whole front starts same = starts.1 ∙ (ap (λ rest. front ++ rest) (by_rest starts.0 (omega (arith, same, ap length starts.1, length-append front starts.0))) ∙ append-nil front)
-  where
-    by_rest : (rest : List A) → length rest ≡ 0 → rest ≡ []
-    by_rest [] none = refl
-    by_rest (item ∷ rest) some = absurd (omega (arith, some))
-
 module _ {J T : Type 0} where
   -- the receiver alone did something on the link: what the sender has seen is as much or more
   pub record OnlyReceived (old new : Whole J T) : Type 0 where

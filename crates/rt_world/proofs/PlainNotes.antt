@@ -12,13 +12,6 @@ use Rattle.rt_jobs.specs.declared.job.Step.TheVariants as steps
 use Rattle.rt_world.specs.Deliveries.{entry_note}
 use Rattle.rt_world.specs.Turns.{poll_note}
 
--- an item of a longer list is one of the shorter list, or the last
-pub last_or : {A : Type 0} (items : List A) (last item : A) (place : ℕ) → slice_get (items ++ last ∷ []) place ≡ Some item → (slice_get items place ≡ Some item) ⊎ (last ≡ item)
-last_or [] last item zero at = inr (cc)
-last_or [] last item (suc place) at = cc
-last_or (first ∷ items) last item zero at = inl at
-last_or (first ∷ items) last item (suc place) at = last_or items last item place at
-
 -- what is so of both sides of a test is so of what it chooses
 either : {A : Type 0} (Holds : A → Type 0) (test : Bool) (one other : A) → Holds one → Holds other → Holds (cond test one other)
 either Holds true one other is is_other = is

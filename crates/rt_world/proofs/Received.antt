@@ -20,12 +20,7 @@ use Rattle.rt_world.proofs.LinkRows.{with_link, same_sent, ChangesLink-with_link
 use Rattle.rt_world.proofs.Receiving.{IsReceiving, received_there, sent_is, only_received, DidOnLink, on_link}
 use Rattle.rt_world.proofs.CoreSteps.{number_is, parts_now, journal_is, core_noted, core_unchanged, receives}
 use Rattle.rt_world.proofs.WorldAfter.{rest_after}
-
-slice_get-end : {A : Type 0} (items : List A) (place : ℕ) → length items ≡ place → slice_get items place ≡ None
-slice_get-end [] zero is = refl
-slice_get-end [] (suc place) is = refl
-slice_get-end (item ∷ items) zero is = absurd (omega (arith, is))
-slice_get-end (item ∷ items) (suc place) is = slice_get-end items place (omega (arith, is))
+use Rattle.std.proofs.lemmas.Option.{slice_get_past}
 
 -- what was given before is given still
 given_more : {J T : Type 0} (taken : Inward J T) (after : Whole J T) (number : ℕ) (outcome : Option (Outcome J T)) → Gives taken number outcome (inward_of after) → StartsWith after.given taken.given
@@ -138,7 +133,7 @@ module _ {J T : Type 0} {same : J → J → Type 0} {made : J → ℕ} {polls : 
     core_noted world core by.core_there now links delivers.2.notes delivers.2.journal same_lists,
   )
   delivers_now false delivers = (
-    next_order ∙ slice_get-end link.sent link.taken (ap length (sym same_orders) ∙ delivers.0.2),
+    next_order ∙ slice_get_past link.sent link.taken (omega (arith, ap length same_orders, delivers.0.2)),
     core_unchanged world core by.core_there now links delivers.1 same_lists,
   )
 

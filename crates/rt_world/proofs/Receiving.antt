@@ -3,8 +3,9 @@ use Rattle.rt_world.proofs.Words.{◌≡◌, ℕ, ◌+◌, ◌<◌, ◌≤◌, B
 use Rattle.rt_world.proofs.Words.{IsInOf, WorldView, journal_at, link_at, Parts, core_at, world_of, IsWorld, Outcome, kept_by_receiver, StartsWith}
 use Rattle.rt_link.specs.Calls.{SeesMore}
 use Rattle.rt_world.proofs.Borrowed.{IsLent, lent_link}
-use Rattle.rt_world.proofs.LinkSteps.{as_long, OnlyReceived}
+use Rattle.rt_world.proofs.LinkSteps.{OnlyReceived}
 use Rattle.rt_world.proofs.CoreSteps.{journal_is, room_is, viewed}
+use Rattle.rt_link.proofs.Lists.{StartsWith-same}
 
 -- a core and the link of a sender to it, as their world has them
 pub record IsReceiving {J T : Type 0} (old : Parts J T) (sender core : ℕ) (view : RecordedView J T) (link : Whole J T) : Type 0 where
@@ -48,7 +49,7 @@ module _ {J T : Type 0} {same : J → J → Type 0} {made : J → ℕ} {polls : 
 module _ {J T : Type 0} (link after : Whole J T) (more : SeesMore (inward_of link) (inward_of after)) (untouched : kept_by_receiver after ≡ kept_by_receiver link)
     (rest : inward_of after ≡ record (inward_of link) { seen = after.sent; taken = after.taken; given = after.given; shut = after.shut }) where
   pub sent_is : after.sent ≡ link.sent
-  sent_is = as_long after.sent link.sent more.0 (ap (λ kept. get_or kept 0 0) untouched)
+  sent_is = StartsWith-same after.sent link.sent more.0 (ap (λ kept. get_or kept 0 0) untouched)
 
   pub only_received : StartsWith after.given link.given → OnlyReceived link after
   only_received given = record {

@@ -12,9 +12,10 @@ use Rattle.rt_link.specs.Whole.{gate_number}
 use Rattle.rt_journal.specs.Submissions.{Submits, numbered}
 use Rattle.rt_world.proofs.Desks.{sent_at-world}
 use Rattle.rt_world.proofs.LinkRows.{sent-with_link}
-use Rattle.rt_world.proofs.LinkSteps.{sender_rest, OnlySent}
+use Rattle.rt_world.proofs.LinkSteps.{OnlySent}
 use Rattle.rt_world.proofs.CoreSteps.{journal_is}
 use Rattle.rt_world.proofs.Sending.{IsActing, its_seat, its_cap, its_notes, later, journals_noted, same_now}
+use Rattle.rt_link.proofs.Framed.{Sends-accepted, Sends-refused}
 
 pub one_gate : (gate other : Bool) → gate_number gate ≡ gate_number other → gate ≡ other
 one_gate true true same = refl
@@ -36,29 +37,23 @@ pub record IsSubmitted {J T : Type 0} (core : ℕ) (order : Order J) (desk : Des
 
 module _ {J T : Type 0} (core : ℕ) (order : Order J) (desk : DeskView J T) (link : Whole J T) (answer : Result JobId (SendError J)) (now : DeskView J T) (after : Whole J T)
     (did : IsSubmitted core order desk link answer now after) where
-  -- the sender doesn't shut the gate
-  pub same_gate : after.shut ≡ link.shut
-  same_gate = one_gate after.shut link.shut (ap (λ kept. get_or kept 2 0) did.untouched)
-
-  out_is : out_of after ≡ record (out_of link) { sent = link.sent ++ added order answer }
-  out_is = by_answer answer did.sends
+  -- nothing changes but what the link has sent
+  after_is : after ≡ record link { sent = link.sent ++ added order answer }
+  after_is = by_answer answer did.sends
     where
-      by_answer : (answer : Result JobId (SendError J)) → SendsOn (out_of link) link.credited order (out_of after) (numbered answer) →
-          out_of after ≡ record (out_of link) { sent = link.sent ++ added order answer }
-      by_answer (Ok name) sends = sends.4
-      by_answer (Err (Closed back final)) sends =
-          let shut : true ≡ link.shut = sym (ap (λ out. out.closed) sends.2) ∙ same_gate in
-          sends.2 ∙ (λ i. record (out_of link) { sent = sym (append-nil link.sent) i; closed = shut i })
-      by_answer (Err (Full back)) sends = sends.3 ∙ ap (λ orders. record (out_of link) { sent = orders }) (sym (append-nil link.sent))
-      by_answer (Err (Spent back)) sends = sends.4 ∙ ap (λ orders. record (out_of link) { sent = orders }) (sym (append-nil link.sent))
-      by_answer (Err (NoCore back)) sends = absurd sends
+      by_answer : (answer : Result JobId (SendError J)) → SendsOn (out_of link) link.credited order (out_of after) (numbered answer) → after ≡ record link { sent = link.sent ++ added order answer }
+      by_answer (Ok name) sends = Sends-accepted link after did.credited did.untouched order name.number sends
+      by_answer (Err error) sends = Sends-refused link after did.credited did.untouched order error sends ∙ (λ i. record link { sent = sym (append-nil link.sent) i })
+
+  pub same_gate : after.shut ≡ link.shut
+  same_gate = ap (λ link. link.shut) after_is
 
   pub sent_is : after.sent ≡ link.sent ++ added order answer
-  sent_is = ap (λ out. out.sent) out_is
+  sent_is = ap (λ link. link.sent) after_is
 
   pub only_sent : OnlySent link after
   only_sent = record {
-    rest = sender_rest link after did.untouched out_is (ap (λ out. out.seen) out_is) (ap (λ out. out.closed) out_is);
+    rest = after_is ∙ (λ i. record link { sent = sym sent_is i; got = sym (ap (λ link. link.got) after_is) i; credited = sym (ap (λ link. link.credited) after_is) i });
     sent = (added order answer, sent_is);
     gate = λ shut. by_answer answer shut did.sends sent_is;
   }

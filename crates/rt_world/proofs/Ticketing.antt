@@ -16,22 +16,18 @@ use Rattle.rt_journal.specs.Tickets.{CollectsFrom, GetsAll}
 use Rattle.rt_world.specs.declared.event.Reply.TheVariants as reply
 use Rattle.rt_world.specs.Collections.{FitsUnder}
 use Rattle.rt_world.proofs.Desks.{sent_at-world}
-use Rattle.rt_world.proofs.LinkSteps.{sender_rest, as_long, OnlySent}
+use Rattle.rt_world.proofs.LinkSteps.{sender_rest, OnlySent}
 use Rattle.rt_world.proofs.CoreSteps.{journal_is, number_is}
 use Rattle.rt_world.proofs.Sending.{IsDoneOn, IsActing, its_sender, its_seat, its_notes, later, noted_now, same_now}
 use Rattle.rt_world.proofs.Collecting.{are_of}
-
-slice_get-take : {A : Type 0} (items : List A) (count place : ℕ) → place < count → slice_get (take count items) place ≡ slice_get items place
-slice_get-take [] count place below = ap (λ items. slice_get items place) (take-nil count)
-slice_get-take (item ∷ items) zero place below = absurd (omega (arith, below))
-slice_get-take (item ∷ items) (suc count) zero below = refl
-slice_get-take (item ∷ items) (suc count) (suc place) below = slice_get-take items count place (omega (arith, below))
+use Rattle.rt_link.proofs.Lists.{StartsWith-same}
+use Rattle.rt_desk.proofs.Taken.{taken-get}
 
 -- a sender that got outcomes, or gave a credit back, sees what it saw
 module _ {J T : Type 0} (link after : Whole J T) (untouched : kept_by_sender after ≡ kept_by_sender link) where
   module _ (seen : StartsWith after.given link.given) (rest : out_of after ≡ record (out_of link) { seen = after.given; got = after.got }) where
     pub same_given : after.given ≡ link.given
-    same_given = as_long after.given link.given seen (ap (λ kept. get_or kept 1 0) untouched)
+    same_given = StartsWith-same after.given link.given seen (ap (λ kept. get_or kept 1 0) untouched)
 
     pub got_more : OnlySent link after
     got_more = record {
@@ -101,7 +97,7 @@ module _ {J : Type 0} {same : J → J → Type 0} {made : J → ℕ} {polls : Ow
   in_range : (outcome : Outcome J ℕ) → IsGot (out_of link) name.number outcome → (link.base < name.number) × (name.number ≤ link.base + length link.sent)
   in_range outcome got =
       let lane = (its_sender world acting).lane.lane_of in
-      let at = lane.named.0 got.place (name.number, outcome) (slice_get-take link.given link.got got.place got.got ∙ got.is) in
+      let at = lane.named.0 got.place (name.number, outcome) (taken-get link.got link.given got.place (name.number, outcome) got.got got.is) in
       (at.0, at.2)
 
   fits_under : name.from ≡ sender → (outcome : Outcome J ℕ) → IsGot (out_of link) name.number outcome → FitsSent (Fits same answers) (out_of link) name.number outcome → FitsUnder same answers name (world_of old) outcome

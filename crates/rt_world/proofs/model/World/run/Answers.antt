@@ -1,8 +1,17 @@
+use Rattle.rt_world.proofs.Words.{ℕ, List, [], ◌∷◌, ◌++◌, Owed, Event, Reply, WorldView, Happens}
 use Rattle.rt_world.proofs.Words.{refl, sym, subst, ◌∙◌, YieldsList-from_vec, YieldsList-turn, YieldsList-end, map-id, IsRun}
 use Rattle.rt_jobs.specs.Ready.{HasReadyJob}
 use Rattle.rt_world.specs.Opening.{HasReadyEvent}
-use Rattle.rt_world.proofs.RunSteps.{run_longer}
 use Rattle.rt_world.proofs.model.World.run.Goals as goal
+
+-- a run, one event longer
+module _ {J : Type 0} (same : J → J → Type 0) (made : J → ℕ) (polls : Owed J ℕ) (answers : J → ℕ → Type 0) where
+  run_longer : (events : List (Event J)) (old between new : WorldView J ℕ) (event : Event J) (answer : Reply J) →
+      IsRun same made polls answers events old between → Happens same made polls answers event between new answer → IsRun same made polls answers (events ++ event ∷ []) old new
+  run_longer [] old between new event answer run happens =
+      (new, answer, subst (λ start. Happens same made polls answers event start new answer) run happens, refl)
+  run_longer (first ∷ events) old between new event answer run happens =
+      (run.0, run.1, run.2, run_longer events run.0 between new event answer run.3 happens)
 
 pub loop-event-init : goal.loop-event-init
 loop-event-init g c = refl
