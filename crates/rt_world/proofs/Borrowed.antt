@@ -8,19 +8,6 @@ module _ {J T V : Type 0} {same : J → J → Type 0} {made : J → ℕ} {polls 
   pub row_within : sender < length rows
   row_within = omega (arith, world.all_there.rows_are, ap length are, length-map rows items, there)
 
-  module _ (row : V) (row_is : row ≡ get_or rows sender row) (core : ℕ) (core_there : core < old.cores) where
-    link_within : core < length (items row)
-    link_within =
-        omega (arith, core_there, world.all_there.links_are sender there, ap (λ links. length (row_of sender links)) are, ap length (by_rows.row_of-borrowed items rows sender row_within row row_is))
-
-    link_here : (link : Whole J T) → link ≡ get_or (items row) core link → link ≡ link_at sender core old.links
-    link_here link link_is = by_rows.link_at-borrowed items rows sender row_within row row_is core link link_within link_is ∙ ap (link_at sender core) (sym are)
-
-    links_now : (after_row : V) (after : Whole J T) → items after_row ≡ set (items row) core after → map items (set rows sender after_row) ≡ by_rows.with_link old.links sender core after
-    links_now after_row after written =
-        by_rows.rows-with_link items rows sender row_within row row_is core after_row after written
-        ∙ ap (λ links. by_rows.with_link links sender core after) (sym are)
-
 -- the row of a sender's links, as a step borrowed it, and the core whose link it wants
 pub record IsLent {J T V : Type 0} (cores : ℕ) (links : List (List (Whole J T))) (items : V → List (Whole J T)) (rows : List V) (sender to place : ℕ) (row : V) : Type 0 where
   pub there : sender ≤ cores
@@ -32,16 +19,19 @@ pub record IsLent {J T V : Type 0} (cores : ℕ) (links : List (List (Whole J T)
 module _ {J T V : Type 0} {same : J → J → Type 0} {made : J → ℕ} {polls : Owed J T} {answers : J → T → Type 0} {old : Parts J T}
     {items : V → List (Whole J T)} {rows : List V} {sender to place : ℕ} {row : V}
     (world : IsWorld same made polls answers old) (lent : IsLent old.cores old.links items rows sender to place row) where
+  row_there : sender < length rows
+  row_there = row_within world items rows lent.are sender lent.there
+
   pub lent_within : place < length (items row)
-  lent_within = omega (arith, link_within world items rows lent.are sender lent.there row lent.row_is to lent.to_there, lent.place_is)
+  lent_within =
+      let length_is = ap length (by_rows.row_of-borrowed items rows sender row_there row lent.row_is) in
+      omega (arith, lent.place_is, lent.to_there, world.all_there.links_are sender lent.there, ap (λ links. length (row_of sender links)) lent.are, length_is)
 
   pub lent_link : {link : Whole J T} → link ≡ get_or (items row) place link → link ≡ link_at sender to old.links
   lent_link {link = link} read =
-      link_here world items rows lent.are sender lent.there row lent.row_is to lent.to_there link
-      (subst (λ at. link ≡ get_or (items row) at link) lent.place_is read)
+      by_rows.link_at-borrowed items rows sender row_there row lent.row_is place link lent_within read ∙ (λ i. link_at sender (lent.place_is i) (sym lent.are i))
 
   pub lent_links : (after_row : V) (after : Whole J T) → items after_row ≡ set (items row) place after →
       map items (set rows sender after_row) ≡ by_rows.with_link old.links sender to after
   lent_links after_row after written =
-      links_now world items rows lent.are sender lent.there row lent.row_is to lent.to_there after_row after
-      (written ∙ ap (λ at. set (items row) at after) lent.place_is)
+      by_rows.rows-with_link items rows sender row_there row lent.row_is place after_row after written ∙ (λ i. by_rows.with_link (sym lent.are i) sender (lent.place_is i) after)

@@ -88,13 +88,9 @@ module _ {J T : Type 0} (same : J → J → Type 0) (made : J → ℕ) (polls : 
   no_note : (actor : ℕ) → journal_at actor (world_of parts) ≡ []
   no_note actor =
       journal_at-world parts actor
-      ∙ ap (λ desk. desk.journal.notes)
-      (
-      ⊎_elim {C = desk_at actor parts ≡ opened_desk (desk_at actor parts).actor (desk_at actor parts).cores (desk_at actor parts).cap (desk_at actor parts).journal.room}
-      (λ known. let is = desk_is actor (omega (arith, known)) in is ∙ ap (λ desk. opened_desk desk.actor desk.cores desk.cap desk.journal.room) (sym is))
-      (λ past. let is = get_or_past (desks parts) actor (opened_desk 0 0 0 0) (omega (arith, past, desk_count parts, cores_open.cores_are)) in is ∙ ap (λ desk. opened_desk desk.actor desk.cores desk.cap desk.journal.room) (sym is))
+      ∙ ⊎_elim (λ known. ap (λ desk. desk.journal.notes) (desk_is actor (omega (arith, known))))
+      (λ past. ap (λ desk. desk.journal.notes) (get_or_past (desks parts) actor (opened_desk 0 0 0 0) (omega (arith, past, desk_count parts, cores_open.cores_are))))
       (cases_lt actor (cores + 1))
-      )
 
   no_order : (sender core : ℕ) → sent_at sender core (world_of parts) ≡ []
   no_order sender core = sent_at-world parts sender core ∙ ⊎_elim by_sender other_sender (cases_lt sender (cores + 1))

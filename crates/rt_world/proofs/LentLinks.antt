@@ -58,17 +58,11 @@ row_within items rows number owed view beside sender known = omega (arith, besid
 
 module _ {J T V : Type 0} {items : V → List (Whole J T)} {rows : List V} {number : ℕ} {owed : ℕ → Option (JobId × OutcomeNote T)} {view : RecordedView J T}
     {sender : ℕ} {row : V} (row_lent : IsLentOwing items rows number owed view sender row) where
-  beside : IsBesideAll number owed view (map items rows)
-  beside = row_lent.beside
-
-  known : sender ≤ view.core.cores
-  known = row_lent.known
-
   row_there : sender < length rows
-  row_there = row_within items rows number owed view beside sender known
+  row_there = row_within items rows number owed view row_lent.beside sender row_lent.known
 
   pub link_within : number < length (items row)
-  link_within = omega (arith, beside.cores sender known, ap length (by_rows.row_of-borrowed items rows sender row_there row row_lent.row_is))
+  link_within = omega (arith, row_lent.beside.cores sender row_lent.known, ap length (by_rows.row_of-borrowed items rows sender row_there row row_lent.row_is))
 
   module _ {link : Whole J T} (link_is : link ≡ get_or (items row) number link) where
     link_here : link ≡ link_at sender number (map items rows)
@@ -76,7 +70,7 @@ module _ {J T V : Type 0} {items : V → List (Whole J T)} {rows : List V} {numb
 
     -- the link that is lent is beside the core
     pub lent : IsInOwing sender (owed sender) view (inward_of link)
-    lent = subst (λ at. IsInOwing sender (owed sender) view (inward_of at)) (sym link_here) (beside.ins sender known)
+    lent = subst (λ at. IsInOwing sender (owed sender) view (inward_of at)) (sym link_here) (row_lent.beside.ins sender row_lent.known)
 
     -- after an outcome was given on it, if there is one, each end is beside the core, and nothing is owed
     module _ (after : Whole J T) (number_of : ℕ) (outcome : Option (Outcome J T)) (gives : Gives (inward_of link) number_of outcome (inward_of after))
@@ -92,7 +86,7 @@ module _ {J T V : Type 0} {items : V → List (Whole J T)} {rows : List V} {numb
 
       changes : ChangesLink old_links new_links sender number after
       changes = subst (λ links. ChangesLink old_links links sender number after) (sym links_are)
-          (by_rows.ChangesLink-with_link old_links sender number after (beside.rows sender known) (beside.cores sender known))
+          (by_rows.ChangesLink-with_link old_links sender number after (row_lent.beside.rows sender row_lent.known) (row_lent.beside.cores sender row_lent.known))
 
       pub gave_on_one : GivesOnOne number old_links new_links
       gave_on_one =
@@ -110,12 +104,12 @@ module _ {J T V : Type 0} {items : V → List (Whole J T)} {rows : List V} {numb
           ((other : ℕ) → other ≢ sender → (inward : Inward J T) → IsInOwing other (owed other) view inward → IsInOf other view inward) →
           IsBesideAll number none_owed view new_links
       none_left here others = record {
-        rows = λ s there. subst (λ count. s < count) (sym changes.same_rows) (beside.rows s there);
-        cores = λ s there. subst (λ count. number < count) (sym (changes.same_cores s)) (beside.cores s there);
+        rows = λ s there. subst (λ count. s < count) (sym changes.same_rows) (row_lent.beside.rows s there);
+        cores = λ s there. subst (λ count. number < count) (sym (changes.same_cores s)) (row_lent.beside.cores s there);
         ins =
             by_place (λ at. at ≤ view.core.cores → IsInOf at view (inward_of (link_at at number new_links))) sender
             (λ there. subst (λ link. IsInOf sender view (inward_of link)) (sym changes.changed) here)
-            (λ s away there. subst (λ link. IsInOf s view (inward_of link)) (sym (changes.others s number (λ one two. away one))) (others s away _ (beside.ins s there)));
+            (λ s away there. subst (λ link. IsInOf s view (inward_of link)) (sym (changes.others s number (λ one two. away one))) (others s away _ (row_lent.beside.ins s there)));
       }
 
 module _ {T : Type 0} (name : JobId) (what : OutcomeNote T) where

@@ -102,9 +102,6 @@ module _ {J : Type 0} {same : J → J → Type 0} {made : J → ℕ} {polls : Ow
       out_is : did.turn.settles.out ≡ record { name = did.name; queue = did.queue; job = did.turn.ran.before }
       out_is = same_Some _ _ (sym did.turn.settles.was_out ∙ (ap (λ view. view.core.out) did.turn.rest ∙ did.turn.picks.out))
 
-      took_is : did.turn.left.took ≡ view.took
-      took_is = ap (λ view. view.took) did.turn.rest ∙ did.turn.picks.took
-
       counted : polls_made did.turn.settles.out.name did.turn.left.journal.notes ≡ polls_made did.name (journal_at number (world_of old))
       counted =
           ap (λ out. polls_made out.name did.turn.left.journal.notes) out_is
@@ -121,7 +118,7 @@ module _ {J : Type 0} {same : J → J → Type 0} {made : J → ℕ} {polls : Ow
 
       task : order_taken view.took did.name ≡ Some (Job did.queue did.turn.settles.sent)
       task =
-          ap (λ took. order_taken took did.name) (sym took_is)
+          ap (λ took. order_taken took did.name) (sym (ap (λ view. view.took) did.turn.rest ∙ did.turn.picks.took))
           ∙ (ap (λ out. order_taken did.turn.left.took out.name) (sym out_is) ∙ (did.turn.settles.task ∙ ap (λ out. Some (Job out.queue did.turn.settles.sent)) out_is))
 
       abbrev before : Journal ℕ

@@ -74,9 +74,6 @@ module _ {J T : Type 0} {same : J → J → Type 0} {made : J → ℕ} {polls : 
       ap (final_count sender) (journal_is world core acting.to_there)
       ∙ ((world.beside.ins sender core acting.there acting.to_there).gate ∙ ap (λ link. final_of (inward_of link) link.shut) (sym acting.link_is))
 
-  terms_are : terms_of_desk desk ≡ terms_at sender (world_of old)
-  terms_are = ap terms_of_desk (its_seat world acting)
-
   -- the send is the step of its event
   pub sends_now : Sends sender core order (world_of old) (later world acting now after journals_are) (sent_reply answer)
   sends_now = by_answer answer did.submits (sent_is core order desk link answer now after did) did.sends
@@ -88,7 +85,7 @@ module _ {J T : Type 0} {same : J → J → Type 0} {made : J → ℕ} {polls : 
           after.sent ≡ link.sent ++ added order answer →
           SendsOn (out_of link) link.credited order (out_of after) (numbered answer) → Sends sender core order (world_of old) (later world acting now after journals_are) (sent_reply answer)
       by_answer (Ok name) submits sent sends = (
-        subst (λ terms. IsNextSent terms name (without_job order) (journal_at sender (world_of old))) terms_are
+        subst (λ terms. IsNextSent terms name (without_job order) (journal_at sender (world_of old))) (ap terms_of_desk (its_seat world acting))
             (subst (IsNextSent (terms_of_desk desk) name (without_job order)) (sym (its_notes world acting)) submits.0),
         submits.1,
         λ i. record {

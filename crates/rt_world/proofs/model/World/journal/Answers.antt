@@ -2,15 +2,11 @@ use Rattle.rt_world.proofs.Words.{◌≡◌, ◌≤◌, ◌<◌, sym, ◌∙◌,
 use Rattle.rt_world.proofs.Sending.{outside_notes, outside_room}
 use Rattle.rt_world.proofs.model.World.journal.Goals as goal
 
-pub returns-else-actor-self-clause-notes : goal.returns-else-actor-self-clause-notes
-returns-else-actor-self-clause-notes g c =
-    let there : c.actor.inside.0 ≤ c.self.inside.cores = omega (arith, c.actor.view_is, c.requires, ap (λ world. world.cores) c.self.view_is) in
-    let is_last : c.actor.inside.0 ≡ c.self.inside.cores = omega (arith, there, c.if-actor-self.false) in
-    rw (← c.self.view_is, ← c.actor.view_is)
-    (ap (λ journal. journal.notes) c.journal-else-actor-self.ensures ∙ sym (outside_notes c.self.invariant.1 c.actor.inside.0 is_last))
-
-pub returns-else-actor-self-clause-room : goal.returns-else-actor-self-clause-room
-returns-else-actor-self-clause-room g c =
-    let there : c.actor.inside.0 ≤ c.self.inside.cores = omega (arith, c.actor.view_is, c.requires, ap (λ world. world.cores) c.self.view_is) in
-    let is_last : c.actor.inside.0 ≡ c.self.inside.cores = omega (arith, there, c.if-actor-self.false) in
-    rw (← c.self.view_is) (ap (λ journal. journal.room) c.journal-else-actor-self.ensures ∙ outside_room c.self.invariant.1 c.actor.inside.0 is_last)
+pub returns-else-actor-self : goal.returns-else-actor-self
+returns-else-actor-self g c =
+    let is_last : c.actor.inside.0 ≡ c.self.inside.cores = omega (arith, c.actor.view_is, c.requires, ap (λ world. world.cores) c.self.view_is, c.if-actor-self.false) in
+    record {
+      notes = rw (← c.self.view_is, ← c.actor.view_is)
+          (ap (λ journal. journal.notes) c.journal-else-actor-self.ensures ∙ sym (outside_notes c.self.invariant.1 c.actor.inside.0 is_last));
+      room = rw (← c.self.view_is) (ap (λ journal. journal.room) c.journal-else-actor-self.ensures ∙ outside_room c.self.invariant.1 c.actor.inside.0 is_last);
+    }
