@@ -32,15 +32,22 @@ record IsMade {T : Type 0} (journal : Journal T) : Type 0 where
   others : List JobId
   first : line queue journal ≡ name ∷ others
 
+-- two turns of one queue, runtime and job
+record SameMade {T : Type 0} {journal : Journal T} (first second : IsMade journal) : Type 0 where
+  queue : first.queue ≡ second.queue
+  runtime : first.runtime ≡ second.runtime
+  name : first.name ≡ second.name
+
 module _ {T : Type 0} {journal : Journal T} (first second : IsMade journal) where
   same_queue : first.queue ≡ second.queue
   same_queue = one_pick journal first.queue first.runtime second.queue second.runtime first.right second.right
 
-  same_runtime : first.runtime ≡ second.runtime
-  same_runtime = first.right.at ∙ (ap (λ queue. virtual_runtime queue journal) same_queue ∙ sym second.right.at)
-
-  same_name : first.name ≡ second.name
-  same_name = same_head (line first.queue journal) first.name second.name first.others second.others first.first (ap (λ queue. line queue journal) same_queue ∙ second.first)
+  same_made : SameMade first second
+  same_made = record {
+    queue = same_queue;
+    runtime = first.right.at ∙ (ap (λ queue. virtual_runtime queue journal) same_queue ∙ sym second.right.at);
+    name = same_head (line first.queue journal) first.name second.name first.others second.others first.first (ap (λ queue. line queue journal) same_queue ∙ second.first);
+  }
 
 module _ {J : Type 0} (same : J → J → Type 0) (made : J → ℕ) (polls : Owed J ℕ) (answers : J → ℕ → Type 0) (owes : OwesOne polls)
     (core spent : ℕ) (old : WorldView J ℕ) where
@@ -74,24 +81,18 @@ module _ {J : Type 0} (same : J → J → Type 0) (made : J → ℕ) (polls : Ow
 
   module _ (new other : WorldView J ℕ) where
     one_poll : Polls new → Polls other → new ≡ other
-    one_poll first second = first.notes ∙ ((λ i. settled (its_name i) (unwrap_or (its_told i) spent) (its_step i) (its_posted i)) ∙ sym second.notes)
+    one_poll first second = first.notes ∙ ((λ i. settled (its.name i) (unwrap_or (its_told i) spent) (its_step i) (its_posted i)) ∙ sym second.notes)
       where
-        its_queue : first.queue ≡ second.queue
-        its_queue = same_queue (made_by_poll new first) (made_by_poll other second)
-
-        its_runtime : first.runtime ≡ second.runtime
-        its_runtime = same_runtime (made_by_poll new first) (made_by_poll other second)
-
-        its_name : first.name ≡ second.name
-        its_name = same_name (made_by_poll new first) (made_by_poll other second)
+        its : SameMade (made_by_poll new first) (made_by_poll other second)
+        its = same_made (made_by_poll new first) (made_by_poll other second)
 
         its_job : first.job ≡ second.job
-        its_job = same_job (order_under first.name old) first.queue second.queue first.job second.job first.task (ap (λ name. order_under name old) its_name ∙ second.task)
+        its_job = same_job (order_under first.name old) first.queue second.queue first.job second.job first.task (ap (λ name. order_under name old) its.name ∙ second.task)
 
         other_owed : polls first.job (made first.job + polls_made first.name journal) second.calls second.step second.told
         other_owed =
             subst (λ job. polls job (made job + polls_made first.name journal) second.calls second.step second.told) (sym its_job)
-            (subst (λ name. polls second.job (made second.job + polls_made name journal) second.calls second.step second.told) (sym its_name) second.owed)
+            (subst (λ name. polls second.job (made second.job + polls_made name journal) second.calls second.step second.told) (sym its.name) second.owed)
 
         its_step : first.step ≡ second.step
         its_step = owes.step first.job (made first.job + polls_made first.name journal) first.calls second.calls first.step second.step first.told second.told first.owed other_owed
@@ -104,22 +105,16 @@ module _ {J : Type 0} (same : J → J → Type 0) (made : J → ℕ) (polls : Ow
             calls_once same answers core first.calls second.calls
             (owes.asks first.job (made first.job + polls_made first.name journal) first.calls second.calls first.step second.step first.told second.told first.owed other_owed)
             (picked first.name first.queue first.runtime) first.posted second.posted first.posts
-            (subst (λ start. Makes (CallsAt same answers core) second.calls start second.posted) (λ i. picked (sym its_name i) (sym its_queue i) (sym its_runtime i)) second.posts)
+            (subst (λ start. Makes (CallsAt same answers core) second.calls start second.posted) (λ i. picked (sym its.name i) (sym its.queue i) (sym its.runtime i)) second.posts)
 
     one_back : HandsBack new → HandsBack other → new ≡ other
-    one_back first second = first.notes ∙ ((λ i. after_back (its_name i) (its_reason i) (its_queue i) (its_runtime i)) ∙ sym second.notes)
+    one_back first second = first.notes ∙ ((λ i. after_back (its.name i) (its_reason i) (its.queue i) (its.runtime i)) ∙ sym second.notes)
       where
-        its_queue : first.queue ≡ second.queue
-        its_queue = same_queue (made_by_back new first) (made_by_back other second)
-
-        its_runtime : first.runtime ≡ second.runtime
-        its_runtime = same_runtime (made_by_back new first) (made_by_back other second)
-
-        its_name : first.name ≡ second.name
-        its_name = same_name (made_by_back new first) (made_by_back other second)
+        its : SameMade (made_by_back new first) (made_by_back other second)
+        its = same_made (made_by_back new first) (made_by_back other second)
 
         its_reason : first.reason ≡ second.reason
-        its_reason = same_Some first.reason second.reason (sym first.returns ∙ (ap (λ queue. return_reason queue journal) its_queue ∙ second.returns))
+        its_reason = same_Some first.reason second.reason (sym first.returns ∙ (ap (λ queue. return_reason queue journal) its.queue ∙ second.returns))
 
     -- a queue hands its jobs back, or it doesn't
     one_kind : Polls new → HandsBack other → ⊥

@@ -1,31 +1,6 @@
 use Rattle.rt_world.proofs.Words.{◌≤◌, refl, arith}
 use Rattle.rt_world.proofs.model.acts.desk_acts.Goals as goal
 
-pub submit-requires-clause-room : goal.submit-requires-clause-room
-submit-requires-clause-room g c = let room = rw c.in-Send.is at c.requires.room in omega (arith, room)
-
-pub submit-requires-clause-ready : goal.submit-requires-clause-ready
-submit-requires-clause-ready g c = rw c.in-Send.is at c.requires.ready
-
-pub collect_from-requires-clause-room : goal.collect_from-requires-clause-room
-collect_from-requires-clause-room g c =
-    let room = rw c.in-Collect.is at c.requires.room in
-    omega (arith, room, c.requires.lane.lane_of.sound.room, c.requires.lane.lane_of.sound.credits, c.requires.beside.capacity)
-
-pub redeem-requires : goal.redeem-requires
-redeem-requires g c = record {
-  beside = rw (rw c.in-Redeem.is at c.requires.at) c.requires.beside;
-  lane = rw (rw c.in-Redeem.is at c.requires.at) c.requires.lane;
-  room = λ held. let room = rw c.in-Redeem.is at c.requires.room in omega (arith, room);
-}
-
-pub detach-requires : goal.detach-requires
-detach-requires g c = record {
-  beside = rw (rw c.in-Detach.is at c.requires.at) c.requires.beside;
-  lane = rw (rw c.in-Detach.is at c.requires.at) c.requires.lane;
-  room = λ held. let room = rw c.in-Detach.is at c.requires.room in omega (arith, room);
-}
-
 pub returns-in-Send : goal.returns-in-Send
 returns-in-Send g c = record { acts = rw c.in-Send.is (c.submit.result, c.reply_to.ensures, c.submit.ensures.submits, c.submit.ensures.sends, c.submit.ensures.credited); stays = c.submit.ensures.stays; untouched = c.submit.ensures.untouched }
 
