@@ -6,9 +6,6 @@ use Rattle.rt_world.proofs.model.World.into_assembly.Given.{Over}
 use Rattle.rt_world.proofs.model.World.into_assembly.Goals as goal
 use Rattle.rt_world.proofs.model.World.into_assembly.Goals.{In-None, After-push_reserved-2, After-of}
 
-pub loop-core-init : goal.loop-core-init
-loop-core-init g c = (c.self.invariant.2.no_item, omega (arith, c.self.invariant.2.reserved, ap (λ world. world.cores) c.self.view_is))
-
 pub push_reserved-requires : goal.push_reserved-requires
 push_reserved-requires g c =
     let all = YieldsList-from_vec {s = c.into_iter-core-iterator.result} c.self.inside.inside.items c.into_iter-core-iterator.ensures.into_iter_gives.0 (c.into_iter-core-iterator.ensures.into_iter_gives.1 ∙ c.self.inside.inside.ok.0) in

@@ -13,9 +13,6 @@ module _ {J : Type 0} (same : J → J → Type 0) (made : J → ℕ) (polls : Ow
   run_longer (first ∷ events) old between new event answer run happens =
       (run.0, run.1, run.2, run_longer events run.0 between new event answer run.3 happens)
 
-pub loop-event-init : goal.loop-event-init
-loop-event-init g c = refl
-
 pub step-requires : goal.step-requires
 step-requires g c =
     let all = YieldsList-from_vec {s = c.into_iter-event-iterator.result} c.args.events.items c.into_iter-event-iterator.ensures.into_iter_gives.0 (c.into_iter-event-iterator.ensures.into_iter_gives.1 ∙ c.args.events.ok.0) in
@@ -33,9 +30,3 @@ returns-clause-run g c =
       subst (λ events. IsRun g.J.Task.SameTask g.J.Task.made g.J.Task.Polls g.J.Task.Answers events c.args.self c.loop-event.world) (sym (map-id c.loop-event.yielded) ∙ end.0) c.loop-event.invariant,
       c.into_assembly.ensures.value,
     )
-
-pub returns-clause-sound : goal.returns-clause-sound
-returns-clause-sound g c = c.into_assembly.ensures.sound
-
-pub returns-clause-joined : goal.returns-clause-joined
-returns-clause-joined g c = c.into_assembly.ensures.joined

@@ -8,11 +8,6 @@ use Rattle.rt_world.proofs.model.World.stats.Goals as goal
 told_of : {T : Type 0} {cores count : ℕ} {notes journal : Journal T} {told : CoreStats} → cores ≡ count → notes ≡ journal → TellsCore cores notes told → TellsCore count journal told
 told_of {cores = cores} {journal = journal} {told = told} counted noted is = subst (λ count. TellsCore count journal told) counted (subst (λ notes. TellsCore cores notes told) noted is)
 
-pub returns-then-core-self : goal.returns-then-core-self
-returns-then-core-self g c =
-    let past : c.args.self.now.cores ≤ c.args.core = omega (arith, c.if-core-self.true, c.core.view_is, ap (λ world. world.cores) c.self.view_is) in
-    record { missing = ((λ none. past), (λ is. refl)); core = tt; queues = tt }
-
 pub returns : goal.returns
 returns g c =
     let its = c.core-2.ensures in

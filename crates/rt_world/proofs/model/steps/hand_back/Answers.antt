@@ -2,9 +2,6 @@ use Rattle.rt_world.proofs.Words.{vec_items, map, owed_back, IsKeptBeside}
 use Rattle.rt_world.proofs.OneTurn.{back_known, back_sent, back_owed, back_turns}
 use Rattle.rt_world.proofs.model.steps.hand_back.Goals as goal
 
-pub back_of-name-requires : goal.back_of-name-requires
-back_of-name-requires g c = c.pick.ensures.back c.requires.ahead
-
 pub give_back_on-requires : goal.give_back_on-requires
 give_back_on-requires g c =
     let kept : IsKeptBeside g.J.Task.SameTask g.J.Task.made g.J.Task.Polls (owed_back c.pick.result) c.args.core.now c.pick.new.self = record { sound = c.pick.ensures.sound; seat = c.pick.ensures.seat; ins = c.pick.ensures.ins; outs = c.pick.ensures.outs; lanes = c.pick.ensures.lanes } in

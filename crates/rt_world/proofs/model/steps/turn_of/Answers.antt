@@ -3,9 +3,6 @@ use Rattle.rt_journal.proofs.Ahead.{idle, all_used}
 use Rattle.rt_world.proofs.OneTurn.{no_turn, turn_known}
 use Rattle.rt_world.proofs.model.steps.turn_of.Goals as goal
 
-pub post_turn-settled-requires-clause-ahead : goal.post_turn-settled-requires-clause-ahead
-post_turn-settled-requires-clause-ahead g c = rw c.in-Ok-Job.field-0-is at c.in-Ok-Job.ensures
-
 pub give_done_on-requires-clause-sender : goal.give_done_on-requires-clause-sender
 give_done_on-requires-clause-sender g c = turn_known c.post_turn-settled.ensures.turns
 
@@ -24,12 +21,6 @@ returns-in-Ok-Job g c =
       links = subst (λ between. GivesOnOne c.args.number between (map vec_items c.give_done_on.new.links.items)) did.links c.give_done_on.ensures.links;
       ins = c.give_done_on.ensures.beside;
     })
-
-pub hand_back-requires-clause-ahead : goal.hand_back-requires-clause-ahead
-hand_back-requires-clause-ahead g c = rw c.in-Ok-Back.field-0-is at c.in-Ok-Back.ensures
-
-pub returns-in-Ok-Back : goal.returns-in-Ok-Back
-returns-in-Ok-Back g c = inr (c.hand_back.ensures.back, c.hand_back.ensures.stays)
 
 pub returns-in-Ok-Idle : goal.returns-in-Ok-Idle
 returns-in-Ok-Idle g c =
