@@ -1,5 +1,5 @@
 -- What a step borrows of a world: a row of links, and a link of that row.
-use Rattle.rt_world.proofs.Words.{◌≡◌, ℕ, ◌<◌, ◌≤◌, List, length, sym, ◌∙◌, ap, subst, arith, get_or, set, length-map, map, Owed, Whole, row_of, link_at, Parts}
+use Rattle.rt_world.proofs.Words.{◌≡◌, ℕ, ◌<◌, ◌≤◌, List, length, sym, ◌∙◌, ap, arith, get_or, set, length-map, map, Owed, Whole, row_of, link_at, Parts}
 use Rattle.rt_world.proofs.Words.{IsWorld}
 use Rattle.rt_world.proofs.LinkRows as by_rows
 

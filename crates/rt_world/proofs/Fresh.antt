@@ -1,5 +1,5 @@
 -- A world as it opens: nothing was noted, and it is at rest.
-use Rattle.rt_world.proofs.Words.{◌≡◌, ℕ, ◌+◌, ◌<◌, ◌≤◌, List, [], refl, sym, ◌∙◌, ap, subst, ⊎_elim, arith, get_or, cases_lt, get_or_past, Some, None, Owed}
+use Rattle.rt_world.proofs.Words.{◌≡◌, ℕ, ◌+◌, ◌<◌, ◌≤◌, List, [], refl, sym, ◌∙◌, ap, subst, ⊎_elim, arith, get_or, cases_lt, get_or_past, Owed}
 use Rattle.rt_world.proofs.Words.{Whole, out_of, inward_of, RecordedView, IsRecorded, desk_of, Fits, IsOutOf, IsInOf, journal_at, row_of, link_at, no_link}
 use Rattle.rt_world.proofs.Words.{Parts, core_at, desks, desk_at, world_of, IsWorld, IsAtRest, DeskView, IsWritten, opened_desk, terms_of_desk, opened_beside}
 use Rattle.rt_world.proofs.Words.{sent_at, IsFresh}

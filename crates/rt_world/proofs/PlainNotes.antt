@@ -1,6 +1,6 @@
 -- Notes that tell no refusal.
-use Rattle.rt_world.proofs.Words.{◌≡◌, ℕ, zero, suc, Bool, true, false, cond, List, [], ◌∷◌, ◌++◌, refl, sym, ◌∙◌, ap, subst, ◌⊎◌, inl, inr, ◌||◌, nat_le}
-use Rattle.rt_world.proofs.Words.{Option, Some, None, slice_get, JobId, Note, Order, Journal, Answer, Job, Create, SetShares, Close, CloseCore, Reason}
+use Rattle.rt_world.proofs.Words.{◌≡◌, ℕ, Bool, true, false, cond, List, [], ◌∷◌, ◌++◌, refl, sym, ◌∙◌, ap, subst, ◌||◌, nat_le}
+use Rattle.rt_world.proofs.Words.{Option, Some, None, JobId, Note, Order, Journal, Answer, Job, Create, SetShares, Close, CloseCore, Reason}
 use Rattle.rt_world.proofs.Words.{created_count, effect_note, IsOpening, core_mode, Outcomes, Step, with_effect, IsDelivery, settle_note, collected_notes}
 use Rattle.rt_world.proofs.Words.{is_refusal, tells_refusal, IsNoCreation}
 use Rattle.std.proofs.lemmas.Bool.{or_parts}

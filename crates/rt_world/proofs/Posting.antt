@@ -1,17 +1,16 @@
 -- What a job's calls of its post do in the world, while its core polls it.
-use Rattle.rt_world.proofs.Words.{◌≡◌, ℕ, ◌<◌, ◌≤◌, List, [], ◌∷◌, refl, sym, ◌∙◌, ap, subst, inl, inr, arith, get_or, set, get_or-set_same, Result, set-set}
-use Rattle.rt_world.proofs.Words.{length-set, get_or_from_slice_get, JobId, Reply, Order, Owed, Whole, Fits, out_of, RecordedView, IsRecorded, desk_of, no_link}
-use Rattle.rt_world.proofs.Words.{row_of, link_at, Parts, core_at, desk_at, world_of, IsWorld, journal_at, TicketError, Unknown, Outcome, SendError, Call}
-use Rattle.rt_world.proofs.Words.{Makes, Submit, Redeem, Detach, kept_by_sender, KeepsIn, opened_beside, IsWritten, terms_of_desk, RefusesTicket, RedeemsTicket}
-use Rattle.rt_world.proofs.Words.{DetachesTicket, StaysBeside, Act, IsActOf, IsActAt, Acts, HasActed, CallsAt, Redeems, Detaches, redeemed_reply}
-use Rattle.rt_world.proofs.Words.{detached_reply, Sends, sent_reply}
-use Rattle.rt_journal.specs.Calls.{Does, LendsEnd, SubmitsOn, RedeemsOn, DetachesOn}
+use Rattle.rt_world.proofs.Words.{◌≡◌, ℕ, ◌<◌, ◌≤◌, List, [], ◌∷◌, refl, sym, ◌∙◌, ap, subst, inl, inr, arith, get_or, set, get_or-set_same, set-set}
+use Rattle.rt_world.proofs.Words.{length-set, get_or_from_slice_get, JobId, Reply, Owed, Whole, Fits, out_of, RecordedView, IsRecorded, desk_of, no_link}
+use Rattle.rt_world.proofs.Words.{row_of, link_at, Parts, core_at, desk_at, world_of, IsWorld, journal_at, Unknown, Call}
+use Rattle.rt_world.proofs.Words.{Makes, Submit, Redeem, Detach, kept_by_sender, KeepsIn, opened_beside, RefusesTicket}
+use Rattle.rt_world.proofs.Words.{Act, IsActOf, IsActAt, Acts, HasActed, CallsAt, Redeems, Detaches, redeemed_reply}
+use Rattle.rt_world.proofs.Words.{detached_reply, sent_reply}
+use Rattle.rt_journal.specs.Calls.{Does, LendsEnd}
 use Rattle.rt_journal.specs.Posts.{PostView}
 use Rattle.rt_journal.proofs.SentNotes.{SaysNoMore, recorded_silent, ins_silent, submitted_silent, redeemed_silent, detached_silent}
 use Rattle.rt_world.specs.declared.model.acts.Act.TheVariants as acts
 use Rattle.rt_world.specs.declared.model.acts.Act.TheVariants.{Send}
 use Rattle.rt_world.specs.Acts.{ActsOn}
-use Rattle.rt_world.proofs.LinkSteps.{OnlySent}
 use Rattle.rt_world.proofs.CoreSteps.{cores_are, desk_is, journal_is}
 use Rattle.rt_world.proofs.CoreSending.{IsDoneBy, IsCoreActing, core_sent, core_journals, core_rests}
 use Rattle.rt_world.proofs.Acts.{acted_on, acts_now}

@@ -1,5 +1,5 @@
 -- A world at rest stays one as a core takes the next order of a sender, or shuts the gate, and that is the step of its event.
-use Rattle.rt_world.proofs.Words.{◌≡◌, ℕ, zero, suc, ◌+◌, ◌≤◌, Bool, true, false, List, [], ◌∷◌, length, refl, sym, ◌∙◌, ap, subst, arith, append-nil, Option}
+use Rattle.rt_world.proofs.Words.{◌≡◌, ℕ, ◌+◌, ◌≤◌, Bool, true, false, List, [], ◌∷◌, length, sym, ◌∙◌, ap, subst, arith, append-nil, Option}
 use Rattle.rt_world.proofs.Words.{Some, None, slice_get, Owed, Whole, inward_of, RecordedView, IsInOf, Reply, journal_at, noted, link_at, Parts, core_at}
 use Rattle.rt_world.proofs.Words.{desk_at, world_of, IsWorld, IsAtRest, Outcome, accepted_orders, Inward, StartsWith, Gives, ChangesLink, sent_at, Delivers}
 use Rattle.rt_world.proofs.Words.{IsDelivery, next_place, HasReceived}

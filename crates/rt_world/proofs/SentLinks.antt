@@ -2,7 +2,7 @@
 use Rattle.rt_world.proofs.Words.{◌≡◌, ℕ, ◌<◌, ◌≤◌, Bool, true, false, List, [], ◌∷◌, ◌++◌, length, refl, sym, ◌∙◌, ap, subst, arith, get_or, set, Result, Ok}
 use Rattle.rt_world.proofs.Words.{Err, true≢false, append-nil, Some, map, JobId, Order, Journal, Owed, Whole, out_of, inward_of, journal_at, Parts, desks}
 use Rattle.rt_world.proofs.Words.{world_of, IsWorld, SendError, Closed, Full, Spent, accepted_orders, IsNextSent, outstanding_count, kept_by_sender, DeskView}
-use Rattle.rt_world.proofs.Words.{terms_of_desk, terms_at, Sends, sent_reply}
+use Rattle.rt_world.proofs.Words.{terms_of_desk, Sends, sent_reply}
 use Rattle.rt_ids.specs.declared.note.Note.TheVariants as writes
 use Rattle.rt_ids.specs.declared.order.SendError.TheVariants.{NoCore}
 use Rattle.rt_ids.specs.Closing.{final_count}

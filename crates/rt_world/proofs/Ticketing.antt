@@ -1,12 +1,12 @@
 -- What a sender does with its outcomes, as its world sees it.
-use Rattle.rt_world.proofs.Words.{◌≡◌, ℕ, zero, suc, ◌+◌, ◌-◌, ◌<◌, ◌≤◌, List, [], ◌∷◌, ◌++◌, length, refl, sym, ◌∙◌, ap, subst, arith, get_or, set, map}
+use Rattle.rt_world.proofs.Words.{◌≡◌, ℕ, ◌+◌, ◌-◌, ◌<◌, ◌≤◌, List, [], ◌∷◌, ◌++◌, length, refl, sym, ◌∙◌, ap, subst, arith, get_or, set, map}
 use Rattle.rt_world.proofs.Words.{Result, Ok, Err, append-nil, Option, Some, None, slice_get, JobId, Note, Order, Journal, Owed, Whole, Fits, out_of, WorldView}
 use Rattle.rt_world.proofs.Words.{journal_at, noted, link_at, Parts, desks, world_of, IsWorld, TicketError, Unknown, Gone, Pending, Outcome, IsRedeemable}
 use Rattle.rt_world.proofs.Words.{IsDetachable, collected_outcomes, outcome_note, StartsWith, kept_by_sender, DeskView, RefusesTicket, RedeemsTicket}
 use Rattle.rt_world.proofs.Words.{DetachesTicket, WasAccepted, collected_notes, uncollected, Collects, Redeems, Detaches, redeemed_reply, detached_reply}
 use Rattle.std.proofs.Common.{take, drop}
 use Rattle.std.specs.Prelude.{IfOk, IfSome}
-use Rattle.std.proofs.Math.Seq.{drop-append_seam, take-length, take-nil}
+use Rattle.std.proofs.Math.Seq.{drop-append_seam, take-length}
 use Rattle.rt_ids.specs.declared.note.Note.TheVariants as writes
 use Rattle.rt_ids.specs.Filters.{given_outcomes}
 use Rattle.rt_link.proofs.Lists.{slice_get-behind}

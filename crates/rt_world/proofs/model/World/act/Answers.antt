@@ -1,4 +1,4 @@
-use Rattle.rt_world.proofs.Words.{◌≡◌, ℕ, ◌≤◌, refl, sym, ap, subst, arith, vec_items, map, with_item, desk_of, IsActOf}
+use Rattle.rt_world.proofs.Words.{◌≡◌, ℕ, ◌≤◌, refl, sym, ap, subst, arith, vec_items, map, with_item, IsActOf}
 use Rattle.rt_world.proofs.Acts.{acted_on, acts_now, its_notes_fit}
 use Rattle.rt_world.proofs.Borrowed.{IsLent, row_within, lent_within, lent_links}
 use Rattle.rt_world.proofs.CoreSending.{IsDoneBy, core_acting, core_rests, core_at_rest, core_journals}

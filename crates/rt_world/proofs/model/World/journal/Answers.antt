@@ -1,4 +1,4 @@
-use Rattle.rt_world.proofs.Words.{◌≡◌, ◌≤◌, ◌<◌, sym, ◌∙◌, ap, arith}
+use Rattle.rt_world.proofs.Words.{◌≡◌, sym, ◌∙◌, ap, arith}
 use Rattle.rt_world.proofs.Sending.{outside_notes, outside_room}
 use Rattle.rt_world.proofs.model.World.journal.Goals as goal
 

@@ -1,4 +1,4 @@
-use Rattle.rt_world.proofs.Words.{◌≡◌, ℕ, ◌<◌, ◌≤◌, refl, sym, ◌∙◌, ap, subst, arith, ◌↔◌, IsTrue, Some, slice_get, true≢false, CoreStats, Journal, queue_count}
+use Rattle.rt_world.proofs.Words.{◌≡◌, ℕ, ◌<◌, ◌∙◌, ap, subst, arith, ◌↔◌, IsTrue, Some, slice_get, true≢false, CoreStats, Journal, queue_count}
 use Rattle.rt_world.proofs.Words.{core_stats, queue_stats, TellsCore, TellsQueues}
 use Rattle.arrayvec.specs.ArrayVec.{array_vec_len}
 use Rattle.rt_core.specs.Closing as core

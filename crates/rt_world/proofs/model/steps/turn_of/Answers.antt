@@ -1,4 +1,4 @@
-use Rattle.rt_world.proofs.Words.{inl, inr, refl, subst, vec_items, map, GivesOnOne}
+use Rattle.rt_world.proofs.Words.{inl, refl, subst, vec_items, map, GivesOnOne}
 use Rattle.rt_journal.proofs.Ahead.{idle, all_used}
 use Rattle.rt_world.proofs.OneTurn.{no_turn, turn_known}
 use Rattle.rt_world.proofs.model.steps.turn_of.Goals as goal
