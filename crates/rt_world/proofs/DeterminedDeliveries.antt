@@ -2,14 +2,13 @@
 use Rattle.rt_world.proofs.Words.{◌≡◌, ℕ, ◌+◌, ◌<◌, Bool, true, false, List, [], ◌∷◌, ◌++◌, length, refl, sym, ◌∙◌, ap, subst, ◌⊎◌, inl, inr, ⊎_elim, nat_le}
 use Rattle.rt_world.proofs.Words.{get_or-set_same, none-some, same_Some, Option, Some, None, JobId, Note, Order, Journal, Reply, WorldView, journal_at, noted}
 use Rattle.rt_world.proofs.Words.{Answer, Job, Create, SetShares, Close, CloseCore, core_mode, created_count, effect_note, with_effect, IsDelivery, next_place}
-use Rattle.rt_world.proofs.Words.{Delivers, tells_refusal, WasRefusedSince}
+use Rattle.rt_world.proofs.Words.{Delivers, tells_refusal, WasRefusedSince, ⊎_map}
 use Rattle.rt_ids.specs.declared.note.Note.TheVariants as writes
 use Rattle.rt_ids.specs.declared.order.Answer.TheVariants as answers
 use Rattle.rt_ids.specs.declared.order.Mode.{Mode}
 use Rattle.rt_ids.specs.Commands.{IsCreationAnswer, IsAnswer}
 use Rattle.rt_world.specs.declared.event.Reply.TheVariants as reply
 use Rattle.rt_world.specs.Deliveries.{IsAnswered}
-use Rattle.std.proofs.Math.Logic.{⊎_map}
 
 -- a creation has one answer, unless one of two says that there was no memory
 creation_once : (mode : Option Mode) (full : Bool) (next : ℕ) (answer other : Answer) → IsCreationAnswer mode full next answer → IsCreationAnswer mode full next other →

@@ -1,7 +1,7 @@
 -- A run has one result, unless there was no memory for a queue.
 use Rattle.rt_world.proofs.Words.{◌≡◌, ℕ, List, [], ◌∷◌, refl, sym, ◌∙◌, ap, subst, ◌⊎◌, inl, inr, ⊎_elim, arith, Owed, Event, Reply, WorldView, Happens, Send}
 use Rattle.rt_world.proofs.Words.{Deliver, Turn, Shut, Collect, IsNearlyFull, assembly_of, actor_of, AreThere, Steps, IsRun, HasAllLists, WasRefusedSince}
-use Rattle.rt_world.proofs.Words.{OwesOne, IsToldRun, AreAlike, AreAllAlike}
+use Rattle.rt_world.proofs.Words.{OwesOne, IsToldRun, AreAlike, AreAllAlike, ⊎_map}
 use Rattle.rt_world.specs.declared.event.Event.TheVariants.{Redeem, Detach}
 use Rattle.rt_world.specs.declared.event.Reply.TheVariants as reply
 use Rattle.rt_world.specs.Determined.{RunIsDetermined, AssemblyIsDetermined}
@@ -11,7 +11,6 @@ use Rattle.rt_world.proofs.DeterminedSends.{sends_once}
 use Rattle.rt_world.proofs.DeterminedDeliveries.{delivers_once}
 use Rattle.rt_world.proofs.DeterminedTurns.{turns_once}
 use Rattle.rt_world.proofs.DeterminedTickets.{collects_once, redeems_once, detaches_once, shuts_once}
-use Rattle.std.proofs.Math.Logic.{⊎_map}
 
 module _ {J : Type 0} (same : J → J → Type 0) (made : J → ℕ) (polls : Owed J ℕ) (answers : J → ℕ → Type 0) where
   module _ (event : Event J) (old new : WorldView J ℕ) (answer : Reply J) where

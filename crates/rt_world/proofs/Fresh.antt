@@ -1,8 +1,8 @@
 -- A world as it opens: nothing was noted, and it is at rest.
-use Rattle.rt_world.proofs.Words.{◌≡◌, ℕ, ◌+◌, ◌<◌, ◌≤◌, List, [], refl, sym, ◌∙◌, ap, subst, ⊎_elim, arith, get_or, cases_lt, get_or_past, Owed}
-use Rattle.rt_world.proofs.Words.{Whole, out_of, inward_of, RecordedView, IsRecorded, desk_of, Fits, IsOutOf, IsInOf, journal_at, row_of, link_at, no_link}
-use Rattle.rt_world.proofs.Words.{Parts, core_at, desks, desk_at, world_of, IsWorld, IsAtRest, DeskView, IsWritten, opened_desk, terms_of_desk, opened_beside}
-use Rattle.rt_world.proofs.Words.{sent_at, IsFresh}
+use Rattle.rt_world.proofs.Words.{◌≡◌, ℕ, ◌+◌, ◌<◌, ◌≤◌, List, [], refl, sym, ◌∙◌, ap, subst, ⊎_elim, arith, get_or, cases_lt, get_or_past, Owed, Whole, out_of}
+use Rattle.rt_world.proofs.Words.{inward_of, RecordedView, IsRecorded, desk_of, Fits, IsOutOf, IsInOf, journal_at, row_of, link_at, no_link, Parts, core_at}
+use Rattle.rt_world.proofs.Words.{desks, desk_at, world_of, IsWorld, IsAtRest, DeskView, IsWritten, opened_desk, terms_of_desk, opened_beside, sent_at, IsFresh}
+use Rattle.rt_world.proofs.Words.{none-some}
 use Rattle.rt_link.specs.Whole.{fresh}
 use Rattle.rt_link.specs.Ends.{SoundOut}
 use Rattle.rt_journal.proofs.LaneEnds.{fresh_has_lane}
@@ -12,7 +12,6 @@ use Rattle.rt_world.specs.Inside.{AreOpened}
 use Rattle.rt_world.proofs.Desks.{desk_count, desk_at-core, desk_at-outside, journal_at-world, sent_at-world}
 use Rattle.rt_world.proofs.LinkSteps.{IsSenderOn}
 use Rattle.rt_world.proofs.Hollow.{world_lists}
-use Rattle.std.proofs.lemmas.Option.{none-some}
 
 -- the ends of a link that was just opened, beside actors that have noted nothing
 module _ {J T : Type 0} (sender core cores cap room : ℕ) where

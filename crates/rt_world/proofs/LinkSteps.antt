@@ -1,7 +1,6 @@
 -- What one end of a plain link does, as the other end sees it.
-use Rattle.rt_world.proofs.Words.{◌≡◌, ℕ, Bool, true, List, [], ◌++◌, refl, sym, ◌∙◌, ap, subst, get_or, append-nil, Order}
-use Rattle.rt_world.proofs.Words.{Whole, out_of, inward_of, slice_get, RecordedView, IsOutOf, IsInOf, link_at, Outcome, StartsWith, kept_by_sender, DeskView}
-use Rattle.rt_world.proofs.Words.{HasLane, ChangesLink}
+use Rattle.rt_world.proofs.Words.{◌≡◌, ℕ, Bool, true, List, [], ◌++◌, refl, sym, ◌∙◌, ap, subst, get_or, append-nil, Order, Whole, out_of, inward_of, slice_get}
+use Rattle.rt_world.proofs.Words.{RecordedView, IsOutOf, IsInOf, link_at, Outcome, StartsWith, kept_by_sender, DeskView, HasLane, ChangesLink}
 use Rattle.rt_desk.specs.Lanes.{IsLaneOf}
 use Rattle.rt_journal.proofs.LaneEnds.{sees_more_lane}
 use Rattle.rt_journal.proofs.EndsKept.{sees_more_in, sees_more_out}

@@ -1,8 +1,7 @@
 -- Notes that tell no refusal.
-use Rattle.rt_world.proofs.Words.{◌≡◌, ℕ, Bool, true, false, cond, List, [], ◌∷◌, ◌++◌, refl, sym, ◌∙◌, ap, subst, ◌||◌, nat_le}
-use Rattle.rt_world.proofs.Words.{Option, Some, None, JobId, Note, Order, Journal, Answer, Job, Create, SetShares, Close, CloseCore, Reason}
-use Rattle.rt_world.proofs.Words.{created_count, effect_note, IsOpening, core_mode, Outcomes, Step, with_effect, IsDelivery, settle_note, collected_notes}
-use Rattle.rt_world.proofs.Words.{is_refusal, tells_refusal, IsNoCreation}
+use Rattle.rt_world.proofs.Words.{◌≡◌, ℕ, Bool, true, false, cond, List, [], ◌∷◌, ◌++◌, refl, sym, ◌∙◌, ap, subst, ◌||◌, nat_le, Option, Some, None, JobId}
+use Rattle.rt_world.proofs.Words.{Note, Order, Journal, Answer, Job, Create, SetShares, Close, CloseCore, Reason, created_count, effect_note, IsOpening}
+use Rattle.rt_world.proofs.Words.{core_mode, Outcomes, Step, with_effect, IsDelivery, settle_note, collected_notes, is_refusal, tells_refusal, IsNoCreation}
 use Rattle.std.proofs.lemmas.Bool.{or_parts}
 use Rattle.rt_ids.specs.declared.note.Note.TheVariants as writes
 use Rattle.rt_ids.specs.declared.order.Answer.TheVariants as told_answers

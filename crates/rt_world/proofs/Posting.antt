@@ -1,10 +1,9 @@
 -- What a job's calls of its post do in the world, while its core polls it.
 use Rattle.rt_world.proofs.Words.{◌≡◌, ℕ, ◌<◌, ◌≤◌, List, [], ◌∷◌, refl, sym, ◌∙◌, ap, subst, inl, inr, arith, get_or, set, get_or-set_same, set-set}
 use Rattle.rt_world.proofs.Words.{length-set, get_or_from_slice_get, JobId, Reply, Owed, Whole, Fits, out_of, RecordedView, IsRecorded, desk_of, no_link}
-use Rattle.rt_world.proofs.Words.{row_of, link_at, Parts, core_at, desk_at, world_of, IsWorld, journal_at, Unknown, Call}
-use Rattle.rt_world.proofs.Words.{Makes, Submit, Redeem, Detach, kept_by_sender, KeepsIn, opened_beside, RefusesTicket}
-use Rattle.rt_world.proofs.Words.{Act, IsActOf, IsActAt, Acts, HasActed, CallsAt, Redeems, Detaches, redeemed_reply}
-use Rattle.rt_world.proofs.Words.{detached_reply, sent_reply}
+use Rattle.rt_world.proofs.Words.{row_of, link_at, Parts, core_at, desk_at, world_of, IsWorld, journal_at, Unknown, Call, Makes, Submit, Redeem, Detach}
+use Rattle.rt_world.proofs.Words.{kept_by_sender, KeepsIn, opened_beside, RefusesTicket, Act, IsActOf, IsActAt, Acts, HasActed, CallsAt, Redeems, Detaches}
+use Rattle.rt_world.proofs.Words.{redeemed_reply, detached_reply, sent_reply}
 use Rattle.rt_journal.specs.Calls.{Does, LendsEnd}
 use Rattle.rt_journal.specs.Posts.{PostView}
 use Rattle.rt_journal.proofs.SentNotes.{SaysNoMore, recorded_silent, ins_silent, submitted_silent, redeemed_silent, detached_silent}

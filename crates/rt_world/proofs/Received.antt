@@ -1,8 +1,8 @@
 -- A world at rest stays one as a core takes the next order of a sender, or shuts the gate, and that is the step of its event.
-use Rattle.rt_world.proofs.Words.{◌≡◌, ℕ, ◌+◌, ◌≤◌, Bool, true, false, List, [], ◌∷◌, length, sym, ◌∙◌, ap, subst, arith, append-nil, Option}
-use Rattle.rt_world.proofs.Words.{Some, None, slice_get, Owed, Whole, inward_of, RecordedView, IsInOf, Reply, journal_at, noted, link_at, Parts, core_at}
-use Rattle.rt_world.proofs.Words.{desk_at, world_of, IsWorld, IsAtRest, Outcome, accepted_orders, Inward, StartsWith, Gives, ChangesLink, sent_at, Delivers}
-use Rattle.rt_world.proofs.Words.{IsDelivery, next_place, HasReceived}
+use Rattle.rt_world.proofs.Words.{◌≡◌, ℕ, ◌+◌, ◌≤◌, Bool, true, false, List, [], ◌∷◌, length, sym, ◌∙◌, ap, subst, arith, append-nil, Option, Some, None}
+use Rattle.rt_world.proofs.Words.{slice_get, Owed, Whole, inward_of, RecordedView, IsInOf, Reply, journal_at, noted, link_at, Parts, core_at, desk_at, world_of}
+use Rattle.rt_world.proofs.Words.{IsWorld, IsAtRest, Outcome, accepted_orders, Inward, StartsWith, Gives, ChangesLink, sent_at, Delivers, IsDelivery}
+use Rattle.rt_world.proofs.Words.{next_place, HasReceived}
 use Rattle.rt_ids.specs.declared.order.Envelope.{Envelope}
 use Rattle.rt_ids.specs.Filters.{delivered_names}
 use Rattle.rt_link.specs.Calls.{Takes}

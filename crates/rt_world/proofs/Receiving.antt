@@ -1,11 +1,11 @@
 -- A core does something on the link of a sender.
 use Rattle.rt_world.proofs.Words.{◌≡◌, ℕ, ◌+◌, ◌<◌, ◌≤◌, Bool, List, length, sym, ◌∙◌, ap, subst, arith, get_or, Order, Owed, Whole, inward_of, RecordedView}
 use Rattle.rt_world.proofs.Words.{IsInOf, WorldView, journal_at, link_at, Parts, core_at, world_of, IsWorld, Outcome, kept_by_receiver, StartsWith}
+use Rattle.rt_world.proofs.Words.{StartsWith-same}
 use Rattle.rt_link.specs.Calls.{SeesMore}
 use Rattle.rt_world.proofs.Borrowed.{IsLent, lent_link}
 use Rattle.rt_world.proofs.LinkSteps.{OnlyReceived}
 use Rattle.rt_world.proofs.CoreSteps.{journal_is, room_is, viewed}
-use Rattle.rt_link.proofs.Lists.{StartsWith-same}
 
 -- a core and the link of a sender to it, as their world has them
 pub record IsReceiving {J T : Type 0} (old : Parts J T) (sender core : ℕ) (view : RecordedView J T) (link : Whole J T) : Type 0 where

@@ -1,9 +1,9 @@
 -- What a sender does with its outcomes, as its world sees it.
-use Rattle.rt_world.proofs.Words.{◌≡◌, ℕ, ◌+◌, ◌-◌, ◌<◌, ◌≤◌, List, [], ◌∷◌, ◌++◌, length, refl, sym, ◌∙◌, ap, subst, arith, get_or, set, map}
-use Rattle.rt_world.proofs.Words.{Result, Ok, Err, append-nil, Option, Some, None, slice_get, JobId, Note, Order, Journal, Owed, Whole, Fits, out_of, WorldView}
-use Rattle.rt_world.proofs.Words.{journal_at, noted, link_at, Parts, desks, world_of, IsWorld, TicketError, Unknown, Gone, Pending, Outcome, IsRedeemable}
-use Rattle.rt_world.proofs.Words.{IsDetachable, collected_outcomes, outcome_note, StartsWith, kept_by_sender, DeskView, RefusesTicket, RedeemsTicket}
-use Rattle.rt_world.proofs.Words.{DetachesTicket, WasAccepted, collected_notes, uncollected, Collects, Redeems, Detaches, redeemed_reply, detached_reply}
+use Rattle.rt_world.proofs.Words.{◌≡◌, ℕ, ◌+◌, ◌-◌, ◌<◌, ◌≤◌, List, [], ◌∷◌, ◌++◌, length, refl, sym, ◌∙◌, ap, subst, arith, get_or, set, map, Result, Ok, Err}
+use Rattle.rt_world.proofs.Words.{append-nil, Option, Some, None, slice_get, JobId, Note, Order, Journal, Owed, Whole, Fits, out_of, WorldView, journal_at}
+use Rattle.rt_world.proofs.Words.{noted, link_at, Parts, desks, world_of, IsWorld, TicketError, Unknown, Gone, Pending, Outcome, IsRedeemable, IsDetachable}
+use Rattle.rt_world.proofs.Words.{collected_outcomes, outcome_note, StartsWith, kept_by_sender, DeskView, RefusesTicket, RedeemsTicket, DetachesTicket}
+use Rattle.rt_world.proofs.Words.{WasAccepted, collected_notes, uncollected, Collects, Redeems, Detaches, redeemed_reply, detached_reply, StartsWith-same}
 use Rattle.std.proofs.Common.{take, drop}
 use Rattle.std.specs.Prelude.{IfOk, IfSome}
 use Rattle.std.proofs.Math.Seq.{drop-append_seam, take-length}
@@ -20,7 +20,6 @@ use Rattle.rt_world.proofs.LinkSteps.{sender_rest, OnlySent}
 use Rattle.rt_world.proofs.CoreSteps.{journal_is, number_is}
 use Rattle.rt_world.proofs.Sending.{IsDoneOn, IsActing, its_sender, its_seat, its_notes, later, noted_now, same_now}
 use Rattle.rt_world.proofs.Collecting.{are_of}
-use Rattle.rt_link.proofs.Lists.{StartsWith-same}
 use Rattle.rt_desk.proofs.Taken.{taken-get}
 
 -- a sender that got outcomes, or gave a credit back, sees what it saw

@@ -1,8 +1,7 @@
 -- A world stays one as a core makes a step that sends nothing, or creates a queue before the first event.
 use Rattle.rt_world.proofs.Words.{◌≡◌, ℕ, ◌+◌, ◌-◌, ◌^◌, ◌<◌, ◌≤◌, [], ◌∷◌, sym, ◌∙◌, ap, subst, arith, List, Result, Ok, Err, get_or_from_slice_get, map, Some}
-use Rattle.rt_world.proofs.Words.{None, slice_get, Note, IsRightPick, Owed, RecordedView, desk_of, Whole, Fits, journal_at, noted, no_link}
-use Rattle.rt_world.proofs.Words.{row_of, link_at, Parts, core_at, world_of, IsWorld, IsAtRest, created_count, return_reason, line, turns, CreatesQueue}
-use Rattle.rt_world.proofs.Words.{with_notes, IsHandBack}
+use Rattle.rt_world.proofs.Words.{None, slice_get, Note, IsRightPick, Owed, RecordedView, desk_of, Whole, Fits, journal_at, noted, no_link, row_of, link_at}
+use Rattle.rt_world.proofs.Words.{Parts, core_at, world_of, IsWorld, IsAtRest, created_count, return_reason, line, turns, CreatesQueue, with_notes, IsHandBack}
 use Rattle.std.proofs.lemmas.Option.{slice_get_within}
 use Rattle.rt_ids.specs.declared.note.Note.TheVariants as writes
 use Rattle.rt_taskqueue.specs.declared.queues.CreateError.{CreateError}

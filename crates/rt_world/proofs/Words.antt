@@ -44,6 +44,7 @@ pub use Rattle.rt_journal.specs.Steps.{CreatesQueue, opened_beside, with_notes}
 pub use Rattle.rt_journal.specs.Submissions.{DeskView, IsWritten, opened_desk, terms_of_desk}
 pub use Rattle.rt_journal.specs.Tickets.{DetachesTicket, HasLane, RedeemsTicket, RefusesTicket, StaysBeside}
 pub use Rattle.rt_journal.specs.Whole.{post_of}
+pub use Rattle.rt_link.proofs.Lists.{StartsWith-same}
 pub use Rattle.rt_link.specs.Ends.{StartsWith}
 pub use Rattle.rt_link.specs.Fits.{Fits}
 pub use Rattle.rt_link.specs.Whole.{inward_of, kept_by_receiver, kept_by_sender, out_of}
@@ -75,6 +76,7 @@ pub use Rattle.rt_world.specs.declared.event.Reply.{Reply}
 pub use Rattle.rt_world.specs.declared.model.acts.Act.{Act}
 pub use Rattle.std.proofs.Common.{Bool, List, [], ap, append_assoc, arith, cond, false, get_or, get_or-set_other, get_or-set_same, inl, inr, length, refl, set}
 pub use Rattle.std.proofs.Common.{subst, suc, sym, true, vec_capacity, vec_items, zero, ℕ, ⊎_elim, ◌*◌, ◌++◌, ◌+◌, ◌-◌, ◌<◌, ◌^◌, ◌∙◌, ◌∷◌, ◌≡◌, ◌≢◌, ◌≤◌, ◌⊎◌}
+pub use Rattle.std.proofs.Math.Logic.{⊎_map}
 pub use Rattle.std.proofs.lemmas.Bool.{cases_eq, cases_lt, eq-eqb, true≢false}
 pub use Rattle.std.proofs.lemmas.Iterator.Adapters.{YieldsList-from_vec}
 pub use Rattle.std.proofs.lemmas.Iterator.Consumers.{YieldsList-end, YieldsList-turn}

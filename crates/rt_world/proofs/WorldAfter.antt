@@ -1,7 +1,7 @@
 -- A world stays one where one actor makes a step.
 use Rattle.rt_world.proofs.Words.{◌≡◌, ◌≢◌, ℕ, ◌<◌, ◌≤◌, List, length, refl, sym, ◌∙◌, ap, subst, arith, get_or, set, get_or-set_same, get_or-set_other, None}
-use Rattle.rt_world.proofs.Words.{Owed, Whole, inward_of, RecordedView, IsRecorded, Fits, IsInOf, row_of, link_at, Parts, core_at, desks}
-use Rattle.rt_world.proofs.Words.{desk_at, IsWorld, IsAtRest, DeskView, IsWritten, terms_of_desk, opened_desk, opened_beside, seat_of}
+use Rattle.rt_world.proofs.Words.{Owed, Whole, inward_of, RecordedView, IsRecorded, Fits, IsInOf, row_of, link_at, Parts, core_at, desks, desk_at, IsWorld}
+use Rattle.rt_world.proofs.Words.{IsAtRest, DeskView, IsWritten, terms_of_desk, opened_desk, opened_beside, seat_of}
 use Rattle.rt_world.proofs.Desks.{desk_count}
 use Rattle.rt_world.proofs.Places.{set_each, by_place}
 use Rattle.rt_world.proofs.LinkSteps.{OnlyReceived, OnlySent, IsSenderOn, sender_stays, in_stays}

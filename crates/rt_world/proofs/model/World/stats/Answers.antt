@@ -1,5 +1,5 @@
-use Rattle.rt_world.proofs.Words.{◌≡◌, ℕ, ◌<◌, ◌∙◌, ap, subst, arith, ◌↔◌, IsTrue, Some, slice_get, true≢false, CoreStats, Journal, queue_count}
-use Rattle.rt_world.proofs.Words.{core_stats, queue_stats, TellsCore, TellsQueues}
+use Rattle.rt_world.proofs.Words.{◌≡◌, ℕ, ◌<◌, ◌∙◌, ap, subst, arith, ◌↔◌, IsTrue, Some, slice_get, true≢false, CoreStats, Journal, queue_count, core_stats}
+use Rattle.rt_world.proofs.Words.{queue_stats, TellsCore, TellsQueues}
 use Rattle.arrayvec.specs.ArrayVec.{array_vec_len}
 use Rattle.rt_core.specs.Closing as core
 use Rattle.rt_world.proofs.StatsTold.{core_told, queues_told}
