@@ -55,7 +55,6 @@ impl<J: Task<Out = u64>, A: Allocator + Clone> World<J, A> {
         if self.is_shut(core, from) {
             return Reply::AlreadyShut;
         }
-        drop(self.receive(core, from, Receipt::Shut));
-        Reply::Noted
+        self.receive(core, from, Receipt::Shut)
     }
 }
