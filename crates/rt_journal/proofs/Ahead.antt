@@ -1,9 +1,9 @@
 -- What a core tells ahead of a pick is what its journal says, and the pick of a job that is told to go back hands it back.
 use Rattle.rt_journal.proofs.Names.{◌≡◌, ℕ, ◌-◌, ◌^◌, Bool, true, false, List, [], ◌∷◌, refl, sym, ◌∙◌, ap, subst}
-use Rattle.rt_journal.proofs.Names.{⊎_elim, arith, None, Result, Ok, Err, JobId, Note, KeyAtMost, line, turns, has_work}
-use Rattle.rt_journal.proofs.Names.{no_work, work_of_line, Owed, waiting_of, Turn, Start, Resume, Idle, PickError, Busy}
-use Rattle.rt_journal.proofs.Names.{CoreView, runtime_of, TakesOut, TellsAhead, some_front, IsJobOut, RecordedView}
-use Rattle.rt_journal.proofs.Names.{IsRecorded, terms_at, IsBack}
+use Rattle.rt_journal.proofs.Names.{⊎_elim, arith, None, Result, Ok, Err, JobId, Note, KeyAtMost, line, turns}
+use Rattle.rt_journal.proofs.Names.{has_work, no_work, work_of_line, Owed, waiting_of, Turn, Start, Resume, Idle}
+use Rattle.rt_journal.proofs.Names.{PickError, Busy, CoreView, runtime_of, TakesOut, TellsAhead, some_front, IsJobOut}
+use Rattle.rt_journal.proofs.Names.{RecordedView, IsRecorded, terms_at, IsBack}
 use Rattle.rt_core.specs.declared.turn.Ahead.TheVariants as ahead
 use Rattle.rt_core.specs.declared.turn.Turn.TheVariants.{Back}
 use Rattle.rt_core.specs.declared.turn.PickError.TheVariants.{Spent}

@@ -1,15 +1,15 @@
 -- A core beside its journal closes by itself.
-use Rattle.rt_journal.proofs.Names.{◌≡◌, ℕ, Bool, true, false, List, [], ◌∷◌, length, reverse, refl, sym, ◌∙◌, ap}
-use Rattle.rt_journal.proofs.Names.{subst, arith, add-zero, cond, Option, Some, None, All, ◌≤◌, JobId, Note, Answer}
-use Rattle.rt_journal.proofs.Names.{Mode, Order, closes, core_mode, effect_awaited, has_effect, CarriesOut, Journal}
-use Rattle.rt_journal.proofs.Names.{Owed, waiting_of, CoreView, inside_count, ClosesCore, polls_made, RecordedView}
-use Rattle.rt_journal.proofs.Names.{terms_at, IsRecorded, HasTask, ClosesItself, with_notes}
+use Rattle.rt_journal.proofs.Names.{◌≡◌, ℕ, Bool, true, false, List, [], ◌∷◌, refl, sym, ◌∙◌, ap, subst, arith}
+use Rattle.rt_journal.proofs.Names.{add-zero, cond, Option, Some, None, All, JobId, Note, Answer, Mode, Order, closes}
+use Rattle.rt_journal.proofs.Names.{core_mode, effect_awaited, has_effect, CarriesOut, Journal, Owed, waiting_of}
+use Rattle.rt_journal.proofs.Names.{CoreView, inside_count, ClosesCore, polls_made, RecordedView, terms_at, IsRecorded}
+use Rattle.rt_journal.proofs.Names.{HasTask, ClosesItself}
 use Rattle.rt_ids.specs.declared.note.Note.TheVariants as writes
-use Rattle.rt_journal.proofs.Kept.{plainly_stands}
+use Rattle.rt_journal.proofs.Kept.{kept_after}
 use Rattle.rt_journal.proofs.KeptClosings.{agrees-core_closed}
 use Rattle.rt_journal.proofs.Received.{task_stays}
 use Rattle.rt_journal.proofs.Quiet.{nobody}
-use Rattle.rt_journal.proofs.QuietSteps.{stepped, everyone, IsQuietStep, nothing_done, nothing_stepped}
+use Rattle.rt_journal.proofs.QuietSteps.{everyone, IsQuietStep, HasDone, nothing_did, done_so}
 
 no_effect : (answer : Answer) (test : Bool) → cond test (Some answer) None ≡ None → test ≡ true → ⊥
 no_effect answer true none is = cc
@@ -28,20 +28,13 @@ module _ {J T : Type 0} {same : J → J → Type 0} {made : J → ℕ} {polls : 
   close_step : (core : CoreView J) → closes old.core.mode mode ≡ true → core ≡ record old.core { mode = Some mode } →
       IsQuietStep old core (writes.CoreClosed mode ∷ []) same made polls everyone nobody
   close_step core changes is = record {
-    kept = record {
-      is_core = recorded.kept.is_core;
-      agrees = agrees-core_closed old.core core old.journal.notes recorded.kept.agrees mode is;
-      notes = (
-        plainly_stands (terms_at old) (writes.CoreClosed mode) old.journal.notes recorded.kept.is_core (closes_told true changes) recorded.kept.no_pick recorded.kept.no_answer refl tt,
-        recorded.kept.notes,
-      );
-      no_pick = refl;
-      no_answer = refl;
-    };
+    kept =
+        kept_after (terms_at old) (writes.CoreClosed mode) recorded.kept (agrees-core_closed old.core core old.journal.notes recorded.kept.agrees mode is) recorded.kept.is_core
+        (closes_told true changes) refl tt refl refl;
     number = ap (λ core. core.core) is;
     cores = ap (λ core. core.cores) is;
     room = ap (λ core. core.queues.room) is;
-    quiet = record { sent = record { accepted = λ core. refl; outstanding = λ core. refl; collected = λ core. refl; gone = λ name. refl; waits = λ name. refl }; given = λ sender. refl; delivered = λ sender. refl };
+    quiet = assumption;
     ungiven = λ sender inward is. tt;
     gates = λ sender there. refl;
     fewer = omega (arith, ap inside_count is);
@@ -51,17 +44,8 @@ module _ {J T : Type 0} {same : J → J → Type 0} {made : J → ℕ} {polls : 
     out = λ job at. task_stays (λ order at. at) (add-zero (polls_made job.name old.journal.notes)) (recorded.out job (sym (ap (λ core. core.out) is) ∙ at));
   }
 
-  abbrev Stepped : CoreView J → List (Note T) → Type 0
-  Stepped core notes = IsQuietStep old core (reverse notes) same made polls everyone nobody
-
-  pub few_closed : (closed : Bool) (core : CoreView J) (notes : List (Note T)) → ClosesCore old.core mode closed core notes → length notes ≤ 1
-  few_closed true core notes did = omega (arith, ap length did.2)
-  few_closed false core notes did = omega (arith, ap length did.2)
-
-  pub step_closed : (closed : Bool) (core : CoreView J) (notes : List (Note T)) → ClosesCore old.core mode closed core notes → Stepped core notes
-  step_closed true core notes did = subst (Stepped core) (sym did.2) (close_step core did.0 did.1)
-  step_closed false core notes did = subst (Stepped core) (sym did.2) (subst (λ core. Stepped core []) (sym did.1) (nothing_done old recorded))
-
-  pub closes_itself : (closed : Bool) (core : CoreView J) (notes : List (Note T)) → ClosesCore old.core mode closed core notes → ClosesItself old mode closed (stepped old core (reverse notes))
-  closes_itself true core notes did = (closes_told true did.0, ap (λ notes. with_notes (reverse notes) old.journal) did.2, ap (λ core. core.out) did.1, refl)
-  closes_itself false core notes did = (closes_told false did.0, nothing_stepped old recorded core did.1 (reverse notes) (ap reverse did.2))
+  -- whether or not that changes anything
+  pub closed_did : (closed : Bool) (core : CoreView J) (notes : List (Note T)) → ClosesCore old.core mode closed core notes →
+      HasDone same made polls old core everyone nobody 1 (λ old new. ClosesItself old mode closed new) notes
+  closed_did true core notes did = done_so did.2 (close_step core did.0 did.1) (omega arith) (closes_told true did.0, refl, ap (λ core. core.out) did.1, refl)
+  closed_did false core notes did = nothing_did recorded did.1 did.2 (closes_told false did.0, refl)

@@ -1,6 +1,6 @@
 -- All outcomes that an end shows are collected, one after another.
-use Rattle.rt_journal.proofs.Names.{◌≡◌, ℕ, ◌+◌, true, false, List, ◌∷◌, ◌++◌, append_assoc, sym, ◌∙◌, ap, subst, arith}
-use Rattle.rt_journal.proofs.Names.{Order, Outcome, Outward, StartsWith, JournalView, DeskView, StaysBeside}
+use Rattle.rt_journal.proofs.Names.{◌≡◌, ℕ, ◌+◌, true, false, List, ◌∷◌, ◌++◌, append_assoc, sym, ◌∙◌, ap, subst}
+use Rattle.rt_journal.proofs.Names.{arith, Order, Outcome, Outward, StartsWith, JournalView, DeskView, StaysBeside}
 use Rattle.rt_journal.proofs.Names.{CollectsFrom, GetsAll, GetsNext}
 use Rattle.rt_ids.specs.declared.note.Note.TheVariants as writes
 

@@ -10,7 +10,7 @@ use Rattle.rt_journal.proofs.Names.{is_gone, is_outstanding, name_redeemed, name
 use Rattle.rt_journal.proofs.Names.{same_as_itself, Outward, StartsWith, Fits, AnswersCreation, AnswersShares}
 use Rattle.rt_journal.proofs.Names.{JournalView, at, Lane, IsLaneOf, IsAwaited, IsSent, CollectsNext, told_of}
 use Rattle.rt_journal.proofs.Names.{taken-get, DeskView, IsWritten, terms_of_desk, IsOutOf, ShowsMore, name_of}
-use Rattle.rt_journal.proofs.Names.{named_outcomes, KnowsLane, KnowsLanes, StaysBeside, is_let_go, booked}
+use Rattle.rt_journal.proofs.Names.{named_outcomes, KnowsLane, KnowsLanes, StaysBeside, is_let_go, booked, shares}
 use Rattle.rt_ids.specs.declared.note.Note.TheVariants as writes
 use Rattle.rt_ids.specs.declared.order.Answer.TheVariants as answer
 use Rattle.rt_ids.specs.declared.order.Outcome.TheVariants.{Finished, Returned, Answered}

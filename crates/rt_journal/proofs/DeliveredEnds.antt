@@ -1,14 +1,13 @@
 -- The ends of links stay beside a core and its journal as an order is delivered.
 use Rattle.rt_journal.proofs.Names.{◌≡◌, ℕ, suc, ◌+◌, ◌<◌, Bool, true, false, cond, List, [], ◌∷◌, length, refl, sym}
-use Rattle.rt_journal.proofs.Names.{◌∙◌, ap, subst, ◌⊎◌, ⊎_elim, arith, ◌==◌, Option, Some, None, slice_get, option_map}
-use Rattle.rt_journal.proofs.Names.{eq-eqb, ne_eqb, JobId, Envelope, Order, Outcome, OutcomeNote, with_last}
-use Rattle.rt_journal.proofs.Names.{outcome_note, IsCounted, final_count, given_outcomes, number_if, Inward, SoundIn}
-use Rattle.rt_journal.proofs.Names.{AreNamed, Takes, final_of, RecordedView, desk_of, order_taken, delivered_count}
-use Rattle.rt_journal.proofs.Names.{given_count, IsInOf, IsInOwing, IsUngiven, GivesMore, told_under, KeepsIn}
-use Rattle.rt_journal.proofs.Names.{IsSameSeat, named_outcomes, IsNextIn, Receives, KeepsOuts}
+use Rattle.rt_journal.proofs.Names.{◌∙◌, ap, subst, ◌⊎◌, ⊎_elim, arith, ◌==◌, Option, Some, None, slice_get}
+use Rattle.rt_journal.proofs.Names.{option_map, eq-eqb, ne_eqb, JobId, Envelope, Order, Outcome, OutcomeNote}
+use Rattle.rt_journal.proofs.Names.{with_last, outcome_note, IsCounted, final_count, given_outcomes, number_if, Inward}
+use Rattle.rt_journal.proofs.Names.{SoundIn, AreNamed, Takes, final_of, RecordedView, desk_of, order_taken}
+use Rattle.rt_journal.proofs.Names.{delivered_count, given_count, IsInOf, IsInOwing, IsUngiven, GivesMore, told_under}
+use Rattle.rt_journal.proofs.Names.{KeepsIn, IsSameSeat, named_outcomes, IsNextIn, Receives, KeepsOuts}
 use Rattle.rt_journal.proofs.TakenOrders.{order_taken-parts}
-use Rattle.rt_journal.proofs.EndsKept.{keeps_in, slice_get-seen}
-use Rattle.rt_journal.proofs.EndsKept.{keeps_outs, sees_more_in, final_of-more}
+use Rattle.rt_journal.proofs.EndsKept.{keeps_in, slice_get-seen, keeps_outs, sees_more_in, final_of-more}
 
 length-named : {J T : Type 0} (sender core : ℕ) (outcomes : List (ℕ × Outcome J T)) → length (named_outcomes sender core outcomes) ≡ length outcomes
 length-named sender core [] = refl

@@ -2,9 +2,9 @@
 use Rattle.rt_journal.proofs.Names.{◌≡◌, ℕ, zero, suc, ◌+◌, ◌≤◌, List, [], ◌∷◌, ◌++◌, length, append_assoc, refl, sym}
 use Rattle.rt_journal.proofs.Names.{◌∙◌, ap, arith, Option, Some, slice_get, take, Bool, true, false, length-append}
 use Rattle.rt_journal.proofs.Names.{take-append-le, JobId, OutcomeNote, with_last, Order, IsPrefix, given_outcomes}
-use Rattle.rt_journal.proofs.Names.{Inward, final_count, Outward, StartsWith, SeesMore, final_of, numbered_orders}
-use Rattle.rt_journal.proofs.Names.{DeskView, RecordedView, order_taken, delivered_count, IsOutOf, IsInOf, KeepsSent}
-use Rattle.rt_journal.proofs.Names.{KeepsOuts, LeavesOwed, IsUngiven, ShowsMore, IsSameSeat, named_outcomes}
+use Rattle.rt_journal.proofs.Names.{Inward, final_count, Outward, StartsWith, SeesMore, final_of, DeskView}
+use Rattle.rt_journal.proofs.Names.{RecordedView, order_taken, delivered_count, IsOutOf, IsInOf, KeepsSent, KeepsOuts}
+use Rattle.rt_journal.proofs.Names.{LeavesOwed, IsUngiven, ShowsMore, IsSameSeat, named_outcomes, subst, KeepsOut}
 
 pub prefix-along : {A : Type 0} (a b c : List A) → IsPrefix a b → IsPrefix b c → IsPrefix a c
 prefix-along a b c one two = (one.0 ++ two.0, sym (append_assoc a one.0 two.0) ∙ (ap (λ front. front ++ two.0) one.1 ∙ two.1))
@@ -20,19 +20,10 @@ slice_get-seen whole front starts place item at = ap (λ list. slice_get list pl
 
 -- notes by which nothing is sent and nothing collected leave the sender's ends as they are
 pub keeps_outs : {J T : Type 0} (old new : DeskView J T) → new ≡ record old { journal = new.journal; lanes = new.lanes } → KeepsSent old.journal.notes new.journal.notes → KeepsOuts old new
-keeps_outs old new rest sent core = record {
-  each = λ out credited is. record {
-    known = rw (ap (λ desk. desk.cores) rest) is.known;
-    from = is.from ∙ sym (ap (λ desk. desk.actor) rest);
-    to = is.to;
-    base = is.base;
-    capacity = is.capacity ∙ sym (ap (λ desk. desk.cap) rest);
-    accepted = sent.accepted core ∙ (is.accepted ∙ ap (λ actor. numbered_orders actor core 0 out.sent) (sym (ap (λ desk. desk.actor) rest)));
-    outstanding = ap (λ count. count + credited) (sent.outstanding core) ∙ is.outstanding;
-    behind = is.behind;
-    collected = sent.collected core ∙ (is.collected ∙ ap (λ actor. named_outcomes actor core (take out.got out.seen)) (sym (ap (λ desk. desk.actor) rest)));
-  };
-}
+keeps_outs old new rest sent core = subst (KeepsOut core old) (sym rest) (record {
+  each = λ out credited is.
+      assumption (sent.accepted core ∙ is.accepted, ap (λ count. count + credited) (sent.outstanding core) ∙ is.outstanding, sent.collected core ∙ is.collected);
+})
 
 module _ {J T : Type 0} (old new : RecordedView J T) (seat : IsSameSeat old new) (sender : ℕ)
     (owed : Option (JobId × OutcomeNote T)) (given : given_outcomes sender new.journal.notes ≡ with_last (given_outcomes sender old.journal.notes) owed)
@@ -93,15 +84,7 @@ take-seen whole front starts count within = ap (take count) starts.1 ∙ take-ap
 -- and for the sender's end
 pub sees_more_out : {J T : Type 0} (core : ℕ) (desk : DeskView J T) (old new : Outward J T) (credited : ℕ) → ShowsMore old new →
     IsOutOf core desk old credited → IsOutOf core desk new credited
-sees_more_out core desk old new credited more is = record {
-  known = is.known;
-  from = ap (λ end. end.from) more.rest ∙ is.from;
-  to = ap (λ end. end.to) more.rest ∙ is.to;
-  base = ap (λ end. end.base) more.rest ∙ is.base;
-  capacity = ap (λ end. end.capacity) more.rest ∙ is.capacity;
-  accepted = is.accepted ∙ ap (numbered_orders desk.actor core 0) (sym (ap (λ end. end.sent) more.rest));
-  outstanding = is.outstanding ∙ ap length (sym (ap (λ end. end.sent) more.rest));
-  behind = omega (arith, is.behind, ap (λ end. end.got) more.rest, ap length more.seen.1, length-append old.seen more.seen.0);
-  collected = is.collected ∙ ap (named_outcomes desk.actor core)
-      (sym (ap (λ got. take got new.seen) (ap (λ end. end.got) more.rest) ∙ take-seen new.seen old.seen more.seen old.got is.behind));
-}
+sees_more_out core desk old new credited more is =
+    let behind : old.got ≤ length new.seen = omega (arith, is.behind, ap length more.seen.1, length-append old.seen more.seen.0) in
+    let collected = is.collected ∙ ap (named_outcomes desk.actor core) (sym (take-seen new.seen old.seen more.seen old.got is.behind)) in
+    subst (λ end. IsOutOf core desk end credited) (sym more.rest) (assumption (behind, collected))

@@ -29,24 +29,14 @@ module _ {J T : Type 0} (view : RecordedView J T) (name : JobId) (order : Order 
         )
 
     pub gave_one : IsInOf name.from view (record inward { given = inward.given ++ (name.number, outcome) ∷ [] })
-    gave_one = record {
-      known = is.known;
-      from = is.from;
-      to = is.to;
-      base = is.base;
-      capacity = is.capacity;
-      gate = is.gate;
-      taken = is.taken;
-      behind = is.behind;
-      given =
-          let found = is.orders name order refl took in
-          let its_name : name ≡ name_of name.from view.core.core name.number = found.1 ∙ ap (name_of name.from view.core.core) (sym (ap (λ name. name.number) found.1)) in
+    gave_one =
+        let found = is.orders name order refl took in
+        let its_name : name ≡ name_of name.from view.core.core name.number = found.1 ∙ ap (name_of name.from view.core.core) (sym (ap (λ name. name.number) found.1)) in
+        assumption (
           owes.given
-          ∙ (ap (λ id. named_outcomes name.from view.core.core inward.given ++ (id, outcome_note outcome) ∷ []) its_name
-          ∙ sym (map-append (λ outcome. (name_of name.from view.core.core outcome.0, outcome_note outcome.1)) inward.given ((name.number, outcome) ∷ [])));
-      ungiven = tt;
-      orders = is.orders;
-    }
+              ∙ (ap (λ id. named_outcomes name.from view.core.core inward.given ++ (id, outcome_note outcome) ∷ []) its_name
+              ∙ sym (map-append (λ outcome. (name_of name.from view.core.core outcome.0, outcome_note outcome.1)) inward.given ((name.number, outcome) ∷ [])))
+        )
 
   -- the same of an outcome that there may be
   pub may_give : IsTaken view.core.cores view.journal.notes name → (fits : Order J → Outcome J T → Type 0) (outcome : Option (Outcome J T)) → IfSome outcome (fits order) →

@@ -3,18 +3,20 @@ use Rattle.rt_journal.proofs.Names.{◌≡◌, ℕ, ◌+◌, ◌≤◌, Bool, tr
 use Rattle.rt_journal.proofs.Names.{subst, arith, add-zero, Option, Some, None, nat_lt, slice_index_or, ◌||◌, lt-ltb}
 use Rattle.rt_journal.proofs.Names.{Terms, JobId, Note, Mode, Journal, EachNote, name_started, delivered_names}
 use Rattle.rt_journal.proofs.Names.{virtual_runtime, shares, floor, charge_noted, runtime_picked, is_number, has_work}
-use Rattle.rt_journal.proofs.Names.{number_if, queue_entered, queue_joined, line, queue_out, name_joining, name_leaving}
-use Rattle.rt_journal.proofs.Names.{name_polled, name_settled, queue_just_picked, created_count, effect_awaited}
-use Rattle.rt_journal.proofs.Names.{pick_count, turns, MayFollow, MayWrite, MayStand, takes_turn, IsEffectDue}
-use Rattle.rt_journal.proofs.Names.{has_work-line, virtual_runtime-stays, floor-stays, line-stays, queue_out-alone}
-use Rattle.rt_journal.proofs.Names.{queue_out-nobody, waiting_of, CoreView, JobOut, is_working, is_any, runtime_of}
-use Rattle.rt_journal.proofs.Names.{Agrees, AgreesOnClosing, IsJobOut, AreMarked, Figures, figures_of, figures_told}
-use Rattle.rt_journal.proofs.Names.{figures_noted}
+use Rattle.rt_journal.proofs.Names.{number_if, queue_entered, queue_joined, line, queue_out, name_joining}
+use Rattle.rt_journal.proofs.Names.{name_leaving, name_polled, name_settled, queue_just_picked, created_count}
+use Rattle.rt_journal.proofs.Names.{effect_awaited, pick_count, turns, MayFollow, MayWrite, MayStand, takes_turn}
+use Rattle.rt_journal.proofs.Names.{IsEffectDue, has_work-line, virtual_runtime-stays, floor-stays, line-stays}
+use Rattle.rt_journal.proofs.Names.{queue_out-alone, queue_out-nobody, waiting_of, CoreView, JobOut, is_working}
+use Rattle.rt_journal.proofs.Names.{is_any, runtime_of, Agrees, AgreesOnClosing, IsJobOut, AreMarked, Figures}
+use Rattle.rt_journal.proofs.Names.{figures_of, figures_told, figures_noted, QueuesView, ◌<◌, queue_count, Tally}
+use Rattle.rt_journal.proofs.Names.{figures_in, shares_of}
 use Rattle.rt_ids.specs.declared.note.Note.TheVariants as writes
 use Rattle.rt_core.specs.State as state
 pub use Rattle.rt_journal.specs.Agreement.{IsKept}
 use Rattle.rt_journal.specs.Agreement.{names_of}
 use Rattle.rt_journal.proofs.FigureSteps.{figures-stays}
+use Rattle.rt_core.specs.State.{tally_of}
 
 -- a note that takes no turn and is no effect may stand where nothing is awaited
 pub plainly_stands : {T : Type 0} (terms : Terms) (note : Note T) (before : Journal T) → MayWrite terms note → MayFollow terms note before →
@@ -128,22 +130,29 @@ pub agrees_unmoved : {J T : Type 0} (old : CoreView J) (journal : Journal T) (no
     (delivered : List ℕ) → length delivered ≡ old.cores + 1 → ((sender : ℕ) → sender ≤ old.cores → slice_index_or delivered sender 0 ≡ length (delivered_names sender (note ∷ journal))) →
     (gates : List (Option ℕ)) (mode : Option Mode) → AgreesOnClosing (record old { delivered = delivered; gates = gates; mode = mode }) (note ∷ journal) →
     Agrees (record old { delivered = delivered; gates = gates; mode = mode }) (note ∷ journal)
-agrees_unmoved old journal note agrees is_calm creates weighs delivered senders counted gates mode closing =
+agrees_unmoved {J} old journal note agrees is_calm creates weighs delivered senders counted gates mode closing =
     let calm = stays_calm note journal is_calm old (record old { delivered = delivered; gates = gates; mode = mode })
     (record { lines = λ queue. refl; runtimes = λ queue. refl; the_floor = refl; turns_made = refl; out = refl; figures = λ queue. refl }) agrees in
-    record {
-      tallied = agrees.tallied;
-      senders = senders;
-      last = agrees.last ∙ ap (λ count. count + 1) (sym creates);
-      lines = calm.lines;
-      marks = calm.marks;
-      runtimes = calm.runtimes;
-      weights = λ queue there. agrees.weights queue there ∙ sym (weighs queue);
-      the_floor = calm.the_floor;
-      turns = calm.turns_made;
-      out = calm.out;
-      out_exists = agrees.out_exists;
-      delivered = counted;
-      figures = calm.figures;
-      closing = closing;
-    }
+    let weights = λ (queue : ℕ) (there : queue < queue_count old.queues). agrees.weights queue there ∙ sym (weighs queue) in
+    assumption (agrees.last ∙ ap (λ count. count + 1) (sym creates), weights)
+
+-- so does one whose queues hold the same jobs and count the same of them
+pub agrees_steady : {J T : Type 0} (old new : CoreView J) (journal : Journal T) (note : Note T) → Agrees old journal → IsCalm note journal → (queues : QueuesView J) (tallies : List Tally) →
+    new ≡ record old { queues = queues; tallies = tallies } → ((queue : ℕ) → waiting_of queue queues ≡ waiting_of queue old.queues) →
+    ((queue : ℕ) → tally_of queue (record old { tallies = tallies }) ≡ tally_of queue old) → length tallies ≡ queue_count queues →
+    queue_count queues ≡ created_count (note ∷ journal) + 1 → queue_count old.queues ≤ queue_count queues →
+    ((queue : ℕ) → queue < queue_count queues → shares_of queue queues ≡ shares queue (note ∷ journal)) → ((sender : ℕ) → delivered_names sender (note ∷ journal) ≡ delivered_names sender journal) →
+    AgreesOnClosing (record old { queues = queues; tallies = tallies }) (note ∷ journal) → Agrees new (note ∷ journal)
+agrees_steady {J} old new journal note agrees is_calm queues tallies is lines same tallied last more weights delivers closing =
+    let calm = stays_calm note journal is_calm old (record old { queues = queues; tallies = tallies })
+    (record { lines = lines; runtimes = λ queue. ap (λ tally. tally.runtime) (same queue); the_floor = refl; turns_made = refl; out = refl; figures = λ queue. ap figures_in (same queue) }) agrees in
+    let delivered = λ (sender : ℕ) (known : sender ≤ old.cores). agrees.delivered sender known ∙ ap length (sym (delivers sender)) in
+    let out_exists : (job : JobOut J) → old.out ≡ Some job → job.queue < queue_count queues = λ job at. omega (arith, more, agrees.out_exists job at) in
+    subst (λ core. Agrees core (note ∷ journal)) (sym is) (assumption (delivered, out_exists))
+
+-- a note that takes no turn and is no effect follows, and the core agrees with it
+pub kept_after : {J T : Type 0} (terms : Terms) (note : Note T) {old new : CoreView J} {before : Journal T} → IsKept terms old before → Agrees new (note ∷ before) → MayWrite terms note →
+    MayFollow terms note before → takes_turn note ≡ false → IsEffectDue None note before → queue_just_picked (note ∷ before) ≡ None → effect_awaited (note ∷ before) ≡ None →
+    IsKept terms new (note ∷ before)
+kept_after terms note kept agrees writer law plain free no_pick no_answer =
+    assumption (plainly_stands terms note _ writer law kept.no_pick kept.no_answer plain free)

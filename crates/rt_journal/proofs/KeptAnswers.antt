@@ -2,9 +2,9 @@
 use Rattle.rt_journal.proofs.Names.{◌≡◌, ℕ, ◌≤◌, false, ◌∷◌, length, refl, sym, ◌∙◌, ap, subst, Some, Terms, JobId}
 use Rattle.rt_journal.proofs.Names.{Note, Order, Reason, Answer, Journal, with_last, delivered_names, if_from, shares}
 use Rattle.rt_journal.proofs.Names.{created_count, refusal, IsAnswer, has_effect, MayStand, IsNextDelivered, CoreView}
-use Rattle.rt_journal.proofs.Names.{CountsAlone, counted, Agrees}
+use Rattle.rt_journal.proofs.Names.{CountsAlone, counted, Agrees, cond, queue_just_picked, None, effect_awaited}
 use Rattle.rt_ids.specs.declared.note.Note.TheVariants as writes
-use Rattle.rt_journal.proofs.Kept.{IsKept, plainly_stands, agrees_unmoved, IsCalm}
+use Rattle.rt_journal.proofs.Kept.{IsKept, plainly_stands, agrees_unmoved, IsCalm, kept_after}
 use Rattle.rt_journal.proofs.KeptDeliveries.{IsCounted, senders_counted, delivered_counted}
 use Rattle.rt_journal.proofs.KeptModes.{SameModes, IsOpenNote, closing-stays}
 
@@ -35,28 +35,20 @@ module _ {J T : Type 0} (terms : Terms) (old new : CoreView J) (name : JobId) (j
 
   -- a job that is refused goes back
   pub kept-back : (queue : ℕ) (reason : Reason) → refusal queue journal ≡ Some reason → IsKept terms new (writes.Back name reason ∷ journal)
-  kept-back queue reason refused = record {
-    is_core = kept.is_core;
-    agrees = agrees-back reason;
-    notes = (
-      plainly_stands terms (writes.Back name reason) journal kept.is_core (next, (queue, refused)) kept.no_pick kept.no_answer refl tt,
-      kept.notes,
-    );
-    no_pick = refl;
-    no_answer = refl;
-  }
+  kept-back queue reason refused = kept_after terms (writes.Back name reason) kept (agrees-back reason) kept.is_core (next, (queue, refused)) refl tt refl refl
 
   -- a command is answered
   pub answered_stands : (order : Order (Unit {0})) (answer : Answer) → IsAnswer order answer journal → MayStand terms (writes.Answered name answer) journal
   answered_stands order answer right =
       plainly_stands terms (writes.Answered name answer) journal kept.is_core (next, (order, right)) kept.no_pick kept.no_answer refl tt
 
+  -- and the note of its effect follows
+  pub kept-effect : (order : Order (Unit {0})) (answer : Answer) → IsAnswer order answer journal → (note : Note T) {core : CoreView J} → Agrees core (note ∷ writes.Answered name answer ∷ journal) →
+      MayStand terms note (writes.Answered name answer ∷ journal) → queue_just_picked (note ∷ writes.Answered name answer ∷ journal) ≡ None → effect_awaited (note ∷ writes.Answered name answer ∷ journal) ≡ None →
+      IsKept terms core (note ∷ writes.Answered name answer ∷ journal)
+  kept-effect order answer right note agrees stands no_pick no_answer = assumption (answered_stands order answer right)
+
   pub kept-answered : (order : Order (Unit {0})) (answer : Answer) → IsAnswer order answer journal → has_effect answer ≡ false →
       IsKept terms new (writes.Answered name answer ∷ journal)
-  kept-answered order answer right plain = record {
-    is_core = kept.is_core;
-    agrees = agrees-answered answer;
-    notes = (answered_stands order answer right, kept.notes);
-    no_pick = refl;
-    no_answer = rw plain;
-  }
+  kept-answered order answer right plain =
+      kept_after terms (writes.Answered name answer) kept (agrees-answered answer) kept.is_core (next, (order, right)) refl tt refl (ap (λ awaited. cond awaited (Some answer) None) plain)

@@ -1,18 +1,16 @@
 -- What a core tells of itself stays what its journal says, as a queue is created and as a queue gets shares.
-use Rattle.rt_journal.proofs.Names.{◌≡◌, inr, ℕ, zero, suc, ◌+◌, ◌<◌, ◌≤◌, Bool, false, List, [], ◌∷◌, ◌++◌, length}
-use Rattle.rt_journal.proofs.Names.{refl, sym, ◌∙◌, ap, subst, arith, get_or, None, nat_le, le-leb, lt-leb}
-use Rattle.rt_journal.proofs.Names.{length-append, InRange, Terms, JobId, Answer, Journal, list_told, shares, core_mode}
+use Rattle.rt_journal.proofs.Names.{◌≡◌, inr, ℕ, zero, suc, ◌+◌, ◌<◌, ◌≤◌, Bool, false, List, [], ◌∷◌, ◌++◌, refl, sym}
+use Rattle.rt_journal.proofs.Names.{◌∙◌, ap, subst, arith, get_or, None, nat_le, le-leb, lt-leb, length-append}
+use Rattle.rt_journal.proofs.Names.{InRange, Terms, JobId, Answer, Journal, list_told, shares, core_mode}
 use Rattle.rt_journal.proofs.Names.{created_count, IsAnswer, IsCreationAnswer, queue_created, IsNextDelivered}
 use Rattle.rt_journal.proofs.Names.{shares-created, shares-created_elsewhere, shares-set, shares-set_elsewhere}
-use Rattle.rt_journal.proofs.Names.{queue_count, shares_of, CoreView, no_tally, runtime_of, Creates, Weighs, counted}
-use Rattle.rt_journal.proofs.Names.{Agrees, figures_in, figures_of}
+use Rattle.rt_journal.proofs.Names.{queue_count, shares_of, CoreView, no_tally, Creates, Weighs, counted, Agrees}
 use Rattle.rt_ids.specs.declared.note.Note.TheVariants as writes
 use Rattle.rt_ids.specs.declared.order.Order.TheVariants as orders
 use Rattle.rt_ids.specs.declared.order.Answer.TheVariants as answers
 use Rattle.rt_journal.proofs.Everywhere.{everywhere}
-use Rattle.rt_journal.proofs.Kept.{IsKept, stays_calm, SameJobs}
-use Rattle.rt_journal.proofs.KeptModes.{closing-stays}
-use Rattle.rt_journal.proofs.KeptAnswers.{agrees-answered, answered_stands}
+use Rattle.rt_journal.proofs.Kept.{IsKept, agrees_steady}
+use Rattle.rt_journal.proofs.KeptAnswers.{agrees-answered, kept-effect}
 
 -- one more at the end, that is what is read past the end, is not seen
 get_or-append_default : {A : Type 0} (items : List A) (default : A) (place : ℕ) → get_or (items ++ default ∷ []) place default ≡ get_or items place default
@@ -25,35 +23,12 @@ module _ {J T : Type 0} (old new : CoreView J) (queue weight : ℕ) (journal : J
   -- a queue is created
   pub agrees-created : queue ≡ queue_count old.queues → Creates old weight new → new.delivered ≡ old.delivered → Agrees new (writes.Created queue weight ∷ journal)
   agrees-created next creates same =
-      let calm = stays_calm (writes.Created queue weight) journal refl old new jobs agrees in
-      record {
-        tallied = ap (λ core. length core.tallies) creates.rest
-            ∙ (length-append old.tallies (no_tally ∷ []) ∙ (ap (λ count. count + 1) agrees.tallied ∙ sym creates.added.count));
-        senders = ap length same ∙ (agrees.senders ∙ ap (λ cores. cores + 1) (sym (ap (λ core. core.cores) creates.rest)));
-        last = creates.added.count ∙ ap (λ count. count + 1) (agrees.last ∙ sym (length-append (list_told queue_created journal) (queue ∷ [])));
-        lines = calm.lines;
-        marks = calm.marks;
-        runtimes = calm.runtimes;
-        the_floor = calm.the_floor;
-        turns = calm.turns_made;
-        out = calm.out;
-        figures = calm.figures;
-        weights = weights;
-        out_exists = λ out at. omega (arith, creates.added.count, agrees.out_exists out (sym (ap (λ core. core.out) creates.rest) ∙ at));
-        delivered = λ sender known. ap (λ list. get_or list sender 0) same ∙ agrees.delivered sender (rw (← ap (λ core. core.cores) creates.rest) known);
-        closing = closing-stays old new (writes.Created queue weight) journal (record { modes = creates.added.same_modes; mode = ap (λ core. core.mode) creates.rest; gates = ap (λ core. core.gates) creates.rest; cores = ap (λ core. core.cores) creates.rest }) (record { queues = λ queue. refl; core = refl; gates = λ sender. refl }) agrees.closing;
-      }
+      agrees_steady old new journal (writes.Created queue weight) agrees refl new.queues (old.tallies ++ no_tally ∷ [])
+      (creates.rest ∙ ap (λ delivered. record old { queues = new.queues; tallies = old.tallies ++ no_tally ∷ []; delivered = delivered }) same)
+      creates.added.same_lines (get_or-append_default old.tallies no_tally) (length-append old.tallies (no_tally ∷ []) ∙ (ap (λ count. count + 1) agrees.tallied ∙ sym creates.added.count))
+      (creates.added.count ∙ ap (λ count. count + 1) (agrees.last ∙ sym (length-append (list_told queue_created journal) (queue ∷ [])))) (omega (arith, creates.added.count)) weights (λ sender. refl)
+      (assumption (λ (other : ℕ). creates.added.same_modes other ∙ agrees.closing.modes other))
     where
-      jobs : SameJobs old new
-      jobs = record {
-        lines = creates.added.same_lines;
-        runtimes = λ other. ap (λ core. runtime_of other core) creates.rest ∙ ap (λ tally. tally.runtime) (get_or-append_default old.tallies no_tally other);
-        the_floor = ap (λ core. core.floor) creates.rest;
-        turns_made = ap (λ core. core.turns) creates.rest;
-        out = ap (λ core. core.out) creates.rest;
-        figures = λ other. ap (λ core. figures_of other core) creates.rest ∙ ap figures_in (get_or-append_default old.tallies no_tally other);
-      }
-
       weights : (other : ℕ) → other < queue_count new.queues → shares_of other new.queues ≡ shares other (writes.Created queue weight ∷ journal)
       weights = everywhere (λ at. at < queue_count new.queues → shares_of at new.queues ≡ shares at (writes.Created queue weight ∷ journal)) queue
           (λ there. subst (λ at. shares_of at new.queues ≡ weight) (sym next) creates.added.given ∙ sym (shares-created queue journal weight))
@@ -64,34 +39,10 @@ module _ {J T : Type 0} (old new : CoreView J) (queue weight : ℕ) (journal : J
   -- a queue gets shares
   pub agrees-weighed : Weighs old queue weight new → new.delivered ≡ old.delivered → Agrees new (writes.SharesSet queue weight ∷ journal)
   agrees-weighed weighs same =
-      let calm = stays_calm (writes.SharesSet queue weight) journal refl old new jobs agrees in
-      record {
-        tallied = ap (λ core. length core.tallies) weighs.rest ∙ (agrees.tallied ∙ sym weighs.shares.same_count);
-        senders = ap length same ∙ (agrees.senders ∙ ap (λ cores. cores + 1) (sym (ap (λ core. core.cores) weighs.rest)));
-        last = weighs.shares.same_count ∙ agrees.last;
-        lines = calm.lines;
-        marks = calm.marks;
-        runtimes = calm.runtimes;
-        the_floor = calm.the_floor;
-        turns = calm.turns_made;
-        out = calm.out;
-        figures = calm.figures;
-        weights = weights;
-        out_exists = λ out at. rw weighs.shares.same_count (agrees.out_exists out (sym (ap (λ core. core.out) weighs.rest) ∙ at));
-        delivered = λ sender known. ap (λ list. get_or list sender 0) same ∙ agrees.delivered sender (rw (← ap (λ core. core.cores) weighs.rest) known);
-        closing = closing-stays old new (writes.SharesSet queue weight) journal (record { modes = weighs.shares.same_modes; mode = ap (λ core. core.mode) weighs.rest; gates = ap (λ core. core.gates) weighs.rest; cores = ap (λ core. core.cores) weighs.rest }) (record { queues = λ queue. refl; core = refl; gates = λ sender. refl }) agrees.closing;
-      }
+      agrees_steady old new journal (writes.SharesSet queue weight) agrees refl new.queues old.tallies (weighs.rest ∙ ap (λ delivered. record old { queues = new.queues; delivered = delivered }) same)
+      weighs.shares.same_lines (λ other. refl) (agrees.tallied ∙ sym weighs.shares.same_count) (weighs.shares.same_count ∙ agrees.last) (omega (arith, weighs.shares.same_count)) weights (λ sender. refl)
+      (assumption (λ (other : ℕ). weighs.shares.same_modes other ∙ agrees.closing.modes other))
     where
-      jobs : SameJobs old new
-      jobs = record {
-        lines = weighs.shares.same_lines;
-        runtimes = λ other. ap (λ core. runtime_of other core) weighs.rest;
-        the_floor = ap (λ core. core.floor) weighs.rest;
-        turns_made = ap (λ core. core.turns) weighs.rest;
-        out = ap (λ core. core.out) weighs.rest;
-        figures = λ other. ap (λ core. figures_of other core) weighs.rest;
-      }
-
       weights : (other : ℕ) → other < queue_count new.queues → shares_of other new.queues ≡ shares other (writes.SharesSet queue weight ∷ journal)
       weights = everywhere (λ at. at < queue_count new.queues → shares_of at new.queues ≡ shares at (writes.SharesSet queue weight ∷ journal)) queue
           (λ there. weighs.shares.changed ∙ sym (shares-set queue journal weight))
@@ -114,17 +65,10 @@ module _ {J T : Type 0} (terms : Terms) (old new : CoreView J) (name : JobId) (q
       × IsKept terms new (writes.Created queue weight ∷ writes.Answered name (answers.Created queue) ∷ journal)
   kept-created number creates = (
     right,
-    record {
-      is_core = kept.is_core;
-      agrees = agrees-created middle new queue weight _ (agrees-answered terms old middle name journal kept next sender refl (answers.Created queue)) number
-          (record { is_open = creates.is_open; few = creates.few; added = creates.added; rest = creates.rest }) now;
-      notes = (
-        record { may_follow = record { next = number ∙ kept.agrees.last; in_range = rw number creates.few; shares = in_range }; turn = refl; effect = refl; writer = kept.is_core },
-        (answered_stands terms old middle name journal kept next sender refl (orders.Create weight) (answers.Created queue) right, kept.notes),
-      );
-      no_pick = refl;
-      no_answer = refl;
-    },
+    kept-effect terms old middle name journal kept next sender refl (orders.Create weight) (answers.Created queue) right (writes.Created queue weight)
+        (agrees-created middle new queue weight _ (agrees-answered terms old middle name journal kept next sender refl (answers.Created queue)) number
+        (record { is_open = creates.is_open; few = creates.few; added = creates.added; rest = creates.rest }) now)
+        (record { may_follow = record { next = number ∙ kept.agrees.last; in_range = rw number creates.few; shares = in_range }; turn = refl; effect = refl; writer = kept.is_core }) refl refl,
   )
     where
       few : nat_le 255 (created_count journal) ≡ false
@@ -138,17 +82,10 @@ module _ {J T : Type 0} (terms : Terms) (old new : CoreView J) (name : JobId) (q
       × IsKept terms new (writes.SharesSet queue weight ∷ writes.Answered name answers.SharesSet ∷ journal)
   kept-weighed weighs = (
     right,
-    record {
-      is_core = kept.is_core;
-      agrees = agrees-weighed middle new queue weight _ (agrees-answered terms old middle name journal kept next sender refl answers.SharesSet)
-          (record { exists = weighs.exists; shares = weighs.shares; rest = weighs.rest }) now;
-      notes = (
-        record { may_follow = (exists, in_range); turn = refl; effect = refl; writer = kept.is_core },
-        (answered_stands terms old middle name journal kept next sender refl (orders.SetShares queue weight) answers.SharesSet right, kept.notes),
-      );
-      no_pick = refl;
-      no_answer = refl;
-    },
+    kept-effect terms old middle name journal kept next sender refl (orders.SetShares queue weight) answers.SharesSet right (writes.SharesSet queue weight)
+        (agrees-weighed middle new queue weight _ (agrees-answered terms old middle name journal kept next sender refl answers.SharesSet)
+        (record { exists = weighs.exists; shares = weighs.shares; rest = weighs.rest }) now)
+        (record { may_follow = (exists, in_range); turn = refl; effect = refl; writer = kept.is_core }) refl refl,
   )
     where
       exists : queue ≤ created_count journal

@@ -1,21 +1,21 @@
 -- What a core tells of itself stays what its journal says, as a submission is delivered.
-use Rattle.rt_journal.proofs.Names.{◌≡◌, ℕ, ◌+◌, ◌<◌, ◌≤◌, Bool, true, false, [], ◌∷◌, ◌++◌, length, refl, sym, ◌∙◌, ap}
-use Rattle.rt_journal.proofs.Names.{subst, arith, get_or, set, get_or-set_same, get_or-set_other, cond, ◌==◌, Option}
-use Rattle.rt_journal.proofs.Names.{Some, None, is_some, max, eqb-true, eqb-false, true≢false, map-append, All-append}
-use Rattle.rt_journal.proofs.Names.{All-cons, All-nil, Terms, JobId, same_name, Journal, EachNote, is_told, with_last}
-use Rattle.rt_journal.proofs.Names.{delivered_names, name_started, if_from, has_work, queue_of, virtual_runtime, line}
-use Rattle.rt_journal.proofs.Names.{refusal, MayFollow, MayStand, IsNextDelivered, one_longer, known_of, not_old}
-use Rattle.rt_journal.proofs.Names.{started_of, line-took, line-took_elsewhere, false_from_ne_true, same_as_itself}
-use Rattle.rt_journal.proofs.Names.{virtual_runtime-took_idle, virtual_runtime-took_busy}
-use Rattle.rt_journal.proofs.Names.{virtual_runtime-took_elsewhere, floor-stays, waiting_of, CoreView, JobOut, no_tally}
-use Rattle.rt_journal.proofs.Names.{tally_of, runtime_of, delivered_of, is_working, entry_runtime, Enters, counted}
-use Rattle.rt_journal.proofs.Names.{Agrees, IsJobOut, AreMarked, figures_of, figures_told}
+use Rattle.rt_journal.proofs.Names.{◌≡◌, ℕ, ◌+◌, ◌<◌, ◌≤◌, Bool, true, false, [], ◌∷◌, ◌++◌, length, refl, sym, ◌∙◌}
+use Rattle.rt_journal.proofs.Names.{ap, subst, arith, get_or, set, get_or-set_same, get_or-set_other, cond, ◌==◌}
+use Rattle.rt_journal.proofs.Names.{Option, Some, None, is_some, max, eqb-true, eqb-false, true≢false, map-append}
+use Rattle.rt_journal.proofs.Names.{All-append, All-cons, All-nil, Terms, JobId, same_name, Journal, EachNote, is_told}
+use Rattle.rt_journal.proofs.Names.{with_last, delivered_names, name_started, if_from, has_work, queue_of}
+use Rattle.rt_journal.proofs.Names.{virtual_runtime, line, refusal, MayStand, IsNextDelivered, one_longer, known_of}
+use Rattle.rt_journal.proofs.Names.{not_old, started_of, line-took, line-took_elsewhere, false_from_ne_true}
+use Rattle.rt_journal.proofs.Names.{same_as_itself, virtual_runtime-took_idle, virtual_runtime-took_busy}
+use Rattle.rt_journal.proofs.Names.{virtual_runtime-took_elsewhere, floor-stays, waiting_of, CoreView, JobOut}
+use Rattle.rt_journal.proofs.Names.{no_tally, tally_of, runtime_of, delivered_of, is_working, entry_runtime, Enters}
+use Rattle.rt_journal.proofs.Names.{counted, Agrees, IsJobOut, AreMarked, figures_of, figures_told}
 use Rattle.std.proofs.Common.{length-set}
 use Rattle.rt_ids.specs.declared.note.Note.TheVariants as writes
 use Rattle.rt_journal.specs.Agreement.{names_of}
 use Rattle.rt_journal.proofs.Everywhere.{everywhere}
 use Rattle.rt_journal.proofs.FigureSteps.{figures-same, figures-stays}
-use Rattle.rt_journal.proofs.Kept.{IsKept, plainly_stands, turns-stays, working}
+use Rattle.rt_journal.proofs.Kept.{IsKept, turns-stays, working, kept_after}
 use Rattle.rt_journal.proofs.KeptModes.{SameModes, closing-stays}
 
 -- the next name from its sender is counted
@@ -136,29 +136,22 @@ module _ {J T : Type 0} (terms : Terms) (old new : CoreView J) (name : JobId) (q
       figures-same old new queue (record (tally_of queue old) { runtime = entry_runtime queue old }) tallied (ap (λ core. core.tallies) enters.rest) refl other
       ∙ (kept.agrees.figures other ∙ sym (figures-stays other (writes.Took name queue) journal refl))
 
-  took_follows : MayFollow terms (writes.Took name queue) journal
-  took_follows = (next, accepted)
-
   pub kept-took : IsKept terms new (writes.Took name queue ∷ journal)
-  kept-took = record {
-    is_core = kept.is_core;
-    agrees = record {
-      tallied = ap (λ core. length core.tallies) enters.rest ∙ (length-set old.tallies queue _ ∙ (kept.agrees.tallied ∙ sym enters.line.same_count));
-      senders = senders_counted terms old new name journal took_counted kept.agrees;
-      last = enters.line.same_count ∙ kept.agrees.last;
-      lines = took_lines;
-      marks = took_marks;
-      runtimes = took_runtimes;
-      weights = λ other there. enters.line.same_shares other ∙ kept.agrees.weights other (rw (← enters.line.same_count) there);
-      the_floor = ap (λ core. core.floor) enters.rest ∙ (kept.agrees.the_floor ∙ sym (floor-stays (writes.Took name queue) journal refl));
-      turns = ap (λ core. core.turns) enters.rest ∙ (kept.agrees.turns ∙ sym (turns-stays (writes.Took name queue) journal refl));
-      out = subst (λ out. IsJobOut out (writes.Took name queue ∷ journal)) (sym (ap (λ core. core.out) enters.rest)) (took_out old.out kept.agrees.out);
-      out_exists = λ out at. rw enters.line.same_count (kept.agrees.out_exists out (sym (ap (λ core. core.out) enters.rest) ∙ at));
-      delivered = delivered_counted terms old new name journal took_counted kept.agrees;
-      figures = took_figures;
-      closing = closing-stays old new (writes.Took name queue) journal modes_stay (record { queues = λ queue. refl; core = refl; gates = λ sender. refl }) kept.agrees.closing;
-    };
-    notes = (plainly_stands terms (writes.Took name queue) journal kept.is_core took_follows kept.no_pick kept.no_answer refl tt, kept.notes);
-    no_pick = refl;
-    no_answer = refl;
-  }
+  kept-took =
+      let agrees : Agrees new (writes.Took name queue ∷ journal) = record {
+        tallied = ap (λ core. length core.tallies) enters.rest ∙ (length-set old.tallies queue _ ∙ (kept.agrees.tallied ∙ sym enters.line.same_count));
+        senders = senders_counted terms old new name journal took_counted kept.agrees;
+        last = enters.line.same_count ∙ kept.agrees.last;
+        lines = took_lines;
+        marks = took_marks;
+        runtimes = took_runtimes;
+        weights = λ other there. enters.line.same_shares other ∙ kept.agrees.weights other (rw (← enters.line.same_count) there);
+        the_floor = ap (λ core. core.floor) enters.rest ∙ (kept.agrees.the_floor ∙ sym (floor-stays (writes.Took name queue) journal refl));
+        turns = ap (λ core. core.turns) enters.rest ∙ (kept.agrees.turns ∙ sym (turns-stays (writes.Took name queue) journal refl));
+        out = subst (λ out. IsJobOut out (writes.Took name queue ∷ journal)) (sym (ap (λ core. core.out) enters.rest)) (took_out old.out kept.agrees.out);
+        out_exists = λ out at. rw enters.line.same_count (kept.agrees.out_exists out (sym (ap (λ core. core.out) enters.rest) ∙ at));
+        delivered = delivered_counted terms old new name journal took_counted kept.agrees;
+        figures = took_figures;
+        closing = closing-stays old new (writes.Took name queue) journal modes_stay (assumption) kept.agrees.closing;
+      } in
+      kept_after terms (writes.Took name queue) kept agrees kept.is_core (next, accepted) refl tt refl refl

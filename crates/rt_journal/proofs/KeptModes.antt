@@ -1,10 +1,10 @@
 -- The modes and gates that a core tells of are those of its journal, and what follows: why jobs are refused and handed back.
-use Rattle.rt_journal.proofs.Names.{◌≡◌, inl, inr, ℕ, ◌+◌, ◌<◌, ◌≤◌, Bool, true, false, [], ◌∷◌, length, refl, sym, ◌∙◌}
-use Rattle.rt_journal.proofs.Names.{ap, arith, cond, ◌⊎◌, Some, None, nat_le, nat_lt, slice_index_or, cases_lt, le-leb}
-use Rattle.rt_journal.proofs.Names.{lt-leb, lt-ltb, le-ltb, Note, Created, Journal, or_else, mode_told, core_mode_told}
-use Rattle.rt_journal.proofs.Names.{count_told, queue_mode, core_mode, final_count, IsOpening, created_count, refusal}
-use Rattle.rt_journal.proofs.Names.{reason_if_closed, reason_if_returning, queue_count, mode_of, CoreView}
-use Rattle.rt_journal.proofs.Names.{AgreesOnClosing}
+use Rattle.rt_journal.proofs.Names.{◌≡◌, inl, inr, ℕ, ◌+◌, ◌<◌, ◌≤◌, Bool, true, false, [], ◌∷◌, length, refl, sym}
+use Rattle.rt_journal.proofs.Names.{◌∙◌, ap, arith, cond, ◌⊎◌, Some, None, nat_le, nat_lt, slice_index_or, cases_lt}
+use Rattle.rt_journal.proofs.Names.{le-leb, lt-leb, lt-ltb, le-ltb, Note, Created, Journal, or_else, mode_told}
+use Rattle.rt_journal.proofs.Names.{core_mode_told, count_told, queue_mode, core_mode, final_count, IsOpening}
+use Rattle.rt_journal.proofs.Names.{created_count, refusal, reason_if_closed, reason_if_returning, queue_count}
+use Rattle.rt_journal.proofs.Names.{mode_of, CoreView, AgreesOnClosing}
 use Rattle.rt_ids.specs.declared.order.Reason.TheVariants as why
 use Rattle.rt_ids.specs.Commands.{return_reason}
 use Rattle.rt_core.specs.Closing as core

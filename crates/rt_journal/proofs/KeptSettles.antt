@@ -6,15 +6,15 @@ use Rattle.rt_journal.proofs.Names.{queue_of, virtual_runtime, shares, line, job
 use Rattle.rt_journal.proofs.Names.{line-yield, line-yield_elsewhere, line-done, is_told-alone, virtual_runtime-yield}
 use Rattle.rt_journal.proofs.Names.{virtual_runtime-yield_elsewhere, virtual_runtime-done}
 use Rattle.rt_journal.proofs.Names.{virtual_runtime-done_elsewhere, floor-stays, QueuesView, queue_count, waiting_of}
-use Rattle.rt_journal.proofs.Names.{shares_of, mode_of, ChangesLine, Tally, CoreView, JobOut, no_tally, tally_of}
-use Rattle.rt_journal.proofs.Names.{runtime_of, settled_view, IsJobOut, AreMarked, figures_of, figures_told}
+use Rattle.rt_journal.proofs.Names.{shares_of, ChangesLine, Tally, CoreView, JobOut, no_tally, tally_of, runtime_of}
+use Rattle.rt_journal.proofs.Names.{settled_view, IsJobOut, AreMarked, figures_of, figures_told, Agrees}
 use Rattle.std.proofs.Common.{length-set}
 use Rattle.rt_ids.specs.declared.note.Note.TheVariants as writes
 use Rattle.rt_journal.specs.Agreement.{names_of}
 use Rattle.rt_journal.proofs.Everywhere.{everywhere}
-use Rattle.rt_journal.proofs.FigureSteps.{figures-grow, one_yield, one_done, counts-yield, counts-done, told-yield, told-done}
-use Rattle.rt_journal.proofs.KeptModes.{closing-stays}
-use Rattle.rt_journal.proofs.Kept.{IsKept, plainly_stands, turns-stays}
+use Rattle.rt_journal.proofs.FigureSteps.{figures-grow, one_yield, one_done, counts-yield, counts-done, told-yield}
+use Rattle.rt_journal.proofs.FigureSteps.{told-done}
+use Rattle.rt_journal.proofs.Kept.{IsKept, turns-stays, kept_after}
 
 pub none≢some : {A : Type 0} (item : A) → None ≡ Some item → ⊥
 none≢some item same = cc
@@ -61,28 +61,15 @@ module _ {J T : Type 0} (terms : Terms) (old : CoreView J) (job : JobOut J) (tim
   is_marked entry = entry.1 ≡ is_told name_started entry.0 journal
 
   pub kept-yield : done ≡ 0 → (back : J) → ChangesLine old.queues queues job.queue (waiting_of job.queue old.queues ++ (job.name, true, back) ∷ []) → IsKept terms new yielded
-  kept-yield none back changes = record {
-    is_core = kept.is_core;
-    agrees = record {
-      tallied = tallied_now changes.same_count;
-      senders = kept.agrees.senders;
-      last = changes.same_count ∙ kept.agrees.last;
-      lines = lines;
-      marks = marks;
-      runtimes = runtimes;
-      weights = λ other there. changes.same_shares other ∙ kept.agrees.weights other (rw (← changes.same_count) there);
-      the_floor = kept.agrees.the_floor ∙ sym (floor-stays (writes.Yield job.name time) journal refl);
-      turns = kept.agrees.turns ∙ sym (turns-stays (writes.Yield job.name time) journal refl);
-      out = jobs_out-yield job.name time journal is_out.0;
-      out_exists = λ out none. absurd (none≢some out none);
-      delivered = kept.agrees.delivered;
-      figures = figures_now;
-      closing = closing-stays old new (writes.Yield job.name time) journal (record { modes = changes.same_modes; mode = refl; gates = refl; cores = refl }) (record { queues = λ queue. refl; core = refl; gates = λ sender. refl }) kept.agrees.closing;
-    };
-    notes = (plainly_stands terms (writes.Yield job.name time) journal kept.is_core is_out.0 kept.no_pick kept.no_answer refl tt, kept.notes);
-    no_pick = refl;
-    no_answer = refl;
-  }
+  kept-yield none back changes =
+      let last = changes.same_count ∙ kept.agrees.last in
+      let weights = λ (other : ℕ) (there : other < queue_count queues). changes.same_shares other ∙ kept.agrees.weights other (subst (λ count. other < count) changes.same_count there) in
+      let floor_now = kept.agrees.the_floor ∙ sym (floor-stays (writes.Yield job.name time) journal refl) in
+      let turns_now = kept.agrees.turns ∙ sym (turns-stays (writes.Yield job.name time) journal refl) in
+      let modes = λ (other : ℕ). changes.same_modes other ∙ kept.agrees.closing.modes other in
+      let nobody : (out : JobOut J) → None ≡ Some out → out.queue < queue_count queues = λ out none. absurd (none≢some out none) in
+      let agrees : Agrees new yielded = assumption (tallied_now changes.same_count, lines, marks, runtimes, jobs_out-yield job.name time journal is_out.0, figures_now) in
+      kept_after terms (writes.Yield job.name time) kept agrees kept.is_core is_out.0 refl tt refl refl
     where
       figures_now : (other : ℕ) → figures_of other new ≡ figures_told other yielded
       figures_now =
@@ -112,28 +99,15 @@ module _ {J T : Type 0} (terms : Terms) (old : CoreView J) (job : JobOut J) (tim
   finished value = writes.Done job.name time value ∷ journal
 
   pub kept-done : done ≡ 1 → (value : T) → queues ≡ old.queues → IsKept terms new (finished value)
-  kept-done one value same = record {
-    is_core = kept.is_core;
-    agrees = record {
-      tallied = tallied_now (ap queue_count same);
-      senders = kept.agrees.senders;
-      last = ap queue_count same ∙ kept.agrees.last;
-      lines = λ other. ap (λ view. names_of (waiting_of other view)) same ∙ (kept.agrees.lines other ∙ sym (line-done terms journal kept.notes other time value job.name is_out.0));
-      marks = λ other. subst (λ view. AreMarked (finished value) (waiting_of other view)) (sym same) (kept.agrees.marks other);
-      runtimes = runtimes;
-      weights = λ other there. ap (λ view. shares_of other view) same ∙ kept.agrees.weights other (rw (← ap queue_count same) there);
-      the_floor = kept.agrees.the_floor ∙ sym (floor-stays (writes.Done job.name time value) journal refl);
-      turns = kept.agrees.turns ∙ sym (turns-stays (writes.Done job.name time value) journal refl);
-      out = jobs_out-done job.name time value journal is_out.0;
-      out_exists = λ out none. absurd (none≢some out none);
-      delivered = kept.agrees.delivered;
-      figures = figures_now;
-      closing = closing-stays old new (writes.Done job.name time value) journal (record { modes = λ other. ap (λ view. mode_of other view) same; mode = refl; gates = refl; cores = refl }) (record { queues = λ queue. refl; core = refl; gates = λ sender. refl }) kept.agrees.closing;
-    };
-    notes = (plainly_stands terms (writes.Done job.name time value) journal kept.is_core is_out.0 kept.no_pick kept.no_answer refl tt, kept.notes);
-    no_pick = refl;
-    no_answer = refl;
-  }
+  kept-done one value same =
+      let lines = λ (other : ℕ). kept.agrees.lines other ∙ sym (line-done terms journal kept.notes other time value job.name is_out.0) in
+      let floor_now = kept.agrees.the_floor ∙ sym (floor-stays (writes.Done job.name time value) journal refl) in
+      let turns_now = kept.agrees.turns ∙ sym (turns-stays (writes.Done job.name time value) journal refl) in
+      let nobody : (out : JobOut J) → None ≡ Some out → out.queue < queue_count old.queues = λ out none. absurd (none≢some out none) in
+      let tallied = tallied_now (ap queue_count same) ∙ ap queue_count same in
+      let agrees : Agrees (settled_view old job time done old.queues) (finished value) = assumption (runtimes, jobs_out-done job.name time value journal is_out.0, figures_now) in
+      subst (λ queues. IsKept terms (settled_view old job time done queues) (finished value)) (sym same)
+      (kept_after terms (writes.Done job.name time value) kept agrees kept.is_core is_out.0 refl tt refl refl)
     where
       figures_now : (other : ℕ) → figures_of other new ≡ figures_told other (finished value)
       figures_now =

@@ -6,7 +6,7 @@ use Rattle.rt_journal.proofs.Names.{slice_get_within, JobId, Note, Order, Outcom
 use Rattle.rt_journal.proofs.Names.{Journal, MayFollow, same_name, is_gone, is_outstanding, outstanding_count, Outward}
 use Rattle.rt_journal.proofs.Names.{at, Lane, IsLaneOf, changed, unchanged, JournalView, DeskView, IsWritten}
 use Rattle.rt_journal.proofs.Names.{terms_of_desk, IsOutOf, KeepsOut, KeepsSent, name_of, named_outcomes}
-use Rattle.rt_journal.proofs.Names.{numbered_orders, KnowsLane, KnowsLanes, StaysBeside, is_let_go}
+use Rattle.rt_journal.proofs.Names.{numbered_orders, KnowsLane, KnowsLanes, StaysBeside, is_let_go, HasLane}
 use Rattle.std.proofs.lemmas.List.{length-set}
 use Rattle.rt_journal.proofs.Kept.{plainly_stands}
 use Rattle.rt_journal.proofs.NumberedOrders.{length-numbered}
@@ -65,23 +65,14 @@ module _ {J T : Type 0} (desk : DeskView J T) (known : KnowsLanes desk) (core nu
   -- the ends of the other cores stay beside the journal
   others_kept : (other : ℕ) → other ≢ core → KeepsOut other desk noted
   others_kept other away = record {
-    each = λ out credited is. record {
-      known = is.known;
-      from = is.from;
-      to = is.to;
-      base = is.base;
-      capacity = is.capacity;
-      accepted = ticket.accepted other notes ∙ is.accepted;
-      outstanding =
-          ap (λ count. count + credited)
-          (outstanding_as desk.actor other (note ∷ notes) out.sent (ticket.accepted other notes ∙ is.accepted)
-          ∙ (counted-same desk.actor other (λ name. is_outstanding name (note ∷ notes)) (λ name. is_outstanding name notes) 0 out.sent
-          (λ n low high. ticket.waits (name_of desk.actor other n) notes (other_core other n away))
-          ∙ sym (outstanding_as desk.actor other notes out.sent is.accepted)))
-          ∙ is.outstanding;
-      behind = is.behind;
-      collected = ticket.collected other notes (ne_eqb core other (λ same. away (sym same))) ∙ is.collected;
-    };
+    each = λ out credited is.
+        let accepted = ticket.accepted other notes ∙ is.accepted in
+        let count =
+        outstanding_as desk.actor other (note ∷ notes) out.sent accepted
+        ∙ (counted-same desk.actor other (λ name. is_outstanding name (note ∷ notes)) (λ name. is_outstanding name notes) 0 out.sent
+        (λ n low high. ticket.waits (name_of desk.actor other n) notes (other_core other n away))
+        ∙ sym (outstanding_as desk.actor other notes out.sent is.accepted)) in
+        assumption (accepted, ap (λ count. count + credited) count ∙ is.outstanding, ticket.collected other notes (ne_eqb core other (λ same. away (sym same))) ∙ is.collected);
   }
 
   lanes_kept : (other : ℕ) → other ≢ core → slice_get (set desk.lanes core later) other ≡ slice_get desk.lanes other
@@ -157,25 +148,10 @@ module _ {J T : Type 0} (desk : DeskView J T) (known : KnowsLanes desk) (core nu
           (behind : now.got ≤ length now.seen) (collected : collected_outcomes core (note ∷ notes) ≡ named_outcomes desk.actor core (take now.got now.seen))
           (written : IsWritten (terms_of_desk desk) notes) (law : MayFollow (terms_of_desk desk) note notes) (counts : outstanding_count core (note ∷ notes) + after ≡ length out.sent) where
         pub stays_noted : StaysBeside fits core desk noted now after
-        stays_noted = record {
-          beside = record {
-            known = is.known;
-            from = ap (λ end. end.from) end ∙ is.from;
-            to = ap (λ end. end.to) end ∙ is.to;
-            base = ap (λ end. end.base) end ∙ is.base;
-            capacity = ap (λ end. end.capacity) end ∙ is.capacity;
-            accepted = accepted_now ∙ ap (numbered_orders desk.actor core 0) (sym (ap (λ end. end.sent) end));
-            outstanding = counts ∙ ap length (sym (ap (λ end. end.sent) end));
-            behind = behind;
-            collected = collected;
-          };
-          lane = record { lane = later; is = set_there desk.lanes core lane later lane_is; lane_of = lane_of };
-          others = others_kept;
-          lanes = lanes_kept;
-          rest = refl;
-          written = written_noted written law;
-          known = knows_noted;
-        }
+        stays_noted =
+            let beside = subst (λ now. IsOutOf core noted now after) (sym end) (assumption (accepted_now, counts, collected)) in
+            let its_lane : HasLane fits core noted now after = record { lane = later; is = set_there desk.lanes core lane later lane_is; lane_of = lane_of } in
+            assumption (beside, others_kept, lanes_kept, written_noted written law, knows_noted)
 
 -- notes that say nothing of submissions leave what the lanes know
 pub knows_quiet : {J T : Type 0} (desk : DeskView J T) (later : Journal T) → KnowsLanes desk → KeepsSent desk.journal.notes later → KnowsLanes (record desk { journal = record desk.journal { notes = later } })

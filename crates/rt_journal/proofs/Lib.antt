@@ -16,8 +16,6 @@ pub mod KeptReturns
 pub mod PollsMade
 pub mod TakenOrders
 pub mod CarriedOut
-pub mod CarriedClosings
-pub mod Carries
 pub mod EndsKept
 pub mod Ungiven
 pub mod GivenEnds

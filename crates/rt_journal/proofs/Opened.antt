@@ -1,10 +1,9 @@
 -- A core that was just opened, beside a journal without a note.
-use Rattle.rt_journal.proofs.Names.{false, length, take, ◌≡◌, ℕ, zero, suc, ◌+◌, ◌*◌, ◌<◌, ◌≤◌, [], refl, sym, ap}
-use Rattle.rt_journal.proofs.Names.{subst, arith, Option, Some, None, All, replicate, slice_index_or, length-replicate}
-use Rattle.rt_journal.proofs.Names.{get_or-replicate, All-nil, Owed, waiting_of, shares_of, mode_of, CoreView}
-use Rattle.rt_journal.proofs.Names.{runtime_of, opened, Agrees, AreMarked, no_figures, figures_of, IsRecorded, HasTask}
-use Rattle.rt_journal.proofs.Names.{sum_upto, given_count, opened_beside, Outward, Inward, final_of, numbered_orders}
-use Rattle.rt_journal.proofs.Names.{opened_desk, IsInOf, IsOutOf, named_outcomes}
+use Rattle.rt_journal.proofs.Names.{◌≡◌, ℕ, zero, suc, ◌+◌, ◌*◌, ◌<◌, [], refl, sym, ap, subst, arith, Option, Some}
+use Rattle.rt_journal.proofs.Names.{None, All, replicate, slice_index_or, length-replicate, get_or-replicate, All-nil}
+use Rattle.rt_journal.proofs.Names.{Owed, waiting_of, shares_of, mode_of, CoreView, runtime_of, opened, Agrees}
+use Rattle.rt_journal.proofs.Names.{AreMarked, no_figures, figures_of, IsRecorded, HasTask, sum_upto, given_count}
+use Rattle.rt_journal.proofs.Names.{opened_beside}
 use Rattle.rt_journal.specs.Agreement.{names_of}
 
 none≢some : {A : Type 0} (item : A) → None ≡ Some item → ⊥
@@ -64,36 +63,3 @@ recorded-opened {J} {T} same made polls core cores cap room there = record {
   waiting = λ queue. subst (All (λ entry. HasTask same made polls [] [] queue entry.0 entry.2)) (sym (at_first J core cores cap queue).0) (All-nil _);
   out = λ job at. absurd (none≢some job at);
 }
-
-module _ {J T : Type 0} (core cores cap room : ℕ) where
-  -- an end from which nothing was taken is beside a core that was just opened
-  pub in_of-opened : (sender : ℕ) (inward : Inward J T) → sender ≤ cores → inward.from ≡ sender → inward.to ≡ core → inward.base ≡ 0 → inward.capacity ≡ cap → inward.taken ≡ 0 → inward.given ≡ [] → inward.shut ≡ false →
-      IsInOf sender (opened_beside core cores cap room) inward
-  in_of-opened sender inward known from to base capacity taken given shut = record {
-    known = known;
-    from = from;
-    to = to;
-    base = base;
-    capacity = capacity;
-    gate = ap (final_of inward) (sym shut);
-    taken = sym taken;
-    behind = omega (arith, taken);
-    given = ap (named_outcomes sender core) (sym given);
-    ungiven = tt;
-    orders = λ name order same at. absurd (none≢some order at);
-  }
-
-  -- an end on which nothing was sent is beside a desk that was just opened
-  pub out_of-opened : (actor to : ℕ) (out : Outward J T) (credited : ℕ) → to < cores → out.from ≡ actor → out.to ≡ to → out.base ≡ 0 → out.capacity ≡ cap → out.sent ≡ [] → out.got ≡ 0 → credited ≡ 0 →
-      IsOutOf to (opened_desk actor cores cap room) out credited
-  out_of-opened actor to out credited known from its_core base capacity sent got given_back = record {
-    known = known;
-    from = from;
-    to = its_core;
-    base = base;
-    capacity = capacity;
-    accepted = ap (numbered_orders actor to 0) (sym sent);
-    outstanding = omega (arith, given_back, ap length sent);
-    behind = omega (arith, got);
-    collected = ap (λ count. named_outcomes actor to (take count out.seen)) (sym got);
-  }

@@ -1,13 +1,13 @@
 -- A core beside its journal picks: the right pick takes a job out, or the core says why there is none.
-use Rattle.rt_journal.proofs.Names.{◌≡◌, ℕ, ◌+◌, ◌<◌, ◌≤◌, Bool, true, false, List, [], ◌∷◌, ◌++◌, length, reverse}
-use Rattle.rt_journal.proofs.Names.{refl, sym, ◌∙◌, ap, subst, arith, add-zero, ◌==◌, Some, None, All, is_some, Result}
-use Rattle.rt_journal.proofs.Names.{Ok, Err, Option, same_Some, All-head, All-tail, most_turns, JobId, Note, Pick, Job}
-use Rattle.rt_journal.proofs.Names.{Reason, Journal, is_told, turns, pick_count, number_if, length-with_last_if}
-use Rattle.rt_journal.proofs.Names.{if_from, name_ended, given_outcomes, Owed, waiting_of, held_count, ChangesLine}
-use Rattle.rt_journal.proofs.Names.{Turn, Start, Resume, Idle, PickError, Busy, CoreView, runtime_of, inside_count}
-use Rattle.rt_journal.proofs.Names.{TakesOut, HandsBack, polls_made, poll_note, RecordedView, terms_at, IsRecorded}
-use Rattle.rt_journal.proofs.Names.{HasTask, note_taken, sum_upto, given_count, IsPick, IsHandBack, owed_back, known_of}
-use Rattle.rt_journal.proofs.Names.{among, same_as_itself, without_job, option_map, OutcomeNote}
+use Rattle.rt_journal.proofs.Names.{◌≡◌, ℕ, ◌+◌, ◌<◌, ◌≤◌, Bool, true, false, List, [], ◌∷◌, ◌++◌, length, refl, sym}
+use Rattle.rt_journal.proofs.Names.{◌∙◌, ap, subst, arith, add-zero, ◌==◌, Some, None, All, is_some, Result, Ok, Err}
+use Rattle.rt_journal.proofs.Names.{same_Some, All-head, All-tail, most_turns, JobId, Note, Pick, Job, Reason, Journal}
+use Rattle.rt_journal.proofs.Names.{is_told, turns, pick_count, number_if, length-with_last_if, if_from, name_ended}
+use Rattle.rt_journal.proofs.Names.{given_outcomes, Owed, waiting_of, held_count, ChangesLine, Turn, Start, Resume}
+use Rattle.rt_journal.proofs.Names.{Idle, PickError, Busy, CoreView, runtime_of, inside_count, TakesOut, HandsBack}
+use Rattle.rt_journal.proofs.Names.{polls_made, poll_note, RecordedView, terms_at, IsRecorded, HasTask, note_taken}
+use Rattle.rt_journal.proofs.Names.{sum_upto, given_count, IsPick, IsHandBack, owed_back, known_of, among}
+use Rattle.rt_journal.proofs.Names.{same_as_itself, without_job, option_map}
 use Rattle.rt_ids.specs.declared.note.Note.TheVariants.{Returned}
 use Rattle.rt_core.specs.declared.turn.Turn.TheVariants.{Back}
 use Rattle.rt_core.specs.declared.turn.PickError.TheVariants.{Spent}
@@ -23,8 +23,8 @@ use Rattle.rt_journal.proofs.KeptPicks.{kept-picked, right_pick, first_in_line, 
 use Rattle.rt_journal.proofs.Received.{task_stays}
 use Rattle.rt_journal.proofs.Ungiven.{ungiven_if, not_given}
 use Rattle.rt_ids.specs.declared.note.OutcomeNote.TheVariants as outcomes
-use Rattle.rt_journal.proofs.Quiet.{nobody, quiet-picked, gates-picked, quiet-returned, as_sent-picked}
-use Rattle.rt_journal.proofs.QuietSteps.{stepped, IsQuietStep, everyone, nothing_done, nothing_stepped}
+use Rattle.rt_journal.proofs.Quiet.{nobody, quiet-picked, gates-picked, as_sent-picked}
+use Rattle.rt_journal.proofs.QuietSteps.{stepped, IsQuietStep, everyone, HasDone, nothing_did, done_so}
 use Rattle.rt_journal.proofs.Sums.{sum_upto-at_most_one}
 
 none≢some : {A : Type 0} (item : A) → None ≡ Some item → ⊥
@@ -151,7 +151,7 @@ module _ {J T : Type 0} {same : J → J → Type 0} {made : J → ℕ} {polls : 
       number = ap (λ core. core.core) hands.rest;
       cores = ap (λ core. core.cores) hands.rest;
       room = hands.line.same_room;
-      quiet = quiet-returned old.journal.notes name reason queue (runtime_of queue old.core);
+      quiet = assumption;
       ungiven = λ sender inward is.
           let task = recorded_task in
           ungiven_if old sender inward is name (Job queue task.sent) task.task
@@ -190,39 +190,13 @@ module _ {J T : Type 0} {same : J → J → Type 0} {made : J → ℕ} {polls : 
           took = refl;
         }
 
-  pub few-picked : (answer : Result (Turn J) PickError) (notes : List (Note T)) → CorePicks old.core answer core notes → length notes ≤ 2
-  few-picked (Ok (Start name queue job)) notes does = omega (arith, ap length does.2)
-  few-picked (Ok (Resume name queue job)) notes does = omega (arith, ap length does.2)
-  few-picked (Ok (Back name reason (Job queue job))) notes does = omega (arith, ap length does.2)
-  few-picked (Ok (Back name reason _)) notes does = absurd does
-  few-picked (Ok Idle) notes does = omega (arith, ap length does.3)
-  few-picked (Err Busy) notes does = omega (arith, ap length does.2)
-  few-picked (Err Spent) notes does = omega (arith, ap length does.4)
-
-  abbrev Stepped : (ℕ → Option (JobId × OutcomeNote T)) → List (Note T) → Type 0
-  Stepped gives notes = IsQuietStep old core (reverse notes) same made polls everyone gives
-
-  nothing : (notes : List (Note T)) → core ≡ old.core → notes ≡ [] → Stepped nobody notes
-  nothing notes same_core none = subst (Stepped nobody) (sym none) (subst (λ core. IsQuietStep old core [] same made polls everyone nobody) (sym same_core) (nothing_done old recorded))
-
-  pub step-picked : (answer : Result (Turn J) PickError) (notes : List (Note T)) → CorePicks old.core answer core notes → Stepped (owed_back answer) notes
-  step-picked (Ok (Start name queue job)) notes does = subst (Stepped nobody) (sym does.2) (picked name queue false job does.0 does.1)
-  step-picked (Ok (Resume name queue job)) notes does = subst (Stepped nobody) (sym does.2) (picked name queue true job does.0 does.1)
-  step-picked (Ok (Back name reason (Job queue job))) notes does = subst (Stepped (λ sender. if_from sender name (name, outcomes.Returned reason))) (sym does.2) (handed name queue job reason does.0 does.1)
-  step-picked (Ok (Back name reason _)) notes does = absurd does
-  step-picked (Ok Idle) notes does = nothing notes does.2 does.3
-  step-picked (Err Busy) notes does = nothing notes does.1 does.2
-  step-picked (Err Spent) notes does = nothing notes does.3 does.4
-
-  pub picks-now : (answer : Result (Turn J) PickError) (notes : List (Note T)) → CorePicks old.core answer core notes → Picks same old answer (stepped old core (reverse notes))
-  picks-now (Ok (Start name queue job)) notes does =
-      subst (λ list. IsPick old name queue false job (stepped old core (reverse list))) (sym does.2) (pick_is name queue false job does.0 does.1)
-  picks-now (Ok (Resume name queue job)) notes does =
-      subst (λ list. IsPick old name queue true job (stepped old core (reverse list))) (sym does.2) (pick_is name queue true job does.0 does.1)
-  picks-now (Ok (Back name reason (Job queue job))) notes does =
-      subst (λ list. IsHandBack same old name reason (Job queue job) (stepped old core (reverse list))) (sym does.2) (handed_is name queue job reason does.0 does.1)
-  picks-now (Ok (Back name reason _)) notes does = absurd does
-  picks-now (Ok Idle) notes does = (idle old recorded does.0 does.1, nothing_stepped old recorded core does.2 (reverse notes) (ap reverse does.3))
-  picks-now (Err Busy) notes does = (does.0, nothing_stepped old recorded core does.1 (reverse notes) (ap reverse does.2))
-  picks-now (Err Spent) notes does =
-      (sym recorded.kept.agrees.turns ∙ does.1, (does.2.0, works old recorded does.2.0 does.2.1), nothing_stepped old recorded core does.3 (reverse notes) (ap reverse does.4))
+  -- whatever the pick answers
+  pub picked_did : (answer : Result (Turn J) PickError) (notes : List (Note T)) → CorePicks old.core answer core notes →
+      HasDone same made polls old core everyone (owed_back answer) 2 (λ old new. Picks same old answer new) notes
+  picked_did (Ok (Start name queue job)) notes does = done_so does.2 (picked name queue false job does.0 does.1) (omega arith) (pick_is name queue false job does.0 does.1)
+  picked_did (Ok (Resume name queue job)) notes does = done_so does.2 (picked name queue true job does.0 does.1) (omega arith) (pick_is name queue true job does.0 does.1)
+  picked_did (Ok (Back name reason (Job queue job))) notes does = done_so does.2 (handed name queue job reason does.0 does.1) (omega arith) (handed_is name queue job reason does.0 does.1)
+  picked_did (Ok (Back name reason _)) notes does = absurd does
+  picked_did (Ok Idle) notes does = nothing_did recorded does.2 does.3 (idle old recorded does.0 does.1, refl)
+  picked_did (Err Busy) notes does = nothing_did recorded does.1 does.2 (does.0, refl)
+  picked_did (Err Spent) notes does = nothing_did recorded does.3 does.4 (sym recorded.kept.agrees.turns ∙ does.1, (does.2.0, works old recorded does.2.0 does.2.1), refl)

@@ -1,6 +1,6 @@
 -- What the calls of a post leave of the desk and the ends that were lent.
-use Rattle.rt_journal.proofs.Names.{◌≡◌, inl, inr, ℕ, ◌+◌, false, List, [], ◌∷◌, length, Some, None, refl, sym, ◌∙◌, ap}
-use Rattle.rt_journal.proofs.Names.{subst, arith, cond, set, Result, Ok, Err, IfOk, slice_get, eq-eqb, true≢false}
+use Rattle.rt_journal.proofs.Names.{◌≡◌, inl, inr, ℕ, ◌+◌, false, List, [], ◌∷◌, length, Some, None, refl, sym, ◌∙◌}
+use Rattle.rt_journal.proofs.Names.{ap, subst, arith, cond, set, Result, Ok, Err, IfOk, slice_get, eq-eqb, true≢false}
 use Rattle.rt_journal.proofs.Names.{JobId, TicketError, Unknown, Gone, Order, Outcome, SendError, Closed, Full, NoCore}
 use Rattle.rt_journal.proofs.Names.{first_under, IsDetachable, accepted_orders, with_last, without_job, outcome_note}
 use Rattle.rt_journal.proofs.Names.{is_gone, same_as_itself, first_under-last, Call, Makes, Submit, Redeem, Detach}

@@ -4,17 +4,17 @@ use Rattle.rt_journal.proofs.Names.{refl, sym, ◌∙◌, ap, subst, same_Some, 
 use Rattle.rt_journal.proofs.Names.{Outcome, outcome_note, turns, Call, Doing, Makes, Step, Owed, IsSameTask, CoreView}
 use Rattle.rt_journal.proofs.Names.{JobOut, TurnsWhole, pick_notes, settled_of, settle_notes, Outward, DeskView}
 use Rattle.rt_journal.proofs.Names.{IsWritten, terms_of_desk, desk_with, RecordedView, IsRecorded, desk_of, KeepsSent}
-use Rattle.rt_journal.proofs.Names.{KeepsIn, LeavesOwed, IsSameSeat, told_under, OwesSettled, outcome_settled, PostView}
-use Rattle.rt_journal.proofs.Names.{AreOutsOf, HasPosted, lends, Does, IsPolled, Settles, post_of, StaysPut}
+use Rattle.rt_journal.proofs.Names.{KeepsIn, LeavesOwed, IsSameSeat, told_under, OwesSettled, outcome_settled}
+use Rattle.rt_journal.proofs.Names.{PostView, AreOutsOf, HasPosted, lends, Does, IsPolled, Settles, post_of, StaysPut}
 use Rattle.rt_journal.proofs.Names.{IsPostingTurn, MayAnswer, TurnsNoted}
 use Rattle.rt_journal.proofs.PolledDesks.{posted_rest, posted_silent}
 use Rattle.rt_journal.proofs.PostingTurn.{went_out, is_picked, picks_it, keeps_in, stays_picked, outs_kept, owes_then}
 use Rattle.rt_journal.proofs.Quiet.{given_settled}
-use Rattle.rt_journal.proofs.QuietSteps.{IsQuietStep, everyone}
+use Rattle.rt_journal.proofs.QuietSteps.{everyone, HasDone}
 use Rattle.rt_journal.proofs.SentNotes.{HasSaid, has_said}
 use Rattle.rt_journal.proofs.SettledEnds.{owes_settled, its_answer}
-use Rattle.rt_journal.proofs.SettledPolls.{step-settled, settles-now}
-use Rattle.rt_journal.proofs.Wrote.{view_of, quiet_written, quiet_sent, quiet_invariant, seen_so, quiet_now}
+use Rattle.rt_journal.proofs.SettledPolls.{settled_did}
+use Rattle.rt_journal.proofs.Wrote.{view_of, quiet_written, quiet_sent, quiet_invariant, quiet_now}
 
 module _ {J T E : Type 0} {same : J → J → Type 0} {done : J → Bool} {can_poll : J → Type 0} {made : J → ℕ} {polls : Owed J T} {answers : J → T → Type 0} (is_same : IsSameTask same)
     (answers_same : (a b : J) (out : T) → same a b → answers a out → answers b out) {out : E → Outward J T} {untouched : E → List ℕ}
@@ -62,8 +62,8 @@ module _ {J T E : Type 0} {same : J → J → Type 0} {done : J → Bool} {can_p
       ap (λ (job : JobOut J). job.name)
       (same_Some _ _ (sym whole.settles.1 ∙ went_out core took said invariant few_turns queue vr name started whole.ran.before whole.mid started (pick_notes queue vr name started) whole.picks))
 
-  last_step : IsQuietStep polled_view core_now (reverse told) same made polls everyone (given_settled whole.settles.0.name whole.ran.step)
-  last_step = step-settled is_same answers_same polled_view at_poll.0 whole.settles.0 whole.settles.1 core_now whole.ran its_job polled spent (settled_of step) told whole.settles.2
+  last_step : HasDone same made polls polled_view core_now everyone (given_settled whole.settles.0.name whole.ran.step) 1 (λ old new. Settles made polls answers old whole.ran spent (settled_of step) new) told
+  last_step = settled_did is_same answers_same polled_view at_poll.0 whole.settles.0 whole.settles.1 core_now whole.ran its_job polled spent (settled_of step) told whole.settles.2
 
   -- the desk and its ends are those of the core between pick and settling
   posts_of : (P : PostView J T E → PostView J T E → Type 0) → P (record { desk = noted; ends = ends }) (record { desk = left; ends = later }) → P (post_of picked ends) (post_of polled_view later)
@@ -86,8 +86,7 @@ module _ {J T E : Type 0} {same : J → J → Type 0} {done : J → Bool} {can_p
       turned_invariant = quiet_invariant whole.mid took left at_poll last_is last_step wrote_it
 
       settles_it : Settles made polls answers polled_view whole.ran spent (settled_of step) new
-      settles_it = seen_so whole.mid took left at_poll last_is last_step wrote_it refl (λ old new. Settles made polls answers old whole.ran spent (settled_of step) new)
-          (settles-now is_same answers_same polled_view at_poll.0 whole.settles.0 whole.settles.1 core_now whole.ran its_job polled spent (settled_of step) told whole.settles.2)
+      settles_it = (quiet_now whole.mid took left at_poll last_is last_step wrote_it refl).does_so
 
       owes_it : OwesSettled polled_view (settled_of step) new
       owes_it = owes_settled polled_view _ whole.settles.0 whole.settles.1 whole.ran.step (settled_of step) settles_it.tells

@@ -7,10 +7,10 @@ use Rattle.rt_journal.proofs.Names.{desk_with, RecordedView, IsRecorded, desk_of
 use Rattle.rt_journal.proofs.Names.{AreOutsOf, IsPick, StaysPut}
 use Rattle.rt_jobs.specs.declared.job.Step.TheVariants as steps
 use Rattle.rt_core.specs.Turns.{Picks as CorePicks}
-use Rattle.rt_journal.proofs.Picked.{step-picked, picks-now}
+use Rattle.rt_journal.proofs.Picked.{picked_did}
 use Rattle.rt_journal.proofs.Quiet.{nobody}
-use Rattle.rt_journal.proofs.QuietSteps.{stepped, IsQuietStep, everyone}
-use Rattle.rt_journal.proofs.Wrote.{view_of, quiet_written, quiet_sent, quiet_invariant, seen_so, quiet_now}
+use Rattle.rt_journal.proofs.QuietSteps.{everyone, HasDone}
+use Rattle.rt_journal.proofs.Wrote.{view_of, quiet_written, quiet_sent, quiet_invariant, quiet_now}
 
 -- ends that stay beside a core whose lanes stay
 pub outs_kept : {J T E : Type 0} {fits : Order J → Outcome J T → Type 0} {out : E → Outward J T} {credited : E → ℕ} (old new : RecordedView J T) → StaysPut old new → (ends : List E) →
@@ -33,14 +33,10 @@ module _ {J T : Type 0} {same : J → J → Type 0} {made : J → ℕ} {polls : 
   abbrev picked : List (Note T)
   picked = pick_notes queue vr name started
 
-  quiet : (marked : Bool) (notes : List (Note T)) → CorePicks core (Ok (goes_out name queue marked job)) mid notes → IsQuietStep (view_of core took said) mid (reverse notes) same made polls everyone nobody
-  quiet false notes picks = step-picked (view_of core took said) invariant.0 left mid (Ok (Start name queue job)) notes picks
-  quiet true notes picks = step-picked (view_of core took said) invariant.0 left mid (Ok (Resume name queue job)) notes picks
-
-  right : (marked : Bool) (notes : List (Note T)) → CorePicks core (Ok (goes_out name queue marked job)) mid notes →
-      IsPick (view_of core took said) name queue marked job (stepped (view_of core took said) mid (reverse notes))
-  right false notes picks = picks-now (view_of core took said) invariant.0 left mid (Ok (Start name queue job)) notes picks
-  right true notes picks = picks-now (view_of core took said) invariant.0 left mid (Ok (Resume name queue job)) notes picks
+  did : (marked : Bool) (notes : List (Note T)) → CorePicks core (Ok (goes_out name queue marked job)) mid notes →
+      HasDone same made polls (view_of core took said) mid everyone nobody 2 (λ old new. IsPick old name queue marked job new) notes
+  did false notes picks = picked_did (view_of core took said) invariant.0 left mid (Ok (Start name queue job)) notes picks
+  did true notes picks = picked_did (view_of core took said) invariant.0 left mid (Ok (Resume name queue job)) notes picks
 
   pub went_out : (marked : Bool) (notes : List (Note T)) → CorePicks core (Ok (goes_out name queue marked job)) mid notes → mid.out ≡ Some (record { name = name; queue = queue; job = job })
   went_out false notes picks = ap (λ (view : CoreView J). view.out) picks.0.rest
@@ -48,23 +44,23 @@ module _ {J T : Type 0} {same : J → J → Type 0} {made : J → ℕ} {polls : 
 
   module _ (picks : CorePicks core (Ok (goes_out name queue started job)) mid picked) (slice : List (Note T)) (slice_is : slice ≡ picked) where
     may_pick : IsWritten (terms_of_desk said) (reverse slice ++ said.journal.notes)
-    may_pick = quiet_written core took said invariant slice_is (quiet started picked picks)
+    may_pick = quiet_written core took said invariant slice_is (did started picked picks)
 
     sent_pick : KeepsSent said.journal.notes (reverse slice ++ said.journal.notes)
-    sent_pick = quiet_sent core took said invariant slice_is (quiet started picked picks)
+    sent_pick = quiet_sent core took said invariant slice_is (did started picked picks)
 
     module _ (noted : DeskView J T) (wrote : noted ≡ desk_with (reverse slice) said) where
       pub is_picked : IsRecorded same made polls (view_of mid took noted) × (noted ≡ desk_of (view_of mid took noted))
-      is_picked = quiet_invariant core took said invariant slice_is (quiet started picked picks) wrote
+      is_picked = quiet_invariant core took said invariant slice_is (did started picked picks) wrote
 
       pub picks_it : IsPick (view_of core took said) name queue started job (view_of mid took noted)
-      picks_it = seen_so core took said invariant slice_is (quiet started picked picks) wrote refl (λ old new. IsPick old name queue started job new) (right started picked picks)
+      picks_it = (quiet_now core took said invariant slice_is (did started picked picks) wrote refl).does_so
 
       pub keeps_in : (sender : ℕ) → KeepsIn sender (view_of core took said) (view_of mid took noted)
-      keeps_in sender = (quiet_now core took said invariant slice_is (quiet started picked picks) wrote refl).ins sender tt
+      keeps_in sender = (quiet_now core took said invariant slice_is (did started picked picks) wrote refl).ins sender tt
 
       pub stays_picked : StaysPut (view_of core took said) (view_of mid took noted)
-      stays_picked = let now = quiet_now core took said invariant slice_is (quiet started picked picks) wrote refl in record { seat = now.seat; outs = now.outs; lanes = now.lanes }
+      stays_picked = let now = quiet_now core took said invariant slice_is (did started picked picks) wrote refl in record { seat = now.seat; outs = now.outs; lanes = now.lanes }
 
       outs_picked : {E : Type 0} {fits : Order J → Outcome J T → Type 0} {out : E → Outward J T} {credited : E → ℕ} (ends : List E) → AreOutsOf fits out credited (desk_of (view_of core took said)) ends → AreOutsOf fits out credited noted ends
       outs_picked {E} {fits} {out} {credited} ends outs =

@@ -1,6 +1,6 @@
 -- Notes by which nothing is delivered: a core beside its journal stays recorded, and the ends of its links stay beside it.
 use Rattle.rt_journal.proofs.Names.{◌≡◌, ℕ, ◌+◌, ◌≤◌, Bool, true, false, ◌∷◌, length, refl, ap, arith, Option, None}
-use Rattle.rt_journal.proofs.Names.{JobId, Order, Reason, final_count, Journal, EachNote, if_from, delivered_names}
+use Rattle.rt_journal.proofs.Names.{JobId, Order, final_count, Journal, EachNote, if_from, delivered_names}
 use Rattle.rt_journal.proofs.Names.{given_outcomes, Step, DeliversAs, poll_note, settle_note, RecordedView, IsHeld}
 use Rattle.rt_journal.proofs.Names.{IsTaken, sum_upto, delivered_count, given_count, IsInOf, LeavesOwed, GivesMore}
 use Rattle.rt_journal.proofs.Names.{IsUngiven, KeepsSent, IsSameSeat, grows, OutcomeNote, Inward}
@@ -30,42 +30,19 @@ abbrev pub KeepsGates : {T : Type 0} → Journal T → Journal T → Type 0
 KeepsGates old new = (sender : ℕ) → final_count sender new ≡ final_count sender old
 
 module _ {T : Type 0} (notes : Journal T) where
-  pub quiet-nothing : IsQuiet nobody notes notes
-  quiet-nothing = record { sent = record { accepted = λ core. refl; outstanding = λ core. refl; collected = λ core. refl; gone = λ name. refl; waits = λ name. refl }; given = λ sender. refl; delivered = λ sender. refl }
-
-  -- a creation
-  pub quiet-created : (queue weight : ℕ) → IsQuiet nobody notes (writes.Created queue weight ∷ notes)
-  quiet-created queue weight = record { sent = record { accepted = λ core. refl; outstanding = λ core. refl; collected = λ core. refl; gone = λ name. refl; waits = λ name. refl }; given = λ sender. refl; delivered = λ sender. refl }
-
-  -- a gate is shut
-  pub quiet-shut : (from count : ℕ) → IsQuiet nobody notes (writes.Shut from count ∷ notes)
-  quiet-shut from count = record { sent = record { accepted = λ core. refl; outstanding = λ core. refl; collected = λ core. refl; gone = λ name. refl; waits = λ name. refl }; given = λ sender. refl; delivered = λ sender. refl }
-
   -- a pick, and the note of the poll that begins
   pub quiet-picked : (name : JobId) (queue runtime : ℕ) (was_started : Bool) → IsQuiet nobody notes (poll_note name was_started ∷ writes.Pick queue runtime ∷ notes)
-  quiet-picked name queue runtime false = record { sent = record { accepted = λ core. refl; outstanding = λ core. refl; collected = λ core. refl; gone = λ name. refl; waits = λ name. refl }; given = λ sender. refl; delivered = λ sender. refl }
-  quiet-picked name queue runtime true = record { sent = record { accepted = λ core. refl; outstanding = λ core. refl; collected = λ core. refl; gone = λ name. refl; waits = λ name. refl }; given = λ sender. refl; delivered = λ sender. refl }
+  quiet-picked name queue runtime false = assumption
+  quiet-picked name queue runtime true = assumption
 
   pub gates-picked : (name : JobId) (queue runtime : ℕ) (was_started : Bool) → KeepsGates notes (poll_note name was_started ∷ writes.Pick queue runtime ∷ notes)
   gates-picked name queue runtime false sender = refl
   gates-picked name queue runtime true sender = refl
 
-  -- a pick that hands a job back
-  pub quiet-returned : (name : JobId) (reason : Reason) (queue runtime : ℕ) → IsQuiet (λ sender. if_from sender name (name, outcomes.Returned reason)) notes (writes.Returned name reason ∷ writes.Pick queue runtime ∷ notes)
-  quiet-returned name reason queue runtime = record {
-    sent = record { accepted = λ core. refl; outstanding = λ core. refl; collected = λ core. refl; gone = λ name. refl; waits = λ name. refl };
-    given = λ sender. refl;
-    delivered = λ sender. refl;
-  }
-
   -- a poll that is settled
   pub quiet-settled : (name : JobId) (time : ℕ) (step : Step T) → IsQuiet (given_settled name step) notes (settle_note name time step ∷ notes)
-  quiet-settled name time (steps.Done out) = record {
-    sent = record { accepted = λ core. refl; outstanding = λ core. refl; collected = λ core. refl; gone = λ name. refl; waits = λ name. refl };
-    given = λ sender. refl;
-    delivered = λ sender. refl;
-  }
-  quiet-settled name time steps.Yield = record { sent = record { accepted = λ core. refl; outstanding = λ core. refl; collected = λ core. refl; gone = λ name. refl; waits = λ name. refl }; given = λ sender. refl; delivered = λ sender. refl }
+  quiet-settled name time (steps.Done out) = assumption
+  quiet-settled name time steps.Yield = assumption
 
   pub gates-settled : (name : JobId) (time : ℕ) (step : Step T) → KeepsGates notes (settle_note name time step ∷ notes)
   gates-settled name time (steps.Done out) sender = refl

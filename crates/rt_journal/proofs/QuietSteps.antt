@@ -4,8 +4,9 @@ use Rattle.rt_journal.proofs.Names.{Option, JobId, Note, OutcomeNote, Inward, Jo
 use Rattle.rt_journal.proofs.Names.{DeliversAs, Owed, waiting_of, CoreView, JobOut, inside_count, IsKept, IsWritten}
 use Rattle.rt_journal.proofs.Names.{RecordedView, terms_at, desk_of, IsRecorded, IsHeld, HasTask, note_taken, sum_upto}
 use Rattle.rt_journal.proofs.Names.{given_count, IsInOf, IsUngiven, LeavesOwed, KeepsOuts, IsSameSeat, with_notes}
+use Rattle.rt_journal.proofs.Names.{length, reverse}
 use Rattle.rt_journal.proofs.EndsKept.{keeps_outs}
-use Rattle.rt_journal.proofs.Quiet.{IsQuiet, nobody, quiet-nothing, held-quiet, taken-quiet, ins-quiet}
+use Rattle.rt_journal.proofs.Quiet.{IsQuiet, nobody, held-quiet, taken-quiet, ins-quiet}
 
 -- each sender there is
 abbrev pub everyone : ℕ → Type 0
@@ -72,19 +73,23 @@ module _ {J T : Type 0} {same : J → J → Type 0} {made : J → ℕ} {polls : 
 module _ {J T : Type 0} {same : J → J → Type 0} {made : J → ℕ} {polls : Owed J T}
     (old : RecordedView J T) (recorded : IsRecorded same made polls old) where
   pub nothing_done : IsQuietStep old old.core [] same made polls everyone nobody
-  nothing_done = record {
-    kept = recorded.kept;
-    number = refl;
-    cores = refl;
-    room = refl;
-    quiet = quiet-nothing old.journal.notes;
-    ungiven = λ sender inward is. tt;
-    gates = λ sender kept. refl;
-    fewer = omega arith;
-    as_sent = recorded.as_sent;
-    waiting = recorded.waiting;
-    out = recorded.out;
-  }
+  nothing_done =
+      let fewer : inside_count old.core + sum_upto (given_count old.journal.notes) old.core.cores ≤ inside_count old.core + sum_upto (given_count old.journal.notes) old.core.cores = omega arith in
+      assumption
 
-  pub nothing_stepped : (core : CoreView J) → core ≡ old.core → (written : List (Note T)) → written ≡ [] → stepped old core written ≡ old
-  nothing_stepped core same written none = λ i. record { cap = old.cap; core = same i; journal = record { notes = none i ++ old.journal.notes; room = old.journal.room }; took = old.took; lanes = old.lanes }
+module _ {J T : Type 0} (same : J → J → Type 0) (made : J → ℕ) (polls : Owed J T) (old : RecordedView J T) (core : CoreView J) where
+  -- what a call of the core did: a quiet step of few notes, and what its caller is told of it
+  pub record HasDone (keeps : ℕ → Type 0) (gives : ℕ → Option (JobId × OutcomeNote T)) (most : ℕ) (does : RecordedView J T → RecordedView J T → Type 0) (notes : List (Note T)) : Type 0 where
+    pub step : IsQuietStep old core (reverse notes) same made polls keeps gives
+    pub few : length notes ≤ most
+    pub does_so : does old (stepped old core (reverse notes))
+
+module _ {J T : Type 0} {same : J → J → Type 0} {made : J → ℕ} {polls : Owed J T} {old : RecordedView J T} {core : CoreView J} {most : ℕ} {does : RecordedView J T → RecordedView J T → Type 0} {notes : List (Note T)} where
+  -- these notes were made, or none
+  pub done_so : {written : List (Note T)} {keeps : ℕ → Type 0} {gives : ℕ → Option (JobId × OutcomeNote T)} → notes ≡ written → IsQuietStep old core (reverse written) same made polls keeps gives →
+      length written ≤ most → does old (stepped old core (reverse written)) → HasDone same made polls old core keeps gives most does notes
+  done_so {keeps = keeps} {gives = gives} is step few does_so = subst (HasDone same made polls old core keeps gives most does) (sym is) (record { step = step; few = few; does_so = does_so })
+
+  pub nothing_did : IsRecorded same made polls old → core ≡ old.core → notes ≡ [] → does old old → HasDone same made polls old core everyone nobody most does notes
+  nothing_did recorded core_is is does_so = subst (HasDone same made polls old core everyone nobody most does) (sym is)
+      (subst (λ core. HasDone same made polls old core everyone nobody most does []) (sym core_is) (record { step = nothing_done old recorded; few = omega arith; does_so = does_so }))

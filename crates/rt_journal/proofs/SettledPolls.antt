@@ -1,15 +1,15 @@
 -- A core beside its journal settles the poll of the job that is out.
 use Rattle.rt_journal.proofs.Names.{◌≡◌, ℕ, zero, suc, ◌+◌, ◌<◌, ◌≤◌, Bool, true, false, List, [], ◌∷◌, ◌++◌, length}
-use Rattle.rt_journal.proofs.Names.{reverse, refl, sym, ◌∙◌, ap, subst, arith, add-zero, get_or, ◌==◌, Option, Some}
-use Rattle.rt_journal.proofs.Names.{None, All, is_some, unwrap_or, false_from_ne_true, or_parts, length-append}
-use Rattle.rt_journal.proofs.Names.{All-append, All-cons, All-nil, JobId, Note, same_name, is_name, Journal, is_told}
-use Rattle.rt_journal.proofs.Names.{jobs_out, name_settled, number_if, alone_out, apart_of, among, same_as_itself, Step}
-use Rattle.rt_journal.proofs.Names.{Call, Owed, AfterPoll, IsSameTask, IfDone, OnYield, OwesOn, waiting_of, held_count}
+use Rattle.rt_journal.proofs.Names.{refl, sym, ◌∙◌, ap, subst, arith, add-zero, get_or, ◌==◌, Option, Some, None, All}
+use Rattle.rt_journal.proofs.Names.{is_some, unwrap_or, false_from_ne_true, or_parts, length-append, All-append}
+use Rattle.rt_journal.proofs.Names.{All-cons, All-nil, JobId, Note, same_name, is_name, Journal, is_told, jobs_out}
+use Rattle.rt_journal.proofs.Names.{name_settled, number_if, alone_out, apart_of, among, same_as_itself, Step, Call}
+use Rattle.rt_journal.proofs.Names.{Owed, AfterPoll, IsSameTask, IfDone, OnYield, OwesOn, waiting_of, held_count}
 use Rattle.rt_journal.proofs.Names.{ChangesLine, Settled, Yielded, CoreView, JobOut, inside_count, IsTaskOut}
-use Rattle.rt_journal.proofs.Names.{settled_view, IsJobOut, polls_made, settle_note, RecordedView, terms_at, IsRecorded}
-use Rattle.rt_journal.proofs.Names.{HasTask, note_taken, OwesAfter, sum_upto, given_count, IsOut, IsPolled, Settles}
-use Rattle.rt_journal.proofs.Names.{TellsStep, Job, name_ended, without_job, known_of, option_map, Inward, IsInOf}
-use Rattle.rt_journal.proofs.Names.{IsUngiven, told_under, outcome_note, outcome_settled, length-with_last_if}
+use Rattle.rt_journal.proofs.Names.{settled_view, IsJobOut, polls_made, settle_note, RecordedView, terms_at}
+use Rattle.rt_journal.proofs.Names.{IsRecorded, HasTask, note_taken, OwesAfter, sum_upto, given_count, IsOut, IsPolled}
+use Rattle.rt_journal.proofs.Names.{Settles, TellsStep, Job, name_ended, without_job, known_of, option_map, Inward}
+use Rattle.rt_journal.proofs.Names.{IsInOf, IsUngiven, told_under, outcome_note, outcome_settled, length-with_last_if}
 use Rattle.rt_journal.proofs.Names.{given_outcomes}
 use Rattle.rt_ids.specs.declared.note.Note.TheVariants as writes
 use Rattle.rt_jobs.specs.declared.job.Step.TheVariants as steps
@@ -25,7 +25,7 @@ use Rattle.rt_journal.proofs.Ungiven.{ungiven_if, not_given}
 use Rattle.rt_journal.proofs.Received.{task_stays}
 use Rattle.rt_journal.proofs.Quiet.{given_settled, quiet-settled, gates-settled, as_sent-settled}
 use Rattle.rt_journal.proofs.Sums.{sum_upto-at_most_one}
-use Rattle.rt_journal.proofs.QuietSteps.{stepped, IsQuietStep, everyone}
+use Rattle.rt_journal.proofs.QuietSteps.{IsQuietStep, everyone, HasDone, done_so}
 
 -- whoever waits is another than one who isn't among them
 among-place : {J : Type 0} (name : JobId) (waiting : List (JobId × Bool × J)) → among name (names_of waiting) ≡ false →
@@ -199,18 +199,6 @@ module _ {J T : Type 0} {same : J → J → Type 0} {made : J → ℕ} {polls : 
         by_step steps.Yield (Finished answer) settles = absurd settles
         by_step steps.Yield Yielded settles = (settles.2, ap (λ core. core.out) settles.1, refl)
 
-    pub few-settled : length notes ≤ 1
-    few-settled = omega (arith, ap length its_step.0)
-
-    pub step-settled : IsQuietStep old core (reverse notes) same made polls everyone (given_settled out.name ran.step)
-    step-settled = subst (λ notes. IsQuietStep old core (reverse notes) same made polls everyone (given_settled out.name ran.step)) (sym its_step.0) (by_step ran.step refl settled settles)
-      where
-        by_step : (step : Step T) → ran.step ≡ step → (settled : Settled T) → CoreSettles old.core out ran spent step settled core notes → IsQuietStep old core written same made polls everyone (given_settled out.name ran.step)
-        by_step (steps.Done value) ends (Finished answer) settles = ended value ends settles.1
-        by_step (steps.Done value) ends Yielded settles = absurd settles
-        by_step steps.Yield yields (Finished answer) settles = absurd settles
-        by_step steps.Yield yields Yielded settles = yielded yields settles.0 settles.1
-
     answered : IfDone ran.step (answers its_task.sent)
     answered = by_step ran.step polled.answered
       where
@@ -225,8 +213,8 @@ module _ {J T : Type 0} {same : J → J → Type 0} {made : J → ℕ} {polls : 
         (its_task.owes 0 calls ran.step ran.told (subst (λ place. polls out.job place calls ran.step ran.told) (sym (add-zero (made out.job)))
         (subst (λ job. polls job (made job) calls ran.step ran.told) (sym its_job) owes)))
 
-    pub settles-now : Settles made polls answers old ran spent settled (stepped old core (reverse notes))
-    settles-now = record {
+    pub settled_did : HasDone same made polls old core everyone (given_settled out.name ran.step) 1 (λ old new. Settles made polls answers old ran spent settled new) notes
+    settled_did = done_so its_step.0 (by_step ran.step refl settled settles) (omega arith) (record {
       out = out;
       was_out = was_out;
       sent = its_task.sent;
@@ -234,7 +222,13 @@ module _ {J T : Type 0} {same : J → J → Type 0} {made : J → ℕ} {polls : 
       owed = owed;
       answered = answered;
       tells = its_step.2;
-      journal = ap (λ notes. record old.journal { notes = reverse notes ++ old.journal.notes }) its_step.0;
+      journal = refl;
       out_now = its_step.1;
       took = refl;
-    }
+    })
+      where
+        by_step : (step : Step T) → ran.step ≡ step → (settled : Settled T) → CoreSettles old.core out ran spent step settled core notes → IsQuietStep old core written same made polls everyone (given_settled out.name ran.step)
+        by_step (steps.Done value) ends (Finished answer) settles = ended value ends settles.1
+        by_step (steps.Done value) ends Yielded settles = absurd settles
+        by_step steps.Yield yields (Finished answer) settles = absurd settles
+        by_step steps.Yield yields Yielded settles = yielded yields settles.0 settles.1

@@ -1,16 +1,17 @@
 -- A core beside its journal shuts the gate of a sender, and the end of that sender stays beside it.
 use Rattle.rt_journal.proofs.Names.{◌≡◌, ℕ, ◌+◌, ◌≤◌, true, List, [], ◌∷◌, ◌++◌, length, reverse, refl, sym, ◌∙◌, ap}
 use Rattle.rt_journal.proofs.Names.{subst, arith, add-zero, cond, ◌≢◌, Some, None, All, is_some, IsSome, slice_set}
-use Rattle.rt_journal.proofs.Names.{eq-eqb, ne_eqb, true≢false, length-append, Note, IsNextShut, core_mode, final_count}
-use Rattle.rt_journal.proofs.Names.{or_else, Owed, waiting_of, CoreView, gate_of, inside_count, ShutsGate, Inward}
-use Rattle.rt_journal.proofs.Names.{SoundIn, Shuts, polls_made, RecordedView, terms_at, IsRecorded, HasTask, IsInOf}
-use Rattle.rt_journal.proofs.Names.{TellsShut, with_notes}
+use Rattle.rt_journal.proofs.Names.{eq-eqb, ne_eqb, true≢false, length-append, Note, IsNextShut, core_mode}
+use Rattle.rt_journal.proofs.Names.{final_count, or_else, Owed, waiting_of, CoreView, gate_of, inside_count, ShutsGate}
+use Rattle.rt_journal.proofs.Names.{Inward, SoundIn, Shuts, polls_made, RecordedView, terms_at, IsRecorded, HasTask}
+use Rattle.rt_journal.proofs.Names.{IsInOf, TellsShut}
 use Rattle.rt_ids.specs.declared.note.Note.TheVariants as writes
-use Rattle.rt_journal.proofs.KeptClosings.{agrees-shut, shut_stands}
+use Rattle.rt_journal.proofs.KeptClosings.{agrees-shut}
 use Rattle.rt_journal.proofs.EndsKept.{sees_more_in}
 use Rattle.rt_journal.proofs.Received.{task_stays}
-use Rattle.rt_journal.proofs.Quiet.{nobody, quiet-shut}
-use Rattle.rt_journal.proofs.QuietSteps.{stepped, IsQuietStep}
+use Rattle.rt_journal.proofs.Quiet.{nobody}
+use Rattle.rt_journal.proofs.QuietSteps.{stepped, IsQuietStep, HasDone, done_so}
+use Rattle.rt_journal.proofs.Kept.{kept_after}
 
 -- a gate that isn't shut may be, at the count of its end
 pub next_shut : {J T : Type 0} (view : RecordedView J T) (from count : ℕ) (before after : Inward J T) → IsInOf from view before → Shuts before after count → SoundIn after →
@@ -33,17 +34,13 @@ module _ {J T : Type 0} (old : RecordedView J T) (from count : ℕ) (core : Core
   pub shut_step : {same : J → J → Type 0} {made : J → ℕ} {polls : Owed J T} → IsRecorded same made polls old → IsNextShut old.core.cores from count old.journal.notes →
       IsQuietStep old core written same made polls (λ sender. sender ≡ from → ⊥) nobody
   shut_step {same} {made} {polls} recorded next = record {
-    kept = record {
-      is_core = recorded.kept.is_core;
-      agrees = agrees-shut old.core core old.journal.notes recorded.kept.agrees from count next.known is;
-      notes = (shut_stands (terms_at old) old.core old.journal.notes recorded.kept from count next, recorded.kept.notes);
-      no_pick = refl;
-      no_answer = refl;
-    };
+    kept =
+        kept_after (terms_at old) (writes.Shut from count) recorded.kept (agrees-shut old.core core old.journal.notes recorded.kept.agrees from count next.known is) recorded.kept.is_core next
+        refl tt refl refl;
     number = ap (λ core. core.core) is;
     cores = ap (λ core. core.cores) is;
     room = ap (λ core. core.queues.room) is;
-    quiet = quiet-shut old.journal.notes from count;
+    quiet = assumption;
     ungiven = λ sender inward is. tt;
     gates = λ sender away. ap (λ test. or_else (cond test (Some count) None) (final_count sender old.journal.notes)) (ne_eqb sender from away);
     fewer = omega (arith, ap inside_count is);
@@ -92,14 +89,9 @@ module _ {J T : Type 0} (old now : RecordedView J T) (view_is : old ≡ now) (fr
   )
 
   module _ (core : CoreView J) (notes : List (Note T)) (gate : ShutsGate old.core from count core notes) where
-    pub few_shut : length notes ≡ 1
-    few_shut = ap length gate.1
-
-    pub step_shut : {same : J → J → Type 0} {made : J → ℕ} {polls : Owed J T} → IsRecorded same made polls old → IsQuietStep old core (reverse notes) same made polls (λ sender. sender ≡ from → ⊥) nobody
-    step_shut {same} {made} {polls} recorded = subst (λ notes. IsQuietStep old core (reverse notes) same made polls (λ sender. sender ≡ from → ⊥) nobody) (sym gate.1) (shut_step old from count core gate.0 recorded next_now)
-
-    pub tells_shut_now : TellsShut old from count (stepped old core (reverse notes))
-    tells_shut_now = record { journal = ap (λ notes. with_notes (reverse notes) old.journal) gate.1; took = refl; out = ap (λ core. core.out) gate.0 }
+    pub shut_did : {same : J → J → Type 0} {made : J → ℕ} {polls : Owed J T} → IsRecorded same made polls old →
+        HasDone same made polls old core (λ sender. sender ≡ from → ⊥) nobody 1 (λ old new. TellsShut old from count new) notes
+    shut_did recorded = done_so gate.1 (shut_step old from count core gate.0 recorded next_now) (omega arith) (record { journal = refl; took = refl; out = ap (λ core. core.out) gate.0 })
 
     pub beside_shut : IsInOf from (stepped old core (reverse notes)) after
     beside_shut =

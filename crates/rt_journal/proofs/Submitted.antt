@@ -1,13 +1,13 @@
 -- An actor submits an order: its journal and its lanes stay as they should be, and the ends that it sends on stay beside it.
-use Rattle.rt_journal.proofs.Names.{◌≡◌, inl, inr, ℕ, ◌+◌, true, false, Some, [], ◌∷◌, ◌++◌, length, refl, sym, ◌∙◌, ap}
-use Rattle.rt_journal.proofs.Names.{subst, arith, set, ◌==◌, ◌&&◌, ◌||◌, not, Ok, Err, is_some, take, slice_get}
+use Rattle.rt_journal.proofs.Names.{◌≡◌, inl, inr, ℕ, ◌+◌, true, false, Some, [], ◌∷◌, ◌++◌, length, refl, sym, ◌∙◌}
+use Rattle.rt_journal.proofs.Names.{ap, subst, arith, set, ◌==◌, ◌&&◌, ◌||◌, not, Ok, Err, is_some, slice_get}
 use Rattle.rt_journal.proofs.Names.{count_by, eq-eqb, ne_eqb, eqb_tells, length-append, JobId, Order, Outcome}
 use Rattle.rt_journal.proofs.Names.{SendError, Closed, Full, NoCore, Journal, is_told, accepted_orders, IsNextSent}
 use Rattle.rt_journal.proofs.Names.{IsSpelledOrder, without_job, outstanding_count, is_outstanding, is_gone}
-use Rattle.rt_journal.proofs.Names.{name_redeemed, name_detached, name_collected, Outward, Sends, JournalView, at, Adds}
-use Rattle.rt_journal.proofs.Names.{Lane, IsLaneOf, changed, unchanged, numbered_orders, DeskView, IsWritten, Submits}
-use Rattle.rt_journal.proofs.Names.{terms_of_desk, IsOutOf, name_of, named_outcomes, KnowsLane, KnowsLanes, StaysBeside}
-use Rattle.rt_journal.proofs.Names.{is_let_go}
+use Rattle.rt_journal.proofs.Names.{name_redeemed, name_detached, name_collected, Outward, Sends, JournalView, at}
+use Rattle.rt_journal.proofs.Names.{Adds, Lane, IsLaneOf, changed, unchanged, numbered_orders, DeskView, IsWritten}
+use Rattle.rt_journal.proofs.Names.{Submits, terms_of_desk, IsOutOf, name_of, KnowsLane, KnowsLanes, StaysBeside}
+use Rattle.rt_journal.proofs.Names.{is_let_go, HasLane, ◌≢◌, KeepsOut}
 use Rattle.std.proofs.lemmas.List.{length-set}
 use Rattle.rt_ids.specs.declared.note.Note.TheVariants as writes
 use Rattle.rt_ids.specs.declared.order.SendError.TheVariants.{Spent}
@@ -121,45 +121,22 @@ module _ {J T : Type 0} (core : ℕ) (desk : DeskView J T) (out now : Outward J 
     }
 
     stays-accepted : StaysBeside fits core desk submitted now credited
-    stays-accepted = record {
-      beside = record {
-        known = is.known;
-        from = ap (λ end. end.from) sends.4 ∙ is.from;
-        to = ap (λ end. end.to) sends.4 ∙ is.to;
-        base = ap (λ end. end.base) sends.4 ∙ is.base;
-        capacity = ap (λ end. end.capacity) sends.4 ∙ is.capacity;
-        accepted =
-            accepted_here
-            ∙ (ap (λ orders. orders ++ (name, without_job order) ∷ []) is.accepted
-            ∙ (ap (λ at. numbered_orders desk.actor core 0 out.sent ++ (name_of desk.actor core at, without_job order) ∷ []) (omega (arith, sends.2, is.base))
-            ∙ (sym (numbered-append desk.actor core 0 out.sent order) ∙ ap (numbered_orders desk.actor core 0) (sym sent_now))));
-        outstanding =
-            let all : outstanding_count core longer ≡ outstanding_count core journal + 1 =
-            ap (count_by (λ sent. is_outstanding sent.0 journal)) accepted_here ∙ counted-more (λ sent. is_outstanding sent.0 journal) (accepted_orders core journal) (name, without_job order) waits_now in
-            let sent : length now.sent ≡ length out.sent + 1 = ap length sent_now ∙ length-append out.sent (order ∷ []) in
-            omega (arith, all, sent, is.outstanding);
-        behind = omega (arith, is.behind, ap (λ end. end.got) sends.4, ap (λ end. length end.seen) sends.4);
-        collected = is.collected ∙ ap {B = _} (λ end. named_outcomes desk.actor core (take end.got end.seen)) (sym sends.4);
-      };
-      lane = record { lane = later; is = set_there desk.lanes core lane later lane_is; lane_of = lane_of };
-      others = λ other away. record {
-        each = λ end given_back beside. record {
-          known = beside.known;
-          from = beside.from;
-          to = beside.to;
-          base = beside.base;
-          capacity = beside.capacity;
-          accepted = accepted_there other away ∙ beside.accepted;
-          outstanding = ap (λ orders. count_by (λ sent. is_outstanding sent.0 journal) orders + given_back) (accepted_there other away) ∙ beside.outstanding;
-          behind = beside.behind;
-          collected = beside.collected;
-        };
-      };
-      lanes = λ other away. slice_get-set_other desk.lanes core other later away;
-      rest = refl;
-      written = written-accepted;
-      known = knows-accepted;
-    }
+    stays-accepted =
+        let accepted =
+        accepted_here
+        ∙ (ap (λ orders. orders ++ (name, without_job order) ∷ []) is.accepted
+        ∙ (ap (λ at. numbered_orders desk.actor core 0 out.sent ++ (name_of desk.actor core at, without_job order) ∷ []) (omega (arith, sends.2, is.base))
+        ∙ sym (numbered-append desk.actor core 0 out.sent order))) in
+        let all : outstanding_count core longer ≡ outstanding_count core journal + 1 =
+        ap (count_by (λ sent. is_outstanding sent.0 journal)) accepted_here ∙ counted-more (λ sent. is_outstanding sent.0 journal) (accepted_orders core journal) (name, without_job order) waits_now in
+        let outstanding : outstanding_count core longer + credited ≡ length (out.sent ++ order ∷ []) = omega (arith, all, length-append out.sent (order ∷ []), is.outstanding) in
+        let beside = subst (λ now. IsOutOf core submitted now credited) (sym sends.4) (assumption (accepted, outstanding)) in
+        let its_lane : HasLane fits core submitted now credited = record { lane = later; is = set_there desk.lanes core lane later lane_is; lane_of = lane_of } in
+        let others : (other : ℕ) → other ≢ core → KeepsOut other desk submitted = λ other away. record {
+          each = λ end given_back beside.
+              assumption (accepted_there other away ∙ beside.accepted, ap (λ orders. count_by (λ sent. is_outstanding sent.0 journal) orders + given_back) (accepted_there other away) ∙ beside.outstanding);
+        } in
+        assumption (beside, others, λ (other : ℕ) (away : other ≢ core). slice_get-set_other desk.lanes core other later away, written-accepted, knows-accepted)
 
     -- the desk whose journal got this note
     module _ (noted : JobId) (noted_is : noted ≡ name) (told : Order (Unit {0})) (told_is : told ≡ without_job order) (page : JournalView T)
@@ -177,17 +154,7 @@ module _ {J T : Type 0} (core : ℕ) (desk : DeskView J T) (out now : Outward J 
 
   -- the order is refused
   pub beside-refused : (error : SendError J) → Sends out credited order now (Err error) → IsOutOf core desk now credited
-  beside-refused (Closed back final) sends = subst (λ end. IsOutOf core desk end credited) (sym sends.2) (record {
-    known = is.known;
-    from = is.from;
-    to = is.to;
-    base = is.base;
-    capacity = is.capacity;
-    accepted = is.accepted;
-    outstanding = is.outstanding;
-    behind = is.behind;
-    collected = is.collected;
-  })
+  beside-refused (Closed back final) sends = subst (λ end. IsOutOf core desk end credited) (sym sends.2) assumption
   beside-refused (Full back) sends = subst (λ end. IsOutOf core desk end credited) (sym sends.3) is
   beside-refused (Spent back) sends = subst (λ end. IsOutOf core desk end credited) (sym sends.4) is
   beside-refused (NoCore back) sends = absurd sends

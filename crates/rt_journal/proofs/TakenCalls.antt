@@ -7,9 +7,11 @@ use Rattle.rt_journal.proofs.Names.{DetachesTicket}
 use Rattle.rt_ids.specs.declared.note.Note.TheVariants as writes
 use Rattle.rt_desk.specs.declared.entry.Entry.TheVariants.{Pending}
 use Rattle.rt_journal.proofs.Desked.{name_at, desk_same, carried}
-use Rattle.rt_journal.proofs.Redeemed.{redeems_ticket, redeemed_stays, detaches_ticket, detached_stays, detaches_refused}
+use Rattle.rt_journal.proofs.Redeemed.{redeems_ticket, redeemed_stays, detaches_ticket, detached_stays}
+use Rattle.rt_journal.proofs.Redeemed.{detaches_refused}
 use Rattle.rt_journal.proofs.Refused.{refuses}
-use Rattle.rt_journal.proofs.Spending.{within_room, spent_sent, due_sent, spent_gone, due_gone, spent_detached, due_detached, carried_spends}
+use Rattle.rt_journal.proofs.Spending.{within_room, spent_sent, due_sent, spent_gone, due_gone, spent_detached}
+use Rattle.rt_journal.proofs.Spending.{due_detached, carried_spends}
 use Rattle.rt_journal.proofs.Submitted.{stays-now, submits-now, beside-refused, submits-refused}
 use Rattle.rt_journal.proofs.TakenLanes.{HasTaken, HasNoted, carry, refused_stays}
 

@@ -20,43 +20,25 @@ pub record IsTicketNote {T : Type 0} (name : JobId) (note : Note T) : Type 0 whe
 
 module _ {T : Type 0} (name : JobId) where
   pub redeemed_note : (outcome : OutcomeNote T) → IsTicketNote name (writes.Redeemed name outcome)
-  redeemed_note outcome = record {
-    accepted = λ core before. refl;
-    collected = λ core before apart. refl;
-    gone = λ other before apart. ap (λ test. (test || is_told name_redeemed other before) || is_told name_detached other before) apart;
-    waits = λ other before apart. ap (λ test. not ((test || is_told name_redeemed other before) || is_told name_detached other before && is_told name_collected other before)) apart;
-    no_pick = λ before. refl;
-    no_answer = λ before. refl;
-    plain = refl;
-    free = λ before. tt;
-    writer = λ terms. tt;
-  }
+  redeemed_note outcome = assumption (
+    λ (other : JobId) (before : Journal T) (apart : same_name other name ≡ false). ap (λ test. (test || is_told name_redeemed other before) || is_told name_detached other before) apart,
+    λ (other : JobId) (before : Journal T) (apart : same_name other name ≡ false).
+        ap (λ test. not ((test || is_told name_redeemed other before) || is_told name_detached other before && is_told name_collected other before)) apart,
+  )
 
   pub detached_note : IsTicketNote {T = T} name (writes.Detached name)
-  detached_note = record {
-    accepted = λ core before. refl;
-    collected = λ core before apart. refl;
-    gone = λ other before apart. ap (λ test. is_told name_redeemed other before || (test || is_told name_detached other before)) apart;
-    waits = λ other before apart. ap (λ test. not (is_told name_redeemed other before || (test || is_told name_detached other before) && is_told name_collected other before)) apart;
-    no_pick = λ before. refl;
-    no_answer = λ before. refl;
-    plain = refl;
-    free = λ before. tt;
-    writer = λ terms. tt;
-  }
+  detached_note = assumption (
+    λ (other : JobId) (before : Journal T) (apart : same_name other name ≡ false). ap (λ test. is_told name_redeemed other before || (test || is_told name_detached other before)) apart,
+    λ (other : JobId) (before : Journal T) (apart : same_name other name ≡ false).
+        ap (λ test. not (is_told name_redeemed other before || (test || is_told name_detached other before) && is_told name_collected other before)) apart,
+  )
 
   pub collected_note : (outcome : OutcomeNote T) → IsTicketNote name (writes.Collected name outcome)
-  collected_note outcome = record {
-    accepted = λ core before. refl;
-    collected = λ core before apart. ap (λ test. with_last (collected_outcomes core before) (cond test (Some (name, outcome)) None)) apart;
-    gone = λ other before apart. refl;
-    waits = λ other before apart. ap (λ test. not (is_told name_redeemed other before || is_told name_detached other before && (test || is_told name_collected other before))) apart;
-    no_pick = λ before. refl;
-    no_answer = λ before. refl;
-    plain = refl;
-    free = λ before. tt;
-    writer = λ terms. tt;
-  }
+  collected_note outcome = assumption (
+    λ (core : ℕ) (before : Journal T) (apart : (name.to == core) ≡ false). ap (λ test. with_last (collected_outcomes core before) (cond test (Some (name, outcome)) None)) apart,
+    λ (other : JobId) (before : Journal T) (apart : same_name other name ≡ false).
+        ap (λ test. not (is_told name_redeemed other before || is_told name_detached other before && (test || is_told name_collected other before))) apart,
+  )
 
 -- what two tests say together
 module _ (redeemed detached collected : Bool) where

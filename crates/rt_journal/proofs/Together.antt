@@ -1,6 +1,6 @@
 -- Actors that are recorded each by itself are joined, where the ends of their links are.
-use Rattle.rt_journal.proofs.Names.{◌≡◌, ℕ, ◌+◌, ◌<◌, ◌≤◌, Bool, true, false, List, [], ◌∷◌, length, refl, sym, ◌∙◌, ap}
-use Rattle.rt_journal.proofs.Names.{subst, ⊎_elim, arith, Option, Some, None, take, drop, slice_get, option_map}
+use Rattle.rt_journal.proofs.Names.{◌≡◌, ℕ, ◌+◌, ◌<◌, ◌≤◌, Bool, true, false, List, [], ◌∷◌, length, refl, sym, ◌∙◌}
+use Rattle.rt_journal.proofs.Names.{ap, subst, ⊎_elim, arith, Option, Some, None, take, drop, slice_get, option_map}
 use Rattle.rt_journal.proofs.Names.{cases_lt, length-append, map-append, take-append-drop, same_Some, Terms, terms_of}
 use Rattle.rt_journal.proofs.Names.{JobId, Note, Order, Outcome, Assembly, IsPrefix, journal_of, first_under, order_of}
 use Rattle.rt_journal.proofs.Names.{final_count, accepted_orders, delivered_names, given_outcomes, collected_outcomes}
