@@ -1,4 +1,4 @@
--- The next outcome of a core is collected, and noted.
+-- The next outcome of a core is collected, and noted; so are all that an end shows, one after another.
 use Rattle.rt_journal.proofs.Names.{◌≡◌, ◌≢◌, inl, inr, ℕ, ◌+◌, ◌-◌, ◌<◌, ◌≤◌, Bool, true, false, List, [], ◌∷◌, ◌++◌}
 use Rattle.rt_journal.proofs.Names.{length, Some, None, refl, sym, ◌∙◌, ap, subst, arith, cond, set, Option, unwrap_or}
 use Rattle.rt_journal.proofs.Names.{◌&&◌, ◌||◌, not, is_some, slice_get, take, IfSome, eq-eqb, take_more}
@@ -11,18 +11,17 @@ use Rattle.rt_journal.proofs.Names.{same_as_itself, Outward, StartsWith, Fits, A
 use Rattle.rt_journal.proofs.Names.{JournalView, at, Lane, IsLaneOf, IsAwaited, IsSent, CollectsNext, told_of}
 use Rattle.rt_journal.proofs.Names.{taken-get, DeskView, IsWritten, terms_of_desk, IsOutOf, ShowsMore, name_of}
 use Rattle.rt_journal.proofs.Names.{named_outcomes, KnowsLane, KnowsLanes, StaysBeside, is_let_go, booked, shares}
+use Rattle.rt_journal.proofs.Names.{append_assoc, CollectsFrom, GetsAll, GetsNext}
 use Rattle.rt_ids.specs.declared.note.Note.TheVariants as writes
 use Rattle.rt_ids.specs.declared.order.Answer.TheVariants as answer
 use Rattle.rt_ids.specs.declared.order.Outcome.TheVariants.{Finished, Returned, Answered}
 use Rattle.rt_ids.specs.Outcomes as ids
 use Rattle.rt_desk.specs.declared.entry.Entry.TheVariants as entry
-use Rattle.rt_journal.proofs.Desked.{desk_same}
+use Rattle.rt_journal.proofs.Desked.{desk_same, HasTaken, carry, refused_stays}
 use Rattle.rt_journal.proofs.EndsKept.{sees_more_out}
-use Rattle.rt_journal.proofs.LaneNotes.{stays_noted, as_many, one_less}
-use Rattle.rt_journal.proofs.Refused.{accepted_at, awaited}
+use Rattle.rt_journal.proofs.LaneNotes.{stays_noted, as_many, one_less, collected_note, neither, detached_only}
+use Rattle.rt_journal.proofs.Redeemed.{accepted_at, awaited}
 use Rattle.rt_journal.proofs.Spending.{due_collected, booked_noted}
-use Rattle.rt_journal.proofs.TakenLanes.{HasTaken, carry, refused_stays}
-use Rattle.rt_journal.proofs.TicketNotes.{collected_note, neither, detached_only}
 
 -- an outcome that fits an order, and can be spelled, fits it as notes tell both
 module _ {J T : Type 0} (same : J → J → Type 0) (answers : J → T → Type 0) where
@@ -185,3 +184,47 @@ module _ {J T : Type 0} (same : J → J → Type 0) (answers : J → T → Type 
         ap booked (desk_same desk taken.known core lane later taken.there next.1 ∙ taken.is),
       )
   gets_none (Some found) next is = absurd cc
+
+-- what begins a beginning
+pub starts_then : {A : Type 0} (whole middle front : List A) → StartsWith whole middle → StartsWith middle front → StartsWith whole front
+starts_then whole middle front along before = (before.0 ++ along.0, along.1 ∙ (ap (λ list. list ++ along.0) before.1 ∙ append_assoc front before.0 along.0))
+
+module _ {J T : Type 0} {fits : Order J → Outcome J T → Type 0} (core : ℕ) (old mid new : DeskView J T) where
+  -- two steps on the link to one core are one
+  pub stays_then : {between out : Outward J T} {had after : ℕ} → StaysBeside fits core old mid between had → StaysBeside fits core mid new out after → StaysBeside fits core old new out after
+  stays_then one two = record {
+    beside = two.beside;
+    lane = two.lane;
+    others = λ other away. record { each = λ out credited is. (two.others other away).each out credited ((one.others other away).each out credited is) };
+    lanes = λ other away. two.lanes other away ∙ one.lanes other away;
+    rest = two.rest ∙ ap (λ (desk : DeskView J T). record desk { journal = record desk.journal { notes = new.journal.notes }; lanes = new.lanes }) one.rest;
+    written = two.written;
+    known = two.known;
+  }
+
+module _ {J T : Type 0} (core : ℕ) (old mid new : DeskView J T) (first out later : Outward J T) (count : ℕ) (from : CollectsFrom core old count mid)
+    (end : out ≡ record first { seen = out.seen; got = out.got }) (longer : StartsWith out.seen first.seen) where
+  pub gathers_more : GetsNext core mid new out later true → CollectsFrom core old (count + 1) new
+  gathers_more gets =
+      let name = gets.0.0 in let outcome = gets.0.1 in (
+        writes.Collected name outcome ∷ from.0,
+        (gets.0.2, from.1),
+        omega (arith, from.2),
+        gets.0.3 ∙ ap (λ (journal : JournalView T). record journal { notes = writes.Collected name outcome ∷ journal.notes }) from.3,
+      )
+
+  pub end_more : GetsNext core mid new out later true → (later ≡ record first { seen = later.seen; got = later.got }) × StartsWith later.seen first.seen
+  end_more gets = (
+    gets.1 ∙ (ap (λ (end : Outward J T). record end { seen = later.seen; got = out.got + 1 }) end ∙ ap (λ got. record first { seen = later.seen; got = got }) (sym (ap (λ end. end.got) gets.1))),
+    starts_then later.seen out.seen first.seen gets.2 longer,
+  )
+
+  pub gathers_no_more : GetsNext core mid new out later false → CollectsFrom core old count new
+  gathers_no_more gets = subst (CollectsFrom core old count) (sym gets.0) from
+
+  pub gets_all : GetsNext core mid new out later false → GetsAll first later
+  gets_all gets = (
+    gets.1 ∙ (ap (λ (end : Outward J T). record end { seen = later.seen }) end ∙ ap (λ got. record first { seen = later.seen; got = got }) (sym (ap (λ end. end.got) gets.1))),
+    starts_then later.seen out.seen first.seen gets.2 longer,
+    gets.3,
+  )

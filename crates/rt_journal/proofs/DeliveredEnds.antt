@@ -6,7 +6,7 @@ use Rattle.rt_journal.proofs.Names.{with_last, outcome_note, IsCounted, final_co
 use Rattle.rt_journal.proofs.Names.{SoundIn, AreNamed, Takes, final_of, RecordedView, desk_of, order_taken}
 use Rattle.rt_journal.proofs.Names.{delivered_count, given_count, IsInOf, IsInOwing, IsUngiven, GivesMore, told_under}
 use Rattle.rt_journal.proofs.Names.{KeepsIn, IsSameSeat, named_outcomes, IsNextIn, Receives, KeepsOuts}
-use Rattle.rt_journal.proofs.TakenOrders.{order_taken-parts}
+use Rattle.rt_journal.proofs.Received.{order_taken-parts}
 use Rattle.rt_journal.proofs.EndsKept.{keeps_in, slice_get-seen, keeps_outs, sees_more_in, final_of-more}
 
 length-named : {J T : Type 0} (sender core : ℕ) (outcomes : List (ℕ × Outcome J T)) → length (named_outcomes sender core outcomes) ≡ length outcomes

@@ -1,22 +1,168 @@
--- A core that agrees with a journal in which each note may stand, and what follows for a note that changes nothing of the core.
-use Rattle.rt_journal.proofs.Names.{◌≡◌, ℕ, ◌+◌, ◌≤◌, Bool, true, false, List, [], ◌∷◌, length, refl, sym, ◌∙◌, ap}
-use Rattle.rt_journal.proofs.Names.{subst, arith, add-zero, Option, Some, None, nat_lt, slice_index_or, ◌||◌, lt-ltb}
-use Rattle.rt_journal.proofs.Names.{Terms, JobId, Note, Mode, Journal, EachNote, name_started, delivered_names}
-use Rattle.rt_journal.proofs.Names.{virtual_runtime, shares, floor, charge_noted, runtime_picked, is_number, has_work}
-use Rattle.rt_journal.proofs.Names.{number_if, queue_entered, queue_joined, line, queue_out, name_joining}
-use Rattle.rt_journal.proofs.Names.{name_leaving, name_polled, name_settled, queue_just_picked, created_count}
-use Rattle.rt_journal.proofs.Names.{effect_awaited, pick_count, turns, MayFollow, MayWrite, MayStand, takes_turn}
-use Rattle.rt_journal.proofs.Names.{IsEffectDue, has_work-line, virtual_runtime-stays, floor-stays, line-stays}
-use Rattle.rt_journal.proofs.Names.{queue_out-alone, queue_out-nobody, waiting_of, CoreView, JobOut, is_working}
-use Rattle.rt_journal.proofs.Names.{is_any, runtime_of, Agrees, AgreesOnClosing, IsJobOut, AreMarked, Figures}
-use Rattle.rt_journal.proofs.Names.{figures_of, figures_told, figures_noted, QueuesView, ◌<◌, queue_count, Tally}
-use Rattle.rt_journal.proofs.Names.{figures_in, shares_of}
+-- A core that agrees with a journal in which each note may stand: what a note adds to the figures, what follows for one that changes nothing of the core, and for modes and gates.
+use Rattle.rt_journal.proofs.Names.{◌≡◌, ℕ, ◌+◌, ◌<◌, Bool, true, false, ◌∷◌, List, length, refl, sym, ◌∙◌, ap, subst}
+use Rattle.rt_journal.proofs.Names.{cond, add-zero, get_or, set, get_or-set_same, get_or-set_other, ◌==◌, Some}
+use Rattle.rt_journal.proofs.Names.{eqb-true, eqb-false, clamped, JobId, Note, Reason, Journal, is_number, queue_of}
+use Rattle.rt_journal.proofs.Names.{number_if, Tally, CoreView, no_tally, Figures, no_figures, plus, figures_in}
+use Rattle.rt_journal.proofs.Names.{figures_of, figures_told, figures_noted, ◌≤◌, [], arith, Option, None, nat_lt}
+use Rattle.rt_journal.proofs.Names.{slice_index_or, ◌||◌, lt-ltb, Terms, Mode, EachNote, name_started, delivered_names}
+use Rattle.rt_journal.proofs.Names.{virtual_runtime, shares, floor, charge_noted, runtime_picked, has_work}
+use Rattle.rt_journal.proofs.Names.{queue_entered, queue_joined, line, queue_out, name_joining, name_leaving}
+use Rattle.rt_journal.proofs.Names.{name_polled, name_settled, queue_just_picked, created_count, effect_awaited}
+use Rattle.rt_journal.proofs.Names.{pick_count, turns, MayFollow, MayWrite, MayStand, takes_turn, IsEffectDue}
+use Rattle.rt_journal.proofs.Names.{has_work-line, virtual_runtime-stays, floor-stays, line-stays, queue_out-alone}
+use Rattle.rt_journal.proofs.Names.{queue_out-nobody, waiting_of, JobOut, is_working, is_any, runtime_of, Agrees}
+use Rattle.rt_journal.proofs.Names.{AgreesOnClosing, IsJobOut, AreMarked, QueuesView, queue_count, shares_of, inl, inr}
+use Rattle.rt_journal.proofs.Names.{◌⊎◌, nat_le, cases_lt, le-leb, lt-leb, le-ltb, Created, or_else, mode_told}
+use Rattle.rt_journal.proofs.Names.{core_mode_told, count_told, queue_mode, core_mode, final_count, IsOpening, refusal}
+use Rattle.rt_journal.proofs.Names.{reason_if_closed, reason_if_returning, mode_of}
 use Rattle.rt_ids.specs.declared.note.Note.TheVariants as writes
+use Rattle.rt_journal.proofs.Sums.{everywhere}
 use Rattle.rt_core.specs.State as state
 pub use Rattle.rt_journal.specs.Agreement.{IsKept}
 use Rattle.rt_journal.specs.Agreement.{names_of}
-use Rattle.rt_journal.proofs.FigureSteps.{figures-stays}
 use Rattle.rt_core.specs.State.{tally_of}
+use Rattle.rt_ids.specs.declared.order.Reason.TheVariants as why
+use Rattle.rt_ids.specs.Commands.{return_reason}
+use Rattle.rt_core.specs.Closing as core_says
+
+pub plus-none : (some : Figures) → plus some no_figures ≡ some
+plus-none some = λ i. record {
+  selected = add-zero some.selected i;
+  time = add-zero some.time i;
+  finished = add-zero some.finished i;
+  returned = add-zero some.returned i;
+}
+
+-- a note that counts nothing leaves them
+pub figures-stays : {T : Type 0} (queue : ℕ) (note : Note T) (before : Journal T) → figures_noted queue note before ≡ no_figures →
+    figures_told queue (note ∷ before) ≡ figures_told queue before
+figures-stays queue note before none = ap (plus (figures_told queue before)) none ∙ plus-none (figures_told queue before)
+
+-- what a pick adds to its queue, and what the end of a poll of so long adds
+abbrev pub one_pick : Figures
+one_pick = record { selected = 1; time = 0; finished = 0; returned = 0 }
+
+abbrev pub one_return : Figures
+one_return = record { selected = 1; time = 0; finished = 0; returned = 1 }
+
+abbrev pub one_yield : ℕ → Figures
+one_yield time = record { selected = 0; time = clamped time; finished = 0; returned = 0 }
+
+abbrev pub one_done : ℕ → Figures
+one_done time = record { selected = 0; time = clamped time; finished = 1; returned = 0 }
+
+-- the tallies after them count so
+module _ (tally : Tally) where
+  pub counts-pick : figures_in (record tally { selected = tally.selected + 1 }) ≡ plus (figures_in tally) one_pick
+  counts-pick = sym (λ i. record { selected = tally.selected + 1; time = add-zero tally.time i; finished = add-zero tally.finished i; returned = add-zero tally.returned i })
+
+  pub counts-return : figures_in (record tally { selected = tally.selected + 1; returned = tally.returned + 1 }) ≡ plus (figures_in tally) one_return
+  counts-return = sym (λ i. record { selected = tally.selected + 1; time = add-zero tally.time i; finished = add-zero tally.finished i; returned = tally.returned + 1 })
+
+  module _ (runtime time done : ℕ) where
+    pub counts-yield : done ≡ 0 → figures_in (record tally { runtime = runtime; time = tally.time + clamped time; finished = tally.finished + done }) ≡ plus (figures_in tally) (one_yield time)
+    counts-yield none =
+        sym (λ i. record { selected = add-zero tally.selected i; time = tally.time + clamped time; finished = tally.finished + sym none i; returned = add-zero tally.returned i })
+
+    pub counts-done : done ≡ 1 → figures_in (record tally { runtime = runtime; time = tally.time + clamped time; finished = tally.finished + done }) ≡ plus (figures_in tally) (one_done time)
+    counts-done one =
+        sym (λ i. record { selected = add-zero tally.selected i; time = tally.time + clamped time; finished = tally.finished + sym one i; returned = add-zero tally.returned i })
+
+module _ {T : Type 0} (other queue : ℕ) (journal : Journal T) where
+  -- figures that are added to this queue alone
+  abbrev added : Figures → Figures
+  added adds = plus (figures_told other journal) (cond (other == queue) adds no_figures)
+
+  pub told-picked : (runtime : ℕ) → figures_told other (writes.Pick queue runtime ∷ journal) ≡ added one_pick
+  told-picked runtime = ap (plus (figures_told other journal)) (by_test (other == queue))
+    where
+      by_test : (test : Bool) → record { selected = number_if test; time = 0; finished = 0; returned = 0 } ≡ cond test one_pick no_figures
+      by_test true = refl
+      by_test false = refl
+
+  module _ (name : JobId) (its : queue_of name journal ≡ Some queue) where
+    pub told-yield : (time : ℕ) → figures_told other (writes.Yield name time ∷ journal) ≡ added (one_yield time)
+    told-yield time = ap (plus (figures_told other journal)) (ap (λ there. one_of (is_number other there)) its ∙ by_test (other == queue))
+      where
+        one_of : Bool → Figures
+        one_of test = record { selected = 0; time = cond test (clamped time) 0; finished = 0; returned = 0 }
+
+        by_test : (test : Bool) → one_of test ≡ cond test (one_yield time) no_figures
+        by_test true = refl
+        by_test false = refl
+
+    pub told-done : (time : ℕ) (value : T) → figures_told other (writes.Done name time value ∷ journal) ≡ added (one_done time)
+    told-done time value = ap (plus (figures_told other journal)) (ap (λ there. one_of (is_number other there)) its ∙ by_test (other == queue))
+      where
+        one_of : Bool → Figures
+        one_of test = record { selected = 0; time = cond test (clamped time) 0; finished = number_if test; returned = 0 }
+
+        by_test : (test : Bool) → one_of test ≡ cond test (one_done time) no_figures
+        by_test true = refl
+        by_test false = refl
+
+    pub told-returned : (runtime : ℕ) (reason : Reason) → figures_told other (writes.Returned name reason ∷ writes.Pick queue runtime ∷ journal) ≡ added one_return
+    told-returned runtime reason = (λ i. record {
+      selected = add-zero (figures_told other (writes.Pick queue runtime ∷ journal)).selected i;
+      time = add-zero (figures_told other (writes.Pick queue runtime ∷ journal)).time i;
+      finished = add-zero (figures_told other (writes.Pick queue runtime ∷ journal)).finished i;
+      returned = add-zero (figures_told other journal).returned i + number_if (is_number other (its i));
+    }) ∙ (with_zeros ∙ ap (plus (figures_told other journal)) (by_test (other == queue)))
+      where
+        one_of : Bool → Figures
+        one_of test = record { selected = number_if test; time = 0; finished = 0; returned = number_if test }
+
+        with_zeros : record {
+          selected = (figures_told other (writes.Pick queue runtime ∷ journal)).selected;
+          time = (figures_told other (writes.Pick queue runtime ∷ journal)).time;
+          finished = (figures_told other (writes.Pick queue runtime ∷ journal)).finished;
+          returned = (figures_told other journal).returned + number_if (other == queue);
+        } ≡ plus (figures_told other journal) (one_of (other == queue))
+        with_zeros = refl
+
+        by_test : (test : Bool) → one_of test ≡ cond test one_return no_figures
+        by_test true = refl
+        by_test false = refl
+
+-- the tally of one queue is set
+module _ {J : Type 0} (old new : CoreView J) (queue : ℕ) (tally : Tally) (there : queue < length old.tallies) (is : new.tallies ≡ set old.tallies queue tally) where
+  pub figures-set : (adds : Figures) → figures_in tally ≡ plus (figures_of queue old) adds → (other : ℕ) →
+      figures_of other new ≡ plus (figures_of other old) (cond (other == queue) adds no_figures)
+  figures-set adds counts other = ap (λ tallies. figures_in (get_or tallies other no_tally)) is ∙ by_test (other == queue) refl
+    where
+      by_test : (test : Bool) → (other == queue) ≡ test →
+          figures_in (get_or (set old.tallies queue tally) other no_tally) ≡ plus (figures_of other old) (cond test adds no_figures)
+      by_test true same =
+          subst (λ at. figures_in (get_or (set old.tallies queue tally) at no_tally) ≡ plus (figures_of at old) adds) (sym (eqb-true other queue same))
+          (ap figures_in (get_or-set_same old.tallies queue tally no_tally there) ∙ counts)
+      by_test false apart =
+          ap figures_in (get_or-set_other old.tallies queue other tally no_tally (eqb-false other queue apart)) ∙ sym (plus-none (figures_of other old))
+
+  -- one that counts the same leaves all
+  pub figures-same : figures_in tally ≡ figures_of queue old → (other : ℕ) → figures_of other new ≡ figures_of other old
+  figures-same counts other =
+      figures-set no_figures (counts ∙ sym (plus-none (figures_of queue old))) other
+      ∙ (ap (plus (figures_of other old)) (by_test (other == queue)) ∙ plus-none (figures_of other old))
+    where
+      by_test : (test : Bool) → cond test no_figures no_figures ≡ no_figures
+      by_test true = refl
+      by_test false = refl
+
+  -- figures that the journal adds to this queue are added by the core
+  pub figures-grow : {T : Type 0} (journal longer : Journal T) (adds : Figures) → figures_in tally ≡ plus (figures_of queue old) adds →
+      ((other : ℕ) → figures_of other old ≡ figures_told other journal) →
+      ((other : ℕ) → figures_told other longer ≡ plus (figures_told other journal) (cond (other == queue) adds no_figures)) →
+      (other : ℕ) → figures_of other new ≡ figures_told other longer
+  figures-grow journal longer adds counts were told other =
+      figures-set adds counts other ∙ (ap (λ some. plus some (cond (other == queue) adds no_figures)) (were other) ∙ sym (told other))
+
+-- a tally that is set at the same runtime leaves each runtime
+pub set_runtime : (tallies : List Tally) (queue : ℕ) (tally : Tally) → queue < length tallies → tally.runtime ≡ (get_or tallies queue no_tally).runtime → (other : ℕ) →
+    (get_or (set tallies queue tally) other no_tally).runtime ≡ (get_or tallies other no_tally).runtime
+set_runtime tallies queue tally there same =
+    everywhere (λ at. (get_or (set tallies queue tally) at no_tally).runtime ≡ (get_or tallies at no_tally).runtime) queue
+    (ap (λ tally. tally.runtime) (get_or-set_same tallies queue tally no_tally there) ∙ same)
+    (λ other away. ap (λ tally. tally.runtime) (get_or-set_other tallies queue other tally no_tally away))
 
 -- a note that takes no turn and is no effect may stand where nothing is awaited
 pub plainly_stands : {T : Type 0} (terms : Terms) (note : Note T) (before : Journal T) → MayWrite terms note → MayFollow terms note before →
@@ -156,3 +302,59 @@ pub kept_after : {J T : Type 0} (terms : Terms) (note : Note T) {old new : CoreV
     IsKept terms new (note ∷ before)
 kept_after terms note kept agrees writer law plain free no_pick no_answer =
     assumption (plainly_stands terms note _ writer law kept.no_pick kept.no_answer plain free)
+
+-- a note that closes no queue and no core, and shuts no gate
+pub record IsOpenNote {T : Type 0} (note : Note T) : Type 0 where
+  pub queues : (queue : ℕ) → mode_told queue note ≡ None
+  pub core : core_mode_told note ≡ None
+  pub gates : (sender : ℕ) → count_told sender note ≡ None
+
+-- a step changes no mode and no gate
+pub record SameModes {J : Type 0} (old new : CoreView J) : Type 0 where
+  pub modes : (queue : ℕ) → mode_of queue new.queues ≡ mode_of queue old.queues
+  pub mode : new.mode ≡ old.mode
+  pub gates : new.gates ≡ old.gates
+  pub cores : new.cores ≡ old.cores
+
+pub same_modes : {J : Type 0} (view : CoreView J) → SameModes view view
+same_modes view = record { modes = λ queue. refl; mode = refl; gates = refl; cores = refl }
+
+module _ {J T : Type 0} (old new : CoreView J) (note : Note T) (before : Journal T) where
+  pub closing-stays : SameModes old new → IsOpenNote note → AgreesOnClosing old before → AgreesOnClosing new (note ∷ before)
+  closing-stays same plain agrees = record {
+    modes = λ queue. same.modes queue ∙ (agrees.modes queue ∙ sym (ap (λ told. or_else told (queue_mode queue before)) (plain.queues queue)));
+    mode = same.mode ∙ (agrees.mode ∙ sym (ap (λ told. or_else told (core_mode before)) plain.core));
+    gate_places = ap length same.gates ∙ (agrees.gate_places ∙ ap (λ cores. cores + 1) (sym same.cores));
+    gates = λ sender.
+        ap (λ gates. slice_index_or gates sender None) same.gates
+        ∙ (agrees.gates sender ∙ sym (ap (λ told. or_else told (final_count sender before)) (plain.gates sender)));
+  }
+
+module _ {J T : Type 0} (view : CoreView J) (journal : Journal T) (agrees : AgreesOnClosing view journal) where
+  same_refusal : (queue : ℕ) (there here : Bool) → nat_lt queue (queue_count view.queues) ≡ there → nat_le queue (created_count journal) ≡ here → there ≡ here →
+      core_says.refusal queue view ≡ refusal queue journal
+  same_refusal queue there here says journal_says same =
+      (λ i. cond (says i) (or_else (reason_if_closed (agrees.modes queue i) why.QueueClosed) (reason_if_returning (agrees.mode i) why.CoreClosing)) (Some why.NoQueue))
+      ∙ (λ i. cond (same i) (or_else (reason_if_closed (queue_mode queue journal) why.QueueClosed) (reason_if_returning (core_mode journal) why.CoreClosing)) (Some why.NoQueue))
+      ∙ sym (ap (λ test. cond test (or_else (reason_if_closed (queue_mode queue journal) why.QueueClosed) (reason_if_returning (core_mode journal) why.CoreClosing)) (Some why.NoQueue)) journal_says)
+
+  -- a job is refused for the reason that the journal gives
+  pub refusal-agrees : queue_count view.queues ≡ created_count journal + 1 → (queue : ℕ) → core_says.refusal queue view ≡ refusal queue journal
+  refusal-agrees last queue = by_order (cases_lt queue (queue_count view.queues))
+    where
+      by_order : (queue < queue_count view.queues) ⊎ (queue_count view.queues ≤ queue) → core_says.refusal queue view ≡ refusal queue journal
+      by_order (inl there) =
+          same_refusal queue true true (lt-ltb queue (queue_count view.queues) there) (le-leb queue (created_count journal) (omega (arith, there, last))) refl
+      by_order (inr past) =
+          same_refusal queue false false (le-ltb queue (queue_count view.queues) past) (lt-leb queue (created_count journal) (omega (arith, past, last))) refl
+
+  -- a job is handed back for the reason that the journal gives
+  pub return_reason-agrees : (queue : ℕ) → core_says.return_reason queue view ≡ return_reason queue journal
+  return_reason-agrees queue = λ i. or_else (reason_if_returning (agrees.modes queue i) why.QueueReturned) (reason_if_returning (agrees.mode i) why.CoreReturned)
+
+-- a core that opens is open
+module _ {T : Type 0} where
+  pub opening_is_open : (journal : Journal T) → IsOpening journal → core_mode journal ≡ None
+  opening_is_open [] opening = refl
+  opening_is_open (Created queue weight ∷ before) opening = opening_is_open before opening
+  opening_is_open (_ ∷ before) opening = absurd opening

@@ -1,4 +1,4 @@
--- What a core tells of itself stays what its journal says, as a submission is delivered.
+-- What a core tells of itself stays what its journal says, as a submission is delivered: a job enters or goes back, a command is answered, creates, weighs or closes; and as a gate is shut.
 use Rattle.rt_journal.proofs.Names.{◌≡◌, ℕ, ◌+◌, ◌<◌, ◌≤◌, Bool, true, false, [], ◌∷◌, ◌++◌, length, refl, sym, ◌∙◌}
 use Rattle.rt_journal.proofs.Names.{ap, subst, arith, get_or, set, get_or-set_same, get_or-set_other, cond, ◌==◌}
 use Rattle.rt_journal.proofs.Names.{Option, Some, None, is_some, max, eqb-true, eqb-false, true≢false, map-append}
@@ -9,14 +9,21 @@ use Rattle.rt_journal.proofs.Names.{not_old, started_of, line-took, line-took_el
 use Rattle.rt_journal.proofs.Names.{same_as_itself, virtual_runtime-took_idle, virtual_runtime-took_busy}
 use Rattle.rt_journal.proofs.Names.{virtual_runtime-took_elsewhere, floor-stays, waiting_of, CoreView, JobOut}
 use Rattle.rt_journal.proofs.Names.{no_tally, tally_of, runtime_of, delivered_of, is_working, entry_runtime, Enters}
-use Rattle.rt_journal.proofs.Names.{counted, Agrees, IsJobOut, AreMarked, figures_of, figures_told}
+use Rattle.rt_journal.proofs.Names.{counted, Agrees, IsJobOut, AreMarked, figures_of, figures_told, Note, Order}
+use Rattle.rt_journal.proofs.Names.{Reason, Answer, shares, created_count, IsAnswer, has_effect, CountsAlone}
+use Rattle.rt_journal.proofs.Names.{queue_just_picked, effect_awaited, inr, zero, suc, List, nat_le, le-leb, lt-leb}
+use Rattle.rt_journal.proofs.Names.{length-append, InRange, list_told, core_mode, IsCreationAnswer, queue_created}
+use Rattle.rt_journal.proofs.Names.{shares-created, shares-created_elsewhere, shares-set, shares-set_elsewhere}
+use Rattle.rt_journal.proofs.Names.{queue_count, shares_of, Creates, Weighs, slice_set, Mode, or_else, queue_mode}
+use Rattle.rt_journal.proofs.Names.{final_count, mode_of, HasClosed}
 use Rattle.std.proofs.Common.{length-set}
 use Rattle.rt_ids.specs.declared.note.Note.TheVariants as writes
 use Rattle.rt_journal.specs.Agreement.{names_of}
-use Rattle.rt_journal.proofs.Everywhere.{everywhere}
-use Rattle.rt_journal.proofs.FigureSteps.{figures-same, figures-stays}
-use Rattle.rt_journal.proofs.Kept.{IsKept, turns-stays, working, kept_after}
-use Rattle.rt_journal.proofs.KeptModes.{SameModes, closing-stays}
+use Rattle.rt_journal.proofs.Sums.{everywhere}
+use Rattle.rt_journal.proofs.Kept.{figures-same, figures-stays, IsKept, turns-stays, working, kept_after, SameModes}
+use Rattle.rt_journal.proofs.Kept.{closing-stays, plainly_stands, agrees_unmoved, IsCalm, IsOpenNote, agrees_steady}
+use Rattle.rt_ids.specs.declared.order.Order.TheVariants as orders
+use Rattle.rt_ids.specs.declared.order.Answer.TheVariants as answers
 
 -- the next name from its sender is counted
 pub record IsCounted {J T : Type 0} (terms : Terms) (old new : CoreView J) (name : JobId) (journal : Journal T) : Type 0 where
@@ -155,3 +162,168 @@ module _ {J T : Type 0} (terms : Terms) (old new : CoreView J) (name : JobId) (q
         closing = closing-stays old new (writes.Took name queue) journal modes_stay (assumption) kept.agrees.closing;
       } in
       kept_after terms (writes.Took name queue) kept agrees kept.is_core (next, accepted) refl tt refl refl
+
+-- a delivery that changes nothing but its count
+module _ {J T : Type 0} (terms : Terms) (old new : CoreView J) (name : JobId) (journal : Journal T) (kept : IsKept terms old journal)
+    (next : IsNextDelivered terms name journal) (sender : name.from ≤ old.cores) (counts : CountsAlone old name new) where
+  modes_counted : SameModes old (record old { delivered = counted name old })
+  modes_counted = record { modes = λ queue. refl; mode = refl; gates = refl; cores = refl }
+
+  was_counted : IsCounted terms old (record old { delivered = counted name old }) name journal
+  was_counted = record { known = sender; next = next; now = refl; cores = refl }
+
+  -- a calm note by which the next name is delivered, and nothing is created, weighed or closed
+  agrees-counted : (note : Note T) → IsCalm note journal → created_count (note ∷ journal) ≡ created_count journal → ((queue : ℕ) → shares queue (note ∷ journal) ≡ shares queue journal) → IsOpenNote note →
+      ((sender : ℕ) → delivered_names sender (note ∷ journal) ≡ with_last (delivered_names sender journal) (if_from sender name name)) → Agrees new (note ∷ journal)
+  agrees-counted note calm creates weighs opens delivers =
+      subst (λ core. Agrees core (note ∷ journal)) (sym counts)
+      (agrees_unmoved old journal note kept.agrees calm creates weighs (counted name old)
+      (senders_counted terms old (record old { delivered = counted name old }) name journal was_counted kept.agrees)
+      (λ sender known. delivered_counted terms old (record old { delivered = counted name old }) name journal was_counted kept.agrees sender known ∙ ap length (sym (delivers sender))) old.gates old.mode
+      (closing-stays old (record old { delivered = counted name old }) note journal modes_counted opens kept.agrees.closing))
+
+  pub agrees-back : (reason : Reason) → Agrees new (writes.Back name reason ∷ journal)
+  agrees-back reason = agrees-counted (writes.Back name reason) refl refl (λ queue. refl) (record { queues = λ queue. refl; core = refl; gates = λ sender. refl }) (λ sender. refl)
+
+  pub agrees-answered : (answer : Answer) → Agrees new (writes.Answered name answer ∷ journal)
+  agrees-answered answer = agrees-counted (writes.Answered name answer) refl refl (λ queue. refl) (record { queues = λ queue. refl; core = refl; gates = λ sender. refl }) (λ sender. refl)
+
+  -- a job that is refused goes back
+  pub kept-back : (queue : ℕ) (reason : Reason) → refusal queue journal ≡ Some reason → IsKept terms new (writes.Back name reason ∷ journal)
+  kept-back queue reason refused = kept_after terms (writes.Back name reason) kept (agrees-back reason) kept.is_core (next, (queue, refused)) refl tt refl refl
+
+  -- a command is answered
+  pub answered_stands : (order : Order (Unit {0})) (answer : Answer) → IsAnswer order answer journal → MayStand terms (writes.Answered name answer) journal
+  answered_stands order answer right =
+      plainly_stands terms (writes.Answered name answer) journal kept.is_core (next, (order, right)) kept.no_pick kept.no_answer refl tt
+
+  -- and the note of its effect follows
+  pub kept-effect : (order : Order (Unit {0})) (answer : Answer) → IsAnswer order answer journal → (note : Note T) {core : CoreView J} → Agrees core (note ∷ writes.Answered name answer ∷ journal) →
+      MayStand terms note (writes.Answered name answer ∷ journal) → queue_just_picked (note ∷ writes.Answered name answer ∷ journal) ≡ None → effect_awaited (note ∷ writes.Answered name answer ∷ journal) ≡ None →
+      IsKept terms core (note ∷ writes.Answered name answer ∷ journal)
+  kept-effect order answer right note agrees stands no_pick no_answer = assumption (answered_stands order answer right)
+
+  pub kept-answered : (order : Order (Unit {0})) (answer : Answer) → IsAnswer order answer journal → has_effect answer ≡ false →
+      IsKept terms new (writes.Answered name answer ∷ journal)
+  kept-answered order answer right plain =
+      kept_after terms (writes.Answered name answer) kept (agrees-answered answer) kept.is_core (next, (order, right)) refl tt refl (ap (λ awaited. cond awaited (Some answer) None) plain)
+
+-- one more at the end, that is what is read past the end, is not seen
+get_or-append_default : {A : Type 0} (items : List A) (default : A) (place : ℕ) → get_or (items ++ default ∷ []) place default ≡ get_or items place default
+get_or-append_default [] default zero = refl
+get_or-append_default [] default (suc place) = refl
+get_or-append_default (item ∷ items) default zero = refl
+get_or-append_default (item ∷ items) default (suc place) = get_or-append_default items default place
+
+module _ {J T : Type 0} (old new : CoreView J) (queue weight : ℕ) (journal : Journal T) (agrees : Agrees old journal) where
+  -- a queue is created
+  pub agrees-created : queue ≡ queue_count old.queues → Creates old weight new → new.delivered ≡ old.delivered → Agrees new (writes.Created queue weight ∷ journal)
+  agrees-created next creates same =
+      agrees_steady old new journal (writes.Created queue weight) agrees refl new.queues (old.tallies ++ no_tally ∷ [])
+      (creates.rest ∙ ap (λ delivered. record old { queues = new.queues; tallies = old.tallies ++ no_tally ∷ []; delivered = delivered }) same)
+      creates.added.same_lines (get_or-append_default old.tallies no_tally) (length-append old.tallies (no_tally ∷ []) ∙ (ap (λ count. count + 1) agrees.tallied ∙ sym creates.added.count))
+      (creates.added.count ∙ ap (λ count. count + 1) (agrees.last ∙ sym (length-append (list_told queue_created journal) (queue ∷ [])))) (omega (arith, creates.added.count)) weights (λ sender. refl)
+      (assumption (λ (other : ℕ). creates.added.same_modes other ∙ agrees.closing.modes other))
+    where
+      weights : (other : ℕ) → other < queue_count new.queues → shares_of other new.queues ≡ shares other (writes.Created queue weight ∷ journal)
+      weights = everywhere (λ at. at < queue_count new.queues → shares_of at new.queues ≡ shares at (writes.Created queue weight ∷ journal)) queue
+          (λ there. subst (λ at. shares_of at new.queues ≡ weight) (sym next) creates.added.given ∙ sym (shares-created queue journal weight))
+          (λ other away there.
+          creates.added.others other (λ last. away (last ∙ sym next))
+          ∙ (agrees.weights other (omega (arith, there, creates.added.count, next)) ∙ sym (shares-created_elsewhere other journal queue weight away)))
+
+  -- a queue gets shares
+  pub agrees-weighed : Weighs old queue weight new → new.delivered ≡ old.delivered → Agrees new (writes.SharesSet queue weight ∷ journal)
+  agrees-weighed weighs same =
+      agrees_steady old new journal (writes.SharesSet queue weight) agrees refl new.queues old.tallies (weighs.rest ∙ ap (λ delivered. record old { queues = new.queues; delivered = delivered }) same)
+      weighs.shares.same_lines (λ other. refl) (agrees.tallied ∙ sym weighs.shares.same_count) (weighs.shares.same_count ∙ agrees.last) (omega (arith, weighs.shares.same_count)) weights (λ sender. refl)
+      (assumption (λ (other : ℕ). weighs.shares.same_modes other ∙ agrees.closing.modes other))
+    where
+      weights : (other : ℕ) → other < queue_count new.queues → shares_of other new.queues ≡ shares other (writes.SharesSet queue weight ∷ journal)
+      weights = everywhere (λ at. at < queue_count new.queues → shares_of at new.queues ≡ shares at (writes.SharesSet queue weight ∷ journal)) queue
+          (λ there. weighs.shares.changed ∙ sym (shares-set queue journal weight))
+          (λ other away there.
+          weighs.shares.others other away ∙ (agrees.weights other (rw (← weighs.shares.same_count) there) ∙ sym (shares-set_elsewhere other journal queue weight away)))
+
+-- the commands that have an effect, with the note of the answer and that of the effect
+module _ {J T : Type 0} (terms : Terms) (old new : CoreView J) (name : JobId) (queue weight : ℕ) (journal : Journal T) (kept : IsKept terms old journal)
+    (next : IsNextDelivered terms name journal) (sender : name.from ≤ old.cores) (in_range : InRange weight) (now : new.delivered ≡ counted name old) where
+  abbrev middle : CoreView J
+  middle = record old { delivered = counted name old }
+
+  -- a creation finds a core that isn't closed, and room for one more queue
+  pub creation_answer : core_mode journal ≡ None → (full : Bool) → nat_le 255 (created_count journal) ≡ full → (answer : Answer) → IsCreationAnswer None full (created_count journal + 1) answer →
+      IsAnswer (orders.Create weight) answer journal
+  creation_answer never full at answer right = rw (never, at) right
+
+  pub kept-created : queue ≡ queue_count old.queues → Creates old weight new →
+      IsAnswer (orders.Create weight) (answers.Created queue) journal
+      × IsKept terms new (writes.Created queue weight ∷ writes.Answered name (answers.Created queue) ∷ journal)
+  kept-created number creates = (
+    right,
+    kept-effect terms old middle name journal kept next sender refl (orders.Create weight) (answers.Created queue) right (writes.Created queue weight)
+        (agrees-created middle new queue weight _ (agrees-answered terms old middle name journal kept next sender refl (answers.Created queue)) number
+        (record { is_open = creates.is_open; few = creates.few; added = creates.added; rest = creates.rest }) now)
+        (record { may_follow = record { next = number ∙ kept.agrees.last; in_range = rw number creates.few; shares = in_range }; turn = refl; effect = refl; writer = kept.is_core }) refl refl,
+  )
+    where
+      few : nat_le 255 (created_count journal) ≡ false
+      few = lt-leb 255 (created_count journal) (omega (arith, creates.few, kept.agrees.last))
+
+      right : IsAnswer (orders.Create weight) (answers.Created queue) journal
+      right = creation_answer (sym kept.agrees.closing.mode ∙ creates.is_open) false few (answers.Created queue) (inr (ap answers.Created (number ∙ kept.agrees.last)))
+
+  pub kept-weighed : Weighs old queue weight new →
+      IsAnswer (orders.SetShares queue weight) answers.SharesSet journal
+      × IsKept terms new (writes.SharesSet queue weight ∷ writes.Answered name answers.SharesSet ∷ journal)
+  kept-weighed weighs = (
+    right,
+    kept-effect terms old middle name journal kept next sender refl (orders.SetShares queue weight) answers.SharesSet right (writes.SharesSet queue weight)
+        (agrees-weighed middle new queue weight _ (agrees-answered terms old middle name journal kept next sender refl answers.SharesSet)
+        (record { exists = weighs.exists; shares = weighs.shares; rest = weighs.rest }) now)
+        (record { may_follow = (exists, in_range); turn = refl; effect = refl; writer = kept.is_core }) refl refl,
+  )
+    where
+      exists : queue ≤ created_count journal
+      exists = omega (arith, weighs.exists, kept.agrees.last)
+
+      right : IsAnswer (orders.SetShares queue weight) answers.SharesSet journal
+      right = rw (le-leb queue (created_count journal) exists)
+
+module _ {J T : Type 0} (old new : CoreView J) (journal : Journal T) (agrees : Agrees old journal) where
+  -- the core is closed
+  pub agrees-core_closed : (mode : Mode) → new ≡ record old { mode = Some mode } → Agrees new (writes.CoreClosed mode ∷ journal)
+  agrees-core_closed mode is =
+      subst (λ core. Agrees core (writes.CoreClosed mode ∷ journal)) (sym is)
+      (agrees_unmoved old journal (writes.CoreClosed mode) agrees refl refl (λ queue. refl) old.delivered agrees.senders agrees.delivered old.gates (Some mode)
+      (record { modes = agrees.closing.modes; mode = refl; gate_places = agrees.closing.gate_places; gates = agrees.closing.gates }))
+
+  -- a gate is shut
+  pub agrees-shut : (from count : ℕ) → from ≤ old.cores → new ≡ record old { gates = slice_set old.gates from (Some count) } → Agrees new (writes.Shut from count ∷ journal)
+  agrees-shut from count known is =
+      subst (λ core. Agrees core (writes.Shut from count ∷ journal)) (sym is)
+      (agrees_unmoved old journal (writes.Shut from count) agrees refl refl (λ queue. refl) old.delivered agrees.senders agrees.delivered
+      (slice_set old.gates from (Some count)) old.mode
+      (record {
+        modes = agrees.closing.modes;
+        mode = agrees.closing.mode;
+        gate_places = length-set old.gates from (Some count) ∙ agrees.closing.gate_places;
+        gates = λ sender. gate_now sender (sender == from) refl;
+      }))
+    where
+      gate_now : (sender : ℕ) (test : Bool) → (sender == from) ≡ test → get_or (slice_set old.gates from (Some count)) sender None ≡ or_else (cond test (Some count) None) (final_count sender journal)
+      gate_now sender true same =
+          ap (λ at. get_or (slice_set old.gates from (Some count)) at None) (eqb-true sender from same)
+          ∙ get_or-set_same old.gates from (Some count) None (omega (arith, known, agrees.closing.gate_places))
+      gate_now sender false apart = get_or-set_other old.gates from sender (Some count) None (eqb-false sender from apart) ∙ agrees.closing.gates sender
+
+  -- a queue is closed
+  pub agrees-queue_closed : (queue : ℕ) (mode : Mode) → HasClosed old queue mode new → Agrees new (writes.QueueClosed queue mode ∷ journal)
+  agrees-queue_closed queue mode has =
+      agrees_steady old new journal (writes.QueueClosed queue mode) agrees refl new.queues old.tallies has.rest has.closed.same_lines (λ other. refl) (agrees.tallied ∙ sym has.closed.same_count)
+      (has.closed.same_count ∙ agrees.last) (omega (arith, has.closed.same_count))
+      (λ other there. has.closed.same_shares other ∙ agrees.weights other (rw (← has.closed.same_count) there)) (λ sender. refl) (assumption (λ (other : ℕ). mode_now other (other == queue) refl))
+    where
+      mode_now : (other : ℕ) (test : Bool) → (other == queue) ≡ test → mode_of other new.queues ≡ or_else (cond test (Some mode) None) (queue_mode other journal)
+      mode_now other true same = ap (λ at. mode_of at new.queues) (eqb-true other queue same) ∙ has.closed.changed
+      mode_now other false apart = has.closed.others other (eqb-false other queue apart) ∙ agrees.closing.modes other

@@ -1,26 +1,47 @@
--- What a core tells of itself stays what its journal says, as a pick takes a job out; and the pick is right.
-use Rattle.rt_journal.proofs.Names.{Note, queue_joined, charge_noted, runtime_picked, pick_count, figures_noted}
-use Rattle.rt_journal.proofs.Names.{no_figures, ◌≡◌, ℕ, ◌+◌, ◌<◌, ◌≤◌, Bool, true, false, List, [], ◌∷◌, length, refl}
-use Rattle.rt_journal.proofs.Names.{sym, ◌∙◌, ap, subst, arith, get_or_past, Some, None, nat_le, max}
-use Rattle.rt_journal.proofs.Names.{false_from_ne_true, leb-true, leb-false, same_Some, All-head, All-tail, Terms}
-use Rattle.rt_journal.proofs.Names.{JobId, most_turns, KeyAtMost, Journal, is_told, name_started, delivered_names}
-use Rattle.rt_journal.proofs.Names.{queue_of, virtual_runtime, shares, line, jobs_out, IsRightPick, turns}
-use Rattle.rt_journal.proofs.Names.{queue_just_picked, created_count, effect_awaited, MayStand, IsTurnOf}
-use Rattle.rt_journal.proofs.Names.{jobs_out-start, jobs_out-resume, known_of, Distinct, apart_of, TurnLeaves}
-use Rattle.rt_journal.proofs.Names.{line-turn, line-turn_elsewhere, among, same_as_itself, virtual_runtime-stays}
-use Rattle.rt_journal.proofs.Names.{floor-stays, right_pick_of_lines, queue_count, waiting_of, no_queue, CoreView}
-use Rattle.rt_journal.proofs.Names.{JobOut, tally_of, runtime_of, delivered_of, TakesOut, AgreesOnClosing, IsJobOut}
-use Rattle.rt_journal.proofs.Names.{AreMarked, figures_of, figures_told, poll_note}
-use Rattle.std.proofs.Common.{length-set}
+-- What a core tells of itself stays what its journal says, as a pick takes a job out or hands it back; the pick is right, and its notes may stand.
+use Rattle.rt_journal.proofs.Names.{◌≡◌, Bool, true, false, List, [], ◌∷◌, sym, ◌∙◌, subst, false_from_ne_true}
+use Rattle.rt_journal.proofs.Names.{true≢false, or_parts, All-cons, All-nil, All-head, All-tail, JobId, same_name}
+use Rattle.rt_journal.proofs.Names.{Journal, is_told, name_started, among, one_name, same_as_itself}
+use Rattle.rt_journal.proofs.Names.{is_told-start_elsewhere, AreMarked, Note, queue_joined, charge_noted}
+use Rattle.rt_journal.proofs.Names.{runtime_picked, pick_count, figures_noted, no_figures, ℕ, ◌+◌, ◌<◌, ◌≤◌, length}
+use Rattle.rt_journal.proofs.Names.{refl, ap, arith, get_or_past, Some, None, nat_le, max, leb-true, leb-false}
+use Rattle.rt_journal.proofs.Names.{same_Some, Terms, most_turns, KeyAtMost, delivered_names, queue_of}
+use Rattle.rt_journal.proofs.Names.{virtual_runtime, shares, line, jobs_out, IsRightPick, turns, queue_just_picked}
+use Rattle.rt_journal.proofs.Names.{created_count, effect_awaited, MayStand, IsTurnOf, jobs_out-start, jobs_out-resume}
+use Rattle.rt_journal.proofs.Names.{known_of, Distinct, apart_of, TurnLeaves, line-turn, line-turn_elsewhere}
+use Rattle.rt_journal.proofs.Names.{virtual_runtime-stays, floor-stays, right_pick_of_lines, queue_count, waiting_of}
+use Rattle.rt_journal.proofs.Names.{no_queue, CoreView, JobOut, tally_of, runtime_of, delivered_of, TakesOut}
+use Rattle.rt_journal.proofs.Names.{AgreesOnClosing, IsJobOut, figures_of, figures_told, poll_note, set, Reason}
+use Rattle.rt_journal.proofs.Names.{EachNote, HandsBack, Agrees}
 use Rattle.rt_ids.specs.declared.note.Note.TheVariants as writes
+use Rattle.rt_journal.specs.Agreement.{names_of}
+use Rattle.std.proofs.Common.{length-set}
 use Rattle.rt_ids.specs.Commands.{return_reason}
 use Rattle.rt_core.specs.Closing as core
-use Rattle.rt_journal.specs.Agreement.{names_of}
-use Rattle.rt_journal.proofs.Everywhere.{everywhere}
-use Rattle.rt_journal.proofs.FigureSteps.{set_runtime, figures-grow, figures-stays, one_pick, counts-pick, told-picked}
-use Rattle.rt_journal.proofs.KeptModes.{SameModes, IsOpenNote, same_modes, closing-stays, return_reason-agrees}
-use Rattle.rt_journal.proofs.Kept.{IsKept, plainly_stands, turns-stays}
-use Rattle.rt_journal.proofs.PollNotes.{is_marked, marks-start}
+use Rattle.rt_journal.proofs.Sums.{everywhere}
+use Rattle.rt_journal.proofs.Kept.{set_runtime, figures-grow, figures-stays, one_pick, counts-pick, told-picked}
+use Rattle.rt_journal.proofs.Kept.{SameModes, IsOpenNote, same_modes, closing-stays, return_reason-agrees, IsKept}
+use Rattle.rt_journal.proofs.Kept.{plainly_stands, turns-stays, one_return, counts-return, told-returned}
+use Rattle.rt_journal.proofs.KeptSettles.{none≢some}
+
+-- a name that isn't among some is none of them
+pub other_way : (name other : JobId) → same_name name other ≡ false → same_name other name ≡ false
+other_way name other apart =
+    false_from_ne_true _ (λ same. true≢false (sym (subst (λ one. same_name name one ≡ true) (sym (one_name other name same)) (same_as_itself name)) ∙ apart))
+
+module _ {J T : Type 0} (name : JobId) (before : Journal T) where
+  abbrev pub is_marked : Journal T → JobId × Bool × J → Type 0
+  is_marked journal entry = entry.1 ≡ is_told name_started entry.0 journal
+
+  -- who is another than the one that starts is marked as before
+  pub marks-start : (waiting : List (JobId × Bool × J)) → among name (names_of waiting) ≡ false → AreMarked before waiting →
+      AreMarked (writes.Start name ∷ before) waiting
+  marks-start [] apart marked = All-nil (is_marked (writes.Start name ∷ before))
+  marks-start (entry ∷ rest) apart marked =
+      let parts = or_parts (same_name name entry.0) (among name (names_of rest)) apart in
+      All-cons (is_marked (writes.Start name ∷ before)) entry rest
+      (All-head (is_marked before) entry rest marked ∙ sym (is_told-start_elsewhere name entry.0 before (other_way name entry.0 parts.0)))
+      (marks-start rest parts.1 (All-tail (is_marked before) entry rest marked))
 
 -- a note that begins a poll costs and counts nothing, and nothing is created, weighed, delivered or closed by it
 pub record BeginsPoll {T : Type 0} (note : Note T) (before : Journal T) : Type 0 where
@@ -199,4 +220,122 @@ module _ {J T : Type 0} (terms : Terms) (old new : CoreView J) (name : JobId) (q
     notes = (poll_stands (not_returning keeps) was_started (sym start_told), (pick_stands left, kept.notes));
     no_pick = its.no_pick;
     no_answer = its.no_answer;
+  }
+
+module _ {J T : Type 0} (terms : Terms) (old new : CoreView J) (name : JobId) (queue : ℕ) (job : J) (reason : Reason) (journal : Journal T)
+    (kept : IsKept terms old journal) (hands : HandsBack old name queue job new) (returns : core.return_reason queue old ≡ Some reason) where
+  abbrev its_runtime : ℕ
+  its_runtime = runtime_of queue old
+
+  abbrev pick_noted : Journal T
+  pick_noted = writes.Pick queue its_runtime ∷ journal
+
+  abbrev longer : Journal T
+  longer = writes.Returned name reason ∷ pick_noted
+
+  -- the core as it would be with the job out
+  abbrev middle : CoreView J
+  middle = record old {
+    queues = new.queues;
+    tallies = set old.tallies queue (record (tally_of queue old) { selected = (tally_of queue old).selected + 1 });
+    floor = max old.floor its_runtime;
+    turns = old.turns + 1;
+    out = Some (record { name = name; queue = queue; job = job });
+  }
+
+  abbrev takes : TakesOut old name queue hands.was_started job middle
+  takes = record { next = hands.next; others = hands.others; first = hands.first; line = hands.line; rest = refl }
+
+  pub first_back : line queue journal ≡ name ∷ names_of hands.others
+  first_back = first_in_line terms old middle name queue hands.was_started job journal kept takes
+
+  exists_back : queue < length old.tallies
+  exists_back = let there = exists terms old middle name queue hands.was_started job journal kept takes in omega (arith, there, kept.agrees.tallied)
+
+  lines_back : (other : ℕ) → names_of (waiting_of other new.queues) ≡ line other longer
+  lines_back = everywhere (λ at. names_of (waiting_of at new.queues) ≡ line at longer) queue
+      (let left = line-turn terms journal kept.notes queue its_runtime name (names_of hands.others) first_back in ap names_of hands.line.changed ∙ sym (left.returned reason))
+      (λ other away.
+      let left = line-turn_elsewhere terms journal kept.notes other queue its_runtime name (names_of hands.others) first_back away in
+      ap names_of (hands.line.others other away) ∙ (kept.agrees.lines other ∙ sym (left.returned reason)))
+
+  runtime_back : (other : ℕ) → runtime_of other new ≡ runtime_of other old
+  runtime_back other = ap (λ core. runtime_of other core) hands.rest ∙ set_runtime old.tallies queue _ exists_back refl other
+
+  modes_back : SameModes old new
+  modes_back = record {
+    modes = hands.line.same_modes;
+    mode = ap (λ core. core.mode) hands.rest;
+    gates = ap (λ core. core.gates) hands.rest;
+    cores = ap (λ core. core.cores) hands.rest;
+  }
+
+  nobody_out : new.out ≡ None
+  nobody_out = ap (λ core. core.out) hands.rest ∙ hands.next.free
+
+  closing_now : AgreesOnClosing new longer
+  closing_now =
+      closing-stays new new (writes.Returned name reason) pick_noted (same_modes new) (record { queues = λ queue. refl; core = refl; gates = λ sender. refl })
+      (closing-stays old new (writes.Pick queue its_runtime) journal modes_back (record { queues = λ queue. refl; core = refl; gates = λ sender. refl }) kept.agrees.closing)
+
+  figures_now : (other : ℕ) → figures_of other new ≡ figures_told other longer
+  figures_now =
+      figures-grow old new queue (record (tally_of queue old) { selected = (tally_of queue old).selected + 1; returned = (tally_of queue old).returned + 1 }) exists_back
+      (ap (λ core. core.tallies) hands.rest) journal longer one_return (counts-return (tally_of queue old)) kept.agrees.figures
+      (λ other. told-returned other queue journal name (its_queue terms old middle name queue hands.was_started job journal kept takes) its_runtime reason)
+
+  agrees-returned : Agrees new longer
+  agrees-returned = record {
+    tallied = ap (λ core. length core.tallies) hands.rest ∙ (length-set old.tallies queue _ ∙ (kept.agrees.tallied ∙ sym hands.line.same_count));
+    senders = ap (λ core. length core.delivered) hands.rest ∙ (kept.agrees.senders ∙ ap (λ cores. cores + 1) (sym (ap (λ core. core.cores) hands.rest)));
+    last = hands.line.same_count ∙ kept.agrees.last;
+    lines = lines_back;
+    marks = λ other. marks_then terms old middle name queue hands.was_started job journal kept takes other;
+    runtimes = λ other.
+        runtime_back other
+        ∙ (kept.agrees.runtimes other
+        ∙ (sym (virtual_runtime-stays other journal (writes.Pick queue its_runtime) refl refl) ∙ sym (virtual_runtime-stays other pick_noted (writes.Returned name reason) refl refl)));
+    weights = λ other there. hands.line.same_shares other ∙ kept.agrees.weights other (rw (← hands.line.same_count) there);
+    the_floor = ap (λ core. core.floor) hands.rest ∙ (ap (λ at. max at its_runtime) kept.agrees.the_floor ∙ sym (floor-stays (writes.Returned name reason) pick_noted refl));
+    turns = ap (λ core. core.turns) hands.rest ∙ (ap (λ count. count + 1) kept.agrees.turns ∙ sym (turns-stays (writes.Returned name reason) pick_noted refl));
+    out = subst (λ out. IsJobOut out longer) (sym nobody_out) (nobody terms old middle name queue hands.was_started job journal kept takes);
+    out_exists = λ out at. absurd (none≢some out (sym nobody_out ∙ at));
+    figures = figures_now;
+    delivered = λ sender known. ap (λ core. delivered_of sender core) hands.rest ∙ kept.agrees.delivered sender (rw (← ap (λ core. core.cores) hands.rest) known);
+    closing = closing_now;
+  }
+
+  pub right_return : IsRightPick queue its_runtime journal
+  right_return = right_pick terms old middle name queue hands.was_started job journal kept takes
+
+  pub returns_told : return_reason queue journal ≡ Some reason
+  returns_told = sym (return_reason-agrees old journal kept.agrees.closing queue) ∙ returns
+
+  -- the pick is right, and the job goes back for the reason that the journal gives
+  return_stands : turns journal < most_turns → EachNote (MayStand terms) longer
+  return_stands left = (
+    record {
+      may_follow = (
+        queue,
+        record { picked = refl; others = names_of hands.others; first = first_back },
+        returns_told,
+      );
+      turn = refl;
+      effect = tt;
+      writer = kept.is_core;
+    },
+    (
+      plainly_stands terms (writes.Pick queue its_runtime) journal kept.is_core
+          (record { right = right_return; turn_left = left }) kept.no_pick kept.no_answer refl tt,
+      kept.notes,
+    ),
+  )
+
+  pub kept-returned : turns journal < most_turns → IsKept terms new longer
+  kept-returned left = record {
+    is_core = kept.is_core;
+    agrees = agrees-returned;
+    notes = return_stands left;
+    no_pick = refl;
+    no_answer = refl;
   }

@@ -11,9 +11,8 @@ use Rattle.rt_journal.proofs.Names.{settled_view, IsJobOut, AreMarked, figures_o
 use Rattle.std.proofs.Common.{length-set}
 use Rattle.rt_ids.specs.declared.note.Note.TheVariants as writes
 use Rattle.rt_journal.specs.Agreement.{names_of}
-use Rattle.rt_journal.proofs.Everywhere.{everywhere}
-use Rattle.rt_journal.proofs.FigureSteps.{figures-grow, one_yield, one_done, counts-yield, counts-done, told-yield}
-use Rattle.rt_journal.proofs.FigureSteps.{told-done}
+use Rattle.rt_journal.proofs.Sums.{everywhere}
+use Rattle.rt_journal.proofs.Kept.{figures-grow, one_yield, one_done, counts-yield, counts-done, told-yield, told-done}
 use Rattle.rt_journal.proofs.Kept.{IsKept, turns-stays, kept_after}
 
 pub none≢some : {A : Type 0} (item : A) → None ≡ Some item → ⊥

@@ -1,7 +1,17 @@
--- Lists by place, and the numbered orders of a link.
+-- Lists by place, the numbered orders and names of one link, how many names pass a test, and what stands under a name.
 use Rattle.rt_journal.proofs.Names.{◌≡◌, ℕ, zero, suc, ◌+◌, Bool, true, false, List, [], ◌∷◌, ◌++◌, length, refl, ◌∙◌}
 use Rattle.rt_journal.proofs.Names.{ap, subst, arith, get_or, cond, Some, slice_get, map, JobId, Order, first_under}
-use Rattle.rt_journal.proofs.Names.{same_name, one_name, same_as_itself, without_job, numbered_orders}
+use Rattle.rt_journal.proofs.Names.{same_name, one_name, same_as_itself, without_job, numbered_orders, ◌-◌, ◌≤◌, sym}
+use Rattle.rt_journal.proofs.Names.{◌==◌, None, eqb-true, length-append, Terms, Note, IsPrefix, Journal, EachNote}
+use Rattle.rt_journal.proofs.Names.{with_last, delivered_names, if_from, MayFollow, MayStand, IsNextDelivered, name_of}
+use Rattle.rt_journal.proofs.Names.{◌≢◌, inl, inr, ◌<◌, count_by, eqb_tells, sum_by-append, ◌||◌, eq-eqb, Sent}
+use Rattle.rt_journal.proofs.Names.{Outcome, accepted_orders, collected_outcomes, outcome_collected, order_sent}
+use Rattle.rt_journal.proofs.Names.{is_told, is_name, outcome_note, name_collected, first_under-longer}
+use Rattle.rt_journal.proofs.Names.{first_under-came, nothing_collected_under, AreDistinct, slice_get-behind}
+use Rattle.rt_journal.proofs.Names.{option_cases, named_outcomes}
+use Rattle.rt_ids.specs.declared.note.Note.TheVariants as writes
+use Rattle.rt_ids.specs.Assembly.{names_of}
+use Rattle.rt_ids.specs.declared.note.Note.TheVariants.{Collected}
 
 -- reading a mapped list
 pub get_or-map : {A B : Type 0} (f : A → B) (items : List A) (place : ℕ) (default : A) → get_or (map f items) place (f default) ≡ f (get_or items place default)
@@ -60,3 +70,261 @@ first_under-numbered {J} sender core before (first ∷ orders) (suc place) order
         let number : before + suc place + 1 ≡ before + 1 =
         ap (λ id. id.number) (one_name (record { from = sender; to = core; number = before + suc place + 1 }) (record { from = sender; to = core; number = before + 1 }) same) in
         absurd (omega arith)
+
+-- so many names of one link, which count from the number behind this one
+abbrev pub names_from : ℕ → ℕ → ℕ → ℕ → List JobId
+names_from sender core before zero = []
+names_from sender core before (suc count) = name_of sender core (before + 1) ∷ names_from sender core (before + 1) count
+
+module _ (sender core : ℕ) where
+  pub names_from-add : (before count more : ℕ) → names_from sender core before (count + more) ≡ names_from sender core before count ++ names_from sender core (before + count) more
+  names_from-add before zero more =
+      let none : 0 + more ≡ more = omega arith in
+      let here : before ≡ before + 0 = omega arith in
+      λ i. names_from sender core (here i) (none i)
+  names_from-add before (suc count) more =
+      let one_more : suc count + more ≡ suc (count + more) = omega arith in
+      let later : before + 1 + count ≡ before + suc count = omega arith in
+      ap (names_from sender core before) one_more
+      ∙ ap (λ rest. name_of sender core (before + 1) ∷ rest)
+      (names_from-add (before + 1) count more ∙ ap (λ at. names_from sender core (before + 1) count ++ names_from sender core at more) later)
+
+  -- fewer names are the beginning of more
+  pub names_from-prefix : (count whole : ℕ) → count ≤ whole → IsPrefix (names_from sender core 0 count) (names_from sender core 0 whole)
+  names_from-prefix count whole within = (names_from sender core count (whole - count), rest)
+    where
+      here : 0 + count ≡ count
+      here = omega arith
+
+      all : count + (whole - count) ≡ whole
+      all = omega (arith, within)
+
+      rest : names_from sender core 0 count ++ names_from sender core count (whole - count) ≡ names_from sender core 0 whole
+      rest =
+          ap (λ at. names_from sender core 0 count ++ names_from sender core at (whole - count)) (sym here)
+          ∙ (sym (names_from-add 0 count (whole - count)) ∙ ap (names_from sender core 0) all)
+
+  pub names_of-numbered : {J : Type 0} (before : ℕ) (orders : List (Order J)) → names_of (numbered_orders sender core before orders) ≡ names_from sender core before (length orders)
+  names_of-numbered before [] = refl
+  names_of-numbered before (order ∷ orders) = ap (λ rest. name_of sender core (before + 1) ∷ rest) (names_of-numbered (before + 1) orders)
+
+module _ (terms : Terms) (sender : ℕ) where
+  abbrev names : ℕ → List JobId
+  names count = names_from sender terms.actor 0 count
+
+module _ {T : Type 0} (terms : Terms) (sender : ℕ) where
+  -- one more is delivered, or none
+  one_more : (name : JobId) (before : Journal T) → IsNextDelivered terms name before → delivered_names sender before ≡ names terms sender (length (delivered_names sender before)) →
+      with_last (delivered_names sender before) (if_from sender name name) ≡ names terms sender (length (with_last (delivered_names sender before) (if_from sender name name)))
+  one_more name before next was = by_test (name.from == sender) refl
+    where
+      by_test : (test : Bool) → (name.from == sender) ≡ test →
+          with_last (delivered_names sender before) (cond test (Some name) None) ≡ names terms sender (length (with_last (delivered_names sender before) (cond test (Some name) None)))
+      by_test false other = was
+      by_test true one =
+          let from : name.from ≡ sender = eqb-true name.from sender one in
+          let count = length (delivered_names sender before) in
+          let number : name.number ≡ 0 + count + 1 = subst (λ at. name.number ≡ 0 + length (delivered_names at before) + 1) from (omega (arith, next.next)) in
+          let is : name ≡ name_of sender terms.actor (0 + count + 1) = λ i. record { from = from i; to = next.receiver i; number = number i } in
+          ap (λ front. front ++ name ∷ []) was
+          ∙ (ap (λ last. names terms sender count ++ last ∷ []) is
+          ∙ (sym (names_from-add sender terms.actor 0 count 1) ∙ ap (names terms sender) (sym (length-append (delivered_names sender before) (name ∷ [])))))
+
+  -- what a lawful journal says was delivered from a sender is numbered without gaps
+  pub delivered_numbered : (journal : Journal T) → EachNote (MayStand terms) journal → delivered_names sender journal ≡ names terms sender (length (delivered_names sender journal))
+  delivered_numbered [] notes = refl
+  delivered_numbered (note ∷ before) notes = by_note note notes.0.may_follow (delivered_numbered before notes.1)
+    where
+      by_note : (note : Note T) → MayFollow terms note before → delivered_names sender before ≡ names terms sender (length (delivered_names sender before)) →
+          delivered_names sender (note ∷ before) ≡ names terms sender (length (delivered_names sender (note ∷ before)))
+      by_note (writes.Took name queue) law was = one_more name before law.0 was
+      by_note (writes.Back name reason) law was = one_more name before law.0 was
+      by_note (writes.Answered name answer) law was = one_more name before law.0 was
+      by_note _ law was = was
+
+-- the test tells names apart that aren't one
+pub other_name : (a b : JobId) → (a ≡ b → ⊥) → same_name a b ≡ false
+other_name a b apart = by_test (same_name a b) refl
+  where
+    by_test : (test : Bool) → same_name a b ≡ test → same_name a b ≡ false
+    by_test true is = absurd (apart (one_name a b is))
+    by_test false is = is
+
+-- the first item counts if it passes
+count_by-first : {A : Type 0} (test : A → Bool) (item : A) (items : List A) → count_by test (item ∷ items) ≡ cond (test item) 1 0 + count_by test items
+count_by-first test item items =
+    let both : count_by test (item ∷ items) ≡ (0 + cond (test item) 1 0) + count_by test items = sum_by-append (λ x. cond (test x) 1 0) (item ∷ []) items in omega (arith, both)
+
+module _ {J : Type 0} (sender core : ℕ) where
+  -- how many names of the orders of a link pass
+  abbrev pub counted : (JobId → Bool) → ℕ → List (Order J) → ℕ
+  counted test before orders = count_by (λ sent. test sent.0) (numbered_orders sender core before orders)
+
+  first : (test : JobId → Bool) (before : ℕ) (order : Order J) (orders : List (Order J)) → counted test before (order ∷ orders) ≡ cond (test (name_of sender core (before + 1))) 1 0 + counted test (before + 1) orders
+  first test before order orders = count_by-first (λ sent. test sent.0) (name_of sender core (before + 1), without_job order) (numbered_orders sender core (before + 1) orders)
+
+  module _ (P Q : JobId → Bool) where
+    -- as many pass one test as another that tells the same of each
+    pub counted-same : (before : ℕ) (orders : List (Order J)) → ((n : ℕ) → before < n → n ≤ before + length orders → P (name_of sender core n) ≡ Q (name_of sender core n)) →
+        counted P before orders ≡ counted Q before orders
+    counted-same before [] same = refl
+    counted-same before (order ∷ orders) same =
+        first P before order orders
+        ∙ (ap (λ test. cond test 1 0 + counted P (before + 1) orders) (same (before + 1) (omega arith) (omega arith))
+        ∙ (ap (λ rest. cond (Q (name_of sender core (before + 1))) 1 0 + rest) (counted-same (before + 1) orders (λ n low high. same n (omega (arith, low)) (omega (arith, high))))
+        ∙ sym (first Q before order orders)))
+
+    -- one less passes a test that tells the same of each but one
+    pub counted-less : (before : ℕ) (orders : List (Order J)) (number : ℕ) → before < number → number ≤ before + length orders →
+        P (name_of sender core number) ≡ true → Q (name_of sender core number) ≡ false →
+        ((n : ℕ) → n ≢ number → before < n → n ≤ before + length orders → P (name_of sender core n) ≡ Q (name_of sender core n)) →
+        counted P before orders ≡ counted Q before orders + 1
+    counted-less before [] number low high was is same = absurd (omega (arith, low, high))
+    counted-less before (order ∷ orders) number low high was is same = elim (eqb_tells (before + 1) number) [
+      | inl here ↦
+          let passes : P (name_of sender core (before + 1)) ≡ true = ap (λ n. P (name_of sender core n)) here.1 ∙ was in
+          let none : Q (name_of sender core (before + 1)) ≡ false = ap (λ n. Q (name_of sender core n)) here.1 ∙ is in
+          let rest : counted P (before + 1) orders ≡ counted Q (before + 1) orders =
+          counted-same (before + 1) orders (λ n low high. same n (λ one. omega (arith, one, here.1, low)) (omega (arith, low)) (omega (arith, high))) in
+          let one : counted P before (order ∷ orders) ≡ 1 + counted P (before + 1) orders = first P before order orders ∙ ap (λ test. cond test 1 0 + counted P (before + 1) orders) passes in
+          let zero : counted Q before (order ∷ orders) ≡ 0 + counted Q (before + 1) orders = first Q before order orders ∙ ap (λ test. cond test 1 0 + counted Q (before + 1) orders) none in
+          omega (arith, one, zero, rest)
+      | inr later ↦
+          let alike : P (name_of sender core (before + 1)) ≡ Q (name_of sender core (before + 1)) = same (before + 1) later.1 (omega arith) (omega arith) in
+          let rest : counted P (before + 1) orders ≡ counted Q (before + 1) orders + 1 =
+          counted-less (before + 1) orders number (omega (arith, low, later.1)) (omega (arith, high)) was is (λ n away low high. same n away (omega (arith, low)) (omega (arith, high))) in
+          let one : counted P before (order ∷ orders) ≡ cond (Q (name_of sender core (before + 1))) 1 0 + counted P (before + 1) orders = first P before order orders ∙ ap (λ test. cond test 1 0 + counted P (before + 1) orders) alike in
+          let other : counted Q before (order ∷ orders) ≡ cond (Q (name_of sender core (before + 1))) 1 0 + counted Q (before + 1) orders = first Q before order orders in
+          omega (arith, one, other, rest)
+    ]
+
+-- one more that passes
+pub counted-more : {A : Type 0} (test : A → Bool) (items : List A) (item : A) → test item ≡ true → count_by test (items ++ item ∷ []) ≡ count_by test items + 1
+counted-more test items item passes =
+    let both : count_by test (items ++ item ∷ []) ≡ count_by test items + (0 + cond (test item) 1 0) = sum_by-append (λ x. cond (test x) 1 0) items (item ∷ []) in
+    let one : ◌≡◌ {A = ℕ} (cond (test item) 1 0) 1 = ap (λ test. cond {A = ℕ} test 1 0) passes in
+    omega (arith, both, one)
+
+-- each number that was given has an order
+pub order_at : {A : Type 0} (orders : List A) (number : ℕ) → 0 < number → number ≤ length orders → (order : A) × (slice_get orders (number - 1) ≡ Some order)
+order_at orders number low high = elim (option_cases (slice_get orders (number - 1))) [
+  | inl none ↦ absurd (let behind : length orders ≤ number - 1 = slice_get-behind orders (number - 1) none in omega (arith, behind, low, high))
+  | inr some ↦ some
+]
+
+-- a number that wasn't given has none
+pub numbered-missing : {J : Type 0} (sender core before : ℕ) (orders : List (Order J)) (number : ℕ) → (before < number → number ≤ before + length orders → ⊥) →
+    first_under (name_of sender core number) (numbered_orders sender core before orders) ≡ None
+numbered-missing sender core before [] number out = refl
+numbered-missing sender core before (order ∷ orders) number out =
+    ap (λ test. cond test (Some (without_job order)) (first_under (name_of sender core number) (numbered_orders sender core (before + 1) orders)))
+    (other_name (name_of sender core number) (name_of sender core (before + 1)) (λ same. let is : number ≡ before + 1 = ap (λ id. id.number) same in out (omega (arith, is)) (omega (arith, is))))
+    ∙ numbered-missing sender core (before + 1) orders number (λ low high. out (omega (arith, low)) (omega (arith, high)))
+
+module _ {J T : Type 0} (actor core number : ℕ) where
+  -- an outcome that was collected stands under its name
+  pub named-found : (outcomes : List (ℕ × Outcome J T)) → AreDistinct outcomes → (place : ℕ) (outcome : Outcome J T) → slice_get outcomes place ≡ Some (number, outcome) →
+      first_under (name_of actor core number) (named_outcomes actor core outcomes) ≡ Some (outcome_note outcome)
+  named-found [] distinct place outcome at = absurd cc
+  named-found (first ∷ rest) distinct zero outcome at =
+      let is : first ≡ (number, outcome) = cc in
+      subst (λ first. cond (same_name (name_of actor core number) (name_of actor core first.0)) (Some (outcome_note first.1)) (first_under (name_of actor core number) (named_outcomes actor core rest)) ≡ Some (outcome_note outcome)) (sym is)
+      (ap (λ test. cond test (Some (outcome_note outcome)) (first_under (name_of actor core number) (named_outcomes actor core rest))) (same_as_itself (name_of actor core number)))
+  named-found (first ∷ rest) distinct (suc place) outcome at =
+      ap (λ test. cond test (Some (outcome_note first.1)) (first_under (name_of actor core number) (named_outcomes actor core rest)))
+      (other_name (name_of actor core number) (name_of actor core first.0) (λ same.
+      let one : 0 ≡ suc place = distinct 0 (suc place) first (number, outcome) refl at (sym (ap (λ id. id.number) same)) in omega (arith, one)))
+      ∙ named-found rest (λ i j x y a b same. let one : suc i ≡ suc j = distinct (suc i) (suc j) x y a b same in omega (arith, one)) place outcome at
+
+  -- and under no other
+  pub named-missing : (outcomes : List (ℕ × Outcome J T)) → ((place : ℕ) (found : ℕ × Outcome J T) → slice_get outcomes place ≡ Some found → found.0 ≡ number → ⊥) →
+      first_under (name_of actor core number) (named_outcomes actor core outcomes) ≡ None
+  named-missing [] none = refl
+  named-missing (first ∷ rest) none =
+      ap (λ test. cond test (Some (outcome_note first.1)) (first_under (name_of actor core number) (named_outcomes actor core rest)))
+      (other_name (name_of actor core number) (name_of actor core first.0) (λ same. none 0 first refl (sym (ap (λ id. id.number) same))))
+      ∙ named-missing rest (λ place found at. none (suc place) found at)
+
+-- what came last stands there, and nothing stood there before where nothing stands now
+last_there : {A : Type 0} (name : JobId) (entries : List (JobId × A)) (item : A) → first_under name (entries ++ (name, item) ∷ []) ≡ None → ⊥
+last_there name [] item none = absurd (let some : first_under name ((name, item) ∷ []) ≡ Some item = ap (λ test. cond test (Some item) None) (same_as_itself name) in cc)
+last_there name (first ∷ rest) item none = by_test (same_name name first.0) none (last_there name rest item)
+  where
+    by_test : (test : Bool) → cond test (Some first.1) (first_under name (rest ++ (name, item) ∷ [])) ≡ None → (first_under name (rest ++ (name, item) ∷ []) ≡ None → ⊥) → ⊥
+    by_test true none later = cc
+    by_test false none later = later none
+
+not_before : {A : Type 0} (name : JobId) (entries : List (JobId × A)) (entry : JobId × A) → first_under name (entries ++ entry ∷ []) ≡ None → first_under name entries ≡ None
+not_before name entries entry none = elim (option_cases (first_under name entries)) [
+  | inl is ↦ is
+  | inr some ↦ absurd (let found : first_under name (entries ++ entry ∷ []) ≡ Some some.0 = first_under-longer name entries (entry ∷ []) some.0 some.1 in cc)
+]
+
+module _ {T : Type 0} where
+  told_there : (name : JobId) (journal : Journal T) → is_told name_collected name journal ≡ true → first_under name (collected_outcomes name.to journal) ≡ None → ⊥
+  told_there name [] is none = cc
+  told_there name (note ∷ before) is none = by_note note is none (told_there name before)
+    where
+      by_note : (note : Note T) → (is_name name (name_collected note) || is_told name_collected name before) ≡ true →
+          first_under name (with_last (collected_outcomes name.to before) (outcome_collected name.to note)) ≡ None →
+          (is_told name_collected name before ≡ true → first_under name (collected_outcomes name.to before) ≡ None → ⊥) → ⊥
+      by_note (Collected other outcome) is none was = by_name (same_name name other) refl is
+        where
+          came : name ≡ other → ⊥
+          came one =
+              let at : first_under name (collected_outcomes name.to before ++ (name, outcome) ∷ []) ≡ None =
+              subst (λ test. first_under name (with_last (collected_outcomes name.to before) (cond test (Some (name, outcome)) None)) ≡ None) (eq-eqb name.to name.to refl)
+              (subst (λ other. first_under name (with_last (collected_outcomes name.to before) (outcome_collected name.to (Collected other outcome))) ≡ None) (sym one) none) in
+              last_there name (collected_outcomes name.to before) outcome at
+
+          earlier : (test : Bool) → first_under name (with_last (collected_outcomes name.to before) (cond test (Some (other, outcome)) None)) ≡ None → first_under name (collected_outcomes name.to before) ≡ None
+          earlier false none = none
+          earlier true none = not_before name (collected_outcomes name.to before) (other, outcome) none
+
+          by_name : (test : Bool) → same_name name other ≡ test → (test || is_told name_collected name before) ≡ true → ⊥
+          by_name true same is = came (one_name name other same)
+          by_name false same is = was is (earlier (other.to == name.to) none)
+      by_note _ is none was = was is none
+
+  -- where nothing stands under a name among the collected, no note says that it was collected
+  pub uncollected : (name : JobId) (journal : Journal T) → first_under name (collected_outcomes name.to journal) ≡ None → is_told name_collected name journal ≡ false
+  uncollected name journal none = by_test (is_told name_collected name journal) refl
+    where
+      by_test : (test : Bool) → is_told name_collected name journal ≡ test → is_told name_collected name journal ≡ false
+      by_test false is = is
+      by_test true is = absurd (told_there name journal is none)
+
+  -- what is found among the collected was told
+  pub collected_told : (name : JobId) (journal : Journal T) {what : _} → first_under name (collected_outcomes name.to journal) ≡ Some what → is_told name_collected name journal ≡ true
+  collected_told name journal {what} found = by_test (is_told name_collected name journal) refl
+    where
+      by_test : (test : Bool) → is_told name_collected name journal ≡ test → is_told name_collected name journal ≡ true
+      by_test true is = is
+      by_test false is = absurd (let none : first_under name (collected_outcomes name.to journal) ≡ None = nothing_collected_under name journal is in cc)
+
+module _ {T : Type 0} (terms : Terms) where
+  -- an order that is found under a name was sent by this actor, to a core that there is
+  pub accepted_known : (name : JobId) (order : Order (Unit {0})) (journal : Journal T) → EachNote (MayStand terms) journal → first_under name (accepted_orders name.to journal) ≡ Some order →
+      (name.from ≡ terms.actor) × (name.to < terms.cores)
+  accepted_known name order [] notes found = cc
+  accepted_known name order (note ∷ before) notes found = by_note note notes.0.may_follow (accepted_known name order before notes.1) found
+    where
+      by_note : (note : Note T) → MayFollow terms note before → (first_under name (accepted_orders name.to before) ≡ Some order → (name.from ≡ terms.actor) × (name.to < terms.cores)) →
+          first_under name (with_last (accepted_orders name.to before) (order_sent name.to note)) ≡ Some order → (name.from ≡ terms.actor) × (name.to < terms.cores)
+      by_note (Sent other sent) law was found = by_test (other.to == name.to) found
+        where
+          by_test : (test : Bool) → first_under name (with_last (accepted_orders name.to before) (cond test (Some (other, sent)) None)) ≡ Some order → (name.from ≡ terms.actor) × (name.to < terms.cores)
+          by_test false found = was found
+          by_test true found =
+              elim (first_under-came name (accepted_orders name.to before) (other, sent) order found) [
+                | inl there ↦ was there
+                | inr came ↦ subst (λ name. (name.from ≡ terms.actor) × (name.to < terms.cores)) (sym (one_name name other came.0)) (law.sender, law.receiver)
+              ]
+      by_note _ law was found = was found
+
+  -- so nothing was accepted under another's name, or for a core that there isn't
+  pub unknown_name : (name : JobId) (journal : Journal T) → EachNote (MayStand terms) journal → (name.from ≡ terms.actor → name.to < terms.cores → ⊥) → first_under name (accepted_orders name.to journal) ≡ None
+  unknown_name name journal notes out = elim (option_cases (first_under name (accepted_orders name.to journal))) [
+    | inl none ↦ none
+    | inr some ↦ let own = accepted_known name some.0 journal notes some.1 in absurd (out own.0 own.1)
+  ]

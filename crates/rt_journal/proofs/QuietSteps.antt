@@ -1,12 +1,88 @@
--- A core beside its journal makes a step by which nothing is delivered and nothing sent: it stays recorded, and the ends of its links stay beside it.
-use Rattle.rt_journal.proofs.Names.{◌≡◌, ℕ, ◌+◌, ◌*◌, ◌≤◌, List, [], ◌++◌, refl, sym, ◌∙◌, ap, subst, arith, Some, All}
-use Rattle.rt_journal.proofs.Names.{Option, JobId, Note, OutcomeNote, Inward, Journal, EachNote, final_count}
-use Rattle.rt_journal.proofs.Names.{DeliversAs, Owed, waiting_of, CoreView, JobOut, inside_count, IsKept, IsWritten}
-use Rattle.rt_journal.proofs.Names.{RecordedView, terms_at, desk_of, IsRecorded, IsHeld, HasTask, note_taken, sum_upto}
-use Rattle.rt_journal.proofs.Names.{given_count, IsInOf, IsUngiven, LeavesOwed, KeepsOuts, IsSameSeat, with_notes}
-use Rattle.rt_journal.proofs.Names.{length, reverse}
-use Rattle.rt_journal.proofs.EndsKept.{keeps_outs}
-use Rattle.rt_journal.proofs.Quiet.{IsQuiet, nobody, held-quiet, taken-quiet, ins-quiet}
+-- A core beside its journal makes a step by which nothing is delivered and nothing sent: it stays recorded, and the ends of its links stay beside it, also after its desk wrote the notes.
+use Rattle.rt_journal.proofs.Names.{◌≡◌, ℕ, ◌+◌, ◌≤◌, Bool, true, false, ◌∷◌, length, refl, ap, arith, Option, None}
+use Rattle.rt_journal.proofs.Names.{JobId, Order, final_count, Journal, EachNote, if_from, delivered_names}
+use Rattle.rt_journal.proofs.Names.{given_outcomes, Step, DeliversAs, poll_note, settle_note, RecordedView, IsHeld}
+use Rattle.rt_journal.proofs.Names.{IsTaken, sum_upto, delivered_count, given_count, IsInOf, LeavesOwed, GivesMore}
+use Rattle.rt_journal.proofs.Names.{IsUngiven, KeepsSent, IsSameSeat, grows, OutcomeNote, Inward, ◌*◌, List, [], ◌++◌}
+use Rattle.rt_journal.proofs.Names.{sym, ◌∙◌, subst, Some, All, Note, Owed, waiting_of, CoreView, JobOut, inside_count}
+use Rattle.rt_journal.proofs.Names.{IsKept, IsWritten, terms_at, desk_of, IsRecorded, HasTask, note_taken, KeepsOuts}
+use Rattle.rt_journal.proofs.Names.{with_notes, reverse, Envelope, DeskView, terms_of_desk, desk_with}
+use Rattle.rt_ids.specs.declared.note.Note.TheVariants as writes
+use Rattle.rt_jobs.specs.declared.job.Step.TheVariants as steps
+use Rattle.rt_ids.specs.declared.note.OutcomeNote.TheVariants as outcomes
+use Rattle.rt_journal.proofs.EndsKept.{keeps_in, keeps_outs}
+use Rattle.rt_journal.proofs.Sums.{sum_upto-same}
+
+-- nothing is sent, collected or delivered by the notes; one outcome is given more to each sender who is given one
+pub record IsQuiet {T : Type 0} (gives : ℕ → Option (JobId × OutcomeNote T)) (old new : Journal T) : Type 0 where
+  pub sent : KeepsSent old new
+  pub given : GivesMore gives old new
+  pub delivered : (sender : ℕ) → delivered_names sender new ≡ delivered_names sender old
+
+-- to nobody
+abbrev pub nobody : {T : Type 0} → ℕ → Option (JobId × OutcomeNote T)
+nobody sender = None
+
+-- what is given by the note of a settled poll
+abbrev pub given_settled : {T : Type 0} → JobId → Step T → ℕ → Option (JobId × OutcomeNote T)
+given_settled name steps.Yield sender = None
+given_settled name (steps.Done value) sender = if_from sender name (name, outcomes.Finished value)
+
+-- no gate is shut by the notes
+abbrev pub KeepsGates : {T : Type 0} → Journal T → Journal T → Type 0
+KeepsGates old new = (sender : ℕ) → final_count sender new ≡ final_count sender old
+
+module _ {T : Type 0} (notes : Journal T) where
+  -- a pick, and the note of the poll that begins
+  pub quiet-picked : (name : JobId) (queue runtime : ℕ) (was_started : Bool) → IsQuiet nobody notes (poll_note name was_started ∷ writes.Pick queue runtime ∷ notes)
+  quiet-picked name queue runtime false = assumption
+  quiet-picked name queue runtime true = assumption
+
+  pub gates-picked : (name : JobId) (queue runtime : ℕ) (was_started : Bool) → KeepsGates notes (poll_note name was_started ∷ writes.Pick queue runtime ∷ notes)
+  gates-picked name queue runtime false sender = refl
+  gates-picked name queue runtime true sender = refl
+
+  -- a poll that is settled
+  pub quiet-settled : (name : JobId) (time : ℕ) (step : Step T) → IsQuiet (given_settled name step) notes (settle_note name time step ∷ notes)
+  quiet-settled name time (steps.Done out) = assumption
+  quiet-settled name time steps.Yield = assumption
+
+  pub gates-settled : (name : JobId) (time : ℕ) (step : Step T) → KeepsGates notes (settle_note name time step ∷ notes)
+  gates-settled name time (steps.Done out) sender = refl
+  gates-settled name time steps.Yield sender = refl
+
+  -- deliveries stay as sent behind the notes of a poll
+  pub as_sent-picked : (under : JobId → Option (Order (Unit {0}))) (name : JobId) (queue runtime : ℕ) (was_started : Bool) → EachNote (DeliversAs under) notes →
+      EachNote (DeliversAs under) (poll_note name was_started ∷ writes.Pick queue runtime ∷ notes)
+  as_sent-picked under name queue runtime false before = (tt, (tt, before))
+  as_sent-picked under name queue runtime true before = (tt, (tt, before))
+
+  pub as_sent-settled : (under : JobId → Option (Order (Unit {0}))) (name : JobId) (time : ℕ) (step : Step T) → EachNote (DeliversAs under) notes → EachNote (DeliversAs under) (settle_note name time step ∷ notes)
+  as_sent-settled under name time (steps.Done out) before = (tt, before)
+  as_sent-settled under name time steps.Yield before = (tt, before)
+
+-- places and names stay where nothing is delivered
+module _ {T : Type 0} {gives : ℕ → Option (JobId × OutcomeNote T)} (old new : Journal T) (quiet : IsQuiet gives old new) (cores cap : ℕ) where
+  delivered_same : (sender : ℕ) → delivered_count new sender ≡ delivered_count old sender
+  delivered_same sender = ap length (quiet.delivered sender)
+
+  pub held-quiet : (jobs now : ℕ) → IsHeld cores cap jobs old → now + sum_upto (given_count new) cores ≤ jobs + sum_upto (given_count old) cores → IsHeld cores cap now new
+  held-quiet jobs now held fewer = record {
+    each = λ sender there.
+        let was : delivered_count old sender ≤ given_count old sender + cap = held.each sender there in
+        omega (arith, was, delivered_same sender, ap length (quiet.given sender), grows (given_outcomes sender old) (gives sender));
+    inside = omega (arith, held.inside, fewer, sum_upto-same (delivered_count new) (delivered_count old) cores delivered_same);
+  }
+
+  pub taken-quiet : (name : JobId) → IsTaken cores old name → IsTaken cores new name
+  taken-quiet name taken = record { sender = taken.sender; old = omega (arith, taken.old, delivered_same name.from) }
+
+-- the end of a sender owes what is given, and stays else, where its gate isn't shut
+pub ins-quiet : {J T : Type 0} {gives : ℕ → Option (JobId × OutcomeNote T)} (old new : RecordedView J T) → IsSameSeat old new → IsQuiet gives old.journal.notes new.journal.notes → new.took ≡ old.took →
+    (sender : ℕ) → final_count sender new.journal.notes ≡ final_count sender old.journal.notes → ((inward : Inward J T) → IsInOf sender old inward → IsUngiven (gives sender) inward.given) →
+    LeavesOwed sender (gives sender) old new
+ins-quiet old new seat quiet took sender gates ungiven =
+    keeps_in old new seat sender _ (quiet.given sender) gates ungiven (ap length (quiet.delivered sender)) (λ name order from at. rw (← took) at)
 
 -- each sender there is
 abbrev pub everyone : ℕ → Type 0
@@ -93,3 +169,88 @@ module _ {J T : Type 0} {same : J → J → Type 0} {made : J → ℕ} {polls : 
   pub nothing_did : IsRecorded same made polls old → core ≡ old.core → notes ≡ [] → does old old → HasDone same made polls old core everyone nobody most does notes
   nothing_did recorded core_is is does_so = subst (HasDone same made polls old core everyone nobody most does) (sym is)
       (subst (λ core. HasDone same made polls old core everyone nobody most does []) (sym core_is) (record { step = nothing_done old recorded; few = omega arith; does_so = does_so }))
+
+module _ {J T : Type 0} where
+  -- the view of these parts
+  abbrev pub view_of : CoreView J → List (Envelope J) → DeskView J T → RecordedView J T
+  view_of core took said = record { cap = said.cap; core = core; journal = said.journal; took = took; lanes = said.lanes }
+
+  -- the desk is the one of its core
+  pub desk_is : (said : DeskView J T) (core : CoreView J) (took : List (Envelope J)) → said.actor ≡ core.core → said.cores ≡ core.cores → said ≡ desk_of (view_of core took said)
+  desk_is said core took actor cores = λ i. record { actor = actor i; cores = cores i; cap = said.cap; journal = said.journal; lanes = said.lanes }
+
+  -- the notes that may stand behind the journal may be written by its desk
+  pub may_write : (core : CoreView J) (took : List (Envelope J)) (said : DeskView J T) → said ≡ desk_of (view_of core took said) → (notes slice : List (Note T)) → slice ≡ notes →
+      IsWritten (terms_at (view_of core took said)) (reverse notes ++ said.journal.notes) → IsWritten (terms_of_desk said) (reverse slice ++ said.journal.notes)
+  may_write core took said is notes slice slice_is written =
+      subst (λ terms. IsWritten terms (reverse slice ++ said.journal.notes)) (sym (ap terms_of_desk is))
+      (subst (λ notes. IsWritten (terms_at (view_of core took said)) (reverse notes ++ said.journal.notes)) (sym slice_is) written)
+
+-- what notes say of submissions, the same notes say
+pub may_send : {T : Type 0} (before : Journal T) (notes slice : List (Note T)) → slice ≡ notes → KeepsSent before (reverse notes ++ before) → KeepsSent before (reverse slice ++ before)
+may_send before notes slice slice_is = subst (λ notes. KeepsSent before (reverse notes ++ before)) (sym slice_is)
+
+-- what a desk asks of the notes that it writes
+pub record MayNote {J T : Type 0} (said : DeskView J T) (slice : List (Note T)) : Type 0 where
+  pub room : length said.journal.notes + length slice ≤ said.journal.room
+  pub written : IsWritten (terms_of_desk said) (reverse slice ++ said.journal.notes)
+  pub sent : KeepsSent said.journal.notes (reverse slice ++ said.journal.notes)
+
+module _ {J T : Type 0} (same : J → J → Type 0) (made : J → ℕ) (polls : Owed J T) (keeps : ℕ → Type 0) (gives : ℕ → Option (JobId × OutcomeNote T)) (does : RecordedView J T → RecordedView J T → Type 0) where
+  -- what a quiet step leaves: it did so, the core is recorded, and the seat, the lanes and the ends of all links are as they were, except what it gives and whose gate it shuts
+  pub record HasStepped (old new : RecordedView J T) : Type 0 where
+    pub does_so : does old new
+    pub sound : IsRecorded same made polls new
+    pub seat : IsSameSeat old new
+    pub ins : (sender : ℕ) → keeps sender → LeavesOwed sender (gives sender) old new
+    pub outs : KeepsOuts (desk_of old) (desk_of new)
+    pub lanes : new.lanes ≡ old.lanes
+
+module _ {J T : Type 0} {same : J → J → Type 0} {made : J → ℕ} {polls : Owed J T}
+    (core : CoreView J) (took : List (Envelope J)) (said : DeskView J T)
+    (invariant : IsRecorded same made polls (view_of core took said) × (said ≡ desk_of (view_of core took said)))
+    {after : CoreView J} {notes slice : List (Note T)} (slice_is : slice ≡ notes) {keeps : ℕ → Type 0} {gives : ℕ → Option (JobId × OutcomeNote T)} {most : ℕ} {does : RecordedView J T → RecordedView J T → Type 0}
+    (did : HasDone same made polls (view_of core took said) after keeps gives most does notes) where
+  abbrev old : RecordedView J T
+  old = view_of core took said
+
+  pub quiet_written : IsWritten (terms_of_desk said) (reverse slice ++ said.journal.notes)
+  quiet_written = may_write core took said invariant.1 notes slice slice_is (written_step old invariant.0 after (reverse notes) did.step)
+
+  pub quiet_sent : KeepsSent said.journal.notes (reverse slice ++ said.journal.notes)
+  quiet_sent = may_send said.journal.notes notes slice slice_is did.step.quiet.sent
+
+  pub quiet_noted : {before : RecordedView J T} → old ≡ before → length before.journal.notes + most ≤ before.journal.room → MayNote said slice
+  quiet_noted view_is room =
+      let fits : length said.journal.notes + length slice ≤ said.journal.room =
+      omega (arith, did.few, room, ap (λ view. view.journal.room) view_is, ap (λ view. length view.journal.notes) view_is, ap length slice_is) in
+      assumption (quiet_written, quiet_sent)
+
+  module _ {said_now : DeskView J T} (wrote : said_now ≡ desk_with (reverse slice) said) where
+    now_written : said_now ≡ desk_with (reverse notes) said
+    now_written = wrote ∙ ap (λ notes. desk_with (reverse notes) said) slice_is
+
+    now_is : view_of after took said_now ≡ stepped old after (reverse notes)
+    now_is = ap (view_of after took) now_written
+
+    pub quiet_invariant : IsRecorded same made polls (view_of after took said_now) × (said_now ≡ desk_of (view_of after took said_now))
+    quiet_invariant = (
+      subst (IsRecorded same made polls) (sym now_is) (recorded_step old invariant.0 after (reverse notes) did.step),
+      desk_is said_now after took (ap (λ desk. desk.actor) now_written ∙ (ap (λ desk. desk.actor) invariant.1 ∙ sym did.step.number))
+          (ap (λ desk. desk.cores) now_written ∙ (ap (λ desk. desk.cores) invariant.1 ∙ sym did.step.cores)),
+    )
+
+    module _ {before : RecordedView J T} (view_is : old ≡ before) where
+      -- what holds of the step holds of what the caller sees
+      pub seen_so : (P : RecordedView J T → RecordedView J T → Type 0) → P old (stepped old after (reverse notes)) → P before (view_of after took said_now)
+      seen_so P is = subst (λ before. P before (view_of after took said_now)) view_is (subst (P old) (sym now_is) is)
+
+      pub quiet_now : HasStepped same made polls keeps gives does before (view_of after took said_now)
+      quiet_now = seen_so (HasStepped same made polls keeps gives does) (record {
+        does_so = did.does_so;
+        sound = recorded_step old invariant.0 after (reverse notes) did.step;
+        seat = seat_step old invariant.0 after (reverse notes) did.step;
+        ins = ins_step old invariant.0 after (reverse notes) did.step;
+        outs = outs_step old invariant.0 after (reverse notes) did.step;
+        lanes = refl;
+      })

@@ -1,19 +1,121 @@
--- A core beside its journal stays recorded as an order is delivered to it, and the ends of its links stay beside it.
-use Rattle.rt_journal.proofs.Names.{◌≡◌, ℕ, ◌+◌, ◌*◌, ◌<◌, ◌≤◌, Bool, List, [], ◌∷◌, ◌++◌, length, refl, sym, ◌∙◌, ap}
-use Rattle.rt_journal.proofs.Names.{subst, ⊎_elim, arith, get_or, zero-add, ◌==◌, Option, Some, None, All, reverse}
-use Rattle.rt_journal.proofs.Names.{option_map, eq-eqb, ne_eqb, cases_eq, length-reverse, All-append, JobId, Note}
-use Rattle.rt_journal.proofs.Names.{Envelope, Order, Job, Journal, given_outcomes, number_if, Owed, IsSameTask}
-use Rattle.rt_journal.proofs.Names.{waiting_of, CoreView, inside_count, delivered_of, Delivered, IsNextDelivered}
-use Rattle.rt_journal.proofs.Names.{IsSpelledOrder, without_job, polls_made, IsKept, IsWritten, RecordedView, terms_at}
-use Rattle.rt_journal.proofs.Names.{IsRecorded, IsHeld, IsTaken, HasTask, OwesAfter, order_taken, note_taken, sum_upto}
-use Rattle.rt_journal.proofs.Names.{delivered_count, given_count, IsSameSeat, KeepsSent, GivesMore, told_under}
-use Rattle.rt_journal.proofs.Names.{outcome_delivered, OutcomeNote, outcome_note, grows, IsNextIn, Receives}
-use Rattle.rt_core.specs.Deliveries.{Delivers as CarriesOut}
-use Rattle.rt_journal.proofs.PollsMade.{polls_made-fresh}
+-- A core beside its journal stays recorded as an order is delivered to it: the orders by their names, the polls of a new job, and all else.
+use Rattle.rt_journal.proofs.Names.{◌≡◌, Bool, true, false, List, [], ◌∷◌, ◌++◌, refl, ◌∙◌, ap, ◌⊎◌, inl, inr, cond}
+use Rattle.rt_journal.proofs.Names.{Option, Some, None, option_map, JobId, Note, Envelope, Order, Job, same_name}
+use Rattle.rt_journal.proofs.Names.{Journal, EachNote, IsOpening, one_name, same_as_itself, without_job, CarriesOut}
+use Rattle.rt_journal.proofs.Names.{DeliversAs, order_taken, note_taken, ◌+◌, sym, subst, arith, true≢false}
+use Rattle.rt_journal.proofs.Names.{false_from_ne_true, Terms, Yield, Done, is_name, delivered_names, name_delivered}
+use Rattle.rt_journal.proofs.Names.{number_if, name_settled, MayFollow, MayStand, grows, alone_out, IsOld, known_of}
+use Rattle.rt_journal.proofs.Names.{polls_made, ℕ, ◌*◌, ◌<◌, ◌≤◌, length, ⊎_elim, get_or, zero-add, ◌==◌, All, reverse}
+use Rattle.rt_journal.proofs.Names.{eq-eqb, ne_eqb, cases_eq, length-reverse, All-append, given_outcomes, Owed}
+use Rattle.rt_journal.proofs.Names.{IsSameTask, waiting_of, CoreView, inside_count, delivered_of, Delivered}
+use Rattle.rt_journal.proofs.Names.{IsNextDelivered, IsSpelledOrder, IsKept, IsWritten, RecordedView, terms_at}
+use Rattle.rt_journal.proofs.Names.{IsRecorded, IsHeld, IsTaken, HasTask, OwesAfter, sum_upto, delivered_count}
+use Rattle.rt_journal.proofs.Names.{given_count, IsSameSeat, KeepsSent, GivesMore, told_under, outcome_delivered}
+use Rattle.rt_journal.proofs.Names.{OutcomeNote, outcome_note, IsNextIn, Receives}
+use Rattle.rt_ids.specs.declared.note.Note.TheVariants as writes
+use Rattle.rt_core.specs.Deliveries.{Delivers as CoreDelivers}
 use Rattle.rt_journal.proofs.Sums.{sum_upto-one_more, sum_upto-room}
-use Rattle.rt_journal.proofs.TakenOrders.{order_taken-longer, order_taken-last, order_taken-parts, note_taken-stays}
-use Rattle.rt_journal.proofs.TakenOrders.{as_sent-stays}
 use Rattle.rt_journal.proofs.CarriedOut.{IsCarriedOut, IsOf, carries_out}
+
+module _ {J : Type 0} (last : Envelope J) where
+  -- an order stays under its name
+  pub order_taken-longer : (took : List (Envelope J)) (name : JobId) (order : Order J) → order_taken took name ≡ Some order → order_taken (took ++ last ∷ []) name ≡ Some order
+  order_taken-longer [] name order at = cc
+  order_taken-longer (envelope ∷ later) name order at = by_test (same_name name envelope.name) at (order_taken-longer later name order)
+    where
+      by_test : (test : Bool) → cond test (Some envelope.order) (order_taken later name) ≡ Some order →
+          (order_taken later name ≡ Some order → order_taken (later ++ last ∷ []) name ≡ Some order) →
+          cond test (Some envelope.order) (order_taken (later ++ last ∷ []) name) ≡ Some order
+      by_test true at stays = at
+      by_test false at stays = stays at
+
+  -- the last one stands under its name, if that is new
+  pub order_taken-last : (took : List (Envelope J)) → order_taken took last.name ≡ None → order_taken (took ++ last ∷ []) last.name ≡ Some last.order
+  order_taken-last [] none = rw (same_as_itself last.name)
+  order_taken-last (envelope ∷ later) none = by_test (same_name last.name envelope.name) none (order_taken-last later)
+    where
+      by_test : (test : Bool) → cond test (Some envelope.order) (order_taken later last.name) ≡ None →
+          (order_taken later last.name ≡ None → order_taken (later ++ last ∷ []) last.name ≡ Some last.order) →
+          cond test (Some envelope.order) (order_taken (later ++ last ∷ []) last.name) ≡ Some last.order
+      by_test true none rest = cc
+      by_test false none rest = rest none
+
+  -- what stands under a name stood there, or is the last one
+  pub order_taken-parts : (took : List (Envelope J)) (name : JobId) (order : Order J) → order_taken (took ++ last ∷ []) name ≡ Some order →
+      (order_taken took name ≡ Some order) ⊎ ((name ≡ last.name) × (last.order ≡ order))
+  order_taken-parts [] name order at = by_test (same_name name last.name) refl at
+    where
+      by_test : (test : Bool) → same_name name last.name ≡ test → cond test (Some last.order) None ≡ Some order →
+          (None ≡ Some order) ⊎ ((name ≡ last.name) × (last.order ≡ order))
+      by_test true same at = inr (one_name name last.name same, cc)
+      by_test false same at = inl at
+  order_taken-parts (envelope ∷ later) name order at = by_test (same_name name envelope.name) at (order_taken-parts later name order)
+    where
+      by_test : (test : Bool) → cond test (Some envelope.order) (order_taken (later ++ last ∷ []) name) ≡ Some order →
+          (order_taken (later ++ last ∷ []) name ≡ Some order → (order_taken later name ≡ Some order) ⊎ ((name ≡ last.name) × (last.order ≡ order))) →
+          (cond test (Some envelope.order) (order_taken later name) ≡ Some order) ⊎ ((name ≡ last.name) × (last.order ≡ order))
+      by_test true at rest = inl at
+      by_test false at rest = rest at
+
+-- orders that stay under their names stay so as notes tell them
+pub note_taken-stays : {J : Type 0} (old new : List (Envelope J)) (name : JobId) →
+    ((order : Order J) → order_taken old name ≡ Some order → order_taken new name ≡ Some order) →
+    (what : Order (Unit {0})) → note_taken old name ≡ Some what → note_taken new name ≡ Some what
+note_taken-stays {J} old new name stays what at = by_order (order_taken old name) refl at
+  where
+    by_order : (found : Option (Order J)) → order_taken old name ≡ found → option_map without_job found ≡ Some what → note_taken new name ≡ Some what
+    by_order None is at = cc
+    by_order (Some order) is at = ap (option_map without_job) (stays order is) ∙ at
+
+-- where orders stay under their names, each delivery stays as its order calls for
+pub as_sent-stays : {T : Type 0} (old new : JobId → Option (Order (Unit {0}))) →
+    ((name : JobId) (order : Order (Unit {0})) → old name ≡ Some order → new name ≡ Some order) →
+    (journal : Journal T) → EachNote (DeliversAs old) journal → EachNote (DeliversAs new) journal
+as_sent-stays old new stays [] each = tt
+as_sent-stays {T} old new stays (note ∷ before) each = (by_note note each.0, as_sent-stays old new stays before each.1)
+  where
+    carried : (note : Note T) (before : Journal T) → CarriesOut old note before → CarriesOut new note before
+    carried note [] done = tt
+    carried note (writes.Answered name answer ∷ rest) done = λ has. let was = done has in (was.0, stays name was.0 was.1, was.2)
+    carried note (_ ∷ rest) done = tt
+
+    by_note : (note : Note T) → DeliversAs old note before → DeliversAs new note before
+    by_note (writes.Took name queue) sent = stays name (Job queue tt) sent
+    by_note (writes.Back name reason) sent = (sent.0, stays name (Job sent.0 tt) sent.1, sent.2)
+    by_note (writes.Answered name answer) sent = (sent.0, stays name sent.0 sent.1, sent.2)
+    by_note (writes.Created queue weight) sent = carried (writes.Created queue weight) before sent
+    by_note (writes.SharesSet queue weight) sent = carried (writes.SharesSet queue weight) before sent
+    by_note (writes.QueueClosed queue mode) sent = carried (writes.QueueClosed queue mode) before sent
+    by_note (writes.CoreClosed mode) sent = carried (writes.CoreClosed mode) before sent
+    by_note _ sent = tt
+
+-- a creation at the opening carries out no order
+pub carries_out-opening : {T : Type 0} (under : JobId → Option (Order (Unit {0}))) (note : Note T) (before : Journal T) → IsOpening before → CarriesOut under note before
+carries_out-opening under note [] opening = tt
+carries_out-opening under note (writes.Created queue weight ∷ before) opening = tt
+carries_out-opening under note (_ ∷ before) opening = absurd opening
+
+module _ {T : Type 0} (terms : Terms) where
+  -- whose poll is settled was delivered before
+  settled_old : (name : JobId) (note : Note T) (before : Journal T) → MayFollow terms note before → EachNote (MayStand terms) before →
+      is_name name (name_settled note) ≡ true → IsOld name before
+  settled_old name (Yield other time) before law notes same =
+      let known = known_of terms before notes in
+      subst (λ one. IsOld one before) (sym (one_name name other same)) (known.entered_old other (known.out_inside other (alone_out other before law)).entered)
+  settled_old name (Done other time value) before law notes same =
+      let known = known_of terms before notes in
+      subst (λ one. IsOld one before) (sym (one_name name other same)) (known.entered_old other (known.out_inside other (alone_out other before law)).entered)
+  settled_old name _ before law notes same = absurd (true≢false (sym same))
+
+  pub polls_made-fresh : (name : JobId) (journal : Journal T) → EachNote (MayStand terms) journal → (IsOld name journal → ⊥) → polls_made name journal ≡ 0
+  polls_made-fresh name [] notes fresh = refl
+  polls_made-fresh name (note ∷ before) notes fresh =
+      let rest = polls_made-fresh name before notes.1 (λ old. fresh (later old)) in
+      let none : is_name name (name_settled note) ≡ false = false_from_ne_true _ (λ same. fresh (later (settled_old name note before notes.0.may_follow notes.1 same))) in
+      ap (λ test. polls_made name before + number_if test) none ∙ (ap (λ count. count + 0) rest)
+    where
+      later : IsOld name before → IsOld name (note ∷ before)
+      later old = omega (arith, old, grows (delivered_names name.from before) (name_delivered name.from note))
 
 module _ {J T : Type 0} {same : J → J → Type 0} {made : J → ℕ} {polls : Owed J T} where
   -- a job keeps its task where its order stays under its name and no poll of it is told
@@ -157,7 +259,7 @@ pub record HasReceived {J T : Type 0} (same : J → J → Type 0) (made : J → 
 module _ {J T : Type 0} {same : J → J → Type 0} {made : J → ℕ} {polls : Owed J T} (is_same : IsSameTask same)
     (old : RecordedView J T) (recorded : IsRecorded same made polls old) (envelope : Envelope J) (next : IsNextIn old envelope.name)
     (spelled : IsSpelledOrder (without_job envelope.order)) (core : CoreView J) (delivered : Delivered J) (written : List (Note T))
-    (does : CarriesOut old.core envelope.name envelope.order delivered core written) where
+    (does : CoreDelivers old.core envelope.name envelope.order delivered core written) where
   abbrev told : Option (OutcomeNote T)
   told = option_map outcome_note (outcome_delivered {T = T} delivered)
 

@@ -1,21 +1,65 @@
--- A ticket is redeemed or detached, or refused.
-use Rattle.rt_journal.proofs.Names.{◌≡◌, ◌≢◌, inl, inr, ℕ, ◌+◌, ◌<◌, ◌≤◌, Bool, true, false, ◌∷◌, length, Some, refl}
-use Rattle.rt_journal.proofs.Names.{sym, ◌∙◌, ap, subst, arith, set, ◌&&◌, ◌||◌, not, is_some, IsSome, slice_get, take}
-use Rattle.rt_journal.proofs.Names.{Ok, Err, JobId, TicketError, Unknown, Gone, Order, Outcome, first_under}
-use Rattle.rt_journal.proofs.Names.{IsRedeemable, IsDetachable, accepted_orders, Journal, is_told, without_job}
-use Rattle.rt_journal.proofs.Names.{outcome_note, outstanding_count, is_gone, is_outstanding, name_redeemed}
-use Rattle.rt_journal.proofs.Names.{name_detached, name_collected, same_as_itself, Outward, at, Lane, IsLaneOf, IsGot}
-use Rattle.rt_journal.proofs.Names.{Redeems, Detaches, Stands-sent, taken-get, DeskView, IsWritten, terms_of_desk}
-use Rattle.rt_journal.proofs.Names.{IsOutOf, name_of, KnowsLane, KnowsLanes, StaysBeside, RefusesTicket}
-use Rattle.rt_journal.proofs.Names.{DetachesTicket, is_let_go}
+-- Why a ticket is refused, as the lane says it and as the notes do; and how it is redeemed or detached.
+use Rattle.rt_journal.proofs.Names.{◌≡◌, inl, inr, ℕ, ◌+◌, ◌-◌, ◌<◌, ◌≤◌, false, length, Some, ◌∙◌, ap, subst, arith}
+use Rattle.rt_journal.proofs.Names.{is_some, IsSome, slice_get, take, length-take, slice_get_within, JobId}
+use Rattle.rt_journal.proofs.Names.{TicketError, Unknown, Gone, Order, Outcome, first_under, accepted_orders, Journal}
+use Rattle.rt_journal.proofs.Names.{is_told, without_job, name_collected, Outward, Lane, IsLaneOf, IsAwaited, Refuses}
+use Rattle.rt_journal.proofs.Names.{get-taken, numbered_orders, DeskView, IsOutOf, name_of, KnowsLane, RefusesTicket}
+use Rattle.rt_journal.proofs.Names.{is_let_go, ◌≢◌, Bool, true, ◌∷◌, refl, sym, set, ◌&&◌, ◌||◌, not, Ok, Err}
+use Rattle.rt_journal.proofs.Names.{IsRedeemable, IsDetachable, outcome_note, outstanding_count, is_gone}
+use Rattle.rt_journal.proofs.Names.{is_outstanding, name_redeemed, name_detached, same_as_itself, at, IsGot, Redeems}
+use Rattle.rt_journal.proofs.Names.{Detaches, Stands-sent, taken-get, IsWritten, terms_of_desk, KnowsLanes}
+use Rattle.rt_journal.proofs.Names.{StaysBeside, DetachesTicket}
 use Rattle.rt_ids.specs.declared.names.TicketError.TheVariants.{Pending}
-use Rattle.rt_ids.specs.declared.note.Note.TheVariants as writes
 use Rattle.rt_desk.specs.declared.entry.Entry.TheVariants as entry
+use Rattle.rt_journal.proofs.NumberedOrders.{order_at, numbered-missing, named-missing, uncollected}
+use Rattle.rt_journal.proofs.NumberedOrders.{first_under-numbered, named-found, unknown_name, collected_told}
+use Rattle.rt_ids.specs.declared.note.Note.TheVariants as writes
 use Rattle.rt_journal.proofs.Desked.{desk_same}
-use Rattle.rt_journal.proofs.LaneNotes.{stays_noted, as_many, one_less}
-use Rattle.rt_journal.proofs.Named.{named-found, unknown_name, collected_told}
-use Rattle.rt_journal.proofs.Refused.{accepted_at, is_accepted, awaited, refuses}
-use Rattle.rt_journal.proofs.TicketNotes.{redeemed_note, detached_note, neither}
+use Rattle.rt_journal.proofs.LaneNotes.{stays_noted, as_many, one_less, redeemed_note, detached_note, neither}
+
+module _ {J T : Type 0} {fits : Order J → Outcome J T → Type 0} (desk : DeskView J T) (core number : ℕ) (lane : Lane J T) (known : KnowsLane desk.actor core desk.journal.notes lane)
+    (out : Outward J T) (credited : ℕ) (is : IsOutOf core desk out credited) (lane_of : IsLaneOf fits lane out credited) where
+  abbrev noted : Journal T
+  noted = desk.journal.notes
+
+  abbrev ticket : JobId
+  ticket = name_of desk.actor core number
+
+  all_sent : lane.count ≡ length out.sent
+  all_sent = lane_of.count
+
+  -- a number that was sent has an order
+  pub accepted_at : 0 < number → number ≤ lane.count → (order : Order J) × (slice_get out.sent (number - 1) ≡ Some order) × (first_under ticket (accepted_orders core noted) ≡ Some (without_job order))
+  accepted_at low high =
+      let found = order_at out.sent number low (omega (arith, high, all_sent)) in
+      let place : 0 + (number - 1) + 1 ≡ number = omega (arith, low) in (
+        found.0,
+        found.1,
+        ap (first_under ticket) is.accepted
+            ∙ subst (λ at. first_under (name_of desk.actor core at) (numbered_orders desk.actor core 0 out.sent) ≡ Some (without_job found.0)) place (first_under-numbered desk.actor core 0 out.sent (number - 1) found.0 found.1),
+      )
+
+  pub is_accepted : 0 < number → number ≤ lane.count → IsSome (first_under ticket (accepted_orders core noted))
+  is_accepted low high = ap is_some (accepted_at low high).2
+
+  -- a number that waits for its outcome wasn't collected
+  pub awaited : IsAwaited out number → is_told name_collected ticket noted ≡ false
+  awaited waits =
+      uncollected ticket noted
+      (ap (first_under ticket) is.collected
+      ∙ named-missing desk.actor core number (take out.got out.seen) (λ place found there.
+      waits place found (omega (arith, slice_get_within (take out.got out.seen) place found there, length-take out.got out.seen)) (get-taken out.got out.seen place found there)))
+
+  pub refuses : (error : TicketError) → Refuses lane number error → RefusesTicket ticket error noted
+  refuses Unknown unknown =
+      ap (first_under ticket) is.accepted
+      ∙ numbered-missing desk.actor core 0 out.sent number (λ low high. unknown (omega (arith, known.last, low), omega (arith, known.last, all_sent, high)))
+  refuses Gone why =
+      let low : 0 < number = omega (arith, known.last, why.0.0) in let high : number ≤ lane.count = omega (arith, known.last, why.0.1) in
+      (is_accepted low high, known.gone number low high ∙ elim why.1 [ inl none ↦ ap is_let_go none | inr detached ↦ ap is_let_go detached ])
+  refuses Pending why =
+      let low : 0 < number = omega (arith, known.last, why.0.0) in let high : number ≤ lane.count = omega (arith, known.last, why.0.1) in
+      (is_accepted low high, known.gone number low high ∙ ap is_let_go why.1, awaited (lane_of.standing number entry.Pending why.1).1)
 
 or-true : (test : Bool) → (test || true) ≡ true
 or-true true = refl

@@ -10,12 +10,11 @@ use Rattle.rt_journal.proofs.Names.{RedeemsTicket, DetachesTicket}
 use Rattle.rt_ids.specs.declared.names.TicketError.TheVariants.{Pending}
 use Rattle.rt_ids.specs.declared.note.Note.TheVariants as writes
 use Rattle.rt_ids.specs.declared.order.SendError.TheVariants.{Spent}
-use Rattle.rt_journal.proofs.KeptModes.{IsOpenNote, same_modes, closing-stays}
-use Rattle.rt_journal.proofs.Kept.{agrees_unmoved, IsCalm}
+use Rattle.rt_journal.proofs.Kept.{IsOpenNote, same_modes, closing-stays, agrees_unmoved, IsCalm}
 use Rattle.rt_journal.proofs.EndsKept.{keeps_in}
 use Rattle.rt_journal.proofs.Received.{task_stays}
 use Rattle.rt_journal.proofs.Sums.{sum_upto-same}
-use Rattle.rt_journal.proofs.Wrote.{view_of}
+use Rattle.rt_journal.proofs.QuietSteps.{view_of}
 
 -- the longer journal says no more of the core, of what was delivered and given, of gates and of polls
 pub record SaysNoMore {T : Type 0} (old new : Journal T) : Type 1 where

@@ -1,4 +1,4 @@
--- A core beside its journal settles the poll of the job that is out.
+-- A core beside its journal settles the poll of the job that is out, and the end of the job's sender gets the outcome.
 use Rattle.rt_journal.proofs.Names.{◌≡◌, ℕ, zero, suc, ◌+◌, ◌<◌, ◌≤◌, Bool, true, false, List, [], ◌∷◌, ◌++◌, length}
 use Rattle.rt_journal.proofs.Names.{refl, sym, ◌∙◌, ap, subst, arith, add-zero, get_or, ◌==◌, Option, Some, None, All}
 use Rattle.rt_journal.proofs.Names.{is_some, unwrap_or, false_from_ne_true, or_parts, length-append, All-append}
@@ -10,22 +10,24 @@ use Rattle.rt_journal.proofs.Names.{settled_view, IsJobOut, polls_made, settle_n
 use Rattle.rt_journal.proofs.Names.{IsRecorded, HasTask, note_taken, OwesAfter, sum_upto, given_count, IsOut, IsPolled}
 use Rattle.rt_journal.proofs.Names.{Settles, TellsStep, Job, name_ended, without_job, known_of, option_map, Inward}
 use Rattle.rt_journal.proofs.Names.{IsInOf, IsUngiven, told_under, outcome_note, outcome_settled, length-with_last_if}
-use Rattle.rt_journal.proofs.Names.{given_outcomes}
+use Rattle.rt_journal.proofs.Names.{given_outcomes, IfSome, same_Some, Envelope, Outcome, MayGive, Fits, order_taken}
+use Rattle.rt_journal.proofs.Names.{IsInOwing, KeepsIn, LeavesOwed, Gives, IsOutUnder, OwesSettled, MayAnswer}
 use Rattle.rt_ids.specs.declared.note.Note.TheVariants as writes
 use Rattle.rt_jobs.specs.declared.job.Step.TheVariants as steps
 use Rattle.rt_core.specs.declared.turn.Settled.TheVariants.{Finished}
 use Rattle.rt_core.specs.Turns.{Settles as CoreSettles}
 use Rattle.rt_journal.specs.Agreement.{names_of}
-use Rattle.rt_journal.proofs.Everywhere.{everywhere}
+use Rattle.rt_journal.proofs.Sums.{everywhere, sum_upto-at_most_one}
 use Rattle.rt_journal.proofs.Kept.{IsKept}
 use Rattle.rt_journal.proofs.KeptSettles.{none≢some, kept-yield, kept-done}
-use Rattle.rt_journal.proofs.PollNotes.{other_way}
+use Rattle.rt_journal.proofs.KeptPicks.{other_way}
 use Rattle.rt_ids.specs.declared.note.OutcomeNote.TheVariants as outcomes
-use Rattle.rt_journal.proofs.Ungiven.{ungiven_if, not_given}
+use Rattle.rt_journal.proofs.EndsKept.{ungiven_if, not_given}
 use Rattle.rt_journal.proofs.Received.{task_stays}
-use Rattle.rt_journal.proofs.Quiet.{given_settled, quiet-settled, gates-settled, as_sent-settled}
-use Rattle.rt_journal.proofs.Sums.{sum_upto-at_most_one}
-use Rattle.rt_journal.proofs.QuietSteps.{IsQuietStep, everyone, HasDone, done_so}
+use Rattle.rt_journal.proofs.QuietSteps.{given_settled, quiet-settled, gates-settled, as_sent-settled, IsQuietStep}
+use Rattle.rt_journal.proofs.QuietSteps.{everyone, HasDone, done_so}
+use Rattle.rt_journal.proofs.DeliveredEnds.{told_elsewhere}
+use Rattle.rt_journal.proofs.GivenEnds.{may_give, gave}
 
 -- whoever waits is another than one who isn't among them
 among-place : {J : Type 0} (name : JobId) (waiting : List (JobId × Bool × J)) → among name (names_of waiting) ≡ false →
@@ -232,3 +234,56 @@ module _ {J T : Type 0} {same : J → J → Type 0} {made : J → ℕ} {polls : 
         by_step (steps.Done value) ends Yielded settles = absurd settles
         by_step steps.Yield yields (Finished answer) settles = absurd settles
         by_step steps.Yield yields Yielded settles = yielded yields settles.0 settles.1
+
+-- what is owed by the note is owed by what the caller is told
+pub owes_settled : {J T : Type 0} (old new : RecordedView J T) (out : JobOut J) → old.core.out ≡ Some out → (step : Step T) (settled : Settled T) → TellsStep step settled →
+    ((sender : ℕ) → LeavesOwed sender (given_settled out.name step sender) old new) → OwesSettled old settled new
+owes_settled {J} old new out was_out step settled tells owes other at sender =
+    subst (λ job. LeavesOwed sender (told_under job.name (option_map outcome_note (outcome_settled {J = J} settled)) sender) old new) (same_Some out other (sym was_out ∙ at))
+    (subst (λ owed. LeavesOwed sender owed old new) (given_told J out.name step settled tells sender) (owes sender))
+
+its_name : {J : Type 0} (who : Option (JobOut J)) (out : JobOut J) → who ≡ Some out → (name : JobId) → IsOutUnder who name → out.name ≡ name
+its_name who out at name is = subst (λ who. IsOutUnder who name) at is
+
+-- the outcome that the caller is told fits the order that was sent
+fits_settled : {J T : Type 0} (same : J → J → Type 0) (answers : J → T → Type 0) (queue : ℕ) (sent : J) (step : Step T) (settled : Settled T) → TellsStep step settled → IfDone step (answers sent) →
+    IfSome (outcome_settled {J = J} settled) (Fits same answers (Job queue sent))
+fits_settled {J} same answers queue sent steps.Yield settled tells right =
+    subst (λ settled. IfSome (outcome_settled {J = J} settled) (Fits same answers (Job queue sent))) (sym tells) tt
+fits_settled {J} same answers queue sent (steps.Done value) settled tells right =
+    subst (λ settled. IfSome (outcome_settled {J = J} settled) (Fits same answers (Job queue sent))) (sym tells) right
+
+-- what the caller is told may be answered by the job that was sent
+pub its_answer : {J T : Type 0} (answers : J → T → Type 0) (took : List (Envelope J)) (name : JobId) (queue : ℕ) (sent : J) → order_taken took name ≡ Some (Job queue sent) →
+    (step : Step T) (settled : Settled T) → TellsStep step settled → IfDone step (answers sent) → MayAnswer answers took name settled
+its_answer answers took name queue sent task steps.Yield settled tells right = subst (MayAnswer answers took name) (sym tells) tt
+its_answer answers took name queue sent task (steps.Done value) settled tells right = subst (MayAnswer answers took name) (sym tells) (queue, sent, task, right)
+
+module _ {J T : Type 0} {same : J → J → Type 0} {made : J → ℕ} {polls : Owed J T} {answers : J → T → Type 0} (old new : RecordedView J T) (ran : AfterPoll J T) (spent : ℕ) (settled : Settled T)
+    (settles : Settles made polls answers old ran spent settled new) (owes : OwesSettled old settled new) (recorded : IsRecorded same made polls new) (name : JobId) (named : IsOutUnder old.core.out name) where
+  abbrev outcome : Option (Outcome J T)
+  outcome = outcome_settled settled
+
+  name_is : settles.out.name ≡ name
+  name_is = its_name old.core.out settles.out settles.was_out name named
+
+  owes_it : (sender : ℕ) → LeavesOwed sender (told_under name (option_map outcome_note outcome) sender) old new
+  owes_it sender = subst (λ name. LeavesOwed sender (told_under name (option_map outcome_note outcome) sender) old new) name_is (owes settles.out settles.was_out sender)
+
+  took_now : order_taken new.took name ≡ Some (Job settles.out.queue settles.sent)
+  took_now = (λ i. order_taken (settles.took i) (sym name_is i)) ∙ settles.task
+
+  module _ (before : Inward J T) (beside : IsInOf name.from old before) where
+    owing : IsInOwing name.from (told_under name (option_map outcome_note outcome) name.from) new before
+    owing = (owes_it name.from).each before beside
+
+    pub may_give_settled : IfSome outcome (λ outcome. MayGive (Fits same answers) before name.number outcome)
+    may_give_settled =
+        may_give new name (Job settles.out.queue settles.sent) took_now before (recorded.taken name _ took_now) (Fits same answers) outcome
+        (fits_settled same answers settles.out.queue settles.sent ran.step settled settles.tells settles.answered) owing
+
+    pub gave_settled : (after : Inward J T) → Gives before name.number outcome after → IsInOf name.from new after
+    gave_settled = gave new name (Job settles.out.queue settles.sent) took_now before outcome owing
+
+  pub others_settled : (sender : ℕ) → (sender ≡ name.from → ⊥) → KeepsIn sender old new
+  others_settled sender away = subst (λ owed. LeavesOwed sender owed old new) (told_elsewhere name (option_map outcome_note outcome) sender away) (owes_it sender)

@@ -1,6 +1,15 @@
--- Counts of the first actors together, as the count of one of them grows.
-use Rattle.rt_journal.proofs.Names.{◌≡◌, ℕ, zero, suc, ◌+◌, ◌*◌, ◌<◌, ◌≤◌, ap, subst, ⊎_elim, arith, ◌==◌, eq-eqb}
-use Rattle.rt_journal.proofs.Names.{ne_eqb, cases_lt, number_if, sum_upto}
+-- What holds at one place and at each other one, and counts of the first actors together, as the count of one of them grows.
+use Rattle.rt_journal.proofs.Names.{◌≡◌, ℕ, Bool, true, false, refl, sym, subst, ◌==◌, eqb-true, eqb-false, zero, suc}
+use Rattle.rt_journal.proofs.Names.{◌+◌, ◌*◌, ◌<◌, ◌≤◌, ap, ⊎_elim, arith, eq-eqb, ne_eqb, cases_lt, number_if}
+use Rattle.rt_journal.proofs.Names.{sum_upto}
+
+-- it holds everywhere
+pub everywhere : (P : ℕ → Type 0) (place : ℕ) → P place → ((other : ℕ) → (other ≡ place → ⊥) → P other) → (other : ℕ) → P other
+everywhere P place here elsewhere other = by_test (other == place) refl
+  where
+    by_test : (test : Bool) → (other == place) ≡ test → P other
+    by_test true same = subst P (sym (eqb-true other place same)) here
+    by_test false apart = elsewhere other (eqb-false other place apart)
 
 number_if-here : (a b : ℕ) → a ≡ b → number_if (a == b) ≡ 1
 number_if-here a b one = ap number_if (eq-eqb a b one)

@@ -11,10 +11,10 @@ use Rattle.rt_journal.proofs.Names.{note_taken, order_taken, IsOutOf, IsInOf, na
 use Rattle.rt_journal.proofs.Names.{IsAssemblyOf}
 use Rattle.rt_ids.specs.declared.note.Note.TheVariants as writes
 use Rattle.rt_ids.specs.Assembly.{names_of}
-use Rattle.rt_journal.proofs.DeliveredNames.{names_from, names_from-prefix, names_of-numbered, delivered_numbered}
-use Rattle.rt_journal.proofs.EndsKept.{prefix-along, slice_get-seen}
+use Rattle.rt_journal.proofs.NumberedOrders.{names_from, names_from-prefix, names_of-numbered, delivered_numbered}
 use Rattle.rt_journal.proofs.NumberedOrders.{length-numbered, first_under-numbered}
-use Rattle.rt_journal.proofs.TakenOrders.{as_sent-stays}
+use Rattle.rt_journal.proofs.EndsKept.{prefix-along, slice_get-seen}
+use Rattle.rt_journal.proofs.Received.{as_sent-stays}
 
 -- an actor that is no core polls nothing and carries nothing out
 module _ {T : Type 0} (terms : Terms) (outside : terms.cores ≤ terms.actor) where

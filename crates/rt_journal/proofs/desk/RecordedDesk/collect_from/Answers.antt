@@ -1,7 +1,7 @@
 use Rattle.rt_journal.proofs.Names.{[], length, refl, ◌∙◌, ap, subst, arith, length-append, StartsWith-self, DeskView}
 use Rattle.rt_journal.proofs.Names.{IsWritten, terms_of_desk, KnowsLanes}
 use Rattle.rt_journal.proofs.Desked.{stays_nothing}
-use Rattle.rt_journal.proofs.CollectedAll.{stays_then, gathers_more, end_more, gathers_no_more, gets_all}
+use Rattle.rt_journal.proofs.CollectedNext.{stays_then, gathers_more, end_more, gathers_no_more, gets_all}
 use Rattle.rt_journal.proofs.desk.RecordedDesk.collect_from.Goals as goal
 
 pub loop-core-init : goal.loop-core-init

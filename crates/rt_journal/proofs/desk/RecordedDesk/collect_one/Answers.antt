@@ -1,5 +1,5 @@
 use Rattle.rt_journal.proofs.CollectedNext.{gets_some, gets_none}
-use Rattle.rt_journal.proofs.TakenLanes.{lane_taken}
+use Rattle.rt_journal.proofs.Desked.{lane_taken}
 use Rattle.rt_journal.proofs.desk.RecordedDesk.collect_one.Goals as goal
 
 pub collect_told-requires : goal.collect_told-requires

@@ -1,9 +1,8 @@
 use Rattle.rt_journal.proofs.Names.{rules, ap, refl, subst, ◌∙◌, Unknown, RefusesTicket}
-use Rattle.rt_journal.proofs.Desked.{are_same, are_apart}
+use Rattle.rt_journal.proofs.Desked.{are_same, are_apart, lane_taken, its_name}
 use Rattle.rt_journal.proofs.Redeemed.{foreign}
 use Rattle.rt_journal.proofs.Spending.{held_detached, may_note}
 use Rattle.rt_journal.proofs.TakenCalls.{detached_call, detach_refused}
-use Rattle.rt_journal.proofs.TakenLanes.{lane_taken, its_name}
 use Rattle.rt_journal.proofs.desk.RecordedDesk.detach.Goals as goal
 
 pub returns-then-ne-clause-detaches : goal.returns-then-ne-clause-detaches

@@ -1,9 +1,8 @@
 use Rattle.rt_journal.proofs.Names.{rules, ap, refl, subst, ◌∙◌, Unknown, Fits, IsGot, FitsSent, RefusesTicket}
-use Rattle.rt_journal.proofs.Desked.{are_same, are_apart}
+use Rattle.rt_journal.proofs.Desked.{are_same, are_apart, lane_taken, its_name}
 use Rattle.rt_journal.proofs.Redeemed.{foreign}
 use Rattle.rt_journal.proofs.Spending.{held_gone, may_note}
 use Rattle.rt_journal.proofs.TakenCalls.{redeemed_call, redeem_refused}
-use Rattle.rt_journal.proofs.TakenLanes.{lane_taken, its_name}
 use Rattle.rt_journal.proofs.desk.RecordedDesk.redeem.Goals as goal
 
 pub returns-then-ne-clause-redeems : goal.returns-then-ne-clause-redeems

@@ -1,5 +1,5 @@
 use Rattle.rt_journal.proofs.TakenCalls.{submitted_call, submit_refused}
-use Rattle.rt_journal.proofs.TakenLanes.{lane_taken}
+use Rattle.rt_journal.proofs.Desked.{lane_taken}
 use Rattle.rt_journal.proofs.desk.RecordedDesk.submit.Goals as goal
 
 pub submit-requires-clause-lane : goal.submit-requires-clause-lane

@@ -1,5 +1,5 @@
 use Rattle.rt_journal.proofs.Names.{inr, refl, ap, subst, set, ◌∙◌, arith, Redeem, found, Fits, Does}
-use Rattle.rt_journal.proofs.Posted.{end_beside, end_lane, lent_did, redeemed_on}
+use Rattle.rt_journal.proofs.Posting.{end_beside, end_lane, lent_did, redeemed_on}
 use Rattle.rt_journal.proofs.post.RecordedPostPostU64.redeem.Goals as goal
 
 pub redeem-requires : goal.redeem-requires

@@ -1,5 +1,5 @@
 use Rattle.rt_journal.proofs.Names.{inr, subst, set, arith, Submit, found, Fits, Does}
-use Rattle.rt_journal.proofs.Posted.{end_beside, end_lane, lent_did, submitted_on, waits_sent}
+use Rattle.rt_journal.proofs.Posting.{end_beside, end_lane, lent_did, submitted_on, waits_sent}
 use Rattle.rt_journal.proofs.post.RecordedPostPostU64.submit.Goals as goal
 
 pub submit-requires-clause-beside : goal.submit-requires-clause-beside

@@ -1,6 +1,6 @@
 use Rattle.rt_journal.proofs.Names.{arith, ℕ}
-use Rattle.rt_journal.proofs.ClosedItself.{closed_did}
-use Rattle.rt_journal.proofs.Wrote.{view_of, quiet_invariant, quiet_now, quiet_noted}
+use Rattle.rt_journal.proofs.CoreCalls.{closed_did}
+use Rattle.rt_journal.proofs.QuietSteps.{view_of, quiet_invariant, quiet_now, quiet_noted}
 use Rattle.rt_journal.proofs.recorded.Recorded.close.Goals as goal
 
 pub write-requires : goal.write-requires

@@ -1,7 +1,7 @@
 use Rattle.rt_journal.proofs.Names.{sym, ◌∙◌, subst, arith, InRange, IsOpening, ℕ}
-use Rattle.rt_journal.proofs.KeptModes.{opening_is_open}
-use Rattle.rt_journal.proofs.QueuesCreated.{created_did}
-use Rattle.rt_journal.proofs.Wrote.{view_of, quiet_invariant, quiet_now, quiet_noted}
+use Rattle.rt_journal.proofs.Kept.{opening_is_open}
+use Rattle.rt_journal.proofs.CoreCalls.{created_did}
+use Rattle.rt_journal.proofs.QuietSteps.{view_of, quiet_invariant, quiet_now, quiet_noted}
 use Rattle.rt_journal.proofs.recorded.Recorded.create.Goals as goal
 
 pub create-created-requires : goal.create-created-requires

@@ -1,5 +1,5 @@
 use Rattle.rt_journal.proofs.Drained.{drained_told, drained_here}
-use Rattle.rt_journal.proofs.Wrote.{view_of}
+use Rattle.rt_journal.proofs.QuietSteps.{view_of}
 use Rattle.rt_journal.proofs.recorded.Recorded.is_drained.Goals as goal
 
 pub returns : goal.returns

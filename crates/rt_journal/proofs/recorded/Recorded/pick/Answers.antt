@@ -1,8 +1,7 @@
 use Rattle.rt_journal.proofs.Names.{◌<◌, length, ap, arith, most_turns, turns, Ok, TellsAhead, IsBack, ℕ}
 use Rattle.rt_core.specs.declared.turn.Ahead.TheVariants as tells
-use Rattle.rt_journal.proofs.Ahead.{is_back}
-use Rattle.rt_journal.proofs.Picked.{turns-within, picked_did}
-use Rattle.rt_journal.proofs.Wrote.{view_of, quiet_invariant, quiet_now, quiet_noted}
+use Rattle.rt_journal.proofs.Ahead.{is_back, turns-within, picked_did}
+use Rattle.rt_journal.proofs.QuietSteps.{view_of, quiet_invariant, quiet_now, quiet_noted}
 use Rattle.rt_journal.proofs.recorded.Recorded.pick.Goals as goal
 
 pub write-requires : goal.write-requires

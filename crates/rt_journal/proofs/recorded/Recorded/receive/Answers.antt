@@ -1,7 +1,7 @@
 use Rattle.rt_journal.proofs.Names.{length, sym, ◌∙◌, ap, subst, reverse, arith, IsSpelledOrder, IsNextIn, desk_with}
 use Rattle.rt_journal.proofs.Received.{next_for_core, room_in, few, written_now, sent_now, received_now}
 use Rattle.rt_journal.proofs.CarriedOut.{fits_delivered}
-use Rattle.rt_journal.proofs.Wrote.{view_of, may_write, may_send, desk_is}
+use Rattle.rt_journal.proofs.QuietSteps.{view_of, may_write, may_send, desk_is}
 use Rattle.rt_journal.proofs.recorded.Recorded.receive.Goals as goal
 
 pub deliver-delivered-requires : goal.deliver-delivered-requires

@@ -1,6 +1,6 @@
 use Rattle.std.proofs.Common.{subst}
 use Rattle.rt_journal.specs.Ends.{Gives}
-use Rattle.rt_journal.proofs.SettledEnds.{may_give_settled, gave_settled, others_settled}
+use Rattle.rt_journal.proofs.SettledPolls.{may_give_settled, gave_settled, others_settled}
 use Rattle.rt_journal.proofs.recorded.Recorded.settle.Goals as goal
 
 pub give_if-requires : goal.give_if-requires

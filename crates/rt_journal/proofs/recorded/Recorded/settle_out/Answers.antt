@@ -1,9 +1,7 @@
 use Rattle.rt_journal.proofs.Names.{sym, subst, arith, IsOut, OwesSettled}
-use Rattle.rt_journal.proofs.SettledPolls.{its_job_out, task_out, settled_did}
-use Rattle.rt_journal.proofs.SettledEnds.{owes_settled}
-use Rattle.rt_journal.proofs.Wrote.{view_of, quiet_invariant, seen_so, quiet_now, quiet_noted}
+use Rattle.rt_journal.proofs.SettledPolls.{its_job_out, task_out, settled_did, owes_settled}
+use Rattle.rt_journal.proofs.QuietSteps.{view_of, quiet_invariant, seen_so, quiet_now, quiet_noted, ins_step}
 use Rattle.rt_journal.proofs.recorded.Recorded.settle_out.Goals as goal
-use Rattle.rt_journal.proofs.QuietSteps.{ins_step}
 
 pub write-requires : goal.write-requires
 write-requires g c =

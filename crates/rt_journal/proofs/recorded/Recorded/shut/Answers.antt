@@ -1,6 +1,6 @@
 use Rattle.rt_journal.proofs.Names.{arith, IsInOf}
-use Rattle.rt_journal.proofs.Shutting.{core_asks, beside_shut, shut_did}
-use Rattle.rt_journal.proofs.Wrote.{view_of, quiet_invariant, seen_so, quiet_now, quiet_noted}
+use Rattle.rt_journal.proofs.CoreCalls.{core_asks, beside_shut, shut_did}
+use Rattle.rt_journal.proofs.QuietSteps.{view_of, quiet_invariant, seen_so, quiet_now, quiet_noted}
 use Rattle.rt_journal.proofs.recorded.Recorded.shut.Goals as goal
 
 pub gate_shut-told-requires : goal.gate_shut-told-requires

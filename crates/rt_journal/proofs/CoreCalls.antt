@@ -1,0 +1,188 @@
+-- A core beside its journal creates a queue before anything else is done, closes by itself, and shuts the gate of a sender, whose end stays beside it.
+use Rattle.rt_journal.proofs.Names.{◌≡◌, ℕ, ◌+◌, List, [], ◌∷◌, refl, sym, ◌∙◌, ap, subst, arith, add-zero, All}
+use Rattle.rt_journal.proofs.Names.{is_some, Result, Ok, Err, InRange, JobId, Note, Journal, created_count, IsOpening}
+use Rattle.rt_journal.proofs.Names.{number_if, Owed, queue_count, held_count, CreateError, TooMany, Memory, CoreView}
+use Rattle.rt_journal.proofs.Names.{inside_count, Creates, polls_made, RecordedView, terms_at, IsRecorded, HasTask}
+use Rattle.rt_journal.proofs.Names.{CreatesQueue, Bool, true, false, cond, Option, Some, None, Answer, Mode, Order}
+use Rattle.rt_journal.proofs.Names.{closes, core_mode, effect_awaited, has_effect, CarriesOut, waiting_of, ClosesCore}
+use Rattle.rt_journal.proofs.Names.{ClosesItself, ◌≤◌, ◌++◌, length, reverse, ◌≢◌, IsSome, slice_set, eq-eqb, ne_eqb}
+use Rattle.rt_journal.proofs.Names.{true≢false, length-append, IsNextShut, final_count, or_else, gate_of, ShutsGate}
+use Rattle.rt_journal.proofs.Names.{Inward, SoundIn, Shuts, IsInOf, TellsShut}
+use Rattle.rt_ids.specs.declared.note.Note.TheVariants as writes
+use Rattle.rt_core.specs.Deliveries.{CreatesQueue as CoreCreates}
+use Rattle.rt_journal.proofs.Kept.{IsKept, kept_after}
+use Rattle.rt_journal.proofs.KeptDeliveries.{agrees-created, agrees-core_closed, agrees-shut}
+use Rattle.rt_journal.proofs.Received.{carries_out-opening, task_stays}
+use Rattle.rt_journal.proofs.QuietSteps.{nobody, IsQuietStep, everyone, HasDone, nothing_did, done_so, stepped}
+use Rattle.rt_journal.proofs.EndsKept.{sees_more_in}
+
+module _ {J T : Type 0} {same : J → J → Type 0} {made : J → ℕ} {polls : Owed J T}
+    (old : RecordedView J T) (recorded : IsRecorded same made polls old) (opening : IsOpening old.journal.notes) (weight : ℕ) (in_range : InRange weight) (core : CoreView J) where
+  module _ (queue : ℕ) (next : queue ≡ queue_count old.core.queues) (creates : Creates old.core weight core) (delivered : core.delivered ≡ old.core.delivered) where
+    number_is : queue ≡ created_count old.journal.notes + 1
+    number_is = next ∙ recorded.kept.agrees.last
+
+    abbrev longer : Journal T
+    longer = writes.Created queue weight ∷ old.journal.notes
+
+    kept : IsKept (terms_at old) core longer
+    kept =
+        kept_after (terms_at old) (writes.Created queue weight) recorded.kept (agrees-created old.core core queue weight old.journal.notes recorded.kept.agrees next creates delivered)
+        recorded.kept.is_core (record { next = number_is; in_range = omega (arith, next, creates.few); shares = in_range }) refl opening refl refl
+
+    same_inside : inside_count core ≡ inside_count old.core
+    same_inside =
+        ap (λ out. held_count core.queues + number_if (is_some out)) (ap (λ core. core.out) creates.rest)
+        ∙ ap (λ held. held + number_if (is_some old.core.out)) creates.added.same_held
+
+    task : (other : ℕ) (name : JobId) (job : J) → HasTask same made polls old.took old.journal.notes other name job → HasTask same made polls old.took longer other name job
+    task other name job = task_stays (λ order at. at) (add-zero (polls_made name old.journal.notes))
+
+    created : IsQuietStep old core (writes.Created queue weight ∷ []) same made polls everyone nobody
+    created = record {
+      kept = kept;
+      number = ap (λ core. core.core) creates.rest;
+      cores = ap (λ core. core.cores) creates.rest;
+      room = creates.added.same_room;
+      quiet = assumption;
+      ungiven = λ sender inward is. tt;
+      gates = λ sender kept. refl;
+      fewer = omega (arith, same_inside);
+      as_sent = (carries_out-opening _ (writes.Created queue weight) old.journal.notes opening, recorded.as_sent);
+      waiting = λ other. subst (All (λ entry. HasTask same made polls old.took longer other entry.0 entry.2)) (sym (creates.added.same_lines other))
+          (λ place default within. task other _ _ (recorded.waiting other place default within));
+      out = λ job at. task job.queue job.name job.job (recorded.out job (sym (ap (λ core. core.out) creates.rest) ∙ at));
+    }
+
+  -- whatever the core answers
+  pub created_did : (answer : Result ℕ CreateError) (notes : List (Note T)) → CoreCreates old.core weight answer core notes →
+      HasDone same made polls old core everyone nobody 1 (λ old new. CreatesQueue weight old answer new) notes
+  created_did (Ok queue) notes does =
+      done_so does.3 (created queue does.0 does.1 does.2) (omega arith)
+      (does.0 ∙ recorded.kept.agrees.last, omega (arith, does.0, does.1.few), refl, ap (λ core. core.out) does.1.rest, refl)
+  created_did (Err TooMany) notes does = nothing_did recorded does.1 does.2 (sym recorded.kept.agrees.last ∙ does.0, refl)
+  created_did (Err Memory) notes does = nothing_did recorded does.1 does.2 (omega (arith, recorded.kept.agrees.last, does.0), refl)
+
+no_effect : (answer : Answer) (test : Bool) → cond test (Some answer) None ≡ None → test ≡ true → ⊥
+no_effect answer true none is = cc
+no_effect answer false none is = cc
+
+-- where no effect is awaited, a note is the effect of none
+carries_none : {T : Type 0} (under : JobId → Option (Order (Unit {0}))) (note : Note T) (before : Journal T) → effect_awaited before ≡ None → CarriesOut under note before
+carries_none under note [] none = tt
+carries_none under note (writes.Answered name answer ∷ before) none = λ has. absurd (no_effect answer (has_effect answer) none has)
+carries_none under note (_ ∷ before) none = tt
+
+module _ {J T : Type 0} {same : J → J → Type 0} {made : J → ℕ} {polls : Owed J T} (old : RecordedView J T) (recorded : IsRecorded same made polls old) (mode : Mode) where
+  closes_told : (test : Bool) → closes old.core.mode mode ≡ test → closes (core_mode old.journal.notes) mode ≡ test
+  closes_told test changes = ap (λ was. closes was mode) (sym recorded.kept.agrees.closing.mode) ∙ changes
+
+  close_step : (core : CoreView J) → closes old.core.mode mode ≡ true → core ≡ record old.core { mode = Some mode } →
+      IsQuietStep old core (writes.CoreClosed mode ∷ []) same made polls everyone nobody
+  close_step core changes is = record {
+    kept =
+        kept_after (terms_at old) (writes.CoreClosed mode) recorded.kept (agrees-core_closed old.core core old.journal.notes recorded.kept.agrees mode is) recorded.kept.is_core
+        (closes_told true changes) refl tt refl refl;
+    number = ap (λ core. core.core) is;
+    cores = ap (λ core. core.cores) is;
+    room = ap (λ core. core.queues.room) is;
+    quiet = assumption;
+    ungiven = λ sender inward is. tt;
+    gates = λ sender there. refl;
+    fewer = omega (arith, ap inside_count is);
+    as_sent = (carries_none _ (writes.CoreClosed mode) old.journal.notes recorded.kept.no_answer, recorded.as_sent);
+    waiting = λ queue. subst (All (λ entry. HasTask same made polls old.took (writes.CoreClosed mode ∷ old.journal.notes) queue entry.0 entry.2)) (sym (ap (λ core. waiting_of queue core.queues) is))
+        (λ place default within. task_stays (λ order at. at) (add-zero (polls_made _ old.journal.notes)) (recorded.waiting queue place default within));
+    out = λ job at. task_stays (λ order at. at) (add-zero (polls_made job.name old.journal.notes)) (recorded.out job (sym (ap (λ core. core.out) is) ∙ at));
+  }
+
+  -- whether or not that changes anything
+  pub closed_did : (closed : Bool) (core : CoreView J) (notes : List (Note T)) → ClosesCore old.core mode closed core notes →
+      HasDone same made polls old core everyone nobody 1 (λ old new. ClosesItself old mode closed new) notes
+  closed_did true core notes did = done_so did.2 (close_step core did.0 did.1) (omega arith) (closes_told true did.0, refl, ap (λ core. core.out) did.1, refl)
+  closed_did false core notes did = nothing_did recorded did.1 did.2 (closes_told false did.0, refl)
+
+-- a gate that isn't shut may be, at the count of its end
+pub next_shut : {J T : Type 0} (view : RecordedView J T) (from count : ℕ) (before after : Inward J T) → IsInOf from view before → Shuts before after count → SoundIn after →
+    IsSome (core_mode view.journal.notes) → final_count from view.journal.notes ≡ None → IsNextShut view.core.cores from count view.journal.notes
+next_shut view from count before after is shuts sound closed untold =
+    let base : after.base ≡ 0 = ap (λ end. end.base) shuts.0 ∙ is.base in
+    record {
+      closed = closed;
+      not_shut = untold;
+      known = is.known;
+      delivered = omega (arith, is.taken, is.behind, ap length shuts.1.0.1, length-append before.seen shuts.1.0.0, shuts.2, base);
+      in_range = omega (arith, shuts.2, sound.numbered);
+    }
+
+module _ {J T : Type 0} (old : RecordedView J T) (from count : ℕ) (core : CoreView J) (is : core ≡ record old.core { gates = slice_set old.core.gates from (Some count) }) where
+  abbrev written : List (Note T)
+  written = writes.Shut from count ∷ []
+
+  -- the gate of no other sender is shut
+  pub shut_step : {same : J → J → Type 0} {made : J → ℕ} {polls : Owed J T} → IsRecorded same made polls old → IsNextShut old.core.cores from count old.journal.notes →
+      IsQuietStep old core written same made polls (λ sender. sender ≡ from → ⊥) nobody
+  shut_step {same} {made} {polls} recorded next = record {
+    kept =
+        kept_after (terms_at old) (writes.Shut from count) recorded.kept (agrees-shut old.core core old.journal.notes recorded.kept.agrees from count next.known is) recorded.kept.is_core next
+        refl tt refl refl;
+    number = ap (λ core. core.core) is;
+    cores = ap (λ core. core.cores) is;
+    room = ap (λ core. core.queues.room) is;
+    quiet = assumption;
+    ungiven = λ sender inward is. tt;
+    gates = λ sender away. ap (λ test. or_else (cond test (Some count) None) (final_count sender old.journal.notes)) (ne_eqb sender from away);
+    fewer = omega (arith, ap inside_count is);
+    as_sent = (tt, recorded.as_sent);
+    waiting = λ queue. subst (All (λ entry. HasTask same made polls old.took (written ++ old.journal.notes) queue entry.0 entry.2)) (sym (ap (λ core. waiting_of queue core.queues) is))
+        (λ place default within. task_stays (λ order at. at) (add-zero (polls_made _ old.journal.notes)) (recorded.waiting queue place default within));
+    out = λ job at. task_stays (λ order at. at) (add-zero (polls_made job.name old.journal.notes)) (recorded.out job (sym (ap (λ core. core.out) is) ∙ at));
+  }
+
+  -- the end of this sender is shut where the journal says so
+  pub shut_beside : (before after : Inward J T) → IsInOf from old before → Shuts before after count → IsInOf from (stepped old core written) after
+  shut_beside before after beside shuts =
+      subst (λ core. IsInOf from (stepped old core written) after) (sym is) (subst (IsInOf from (stepped old (record old.core { gates = slice_set old.core.gates from (Some count) }) written)) (sym shuts.0) now)
+    where
+      seen : IsInOf from old (record before { seen = after.seen })
+      seen = sees_more_in from old before (record before { seen = after.seen }) refl shuts.1 beside
+
+      now : IsInOf from (stepped old (record old.core { gates = slice_set old.core.gates from (Some count) }) written) (record before { seen = after.seen; shut = true })
+      now = record {
+        known = seen.known;
+        from = seen.from;
+        to = seen.to;
+        base = seen.base;
+        capacity = seen.capacity;
+        gate =
+            ap (λ test. or_else (cond test (Some count) None) (final_count from old.journal.notes)) (eq-eqb from from refl)
+            ∙ ap Some (shuts.2 ∙ ap (λ base. base + length after.seen) (ap (λ end. end.base) shuts.0));
+        taken = seen.taken;
+        behind = seen.behind;
+        given = seen.given;
+        ungiven = tt;
+        orders = seen.orders;
+      }
+
+-- what a call that shut the gate knows of its parts
+module _ {J T : Type 0} (old now : RecordedView J T) (view_is : old ≡ now) (from count : ℕ) (before after : Inward J T)
+    (beside : IsInOf from now before) (shuts : Shuts before after count) (sound : SoundIn after) (closed : IsSome (core_mode now.journal.notes)) (untold : final_count from now.journal.notes ≡ None) where
+  pub next_now : IsNextShut old.core.cores from count old.journal.notes
+  next_now = subst (λ view. IsNextShut view.core.cores from count view.journal.notes) (sym view_is) (next_shut now from count before after beside shuts sound closed untold)
+
+  -- what the core asks
+  pub core_asks : {same : J → J → Type 0} {made : J → ℕ} {polls : Owed J T} → IsRecorded same made polls old → (from ≤ old.core.cores) × ((old.core.mode ≢ None) × (gate_of from old.core ≡ None))
+  core_asks recorded = (
+    next_now.known,
+    (λ none. true≢false (sym next_now.closed ∙ ap is_some (sym recorded.kept.agrees.closing.mode ∙ none)), recorded.kept.agrees.closing.gates from ∙ next_now.not_shut),
+  )
+
+  module _ (core : CoreView J) (notes : List (Note T)) (gate : ShutsGate old.core from count core notes) where
+    pub shut_did : {same : J → J → Type 0} {made : J → ℕ} {polls : Owed J T} → IsRecorded same made polls old →
+        HasDone same made polls old core (λ sender. sender ≡ from → ⊥) nobody 1 (λ old new. TellsShut old from count new) notes
+    shut_did recorded = done_so gate.1 (shut_step old from count core gate.0 recorded next_now) (omega arith) (record { journal = refl; took = refl; out = ap (λ core. core.out) gate.0 })
+
+    pub beside_shut : IsInOf from (stepped old core (reverse notes)) after
+    beside_shut =
+        subst (λ notes. IsInOf from (stepped old core (reverse notes)) after) (sym gate.1)
+        (shut_beside old from count core gate.0 before after (subst (λ view. IsInOf from view before) (sym view_is) beside) shuts)
