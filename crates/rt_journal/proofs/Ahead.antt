@@ -1,6 +1,6 @@
 -- What a core tells ahead of a pick is what its journal says; and a core picks: the right pick takes a job out, or hands it back, or the core says why there is none.
 use Rattle.rt_journal.proofs.Names.{◌≡◌, ℕ, ◌-◌, ◌^◌, Bool, true, false, List, [], ◌∷◌, refl, sym, ◌∙◌, ap, subst}
-use Rattle.rt_journal.proofs.Names.{⊎_elim, arith, None, Result, Ok, Err, JobId, Note, KeyAtMost, line, turns}
+use Rattle.rt_journal.proofs.Names.{arith, None, Result, Ok, Err, JobId, Note, KeyAtMost, line, turns}
 use Rattle.rt_journal.proofs.Names.{has_work, no_work, work_of_line, Owed, waiting_of, Turn, Start, Resume, Idle}
 use Rattle.rt_journal.proofs.Names.{PickError, Busy, CoreView, runtime_of, TakesOut, TellsAhead, some_front, IsJobOut}
 use Rattle.rt_journal.proofs.Names.{RecordedView, IsRecorded, terms_at, IsBack, ◌+◌, ◌<◌, ◌≤◌, ◌++◌, length, add-zero}
@@ -29,9 +29,7 @@ use Rattle.rt_journal.proofs.QuietSteps.{everyone, HasDone, nothing_did, done_so
 
 -- of two pairs that are each at most the other, the numbers are the same
 pub one_key : (runtime queue other_runtime other : ℕ) → KeyAtMost runtime queue other_runtime other → KeyAtMost other_runtime other runtime queue → queue ≡ other
-one_key runtime queue other_runtime other first second =
-    ⊎_elim (λ less. absurd (⊎_elim (λ more. omega (arith, less, more)) (λ same. omega (arith, less, same.0)) second))
-    (λ same. ⊎_elim (λ more. absurd (omega (arith, same.0, more))) (λ back. omega (arith, same.1, back.1)) second) first
+one_key runtime queue other_runtime other first second = grind arith
 
 module _ {J : Type 0} (view core : CoreView J) (told : TellsAhead view (Ok ahead.Back)) where
   -- the next queue hands back, so no job of it goes out

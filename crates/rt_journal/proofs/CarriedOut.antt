@@ -9,8 +9,8 @@ use Rattle.rt_journal.proofs.Names.{CoreView, inside_count, Enters, Creates, Wei
 use Rattle.rt_journal.proofs.Names.{polls_made, IsDelivery, entry_note, IsKept, DeliversAs, GivesMore, told_under}
 use Rattle.rt_journal.proofs.Names.{OutcomeNote, RecordedView, terms_at, sum_upto, delivered_count, given_count}
 use Rattle.rt_journal.proofs.Names.{le-leb, Close, CloseCore, Mode, closes, queue_mode, core_mode, created_count}
-use Rattle.rt_journal.proofs.Names.{mode_of, HasClosed, Agrees, inl, ◌<◌, ◌≢◌, IfSome, reverse, nat_le, IsSameTask}
-use Rattle.rt_journal.proofs.Names.{Fits, option_map, outcome_note, outcome_delivered, lt-leb, IsCreationAnswer}
+use Rattle.rt_journal.proofs.Names.{mode_of, HasClosed, Agrees, inl, ◌<◌, ◌≢◌, IfSome, reverse, IsSameTask}
+use Rattle.rt_journal.proofs.Names.{Fits, option_map, outcome_note, outcome_delivered, lt-leb}
 use Rattle.rt_journal.proofs.Names.{IsSpelledOrder, Delivered, Took, if_from}
 use Rattle.rt_ids.specs.declared.note.Note.TheVariants as writes
 use Rattle.rt_ids.specs.declared.order.Answer.TheVariants as answers
@@ -19,7 +19,6 @@ use Rattle.rt_ids.specs.declared.note.OutcomeNote.TheVariants as outcome
 use Rattle.rt_journal.proofs.KeptDeliveries.{kept-took, kept-back, kept-answered, agrees-answered, kept-effect}
 use Rattle.rt_journal.proofs.KeptDeliveries.{kept-created, kept-weighed, agrees-core_closed, agrees-queue_closed}
 use Rattle.rt_journal.proofs.Sums.{sum_upto-at_most_one}
-use Rattle.rt_ids.specs.declared.order.Outcome.TheVariants as outcomes
 use Rattle.rt_core.specs.Deliveries.{Delivers as CarriesOut}
 use Rattle.rt_core.specs.declared.delivery.Delivered.TheVariants.{Back, Answered}
 use Rattle.rt_journal.proofs.Kept.{refusal-agrees}
@@ -221,11 +220,7 @@ module _ {J T : Type 0} (old : RecordedView J T) (name : JobId)
 
   -- a creation that is refused, by why
   closed_answer : old.core.mode ≢ None → (weight : ℕ) → IsAnswer (Create weight) answers.CoreClosing journal
-  closed_answer closed weight = by_mode (core_mode journal) (λ none. closed (kept.agrees.closing.mode ∙ none))
-    where
-      by_mode : (mode : Option Mode) → mode ≢ None → IsCreationAnswer mode (nat_le 255 (created_count journal)) (created_count journal + 1) answers.CoreClosing
-      by_mode None some = absurd (some refl)
-      by_mode (Some mode) some = refl
+  closed_answer closed weight = grind (arith, kept.agrees.closing.mode)
 
   full_answer : old.core.mode ≡ None → queue_count old.core.queues ≡ 256 → (weight : ℕ) → IsAnswer (Create weight) answers.TooMany journal
   full_answer never count weight = rw (sym kept.agrees.closing.mode ∙ never, le-leb 255 (created_count journal) (omega (arith, count, kept.agrees.last))) refl
@@ -297,22 +292,4 @@ module _ {J T : Type 0} (old : RecordedView J T) (name : JobId)
 -- the outcome of a delivery fits its order
 module _ {J T : Type 0} {same : J → J → Type 0} (answers_are : J → T → Type 0) (is_same : IsSameTask same) (old core : CoreView J) (name : JobId) (written : List (Note T)) where
   pub fits_delivered : (order : Order J) (delivered : Delivered J) → CarriesOut old name order delivered core written → IfSome (outcome_delivered {T = T} delivered) (Fits same answers_are order)
-  fits_delivered order Took does = tt
-  fits_delivered (Job queue job) (Back reason back) does = subst (λ back. Fits same answers_are (Job queue job) (outcomes.Returned reason back)) (sym does.1) (refl, is_same.itself job)
-  fits_delivered (Job queue job) (Answered answer) does = absurd does
-  fits_delivered (Create weight) (Answered (answers.Created queue)) does = tt
-  fits_delivered (Create weight) (Answered answers.CoreClosing) does = tt
-  fits_delivered (Create weight) (Answered answers.TooMany) does = tt
-  fits_delivered (Create weight) (Answered answers.NoMemory) does = tt
-  fits_delivered (Create weight) _ does = absurd does
-  fits_delivered (SetShares queue weight) (Answered answers.SharesSet) does = tt
-  fits_delivered (SetShares queue weight) (Answered answers.NoQueue) does = tt
-  fits_delivered (SetShares queue weight) _ does = absurd does
-  fits_delivered (Close queue mode) (Back reason back) does = absurd does
-  fits_delivered (Close queue mode) (Answered answers.Closed) does = tt
-  fits_delivered (Close queue mode) (Answered answers.AlreadyClosed) does = tt
-  fits_delivered (Close queue mode) (Answered answers.NoQueue) does = tt
-  fits_delivered (Close queue mode) (Answered _) does = absurd does.1
-  fits_delivered (CloseCore mode) (Answered answers.Closed) does = tt
-  fits_delivered (CloseCore mode) (Answered answers.AlreadyClosed) does = tt
-  fits_delivered (CloseCore mode) _ does = absurd does
+  fits_delivered order delivered does = grind (arith, is_same.itself)

@@ -1,21 +1,18 @@
 -- The next outcome of a core is collected, and noted; so are all that an end shows, one after another.
 use Rattle.rt_journal.proofs.Names.{◌≡◌, ◌≢◌, inl, inr, ℕ, ◌+◌, ◌-◌, ◌<◌, ◌≤◌, Bool, true, false, List, [], ◌∷◌, ◌++◌}
 use Rattle.rt_journal.proofs.Names.{length, Some, None, refl, sym, ◌∙◌, ap, subst, arith, cond, set, Option, unwrap_or}
-use Rattle.rt_journal.proofs.Names.{◌&&◌, ◌||◌, not, is_some, slice_get, take, IfSome, eq-eqb, take_more}
+use Rattle.rt_journal.proofs.Names.{◌||◌, not, is_some, slice_get, take, IfSome, eq-eqb, take_more}
 use Rattle.rt_journal.proofs.Names.{take-append-le, map-append, slice_get_within, get_or_from_slice_get, JobId}
-use Rattle.rt_journal.proofs.Names.{OutcomeNote, Answer, Order, Job, Create, SetShares, Close, CloseCore, Outcome}
+use Rattle.rt_journal.proofs.Names.{OutcomeNote, Order, Outcome}
 use Rattle.rt_journal.proofs.Names.{IsNextCollected, collected_outcomes, Journal, is_told, with_last, without_job}
-use Rattle.rt_journal.proofs.Names.{outcome_note, FitsOrder, IsSpelledOutcome, IsSpelledAnswer, outstanding_count}
+use Rattle.rt_journal.proofs.Names.{outcome_note, FitsOrder, IsSpelledOutcome, outstanding_count}
 use Rattle.rt_journal.proofs.Names.{is_gone, is_outstanding, name_redeemed, name_detached, name_collected}
-use Rattle.rt_journal.proofs.Names.{same_as_itself, Outward, StartsWith, Fits, AnswersCreation, AnswersShares}
+use Rattle.rt_journal.proofs.Names.{same_as_itself, Outward, StartsWith, Fits}
 use Rattle.rt_journal.proofs.Names.{JournalView, at, Lane, IsLaneOf, IsAwaited, IsSent, CollectsNext, told_of}
 use Rattle.rt_journal.proofs.Names.{taken-get, DeskView, IsWritten, terms_of_desk, IsOutOf, ShowsMore, name_of}
-use Rattle.rt_journal.proofs.Names.{named_outcomes, KnowsLane, KnowsLanes, StaysBeside, is_let_go, booked, shares}
+use Rattle.rt_journal.proofs.Names.{named_outcomes, KnowsLane, KnowsLanes, StaysBeside, is_let_go, booked}
 use Rattle.rt_journal.proofs.Names.{append_assoc, CollectsFrom, GetsAll, GetsNext}
 use Rattle.rt_ids.specs.declared.note.Note.TheVariants as writes
-use Rattle.rt_ids.specs.declared.order.Answer.TheVariants as answer
-use Rattle.rt_ids.specs.declared.order.Outcome.TheVariants.{Finished, Returned, Answered}
-use Rattle.rt_ids.specs.Outcomes as ids
 use Rattle.rt_desk.specs.declared.entry.Entry.TheVariants as entry
 use Rattle.rt_journal.proofs.Desked.{desk_same, HasTaken, carry, refused_stays}
 use Rattle.rt_journal.proofs.EndsKept.{sees_more_out}
@@ -25,30 +22,8 @@ use Rattle.rt_journal.proofs.Spending.{due_collected, booked_noted}
 
 -- an outcome that fits an order, and can be spelled, fits it as notes tell both
 module _ {J T : Type 0} (same : J → J → Type 0) (answers : J → T → Type 0) where
-  creation_fits : (what : Answer) → AnswersCreation what → IsSpelledAnswer what → ids.AnswersCreation what
-  creation_fits (answer.Created queue) fits spelled = spelled
-  creation_fits answer.TooMany fits spelled = tt
-  creation_fits answer.NoMemory fits spelled = tt
-  creation_fits answer.CoreClosing fits spelled = tt
-  creation_fits _ fits spelled = absurd fits
-
-  shares_fit : (what : Answer) → AnswersShares what → ids.AnswersShares what
-  shares_fit answer.SharesSet fits = tt
-  shares_fit answer.NoQueue fits = tt
-  shares_fit _ fits = absurd fits
-
   pub fits_noted : (order : Order J) (outcome : Outcome J T) → Fits same answers order outcome → IsSpelledOutcome (outcome_note outcome) → FitsOrder (without_job order) (outcome_note outcome)
-  fits_noted (Job queue job) (Finished out) fits spelled = tt
-  fits_noted (Job queue job) (Returned reason back) fits spelled = tt
-  fits_noted (Create shares) (Answered what) fits spelled = creation_fits what fits spelled
-  fits_noted (SetShares queue shares) (Answered what) fits spelled = shares_fit what fits
-  fits_noted (Close queue mode) (Answered what) fits spelled = fits
-  fits_noted (CloseCore mode) (Answered what) fits spelled = fits
-  fits_noted _ _ fits spelled = absurd fits
-
-and-true : (test : Bool) → (test && true) ≡ test
-and-true true = refl
-and-true false = refl
+  fits_noted order outcome fits spelled = grind arith
 
 -- what was got of a list that sees more, and the next item
 take-one_more : {A : Type 0} (seen front : List A) (got : ℕ) (item : A) → StartsWith seen front → got ≤ length front → slice_get seen got ≡ Some item → take (got + 1) seen ≡ take got front ++ item ∷ []
@@ -125,9 +100,7 @@ module _ {J T : Type 0} (same : J → J → Type 0) (answers : J → T → Type 
 
   -- whether it is outstanding from now on
   waits_for : (redeemed detached : Bool) → is_told name_redeemed name notes ≡ redeemed → is_told name_detached name notes ≡ detached → is_outstanding name (writes.Collected name told ∷ notes) ≡ not (redeemed || detached)
-  waits_for redeemed detached r d =
-      ap (λ test. not (is_told name_redeemed name notes || is_told name_detached name notes && (test || is_told name_collected name notes))) (same_as_itself name)
-      ∙ (ap (λ redeemed. not (redeemed || is_told name_detached name notes && true)) r ∙ (ap (λ detached. not (redeemed || detached && true)) d ∙ ap (λ test. not (redeemed || test)) (and-true detached)))
+  waits_for redeemed detached r d = grind (arith, same_as_itself name)
 
   pub collected_stays : StaysBeside (Fits same answers) core desk collected now after
   collected_stays = elim collects.2 [

@@ -105,15 +105,7 @@ module _ {J T : Type 0} {same : J → J → Type 0} {made : J → ℕ} {polls : 
 -- a gate that isn't shut may be, at the count of its end
 pub next_shut : {J T : Type 0} (view : RecordedView J T) (from count : ℕ) (before after : Inward J T) → IsInOf from view before → Shuts before after count → SoundIn after →
     IsSome (core_mode view.journal.notes) → final_count from view.journal.notes ≡ None → IsNextShut view.core.cores from count view.journal.notes
-next_shut view from count before after is shuts sound closed untold =
-    let base : after.base ≡ 0 = ap (λ end. end.base) shuts.0 ∙ is.base in
-    record {
-      closed = closed;
-      not_shut = untold;
-      known = is.known;
-      delivered = omega (arith, is.taken, is.behind, ap length shuts.1.0.1, length-append before.seen shuts.1.0.0, shuts.2, base);
-      in_range = omega (arith, shuts.2, sound.numbered);
-    }
+next_shut view from count before after is shuts sound closed untold = grind (arith, length-append before.seen)
 
 module _ {J T : Type 0} (old : RecordedView J T) (from count : ℕ) (core : CoreView J) (is : core ≡ record old.core { gates = slice_set old.core.gates from (Some count) }) where
   abbrev written : List (Note T)
@@ -148,21 +140,11 @@ module _ {J T : Type 0} (old : RecordedView J T) (from count : ℕ) (core : Core
       seen = sees_more_in from old before (record before { seen = after.seen }) refl shuts.1 beside
 
       now : IsInOf from (stepped old (record old.core { gates = slice_set old.core.gates from (Some count) }) written) (record before { seen = after.seen; shut = true })
-      now = record {
-        known = seen.known;
-        from = seen.from;
-        to = seen.to;
-        base = seen.base;
-        capacity = seen.capacity;
-        gate =
-            ap (λ test. or_else (cond test (Some count) None) (final_count from old.journal.notes)) (eq-eqb from from refl)
-            ∙ ap Some (shuts.2 ∙ ap (λ base. base + length after.seen) (ap (λ end. end.base) shuts.0));
-        taken = seen.taken;
-        behind = seen.behind;
-        given = seen.given;
-        ungiven = tt;
-        orders = seen.orders;
-      }
+      now = assumption (
+        seen,
+        ap (λ test. or_else (cond test (Some count) None) (final_count from old.journal.notes)) (eq-eqb from from refl)
+            ∙ ap Some (shuts.2 ∙ ap (λ base. base + length after.seen) (ap (λ end. end.base) shuts.0)),
+      )
 
 -- what a call that shut the gate knows of its parts
 module _ {J T : Type 0} (old now : RecordedView J T) (view_is : old ≡ now) (from count : ℕ) (before after : Inward J T)

@@ -1,10 +1,10 @@
 -- The ends of links stay beside a core and its journal as an order is delivered.
-use Rattle.rt_journal.proofs.Names.{◌≡◌, ℕ, suc, ◌+◌, ◌<◌, Bool, true, false, cond, List, [], ◌∷◌, length, refl, sym}
+use Rattle.rt_journal.proofs.Names.{◌≡◌, ℕ, suc, ◌+◌, cond, List, [], ◌∷◌, length, refl, sym}
 use Rattle.rt_journal.proofs.Names.{◌∙◌, ap, subst, ◌⊎◌, ⊎_elim, arith, ◌==◌, Option, Some, None, slice_get}
 use Rattle.rt_journal.proofs.Names.{option_map, eq-eqb, ne_eqb, JobId, Envelope, Order, Outcome, OutcomeNote}
-use Rattle.rt_journal.proofs.Names.{with_last, outcome_note, IsCounted, final_count, given_outcomes, number_if, Inward}
-use Rattle.rt_journal.proofs.Names.{SoundIn, AreNamed, Takes, final_of, RecordedView, desk_of, order_taken}
-use Rattle.rt_journal.proofs.Names.{delivered_count, given_count, IsInOf, IsInOwing, IsUngiven, GivesMore, told_under}
+use Rattle.rt_journal.proofs.Names.{with_last, outcome_note, given_outcomes, number_if, Inward}
+use Rattle.rt_journal.proofs.Names.{SoundIn, AreNamed, Takes, RecordedView, desk_of, order_taken}
+use Rattle.rt_journal.proofs.Names.{delivered_count, IsInOf, IsInOwing, IsUngiven, GivesMore, told_under}
 use Rattle.rt_journal.proofs.Names.{KeepsIn, IsSameSeat, named_outcomes, IsNextIn, Receives, KeepsOuts}
 use Rattle.rt_journal.proofs.Received.{order_taken-parts}
 use Rattle.rt_journal.proofs.EndsKept.{keeps_in, slice_get-seen, keeps_outs, sees_more_in, final_of-more}
@@ -21,33 +21,7 @@ told_elsewhere name (Some what) sender away = ap (λ test. cond test (Some (name
 -- an end that shows one more has its name next, and a place for it
 pub next_in : {J T : Type 0} (view : RecordedView J T) (before after : Inward J T) (envelope : Envelope J) → IsInOf before.from view before →
     Takes before after (Some envelope) → SoundIn after → IsNextIn view envelope.name
-next_in view before after envelope is takes sound = record {
-  sender = rw takes.2 is.known;
-  receiver = ap (λ name. name.to) takes.2 ∙ is.to;
-  next = ap (λ name. name.number) takes.2 ∙ number;
-  in_range = let one_more : after.taken ≡ before.taken + 1 = ap (λ end. end.taken) takes.0 in let same_base : after.base ≡ before.base = ap (λ end. end.base) takes.0 in omega (arith, ap (λ name. name.number) takes.2, sound.numbered, sound.behind, one_more, same_base);
-  gate = subst (λ count. IsCounted count envelope.name.number) (sym (ap (λ name. final_count name.from view.journal.notes) takes.2 ∙ is.gate)) (within before.shut refl);
-  place = subst (λ from. delivered_count view.journal.notes from < given_count view.journal.notes from + view.cap) (sym (ap (λ name. name.from) takes.2)) left;
-}
-  where
-    number : before.base + before.taken + 1 ≡ delivered_count view.journal.notes envelope.name.from + 1
-    number = subst (λ from. before.base + before.taken + 1 ≡ delivered_count view.journal.notes from + 1) (sym (ap (λ name. name.from) takes.2)) (omega (arith, is.base, is.taken))
-
-    within : (shut : Bool) → before.shut ≡ shut → IsCounted (final_of before shut) envelope.name.number
-    within true closed =
-        let no_more : length after.seen ≡ length before.seen = ap length (takes.1.1 closed) in
-        let one_more : after.taken ≡ before.taken + 1 = ap (λ end. end.taken) takes.0 in
-        omega (arith, ap (λ name. name.number) takes.2, sound.behind, one_more, no_more)
-    within false still = tt
-
-    left : delivered_count view.journal.notes before.from < given_count view.journal.notes before.from + view.cap
-    left =
-        let told_more : length (named_outcomes before.from view.core.core before.given) ≡ given_count view.journal.notes before.from = sym (ap length is.given) in
-        let counted : length (named_outcomes before.from view.core.core before.given) ≡ length before.given = length-named before.from view.core.core before.given in
-        let same_given : length after.given ≡ length before.given = ap (λ end. length end.given) takes.0 in
-        let same_capacity : after.capacity ≡ before.capacity = ap (λ end. end.capacity) takes.0 in
-        let one_more : after.taken ≡ before.taken + 1 = ap (λ end. end.taken) takes.0 in
-        omega (arith, is.taken, is.capacity, sound.room, sound.behind, told_more, same_given, same_capacity, one_more, counted)
+next_in view before after envelope is takes sound = grind (arith, length-named before.from view.core.core before.given)
 
 module _ {J T : Type 0} (old new : RecordedView J T) (envelope : Envelope J) (next : IsNextIn old envelope.name) (did : Receives old envelope new) (seat : IsSameSeat old new)
     (outcome : Option (Outcome J T)) (gives : GivesMore (told_under envelope.name (option_map outcome_note outcome)) old.journal.notes new.journal.notes) where
@@ -77,20 +51,7 @@ module _ {J T : Type 0} (old new : RecordedView J T) (envelope : Envelope J) (ne
 
   -- each outcome that was given has the number of an order before this one
   not_yet : (before after : Inward J T) → Takes before after (Some envelope) → AreNamed before.base before.taken before.given → IsUngiven owed after.given
-  not_yet before after takes named = by_outcome outcome
-    where
-      below : (place : ℕ) (given : ℕ × Outcome J T) → slice_get after.given place ≡ Some given → given.0 ≡ name.number → ⊥
-      below place given at same =
-          let within = named.0 place given (ap (λ end. slice_get end.given place) (sym takes.0) ∙ at) in
-          omega (arith, within.1, same, ap (λ name. name.number) takes.2)
-
-      by_test : (test : Bool) (what : OutcomeNote T) → IsUngiven (cond test (Some (name, what)) None) after.given
-      by_test true what = below
-      by_test false what = tt
-
-      by_outcome : (outcome : Option (Outcome J T)) → IsUngiven (told_under name (option_map outcome_note outcome) name.from) after.given
-      by_outcome None = tt
-      by_outcome (Some outcome) = by_test (name.from == name.from) (outcome_note outcome)
+  not_yet before after takes named = grind (arith, named.0)
 
   -- the end of this sender has one more taken, and owes its outcome, if there is one yet
   here_keeps : (before after : Inward J T) → IsInOf name.from old before → Takes before after (Some envelope) → SoundIn after → AreNamed before.base before.taken before.given →

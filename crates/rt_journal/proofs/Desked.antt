@@ -1,6 +1,6 @@
 -- What a call of a recorded desk knows of the lane that it took, by its own names and by its caller's, and a call that changed nothing.
 use Rattle.rt_journal.proofs.Names.{◌≡◌, ℕ, ◌<◌, Bool, true, false, List, ◌∷◌, length, Some, refl, sym, ◌∙◌, ap, subst}
-use Rattle.rt_journal.proofs.Names.{arith, set, get_or, ◌==◌, not, slice_get, eqb-true, eq-eqb, true≢false, set-get_or}
+use Rattle.rt_journal.proofs.Names.{arith, set, get_or, ◌==◌, not, slice_get, eq-eqb, true≢false, set-get_or}
 use Rattle.rt_journal.proofs.Names.{get_or_from_slice_get, JobId, Note, Order, Outcome, Outward, JournalView, Lane}
 use Rattle.rt_journal.proofs.Names.{IsLaneOf, found, DeskView, IsWritten, terms_of_desk, IsOutOf, KnowsLanes, HasLane}
 use Rattle.rt_journal.proofs.Names.{StaysBeside, name_of, Spends}
@@ -52,11 +52,7 @@ module _ {J T : Type 0} {fits : Order J → Outcome J T → Type 0} (desk : Desk
 
 -- what a test of two numbers tells
 pub are_same : (a b : ℕ) (result : Bool) → result ≡ not (a == b) → result ≡ false → a ≡ b
-are_same a b result is told = eqb-true a b (by_test (a == b) (sym is ∙ told))
-  where
-    by_test : (test : Bool) → not test ≡ false → test ≡ true
-    by_test true is = refl
-    by_test false is = absurd cc
+are_same a b result is told = grind arith
 
 pub are_apart : (a b : ℕ) (result : Bool) → result ≡ not (a == b) → result ≡ true → a ≡ b → ⊥
 are_apart a b result is told same = true≢false (sym told ∙ (is ∙ ap not (eq-eqb a b same)))

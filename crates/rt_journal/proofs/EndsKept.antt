@@ -58,11 +58,7 @@ module _ {J T : Type 0} (old new : RecordedView J T) (seat : IsSameSeat old new)
 -- a gate that is shut stays so, at the same number
 pub final_of-more : {J T : Type 0} (old new : Inward J T) → new.base ≡ old.base → new.shut ≡ old.shut → (old.shut ≡ true → new.seen ≡ old.seen) →
     final_of old old.shut ≡ final_of new new.shut
-final_of-more old new base shut same = by_gate old.shut refl ∙ ap (final_of new) (sym shut)
-  where
-    by_gate : (test : Bool) → old.shut ≡ test → final_of old test ≡ final_of new test
-    by_gate true closed = rw (base, same closed) refl
-    by_gate false still = refl
+final_of-more old new base shut same = grind arith
 
 -- seeing more changes nothing for the receiver's end
 pub sees_more_in : {J T : Type 0} (sender : ℕ) (view : RecordedView J T) (old new : Inward J T) → new ≡ record old { seen = new.seen } → SeesMore old new →

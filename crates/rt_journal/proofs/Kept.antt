@@ -1,7 +1,7 @@
 -- A core that agrees with a journal in which each note may stand: what a note adds to the figures, what follows for one that changes nothing of the core, and for modes and gates.
 use Rattle.rt_journal.proofs.Names.{◌≡◌, ℕ, ◌+◌, ◌<◌, Bool, true, false, ◌∷◌, List, length, refl, sym, ◌∙◌, ap, subst}
 use Rattle.rt_journal.proofs.Names.{cond, add-zero, get_or, set, get_or-set_same, get_or-set_other, ◌==◌, Some}
-use Rattle.rt_journal.proofs.Names.{eqb-true, eqb-false, clamped, JobId, Note, Reason, Journal, is_number, queue_of}
+use Rattle.rt_journal.proofs.Names.{clamped, JobId, Note, Reason, Journal, is_number, queue_of}
 use Rattle.rt_journal.proofs.Names.{number_if, Tally, CoreView, no_tally, Figures, no_figures, plus, figures_in}
 use Rattle.rt_journal.proofs.Names.{figures_of, figures_told, figures_noted, ◌≤◌, [], arith, Option, None, nat_lt}
 use Rattle.rt_journal.proofs.Names.{slice_index_or, ◌||◌, lt-ltb, Terms, Mode, EachNote, name_started, delivered_names}
@@ -11,12 +11,11 @@ use Rattle.rt_journal.proofs.Names.{name_polled, name_settled, queue_just_picked
 use Rattle.rt_journal.proofs.Names.{pick_count, turns, MayFollow, MayWrite, MayStand, takes_turn, IsEffectDue}
 use Rattle.rt_journal.proofs.Names.{has_work-line, virtual_runtime-stays, floor-stays, line-stays, queue_out-alone}
 use Rattle.rt_journal.proofs.Names.{queue_out-nobody, waiting_of, JobOut, is_working, is_any, runtime_of, Agrees}
-use Rattle.rt_journal.proofs.Names.{AgreesOnClosing, IsJobOut, AreMarked, QueuesView, queue_count, shares_of, inl, inr}
-use Rattle.rt_journal.proofs.Names.{◌⊎◌, nat_le, cases_lt, le-leb, lt-leb, le-ltb, Created, or_else, mode_told}
+use Rattle.rt_journal.proofs.Names.{AgreesOnClosing, IsJobOut, AreMarked, QueuesView, queue_count, shares_of}
+use Rattle.rt_journal.proofs.Names.{Created, or_else, mode_told}
 use Rattle.rt_journal.proofs.Names.{core_mode_told, count_told, queue_mode, core_mode, final_count, IsOpening, refusal}
-use Rattle.rt_journal.proofs.Names.{reason_if_closed, reason_if_returning, mode_of}
+use Rattle.rt_journal.proofs.Names.{reason_if_returning, mode_of}
 use Rattle.rt_ids.specs.declared.note.Note.TheVariants as writes
-use Rattle.rt_journal.proofs.Sums.{everywhere}
 use Rattle.rt_core.specs.State as state
 pub use Rattle.rt_journal.specs.Agreement.{IsKept}
 use Rattle.rt_journal.specs.Agreement.{names_of}
@@ -26,12 +25,7 @@ use Rattle.rt_ids.specs.Commands.{return_reason}
 use Rattle.rt_core.specs.Closing as core_says
 
 pub plus-none : (some : Figures) → plus some no_figures ≡ some
-plus-none some = λ i. record {
-  selected = add-zero some.selected i;
-  time = add-zero some.time i;
-  finished = add-zero some.finished i;
-  returned = add-zero some.returned i;
-}
+plus-none some = grind arith
 
 -- a note that counts nothing leaves them
 pub figures-stays : {T : Type 0} (queue : ℕ) (note : Note T) (before : Journal T) → figures_noted queue note before ≡ no_figures →
@@ -54,19 +48,17 @@ one_done time = record { selected = 0; time = clamped time; finished = 1; return
 -- the tallies after them count so
 module _ (tally : Tally) where
   pub counts-pick : figures_in (record tally { selected = tally.selected + 1 }) ≡ plus (figures_in tally) one_pick
-  counts-pick = sym (λ i. record { selected = tally.selected + 1; time = add-zero tally.time i; finished = add-zero tally.finished i; returned = add-zero tally.returned i })
+  counts-pick = grind arith
 
   pub counts-return : figures_in (record tally { selected = tally.selected + 1; returned = tally.returned + 1 }) ≡ plus (figures_in tally) one_return
-  counts-return = sym (λ i. record { selected = tally.selected + 1; time = add-zero tally.time i; finished = add-zero tally.finished i; returned = tally.returned + 1 })
+  counts-return = grind arith
 
   module _ (runtime time done : ℕ) where
     pub counts-yield : done ≡ 0 → figures_in (record tally { runtime = runtime; time = tally.time + clamped time; finished = tally.finished + done }) ≡ plus (figures_in tally) (one_yield time)
-    counts-yield none =
-        sym (λ i. record { selected = add-zero tally.selected i; time = tally.time + clamped time; finished = tally.finished + sym none i; returned = add-zero tally.returned i })
+    counts-yield none = grind arith
 
     pub counts-done : done ≡ 1 → figures_in (record tally { runtime = runtime; time = tally.time + clamped time; finished = tally.finished + done }) ≡ plus (figures_in tally) (one_done time)
-    counts-done one =
-        sym (λ i. record { selected = add-zero tally.selected i; time = tally.time + clamped time; finished = tally.finished + sym one i; returned = add-zero tally.returned i })
+    counts-done one = grind arith
 
 module _ {T : Type 0} (other queue : ℕ) (journal : Journal T) where
   -- figures that are added to this queue alone
@@ -74,95 +66,39 @@ module _ {T : Type 0} (other queue : ℕ) (journal : Journal T) where
   added adds = plus (figures_told other journal) (cond (other == queue) adds no_figures)
 
   pub told-picked : (runtime : ℕ) → figures_told other (writes.Pick queue runtime ∷ journal) ≡ added one_pick
-  told-picked runtime = ap (plus (figures_told other journal)) (by_test (other == queue))
-    where
-      by_test : (test : Bool) → record { selected = number_if test; time = 0; finished = 0; returned = 0 } ≡ cond test one_pick no_figures
-      by_test true = refl
-      by_test false = refl
+  told-picked runtime = grind arith
 
   module _ (name : JobId) (its : queue_of name journal ≡ Some queue) where
     pub told-yield : (time : ℕ) → figures_told other (writes.Yield name time ∷ journal) ≡ added (one_yield time)
-    told-yield time = ap (plus (figures_told other journal)) (ap (λ there. one_of (is_number other there)) its ∙ by_test (other == queue))
-      where
-        one_of : Bool → Figures
-        one_of test = record { selected = 0; time = cond test (clamped time) 0; finished = 0; returned = 0 }
-
-        by_test : (test : Bool) → one_of test ≡ cond test (one_yield time) no_figures
-        by_test true = refl
-        by_test false = refl
+    told-yield time = grind (arith, its)
 
     pub told-done : (time : ℕ) (value : T) → figures_told other (writes.Done name time value ∷ journal) ≡ added (one_done time)
-    told-done time value = ap (plus (figures_told other journal)) (ap (λ there. one_of (is_number other there)) its ∙ by_test (other == queue))
-      where
-        one_of : Bool → Figures
-        one_of test = record { selected = 0; time = cond test (clamped time) 0; finished = number_if test; returned = 0 }
-
-        by_test : (test : Bool) → one_of test ≡ cond test (one_done time) no_figures
-        by_test true = refl
-        by_test false = refl
+    told-done time value = grind (arith, its)
 
     pub told-returned : (runtime : ℕ) (reason : Reason) → figures_told other (writes.Returned name reason ∷ writes.Pick queue runtime ∷ journal) ≡ added one_return
-    told-returned runtime reason = (λ i. record {
-      selected = add-zero (figures_told other (writes.Pick queue runtime ∷ journal)).selected i;
-      time = add-zero (figures_told other (writes.Pick queue runtime ∷ journal)).time i;
-      finished = add-zero (figures_told other (writes.Pick queue runtime ∷ journal)).finished i;
-      returned = add-zero (figures_told other journal).returned i + number_if (is_number other (its i));
-    }) ∙ (with_zeros ∙ ap (plus (figures_told other journal)) (by_test (other == queue)))
-      where
-        one_of : Bool → Figures
-        one_of test = record { selected = number_if test; time = 0; finished = 0; returned = number_if test }
-
-        with_zeros : record {
-          selected = (figures_told other (writes.Pick queue runtime ∷ journal)).selected;
-          time = (figures_told other (writes.Pick queue runtime ∷ journal)).time;
-          finished = (figures_told other (writes.Pick queue runtime ∷ journal)).finished;
-          returned = (figures_told other journal).returned + number_if (other == queue);
-        } ≡ plus (figures_told other journal) (one_of (other == queue))
-        with_zeros = refl
-
-        by_test : (test : Bool) → one_of test ≡ cond test one_return no_figures
-        by_test true = refl
-        by_test false = refl
+    told-returned runtime reason = grind (arith, its)
 
 -- the tally of one queue is set
 module _ {J : Type 0} (old new : CoreView J) (queue : ℕ) (tally : Tally) (there : queue < length old.tallies) (is : new.tallies ≡ set old.tallies queue tally) where
   pub figures-set : (adds : Figures) → figures_in tally ≡ plus (figures_of queue old) adds → (other : ℕ) →
       figures_of other new ≡ plus (figures_of other old) (cond (other == queue) adds no_figures)
-  figures-set adds counts other = ap (λ tallies. figures_in (get_or tallies other no_tally)) is ∙ by_test (other == queue) refl
-    where
-      by_test : (test : Bool) → (other == queue) ≡ test →
-          figures_in (get_or (set old.tallies queue tally) other no_tally) ≡ plus (figures_of other old) (cond test adds no_figures)
-      by_test true same =
-          subst (λ at. figures_in (get_or (set old.tallies queue tally) at no_tally) ≡ plus (figures_of at old) adds) (sym (eqb-true other queue same))
-          (ap figures_in (get_or-set_same old.tallies queue tally no_tally there) ∙ counts)
-      by_test false apart =
-          ap figures_in (get_or-set_other old.tallies queue other tally no_tally (eqb-false other queue apart)) ∙ sym (plus-none (figures_of other old))
+  figures-set adds counts other = grind (arith, get_or-set_same old.tallies queue tally no_tally there, get_or-set_other old.tallies queue other tally no_tally)
 
   -- one that counts the same leaves all
   pub figures-same : figures_in tally ≡ figures_of queue old → (other : ℕ) → figures_of other new ≡ figures_of other old
-  figures-same counts other =
-      figures-set no_figures (counts ∙ sym (plus-none (figures_of queue old))) other
-      ∙ (ap (plus (figures_of other old)) (by_test (other == queue)) ∙ plus-none (figures_of other old))
-    where
-      by_test : (test : Bool) → cond test no_figures no_figures ≡ no_figures
-      by_test true = refl
-      by_test false = refl
+  figures-same counts other = grind (arith, figures-set no_figures)
 
   -- figures that the journal adds to this queue are added by the core
   pub figures-grow : {T : Type 0} (journal longer : Journal T) (adds : Figures) → figures_in tally ≡ plus (figures_of queue old) adds →
       ((other : ℕ) → figures_of other old ≡ figures_told other journal) →
       ((other : ℕ) → figures_told other longer ≡ plus (figures_told other journal) (cond (other == queue) adds no_figures)) →
       (other : ℕ) → figures_of other new ≡ figures_told other longer
-  figures-grow journal longer adds counts were told other =
-      figures-set adds counts other ∙ (ap (λ some. plus some (cond (other == queue) adds no_figures)) (were other) ∙ sym (told other))
+  figures-grow journal longer adds counts were told other = grind (arith, figures-set adds counts other, were other, told other)
 
 -- a tally that is set at the same runtime leaves each runtime
 pub set_runtime : (tallies : List Tally) (queue : ℕ) (tally : Tally) → queue < length tallies → tally.runtime ≡ (get_or tallies queue no_tally).runtime → (other : ℕ) →
     (get_or (set tallies queue tally) other no_tally).runtime ≡ (get_or tallies other no_tally).runtime
-set_runtime tallies queue tally there same =
-    everywhere (λ at. (get_or (set tallies queue tally) at no_tally).runtime ≡ (get_or tallies at no_tally).runtime) queue
-    (ap (λ tally. tally.runtime) (get_or-set_same tallies queue tally no_tally there) ∙ same)
-    (λ other away. ap (λ tally. tally.runtime) (get_or-set_other tallies queue other tally no_tally away))
+set_runtime tallies queue tally there same other = grind (arith, get_or-set_same tallies queue tally no_tally there, get_or-set_other tallies queue other tally no_tally)
 
 -- a note that takes no turn and is no effect may stand where nothing is awaited
 pub plainly_stands : {T : Type 0} (terms : Terms) (note : Note T) (before : Journal T) → MayWrite terms note → MayFollow terms note before →
@@ -181,11 +117,7 @@ module _ {J : Type 0} where
 module _ {J T : Type 0} (core : CoreView J) (journal : Journal T) where
   -- the queue of the job that is out
   pub queue_out-agrees : IsJobOut core.out journal → state.queue_out core.out ≡ queue_out journal
-  queue_out-agrees out = by_out core.out out
-    where
-      by_out : (who : Option (JobOut J)) → IsJobOut who journal → state.queue_out who ≡ queue_out journal
-      by_out None nobody = sym (queue_out-nobody journal nobody)
-      by_out (Some job) alone = sym (queue_out-alone job.name journal alone.0 ∙ alone.1)
+  queue_out-agrees out = grind (arith, queue_out-nobody journal, queue_out-alone)
 
   -- a queue works in the core where it has work in the journal
   pub working : (terms : Terms) (queue : ℕ) → EachNote (MayStand terms) journal → Agrees core journal → is_working queue core ≡ has_work queue journal
@@ -331,22 +263,9 @@ module _ {J T : Type 0} (old new : CoreView J) (note : Note T) (before : Journal
   }
 
 module _ {J T : Type 0} (view : CoreView J) (journal : Journal T) (agrees : AgreesOnClosing view journal) where
-  same_refusal : (queue : ℕ) (there here : Bool) → nat_lt queue (queue_count view.queues) ≡ there → nat_le queue (created_count journal) ≡ here → there ≡ here →
-      core_says.refusal queue view ≡ refusal queue journal
-  same_refusal queue there here says journal_says same =
-      (λ i. cond (says i) (or_else (reason_if_closed (agrees.modes queue i) why.QueueClosed) (reason_if_returning (agrees.mode i) why.CoreClosing)) (Some why.NoQueue))
-      ∙ (λ i. cond (same i) (or_else (reason_if_closed (queue_mode queue journal) why.QueueClosed) (reason_if_returning (core_mode journal) why.CoreClosing)) (Some why.NoQueue))
-      ∙ sym (ap (λ test. cond test (or_else (reason_if_closed (queue_mode queue journal) why.QueueClosed) (reason_if_returning (core_mode journal) why.CoreClosing)) (Some why.NoQueue)) journal_says)
-
   -- a job is refused for the reason that the journal gives
   pub refusal-agrees : queue_count view.queues ≡ created_count journal + 1 → (queue : ℕ) → core_says.refusal queue view ≡ refusal queue journal
-  refusal-agrees last queue = by_order (cases_lt queue (queue_count view.queues))
-    where
-      by_order : (queue < queue_count view.queues) ⊎ (queue_count view.queues ≤ queue) → core_says.refusal queue view ≡ refusal queue journal
-      by_order (inl there) =
-          same_refusal queue true true (lt-ltb queue (queue_count view.queues) there) (le-leb queue (created_count journal) (omega (arith, there, last))) refl
-      by_order (inr past) =
-          same_refusal queue false false (le-ltb queue (queue_count view.queues) past) (lt-leb queue (created_count journal) (omega (arith, past, last))) refl
+  refusal-agrees last queue = grind (arith, agrees.modes queue)
 
   -- a job is handed back for the reason that the journal gives
   pub return_reason-agrees : (queue : ℕ) → core_says.return_reason queue view ≡ return_reason queue journal

@@ -4,7 +4,7 @@ use Rattle.rt_journal.proofs.Names.{ap, subst, arith, get_or, set, get_or-set_sa
 use Rattle.rt_journal.proofs.Names.{Option, Some, None, is_some, max, eqb-true, eqb-false, true≢false, map-append}
 use Rattle.rt_journal.proofs.Names.{All-append, All-cons, All-nil, Terms, JobId, same_name, Journal, EachNote, is_told}
 use Rattle.rt_journal.proofs.Names.{with_last, delivered_names, name_started, if_from, has_work, queue_of}
-use Rattle.rt_journal.proofs.Names.{virtual_runtime, line, refusal, MayStand, IsNextDelivered, one_longer, known_of}
+use Rattle.rt_journal.proofs.Names.{virtual_runtime, line, refusal, MayStand, IsNextDelivered, known_of}
 use Rattle.rt_journal.proofs.Names.{not_old, started_of, line-took, line-took_elsewhere, false_from_ne_true}
 use Rattle.rt_journal.proofs.Names.{same_as_itself, virtual_runtime-took_idle, virtual_runtime-took_busy}
 use Rattle.rt_journal.proofs.Names.{virtual_runtime-took_elsewhere, floor-stays, waiting_of, CoreView, JobOut}
@@ -38,28 +38,8 @@ module _ {J T : Type 0} (terms : Terms) (old new : CoreView J) (name : JobId) (j
 
   -- the count of each sender is that of the names delivered from it
   pub delivered_counted : (sender : ℕ) → sender ≤ new.cores → delivered_of sender new ≡ length (with_last (delivered_names sender journal) (if_from sender name name))
-  delivered_counted sender known = by_test (name.from == sender) refl
-    where
-      within : name.from < length old.delivered
-      within = omega (arith, agrees.senders, is_counted.known)
-
-      before : sender ≤ old.cores
-      before = omega (arith, known, is_counted.cores)
-
-      by_test : (test : Bool) → (name.from == sender) ≡ test → delivered_of sender new ≡ length (with_last (delivered_names sender journal) (cond test (Some name) None))
-      by_test true same =
-          let one : name.from ≡ sender = eqb-true name.from sender same in
-          let now : get_or (set old.delivered name.from name.number) name.from 0 ≡ name.number = get_or-set_same old.delivered name.from name.number 0 within in
-          let longer : length (with_last (delivered_names sender journal) (Some name)) ≡ length (delivered_names sender journal) + 1 = one_longer (delivered_names sender journal) name true refl in
-          let next : name.number ≡ length (delivered_names sender journal) + 1 = subst (λ from. name.number ≡ length (delivered_names from journal) + 1) one is_counted.next.next in
-          ap (λ list. get_or list sender 0) is_counted.now
-          ∙ (subst (λ at. get_or (set old.delivered name.from name.number) at 0 ≡ name.number) one now ∙ (next ∙ sym longer))
-      by_test false other =
-          ap (λ list. get_or list sender 0) is_counted.now
-          ∙ (
-          get_or-set_other old.delivered name.from sender name.number 0 (λ same. eqb-false name.from sender other (sym same))
-          ∙ agrees.delivered sender before
-          )
+  delivered_counted sender known =
+      grind (arith, get_or-set_same old.delivered name.from name.number 0, get_or-set_other old.delivered name.from sender name.number 0, agrees.delivered sender, length-append (delivered_names sender journal) (name ∷ []))
 
 module _ {T : Type 0} (terms : Terms) (journal : Journal T) (notes : EachNote (MayStand terms) journal) where
   -- who is delivered now has not entered and not started
@@ -90,11 +70,8 @@ module _ {J T : Type 0} (terms : Terms) (old new : CoreView J) (name : JobId) (q
   }
 
   took_lines : (other : ℕ) → names_of (waiting_of other new.queues) ≡ line other (writes.Took name queue ∷ journal)
-  took_lines = everywhere (λ at. names_of (waiting_of at new.queues) ≡ line at (writes.Took name queue ∷ journal)) queue
-      (ap names_of enters.line.changed
-      ∙ (map-append (λ entry. entry.0) (waiting_of queue old.queues) ((name, false, job) ∷ [])
-      ∙ (ap (λ names. names ++ name ∷ []) (kept.agrees.lines queue) ∙ sym (line-took queue name journal))))
-      (λ other away. ap names_of (enters.line.others other away) ∙ (kept.agrees.lines other ∙ sym (line-took_elsewhere other queue name journal away)))
+  took_lines other =
+      grind (arith, line-took queue name journal, line-took_elsewhere other queue name journal, enters.line.others other, kept.agrees.lines other, map-append (λ (entry : JobId × Bool × J). entry.0) (waiting_of queue old.queues) ((name, false, job) ∷ []))
 
   abbrev is_marked : JobId × Bool × J → Type 0
   is_marked entry = entry.1 ≡ is_told name_started entry.0 journal
@@ -128,11 +105,8 @@ module _ {J T : Type 0} (terms : Terms) (old new : CoreView J) (name : JobId) (q
           ∙ (ap (λ at. max (virtual_runtime queue journal) at) kept.agrees.the_floor ∙ sym (virtual_runtime-took_idle queue journal name idle)))
 
   took_runtimes : (other : ℕ) → runtime_of other new ≡ virtual_runtime other (writes.Took name queue ∷ journal)
-  took_runtimes = everywhere (λ at. runtime_of at new ≡ virtual_runtime at (writes.Took name queue ∷ journal)) queue
-      (ap (λ tally. tally.runtime) (tallies_set queue ∙ get_or-set_same old.tallies queue _ no_tally tallied) ∙ entry_is)
-      (λ other away.
-      ap (λ tally. tally.runtime) (tallies_set other ∙ get_or-set_other old.tallies queue other _ no_tally away)
-      ∙ (kept.agrees.runtimes other ∙ sym (virtual_runtime-took_elsewhere other journal name queue away)))
+  took_runtimes other =
+      grind (arith, tallies_set other, get_or-set_same old.tallies queue, get_or-set_other old.tallies queue other, kept.agrees.runtimes other, virtual_runtime-took_elsewhere other journal name queue, entry_is, tallied)
 
   took_out : (out : Option (JobOut J)) → IsJobOut out journal → IsJobOut out (writes.Took name queue ∷ journal)
   took_out None nobody = nobody
@@ -226,11 +200,8 @@ module _ {J T : Type 0} (old new : CoreView J) (queue weight : ℕ) (journal : J
       (assumption (λ (other : ℕ). creates.added.same_modes other ∙ agrees.closing.modes other))
     where
       weights : (other : ℕ) → other < queue_count new.queues → shares_of other new.queues ≡ shares other (writes.Created queue weight ∷ journal)
-      weights = everywhere (λ at. at < queue_count new.queues → shares_of at new.queues ≡ shares at (writes.Created queue weight ∷ journal)) queue
-          (λ there. subst (λ at. shares_of at new.queues ≡ weight) (sym next) creates.added.given ∙ sym (shares-created queue journal weight))
-          (λ other away there.
-          creates.added.others other (λ last. away (last ∙ sym next))
-          ∙ (agrees.weights other (omega (arith, there, creates.added.count, next)) ∙ sym (shares-created_elsewhere other journal queue weight away)))
+      weights other there =
+          grind (arith, shares-created queue journal weight, shares-created_elsewhere other journal queue weight, creates.added.others other, creates.added.given, agrees.weights other, creates.added.count)
 
   -- a queue gets shares
   pub agrees-weighed : Weighs old queue weight new → new.delivered ≡ old.delivered → Agrees new (writes.SharesSet queue weight ∷ journal)
@@ -240,10 +211,8 @@ module _ {J T : Type 0} (old new : CoreView J) (queue weight : ℕ) (journal : J
       (assumption (λ (other : ℕ). weighs.shares.same_modes other ∙ agrees.closing.modes other))
     where
       weights : (other : ℕ) → other < queue_count new.queues → shares_of other new.queues ≡ shares other (writes.SharesSet queue weight ∷ journal)
-      weights = everywhere (λ at. at < queue_count new.queues → shares_of at new.queues ≡ shares at (writes.SharesSet queue weight ∷ journal)) queue
-          (λ there. weighs.shares.changed ∙ sym (shares-set queue journal weight))
-          (λ other away there.
-          weighs.shares.others other away ∙ (agrees.weights other (rw (← weighs.shares.same_count) there) ∙ sym (shares-set_elsewhere other journal queue weight away)))
+      weights other there =
+          grind (arith, shares-set queue journal weight, shares-set_elsewhere other journal queue weight, weighs.shares.others other, weighs.shares.changed, agrees.weights other, weighs.shares.same_count)
 
 -- the commands that have an effect, with the note of the answer and that of the effect
 module _ {J T : Type 0} (terms : Terms) (old new : CoreView J) (name : JobId) (queue weight : ℕ) (journal : Journal T) (kept : IsKept terms old journal)

@@ -4,15 +4,15 @@ use Rattle.rt_journal.proofs.Names.{true≢false, or_parts, All-cons, All-nil, A
 use Rattle.rt_journal.proofs.Names.{Journal, is_told, name_started, among, one_name, same_as_itself}
 use Rattle.rt_journal.proofs.Names.{is_told-start_elsewhere, AreMarked, Note, queue_joined, charge_noted}
 use Rattle.rt_journal.proofs.Names.{runtime_picked, pick_count, figures_noted, no_figures, ℕ, ◌+◌, ◌<◌, ◌≤◌, length}
-use Rattle.rt_journal.proofs.Names.{refl, ap, arith, get_or_past, Some, None, nat_le, max, leb-true, leb-false}
+use Rattle.rt_journal.proofs.Names.{refl, ap, arith, get_or_past, Some, None, max}
 use Rattle.rt_journal.proofs.Names.{same_Some, Terms, most_turns, KeyAtMost, delivered_names, queue_of}
 use Rattle.rt_journal.proofs.Names.{virtual_runtime, shares, line, jobs_out, IsRightPick, turns, queue_just_picked}
 use Rattle.rt_journal.proofs.Names.{created_count, effect_awaited, MayStand, IsTurnOf, jobs_out-start, jobs_out-resume}
-use Rattle.rt_journal.proofs.Names.{known_of, Distinct, apart_of, TurnLeaves, line-turn, line-turn_elsewhere}
+use Rattle.rt_journal.proofs.Names.{known_of, Distinct, apart_of, line-turn, line-turn_elsewhere}
 use Rattle.rt_journal.proofs.Names.{virtual_runtime-stays, floor-stays, right_pick_of_lines, queue_count, waiting_of}
 use Rattle.rt_journal.proofs.Names.{no_queue, CoreView, JobOut, tally_of, runtime_of, delivered_of, TakesOut}
 use Rattle.rt_journal.proofs.Names.{AgreesOnClosing, IsJobOut, figures_of, figures_told, poll_note, set, Reason}
-use Rattle.rt_journal.proofs.Names.{EachNote, HandsBack, Agrees}
+use Rattle.rt_journal.proofs.Names.{EachNote, HandsBack, Agrees, ⊎_elim, cases_lt}
 use Rattle.rt_ids.specs.declared.note.Note.TheVariants as writes
 use Rattle.rt_journal.specs.Agreement.{names_of}
 use Rattle.std.proofs.Common.{length-set}
@@ -83,15 +83,7 @@ module _ {J T : Type 0} (terms : Terms) (old new : CoreView J) (name : JobId) (q
   start_told = All-head (is_marked name journal journal) (name, was_started, job) takes.others (subst (AreMarked journal) takes.first (kept.agrees.marks queue))
 
   least : (other : ℕ) (first : JobId) (rest : List JobId) → line other journal ≡ first ∷ rest → KeyAtMost (virtual_runtime queue journal) queue (virtual_runtime other journal) other
-  least other first rest there =
-      subst (λ at. KeyAtMost at queue (virtual_runtime other journal) other) (kept.agrees.runtimes queue)
-      (
-      subst (λ at. KeyAtMost runtime queue at other) (kept.agrees.runtimes other)
-      (takes.next.least other (λ empty. nothing (sym there ∙ (sym (kept.agrees.lines other) ∙ ap names_of empty))))
-      )
-    where
-      nothing : first ∷ rest ≡ [] → ⊥
-      nothing same = cc
+  least other first rest there = grind (arith, takes.next.least other, kept.agrees.runtimes other, kept.agrees.runtimes queue, kept.agrees.lines other)
 
   pub right_pick : IsRightPick queue runtime journal
   right_pick =
@@ -115,25 +107,13 @@ module _ {J T : Type 0} (terms : Terms) (old new : CoreView J) (name : JobId) (q
   its_queue = (known_of terms journal kept.notes).line_queue queue name (rw (first_in_line, same_as_itself name))
 
   pub exists : queue < queue_count old.queues
-  exists = by_test (nat_le (queue_count old.queues) queue) refl
-    where
-      by_test : (test : Bool) → nat_le (queue_count old.queues) queue ≡ test → queue < queue_count old.queues
-      by_test true past = absurd (something (sym takes.first ∙ no_line queue old (leb-true (queue_count old.queues) queue past)))
-        where
-          something : (name, was_started, job) ∷ takes.others ≡ [] → ⊥
-          something same = cc
-      by_test false within = leb-false (queue_count old.queues) queue within
+  exists = ⊎_elim (λ within. within)
+      (λ past. absurd (let same : (name, was_started, job) ∷ takes.others ≡ [] = sym takes.first ∙ no_line queue old past in cc)) (cases_lt queue (queue_count old.queues))
 
   lines_now : (before : Bool) → (other : ℕ) → names_of (waiting_of other new.queues) ≡ line other (poll_note name before ∷ picked)
-  lines_now before = everywhere (λ at. names_of (waiting_of at new.queues) ≡ line at (poll_note name before ∷ picked)) queue
-      (ap names_of takes.line.changed ∙ sym (by_note before (line-turn terms journal kept.notes queue runtime name (names_of takes.others) first_in_line)))
-      (λ other away.
-      ap names_of (takes.line.others other away)
-      ∙ (kept.agrees.lines other ∙ sym (by_note before (line-turn_elsewhere terms journal kept.notes other queue runtime name (names_of takes.others) first_in_line away))))
-    where
-      by_note : {other : ℕ} {left : List JobId} → (before : Bool) → TurnLeaves other queue runtime name left journal → line other (poll_note name before ∷ picked) ≡ left
-      by_note false leaves = leaves.started
-      by_note true leaves = leaves.resumed
+  lines_now before other =
+      grind (arith, line-turn terms journal kept.notes queue runtime name (names_of takes.others) first_in_line, takes.line.others other, kept.agrees.lines other,
+      line-turn_elsewhere terms journal kept.notes other queue runtime name (names_of takes.others) first_in_line)
 
   pub apart_in : (other : ℕ) → among name (names_of (waiting_of other new.queues)) ≡ false
   apart_in = everywhere (λ at. among name (names_of (waiting_of at new.queues)) ≡ false) queue
@@ -253,11 +233,9 @@ module _ {J T : Type 0} (terms : Terms) (old new : CoreView J) (name : JobId) (q
   exists_back = let there = exists terms old middle name queue hands.was_started job journal kept takes in omega (arith, there, kept.agrees.tallied)
 
   lines_back : (other : ℕ) → names_of (waiting_of other new.queues) ≡ line other longer
-  lines_back = everywhere (λ at. names_of (waiting_of at new.queues) ≡ line at longer) queue
-      (let left = line-turn terms journal kept.notes queue its_runtime name (names_of hands.others) first_back in ap names_of hands.line.changed ∙ sym (left.returned reason))
-      (λ other away.
-      let left = line-turn_elsewhere terms journal kept.notes other queue its_runtime name (names_of hands.others) first_back away in
-      ap names_of (hands.line.others other away) ∙ (kept.agrees.lines other ∙ sym (left.returned reason)))
+  lines_back other =
+      grind (arith, line-turn terms journal kept.notes queue its_runtime name (names_of hands.others) first_back, hands.line.others other, kept.agrees.lines other,
+      line-turn_elsewhere terms journal kept.notes other queue its_runtime name (names_of hands.others) first_back)
 
   runtime_back : (other : ℕ) → runtime_of other new ≡ runtime_of other old
   runtime_back other = ap (λ core. runtime_of other core) hands.rest ∙ set_runtime old.tallies queue _ exists_back refl other

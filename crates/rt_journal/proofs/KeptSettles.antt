@@ -6,7 +6,7 @@ use Rattle.rt_journal.proofs.Names.{queue_of, virtual_runtime, shares, line, job
 use Rattle.rt_journal.proofs.Names.{line-yield, line-yield_elsewhere, line-done, is_told-alone, virtual_runtime-yield}
 use Rattle.rt_journal.proofs.Names.{virtual_runtime-yield_elsewhere, virtual_runtime-done}
 use Rattle.rt_journal.proofs.Names.{virtual_runtime-done_elsewhere, floor-stays, QueuesView, queue_count, waiting_of}
-use Rattle.rt_journal.proofs.Names.{shares_of, ChangesLine, Tally, CoreView, JobOut, no_tally, tally_of, runtime_of}
+use Rattle.rt_journal.proofs.Names.{shares_of, ChangesLine, Tally, CoreView, JobOut, tally_of, runtime_of}
 use Rattle.rt_journal.proofs.Names.{settled_view, IsJobOut, AreMarked, figures_of, figures_told, Agrees}
 use Rattle.std.proofs.Common.{length-set}
 use Rattle.rt_ids.specs.declared.note.Note.TheVariants as writes
@@ -41,14 +41,10 @@ module _ {J T : Type 0} (terms : Terms) (old : CoreView J) (job : JobOut J) (tim
 
   -- the queue of the job is charged, and no other
   runtime_charged : runtime_of job.queue new ≡ virtual_runtime job.queue journal + charge time (shares job.queue journal)
-  runtime_charged =
-      ap (λ tally. tally.runtime) (get_or-set_same old.tallies job.queue _ no_tally (omega (arith, exists, kept.agrees.tallied)))
-      ∙ (ap (λ runtime. runtime + charge time (shares_of job.queue old.queues)) (kept.agrees.runtimes job.queue)
-      ∙ ap (λ weight. virtual_runtime job.queue journal + charge time weight) (kept.agrees.weights job.queue exists))
+  runtime_charged = grind (arith, get_or-set_same old.tallies job.queue, kept.agrees.runtimes job.queue, kept.agrees.weights job.queue exists, exists, kept.agrees.tallied)
 
   runtime_same : (other : ℕ) → (other ≡ job.queue → ⊥) → runtime_of other new ≡ virtual_runtime other journal
-  runtime_same other away =
-      ap (λ tally. tally.runtime) (get_or-set_other old.tallies job.queue other _ no_tally away) ∙ kept.agrees.runtimes other
+  runtime_same other away = grind (arith, get_or-set_other old.tallies job.queue other, kept.agrees.runtimes other)
 
   tallied_now : queue_count queues ≡ queue_count old.queues → length new.tallies ≡ queue_count queues
   tallied_now same = length-set old.tallies job.queue _ ∙ (kept.agrees.tallied ∙ sym same)
@@ -76,11 +72,9 @@ module _ {J T : Type 0} (terms : Terms) (old : CoreView J) (job : JobOut J) (tim
           (λ other. told-yield other job.queue journal job.name is_out.1 time)
 
       lines : (other : ℕ) → names_of (waiting_of other queues) ≡ line other yielded
-      lines = everywhere (λ at. names_of (waiting_of at queues) ≡ line at yielded) job.queue
-          (ap names_of changes.changed
-          ∙ (map-append (λ entry. entry.0) (waiting_of job.queue old.queues) ((job.name, true, back) ∷ [])
-          ∙ (ap (λ names. names ++ job.name ∷ []) (kept.agrees.lines job.queue) ∙ sym (line-yield job.queue time job.name journal is_out.1))))
-          (λ other away. ap names_of (changes.others other away) ∙ (kept.agrees.lines other ∙ sym (line-yield_elsewhere other job.queue time job.name journal is_out.1 away)))
+      lines other =
+          grind (arith, map-append (λ (entry : JobId × Bool × J). entry.0) (waiting_of job.queue old.queues) ((job.name, true, back) ∷ []), kept.agrees.lines other, changes.others other,
+          line-yield job.queue time job.name journal is_out.1, line-yield_elsewhere other job.queue time job.name journal is_out.1)
 
       marks : (other : ℕ) → AreMarked yielded (waiting_of other queues)
       marks = everywhere (λ at. AreMarked yielded (waiting_of at queues)) job.queue

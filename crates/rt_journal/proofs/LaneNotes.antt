@@ -53,28 +53,15 @@ module _ {T : Type 0} (name : JobId) where
 module _ (redeemed detached collected : Bool) where
   -- who waits neither redeemed nor detached
   pub neither : (redeemed || detached) ≡ false → (redeemed ≡ false) × (detached ≡ false)
-  neither = by_tests redeemed detached
-    where
-      by_tests : (redeemed detached : Bool) → (redeemed || detached) ≡ false → (redeemed ≡ false) × (detached ≡ false)
-      by_tests true detached is = absurd cc
-      by_tests false true is = absurd cc
-      by_tests false false is = (refl, refl)
+  neither waits = grind arith
 
   -- what is gone and outstanding, and not collected, is detached
   pub detached_only : (redeemed || detached) ≡ true → not (redeemed || detached && collected) ≡ true → collected ≡ false → (redeemed ≡ false) × (detached ≡ true)
-  detached_only gone waits un = by_tests redeemed detached collected gone waits un
-    where
-      by_tests : (redeemed detached collected : Bool) → (redeemed || detached) ≡ true → not (redeemed || detached && collected) ≡ true → collected ≡ false → (redeemed ≡ false) × (detached ≡ true)
-      by_tests true detached collected gone waits un = absurd cc
-      by_tests false false collected gone waits un = absurd cc
-      by_tests false true true gone waits un = absurd cc
-      by_tests false true false gone waits un = (refl, refl)
+  detached_only gone waits un = grind arith
 
 -- an item that was set is there
 pub set_there : {A : Type 0} (items : List A) (place : ℕ) (was item : A) → slice_get items place ≡ Some was → slice_get (set items place item) place ≡ Some item
-set_there items place was item there =
-    let low : place < length items = slice_get_within items place was there in
-    slice_get-get_or (set items place item) place item (omega (arith, low, length-set items place item)) ∙ ap Some (get_or-set_same items place item item low)
+set_there items place was item there = grind (arith, slice_get_within items place was there, slice_get-get_or (set items place item) place item, length-set items place item, get_or-set_same items place item item)
 
 -- an item at another place stays
 pub slice_get-set_other : {A : Type 0} (items : List A) (place other : ℕ) (item : A) → other ≢ place → slice_get (set items place item) other ≡ slice_get items other

@@ -8,7 +8,7 @@ use Rattle.rt_journal.proofs.Names.{◌≢◌, inl, inr, ◌<◌, count_by, eqb_
 use Rattle.rt_journal.proofs.Names.{Outcome, accepted_orders, collected_outcomes, outcome_collected, order_sent}
 use Rattle.rt_journal.proofs.Names.{is_told, is_name, outcome_note, name_collected, first_under-longer}
 use Rattle.rt_journal.proofs.Names.{first_under-came, nothing_collected_under, AreDistinct, slice_get-behind}
-use Rattle.rt_journal.proofs.Names.{option_cases, named_outcomes}
+use Rattle.rt_journal.proofs.Names.{option_cases, named_outcomes, false_from_ne_true}
 use Rattle.rt_ids.specs.declared.note.Note.TheVariants as writes
 use Rattle.rt_ids.specs.Assembly.{names_of}
 use Rattle.rt_ids.specs.declared.note.Note.TheVariants.{Collected}
@@ -29,47 +29,15 @@ module _ {J : Type 0} (sender core : ℕ) where
   pub numbered-append : (before : ℕ) (orders : List (Order J)) (order : Order J) →
       numbered_orders sender core before (orders ++ order ∷ [])
       ≡ numbered_orders sender core before orders ++ (record { from = sender; to = core; number = before + length orders + 1 }, without_job order) ∷ []
-  numbered-append before [] order = ap (λ number. (record { from = sender; to = core; number = number }, without_job order) ∷ []) (omega arith)
-  numbered-append before (first ∷ orders) order =
-      ap (λ rest. (record { from = sender; to = core; number = before + 1 }, without_job first) ∷ rest)
-      (
-      numbered-append (before + 1) orders order
-      ∙ ap (λ number. numbered_orders sender core (before + 1) orders ++ (record { from = sender; to = core; number = number }, without_job order) ∷ []) (omega arith)
-      )
+  numbered-append before [] order = grind arith
+  numbered-append before (first ∷ orders) order = grind (arith, numbered-append (before + 1) orders order)
 
 -- the order at a place of a link stands first under the name of that place
 pub first_under-numbered : {J : Type 0} (sender core before : ℕ) (orders : List (Order J)) (place : ℕ) (order : Order J) → slice_get orders place ≡ Some order →
     first_under (record { from = sender; to = core; number = before + place + 1 }) (numbered_orders sender core before orders) ≡ Some (without_job order)
 first_under-numbered sender core before [] place order at = cc
-first_under-numbered {J} sender core before (first ∷ orders) zero order at =
-    let one : first ≡ order = cc in
-    subst (λ number. first_under (record { from = sender; to = core; number = number }) (numbered_orders sender core before (first ∷ orders)) ≡ Some (without_job order)) here (found one)
-  where
-    here : before + 1 ≡ before + 0 + 1
-    here = omega arith
-
-    found : first ≡ order → first_under (record { from = sender; to = core; number = before + 1 }) (numbered_orders sender core before (first ∷ orders)) ≡ Some (without_job order)
-    found one = rw (same_as_itself (record { from = sender; to = core; number = before + 1 })) (ap (λ what. Some (without_job what)) one)
-first_under-numbered {J} sender core before (first ∷ orders) (suc place) order at =
-    passed (same_name name (record { from = sender; to = core; number = before + 1 })) refl (subst is_there later (first_under-numbered sender core (before + 1) orders place order at))
-  where
-    name : JobId
-    name = record { from = sender; to = core; number = before + suc place + 1 }
-
-    later : before + 1 + place + 1 ≡ before + suc place + 1
-    later = omega arith
-
-    is_there : ℕ → Type 0
-    is_there number = first_under (record { from = sender; to = core; number = number }) (numbered_orders sender core (before + 1) orders) ≡ Some (without_job order)
-
-    passed : (test : Bool) → same_name (record { from = sender; to = core; number = before + suc place + 1 }) (record { from = sender; to = core; number = before + 1 }) ≡ test →
-        first_under (record { from = sender; to = core; number = before + suc place + 1 }) (numbered_orders sender core (before + 1) orders) ≡ Some (without_job order) →
-        cond test (Some (without_job first)) (first_under (record { from = sender; to = core; number = before + suc place + 1 }) (numbered_orders sender core (before + 1) orders)) ≡ Some (without_job order)
-    passed false same rest = rest
-    passed true same rest =
-        let number : before + suc place + 1 ≡ before + 1 =
-        ap (λ id. id.number) (one_name (record { from = sender; to = core; number = before + suc place + 1 }) (record { from = sender; to = core; number = before + 1 }) same) in
-        absurd (omega arith)
+first_under-numbered sender core before (first ∷ orders) zero order at = grind (arith, same_as_itself)
+first_under-numbered sender core before (first ∷ orders) (suc place) order at = grind (arith, first_under-numbered sender core (before + 1) orders place order, one_name)
 
 -- so many names of one link, which count from the number behind this one
 abbrev pub names_from : ℕ → ℕ → ℕ → ℕ → List JobId
@@ -78,10 +46,7 @@ names_from sender core before (suc count) = name_of sender core (before + 1) ∷
 
 module _ (sender core : ℕ) where
   pub names_from-add : (before count more : ℕ) → names_from sender core before (count + more) ≡ names_from sender core before count ++ names_from sender core (before + count) more
-  names_from-add before zero more =
-      let none : 0 + more ≡ more = omega arith in
-      let here : before ≡ before + 0 = omega arith in
-      λ i. names_from sender core (here i) (none i)
+  names_from-add before zero more = grind arith
   names_from-add before (suc count) more =
       let one_more : suc count + more ≡ suc (count + more) = omega arith in
       let later : before + 1 + count ≡ before + suc count = omega arith in
@@ -91,18 +56,7 @@ module _ (sender core : ℕ) where
 
   -- fewer names are the beginning of more
   pub names_from-prefix : (count whole : ℕ) → count ≤ whole → IsPrefix (names_from sender core 0 count) (names_from sender core 0 whole)
-  names_from-prefix count whole within = (names_from sender core count (whole - count), rest)
-    where
-      here : 0 + count ≡ count
-      here = omega arith
-
-      all : count + (whole - count) ≡ whole
-      all = omega (arith, within)
-
-      rest : names_from sender core 0 count ++ names_from sender core count (whole - count) ≡ names_from sender core 0 whole
-      rest =
-          ap (λ at. names_from sender core 0 count ++ names_from sender core at (whole - count)) (sym here)
-          ∙ (sym (names_from-add 0 count (whole - count)) ∙ ap (names_from sender core 0) all)
+  names_from-prefix count whole within = (names_from sender core count (whole - count), grind (arith, names_from-add 0 count (whole - count)))
 
   pub names_of-numbered : {J : Type 0} (before : ℕ) (orders : List (Order J)) → names_of (numbered_orders sender core before orders) ≡ names_from sender core before (length orders)
   names_of-numbered before [] = refl
@@ -144,11 +98,7 @@ module _ {T : Type 0} (terms : Terms) (sender : ℕ) where
 
 -- the test tells names apart that aren't one
 pub other_name : (a b : JobId) → (a ≡ b → ⊥) → same_name a b ≡ false
-other_name a b apart = by_test (same_name a b) refl
-  where
-    by_test : (test : Bool) → same_name a b ≡ test → same_name a b ≡ false
-    by_test true is = absurd (apart (one_name a b is))
-    by_test false is = is
+other_name a b apart = false_from_ne_true _ (λ is. apart (one_name a b is))
 
 -- the first item counts if it passes
 count_by-first : {A : Type 0} (test : A → Bool) (item : A) (items : List A) → count_by test (item ∷ items) ≡ cond (test item) 1 0 + count_by test items
@@ -169,10 +119,8 @@ module _ {J : Type 0} (sender core : ℕ) where
         counted P before orders ≡ counted Q before orders
     counted-same before [] same = refl
     counted-same before (order ∷ orders) same =
-        first P before order orders
-        ∙ (ap (λ test. cond test 1 0 + counted P (before + 1) orders) (same (before + 1) (omega arith) (omega arith))
-        ∙ (ap (λ rest. cond (Q (name_of sender core (before + 1))) 1 0 + rest) (counted-same (before + 1) orders (λ n low high. same n (omega (arith, low)) (omega (arith, high))))
-        ∙ sym (first Q before order orders)))
+        let rest = counted-same (before + 1) orders (λ n low high. same n (omega (arith, low)) (omega (arith, high))) in
+        grind (arith, first P before order orders, first Q before order orders, same (before + 1), rest)
 
     -- one less passes a test that tells the same of each but one
     pub counted-less : (before : ℕ) (orders : List (Order J)) (number : ℕ) → before < number → number ≤ before + length orders →
@@ -200,10 +148,7 @@ module _ {J : Type 0} (sender core : ℕ) where
 
 -- one more that passes
 pub counted-more : {A : Type 0} (test : A → Bool) (items : List A) (item : A) → test item ≡ true → count_by test (items ++ item ∷ []) ≡ count_by test items + 1
-counted-more test items item passes =
-    let both : count_by test (items ++ item ∷ []) ≡ count_by test items + (0 + cond (test item) 1 0) = sum_by-append (λ x. cond (test x) 1 0) items (item ∷ []) in
-    let one : ◌≡◌ {A = ℕ} (cond (test item) 1 0) 1 = ap (λ test. cond {A = ℕ} test 1 0) passes in
-    omega (arith, both, one)
+counted-more test items item passes = grind (arith, sum_by-append (λ x. cond (test x) 1 0) items (item ∷ []))
 
 -- each number that was given has an order
 pub order_at : {A : Type 0} (orders : List A) (number : ℕ) → 0 < number → number ≤ length orders → (order : A) × (slice_get orders (number - 1) ≡ Some order)
@@ -216,10 +161,7 @@ order_at orders number low high = elim (option_cases (slice_get orders (number -
 pub numbered-missing : {J : Type 0} (sender core before : ℕ) (orders : List (Order J)) (number : ℕ) → (before < number → number ≤ before + length orders → ⊥) →
     first_under (name_of sender core number) (numbered_orders sender core before orders) ≡ None
 numbered-missing sender core before [] number out = refl
-numbered-missing sender core before (order ∷ orders) number out =
-    ap (λ test. cond test (Some (without_job order)) (first_under (name_of sender core number) (numbered_orders sender core (before + 1) orders)))
-    (other_name (name_of sender core number) (name_of sender core (before + 1)) (λ same. let is : number ≡ before + 1 = ap (λ id. id.number) same in out (omega (arith, is)) (omega (arith, is))))
-    ∙ numbered-missing sender core (before + 1) orders number (λ low high. out (omega (arith, low)) (omega (arith, high)))
+numbered-missing sender core before (order ∷ orders) number out = grind (arith, one_name, numbered-missing sender core (before + 1) orders number)
 
 module _ {J T : Type 0} (actor core number : ℕ) where
   -- an outcome that was collected stands under its name
@@ -248,17 +190,10 @@ module _ {J T : Type 0} (actor core number : ℕ) where
 -- what came last stands there, and nothing stood there before where nothing stands now
 last_there : {A : Type 0} (name : JobId) (entries : List (JobId × A)) (item : A) → first_under name (entries ++ (name, item) ∷ []) ≡ None → ⊥
 last_there name [] item none = absurd (let some : first_under name ((name, item) ∷ []) ≡ Some item = ap (λ test. cond test (Some item) None) (same_as_itself name) in cc)
-last_there name (first ∷ rest) item none = by_test (same_name name first.0) none (last_there name rest item)
-  where
-    by_test : (test : Bool) → cond test (Some first.1) (first_under name (rest ++ (name, item) ∷ [])) ≡ None → (first_under name (rest ++ (name, item) ∷ []) ≡ None → ⊥) → ⊥
-    by_test true none later = cc
-    by_test false none later = later none
+last_there name (first ∷ rest) item none = grind (arith, last_there name rest item)
 
 not_before : {A : Type 0} (name : JobId) (entries : List (JobId × A)) (entry : JobId × A) → first_under name (entries ++ entry ∷ []) ≡ None → first_under name entries ≡ None
-not_before name entries entry none = elim (option_cases (first_under name entries)) [
-  | inl is ↦ is
-  | inr some ↦ absurd (let found : first_under name (entries ++ entry ∷ []) ≡ Some some.0 = first_under-longer name entries (entry ∷ []) some.0 some.1 in cc)
-]
+not_before name entries entry none = grind (arith, first_under-longer name entries (entry ∷ []))
 
 module _ {T : Type 0} where
   told_there : (name : JobId) (journal : Journal T) → is_told name_collected name journal ≡ true → first_under name (collected_outcomes name.to journal) ≡ None → ⊥
@@ -288,19 +223,11 @@ module _ {T : Type 0} where
 
   -- where nothing stands under a name among the collected, no note says that it was collected
   pub uncollected : (name : JobId) (journal : Journal T) → first_under name (collected_outcomes name.to journal) ≡ None → is_told name_collected name journal ≡ false
-  uncollected name journal none = by_test (is_told name_collected name journal) refl
-    where
-      by_test : (test : Bool) → is_told name_collected name journal ≡ test → is_told name_collected name journal ≡ false
-      by_test false is = is
-      by_test true is = absurd (told_there name journal is none)
+  uncollected name journal none = false_from_ne_true _ (λ is. told_there name journal is none)
 
   -- what is found among the collected was told
   pub collected_told : (name : JobId) (journal : Journal T) {what : _} → first_under name (collected_outcomes name.to journal) ≡ Some what → is_told name_collected name journal ≡ true
-  collected_told name journal {what} found = by_test (is_told name_collected name journal) refl
-    where
-      by_test : (test : Bool) → is_told name_collected name journal ≡ test → is_told name_collected name journal ≡ true
-      by_test true is = is
-      by_test false is = absurd (let none : first_under name (collected_outcomes name.to journal) ≡ None = nothing_collected_under name journal is in cc)
+  collected_told name journal {what} found = grind (arith, nothing_collected_under name journal)
 
 module _ {T : Type 0} (terms : Terms) where
   -- an order that is found under a name was sent by this actor, to a core that there is

@@ -8,7 +8,6 @@ use Rattle.rt_journal.proofs.Names.{AreOutsOf, IsPick, StaysPut, None, option_ma
 use Rattle.rt_journal.proofs.Names.{Call, Doing, Makes, IsSameTask, JobOut, TurnsWhole, settled_of, IsSameSeat}
 use Rattle.rt_journal.proofs.Names.{told_under, OwesSettled, outcome_settled, PostView, HasPosted, lends, Does}
 use Rattle.rt_journal.proofs.Names.{IsPolled, Settles, post_of, IsPostingTurn, MayAnswer, TurnsNoted}
-use Rattle.rt_jobs.specs.declared.job.Step.TheVariants as steps
 use Rattle.rt_core.specs.Turns.{Picks as CorePicks}
 use Rattle.rt_journal.proofs.Ahead.{picked_did}
 use Rattle.rt_journal.proofs.QuietSteps.{nobody, everyone, HasDone, view_of, quiet_written, quiet_sent}
@@ -95,18 +94,10 @@ module _ {J T : Type 0} (said noted : DeskView J T) (slice : List (Note T)) (wro
   written_length = ap (λ (desk : DeskView J T). length desk.journal.notes) wrote
 
   pub noted_pick : (queue vr : ℕ) (name : JobId) (started : Bool) → slice ≡ pick_notes queue vr name started → length noted.journal.notes ≡ length said.journal.notes + 2
-  noted_pick queue vr name started slice_is = written_length ∙ (ap (λ slice. length (reverse slice ++ said.journal.notes)) slice_is ∙ by_started started)
-    where
-      by_started : (started : Bool) → length (reverse (pick_notes {T = T} queue vr name started) ++ said.journal.notes) ≡ length said.journal.notes + 2
-      by_started false = omega arith
-      by_started true = omega arith
+  noted_pick queue vr name started slice_is = grind arith
 
   pub noted_settled : (name : JobId) (time : ℕ) (step : Step T) → slice ≡ settle_notes name time step → length noted.journal.notes ≡ length said.journal.notes + 1
-  noted_settled name time step slice_is = written_length ∙ (ap (λ slice. length (reverse slice ++ said.journal.notes)) slice_is ∙ by_step step)
-    where
-      by_step : (step : Step T) → length (reverse (settle_notes name time step) ++ said.journal.notes) ≡ length said.journal.notes + 1
-      by_step (steps.Done out) = omega arith
-      by_step steps.Yield = omega arith
+  noted_settled name time step slice_is = grind arith
 
 module _ {J T E : Type 0} {same : J → J → Type 0} {done : J → Bool} {can_poll : J → Type 0} {made : J → ℕ} {polls : Owed J T} {answers : J → T → Type 0} (is_same : IsSameTask same)
     (answers_same : (a b : J) (out : T) → same a b → answers a out → answers b out) {out : E → Outward J T} {untouched : E → List ℕ}

@@ -1,6 +1,6 @@
 -- A core beside its journal stays recorded as an order is delivered to it: the orders by their names, the polls of a new job, and all else.
-use Rattle.rt_journal.proofs.Names.{◌≡◌, Bool, true, false, List, [], ◌∷◌, ◌++◌, refl, ◌∙◌, ap, ◌⊎◌, inl, inr, cond}
-use Rattle.rt_journal.proofs.Names.{Option, Some, None, option_map, JobId, Note, Envelope, Order, Job, same_name}
+use Rattle.rt_journal.proofs.Names.{◌≡◌, Bool, true, false, List, [], ◌∷◌, ◌++◌, refl, ◌∙◌, ap, ◌⊎◌}
+use Rattle.rt_journal.proofs.Names.{Option, Some, None, option_map, JobId, Note, Envelope, Order, Job}
 use Rattle.rt_journal.proofs.Names.{Journal, EachNote, IsOpening, one_name, same_as_itself, without_job, CarriesOut}
 use Rattle.rt_journal.proofs.Names.{DeliversAs, order_taken, note_taken, ◌+◌, sym, subst, arith, true≢false}
 use Rattle.rt_journal.proofs.Names.{false_from_ne_true, Terms, Yield, Done, is_name, delivered_names, name_delivered}
@@ -21,51 +21,24 @@ module _ {J : Type 0} (last : Envelope J) where
   -- an order stays under its name
   pub order_taken-longer : (took : List (Envelope J)) (name : JobId) (order : Order J) → order_taken took name ≡ Some order → order_taken (took ++ last ∷ []) name ≡ Some order
   order_taken-longer [] name order at = cc
-  order_taken-longer (envelope ∷ later) name order at = by_test (same_name name envelope.name) at (order_taken-longer later name order)
-    where
-      by_test : (test : Bool) → cond test (Some envelope.order) (order_taken later name) ≡ Some order →
-          (order_taken later name ≡ Some order → order_taken (later ++ last ∷ []) name ≡ Some order) →
-          cond test (Some envelope.order) (order_taken (later ++ last ∷ []) name) ≡ Some order
-      by_test true at stays = at
-      by_test false at stays = stays at
+  order_taken-longer (envelope ∷ later) name order at = grind (arith, order_taken-longer later name order)
 
   -- the last one stands under its name, if that is new
   pub order_taken-last : (took : List (Envelope J)) → order_taken took last.name ≡ None → order_taken (took ++ last ∷ []) last.name ≡ Some last.order
   order_taken-last [] none = rw (same_as_itself last.name)
-  order_taken-last (envelope ∷ later) none = by_test (same_name last.name envelope.name) none (order_taken-last later)
-    where
-      by_test : (test : Bool) → cond test (Some envelope.order) (order_taken later last.name) ≡ None →
-          (order_taken later last.name ≡ None → order_taken (later ++ last ∷ []) last.name ≡ Some last.order) →
-          cond test (Some envelope.order) (order_taken (later ++ last ∷ []) last.name) ≡ Some last.order
-      by_test true none rest = cc
-      by_test false none rest = rest none
+  order_taken-last (envelope ∷ later) none = grind (arith, order_taken-last later)
 
   -- what stands under a name stood there, or is the last one
   pub order_taken-parts : (took : List (Envelope J)) (name : JobId) (order : Order J) → order_taken (took ++ last ∷ []) name ≡ Some order →
       (order_taken took name ≡ Some order) ⊎ ((name ≡ last.name) × (last.order ≡ order))
-  order_taken-parts [] name order at = by_test (same_name name last.name) refl at
-    where
-      by_test : (test : Bool) → same_name name last.name ≡ test → cond test (Some last.order) None ≡ Some order →
-          (None ≡ Some order) ⊎ ((name ≡ last.name) × (last.order ≡ order))
-      by_test true same at = inr (one_name name last.name same, cc)
-      by_test false same at = inl at
-  order_taken-parts (envelope ∷ later) name order at = by_test (same_name name envelope.name) at (order_taken-parts later name order)
-    where
-      by_test : (test : Bool) → cond test (Some envelope.order) (order_taken (later ++ last ∷ []) name) ≡ Some order →
-          (order_taken (later ++ last ∷ []) name ≡ Some order → (order_taken later name ≡ Some order) ⊎ ((name ≡ last.name) × (last.order ≡ order))) →
-          (cond test (Some envelope.order) (order_taken later name) ≡ Some order) ⊎ ((name ≡ last.name) × (last.order ≡ order))
-      by_test true at rest = inl at
-      by_test false at rest = rest at
+  order_taken-parts [] name order at = grind (arith, one_name name last.name)
+  order_taken-parts (envelope ∷ later) name order at = grind (arith, order_taken-parts later name order)
 
 -- orders that stay under their names stay so as notes tell them
 pub note_taken-stays : {J : Type 0} (old new : List (Envelope J)) (name : JobId) →
     ((order : Order J) → order_taken old name ≡ Some order → order_taken new name ≡ Some order) →
     (what : Order (Unit {0})) → note_taken old name ≡ Some what → note_taken new name ≡ Some what
-note_taken-stays {J} old new name stays what at = by_order (order_taken old name) refl at
-  where
-    by_order : (found : Option (Order J)) → order_taken old name ≡ found → option_map without_job found ≡ Some what → note_taken new name ≡ Some what
-    by_order None is at = cc
-    by_order (Some order) is at = ap (option_map without_job) (stays order is) ∙ at
+note_taken-stays {J} old new name stays what at = grind (arith, stays)
 
 -- where orders stay under their names, each delivery stays as its order calls for
 pub as_sent-stays : {T : Type 0} (old new : JobId → Option (Order (Unit {0}))) →
@@ -148,11 +121,7 @@ module _ {J T : Type 0} {same : J → J → Type 0} {made : J → ℕ} {polls : 
   counted_here = done.delivered name.from ∙ ap (λ test. delivered_count old.journal.notes name.from + number_if test) (eq-eqb name.from name.from refl)
 
   fresh : order_taken old.took name ≡ None
-  fresh = by_order (order_taken old.took name) refl
-    where
-      by_order : (found : Option (Order J)) → order_taken old.took name ≡ found → found ≡ None
-      by_order None at = refl
-      by_order (Some order) at = let was = recorded.taken name order at in absurd (omega (arith, was.old, next.next))
+  fresh = grind (arith, recorded.taken name)
 
   pub here : order_taken received.took name ≡ Some envelope.order
   here = order_taken-last envelope old.took fresh
@@ -178,9 +147,7 @@ module _ {J T : Type 0} {same : J → J → Type 0} {made : J → ℕ} {polls : 
 
       inside : inside_count core + sum_upto (given_count longer) old.core.cores ≤ sum_upto (delivered_count longer) old.core.cores
       inside =
-          let one_more : sum_upto (delivered_count longer) old.core.cores ≡ sum_upto (delivered_count old.journal.notes) old.core.cores + 1 =
-          sum_upto-one_more (delivered_count old.journal.notes) (delivered_count longer) name.from done.delivered old.core.cores next.sender in
-          omega (arith, one_more, done.held, recorded.held.inside)
+          grind (arith, sum_upto-one_more (delivered_count old.journal.notes) (delivered_count longer) name.from done.delivered old.core.cores next.sender, done.held, recorded.held.inside)
 
   taken_now : (which : JobId) (order : Order J) → order_taken received.took which ≡ Some order → IsTaken core.cores longer which
   taken_now which order at =

@@ -62,8 +62,7 @@ module _ {J T : Type 0} {fits : Order J → Outcome J T → Type 0} (desk : Desk
       (is_accepted low high, known.gone number low high ∙ ap is_let_go why.1, awaited (lane_of.standing number entry.Pending why.1).1)
 
 or-true : (test : Bool) → (test || true) ≡ true
-or-true true = refl
-or-true false = refl
+or-true test = grind arith
 
 -- nothing was accepted under another's name
 pub foreign : {J T : Type 0} (desk : DeskView J T) → IsWritten (terms_of_desk desk) desk.journal.notes → (id ticket : JobId) → id ≡ ticket → (id.from ≡ desk.actor → id.to < desk.cores → ⊥) → RefusesTicket ticket Unknown desk.journal.notes
@@ -82,9 +81,7 @@ module _ {J T : Type 0} {fits : Order J → Outcome J T → Type 0} (desk : Desk
   was_known = known.each core lane there
 
   within : {entry : _} → at lane.entries number ≡ Some entry → (0 < number) × (number ≤ lane.count)
-  within {entry} is =
-      let sent = Stands-sent out number entry (lane_of.standing number entry is) in
-      (omega (arith, sent.0, beside.base), omega (arith, sent.1, beside.base, lane_of.count))
+  within {entry} is = grind (arith, Stands-sent out number entry (lane_of.standing number entry is))
 
   -- what isn't gone was neither redeemed nor detached
   still : is_gone name notes ≡ false → (is_told name_redeemed name notes ≡ false) × (is_told name_detached name notes ≡ false)
@@ -128,9 +125,7 @@ module _ {J T : Type 0} {fits : Order J → Outcome J T → Type 0} (desk : Desk
 
   -- a submission that was detached is outstanding until it is collected
   detached_waits : (collected : Bool) → is_told name_redeemed name notes ≡ false → is_told name_collected name notes ≡ collected → is_outstanding name (writes.Detached name ∷ notes) ≡ not collected
-  detached_waits collected redeemed is =
-      ap (λ test. not (is_told name_redeemed name notes || (test || is_told name_detached name notes) && is_told name_collected name notes)) (same_as_itself name)
-      ∙ (ap (λ test. not (test || is_told name_collected name notes)) redeemed ∙ ap not is)
+  detached_waits collected redeemed is = grind (arith, same_as_itself name)
 
   abbrev detached : DeskView J T
   detached = record desk { journal = record desk.journal { notes = writes.Detached name ∷ notes }; lanes = set desk.lanes core later }

@@ -44,8 +44,7 @@ settled_name name time steps.Yield = refl
 -- what is given by the note is the outcome that the caller is told
 pub given_told : (J : Type 0) {T : Type 0} (name : JobId) (step : Step T) (settled : Settled T) → TellsStep step settled → (sender : ℕ) →
     given_settled name step sender ≡ told_under name (option_map outcome_note (outcome_settled {J = J} settled)) sender
-given_told J name steps.Yield settled tells sender = ap (λ settled. told_under name (option_map outcome_note (outcome_settled {J = J} settled)) sender) (sym tells)
-given_told J name (steps.Done value) settled tells sender = ap (λ settled. told_under name (option_map outcome_note (outcome_settled {J = J} settled)) sender) (sym tells)
+given_told J name step settled tells sender = grind arith
 
 -- the job that is out is the one that was polled
 pub its_job_out : {J : Type 0} (who : Option (JobOut J)) (out : JobOut J) → who ≡ Some out → (job : J) → IsOut who job → out.job ≡ job
@@ -193,21 +192,10 @@ module _ {J T : Type 0} {same : J → J → Type 0} {made : J → ℕ} {polls : 
   -- whatever the step
   module _ (settled : Settled T) (notes : List (Note T)) (settles : CoreSettles old.core out ran spent ran.step settled core notes) where
     its_step : (notes ≡ written) × (core.out ≡ None) × TellsStep ran.step settled
-    its_step = by_step ran.step settled settles
-      where
-        by_step : (step : Step T) (settled : Settled T) → CoreSettles old.core out ran spent step settled core notes → (notes ≡ settle_note out.name time step ∷ []) × (core.out ≡ None) × TellsStep step settled
-        by_step (steps.Done value) (Finished answer) settles = (settles.2, ap (λ core. core.out) settles.1, ap Finished settles.0)
-        by_step (steps.Done value) Yielded settles = absurd settles
-        by_step steps.Yield (Finished answer) settles = absurd settles
-        by_step steps.Yield Yielded settles = (settles.2, ap (λ core. core.out) settles.1, refl)
+    its_step = grind arith
 
     answered : IfDone ran.step (answers its_task.sent)
-    answered = by_step ran.step polled.answered
-      where
-        by_step : (step : Step T) → IfDone step (answers ran.before) → IfDone step (answers its_task.sent)
-        by_step (steps.Done value) right =
-            answers_same out.job its_task.sent value (is_same.back its_task.sent out.job its_task.same_task) (subst (λ job. answers job value) (sym its_job) right)
-        by_step steps.Yield right = tt
+    answered = grind (arith, answers_same out.job its_task.sent, is_same.back its_task.sent out.job)
 
     owed : (calls : List (Call J T)) → polls ran.before (made ran.before) calls ran.step ran.told →
         polls its_task.sent (made its_task.sent + polls_made out.name old.journal.notes) calls ran.step ran.told
@@ -248,10 +236,7 @@ its_name who out at name is = subst (λ who. IsOutUnder who name) at is
 -- the outcome that the caller is told fits the order that was sent
 fits_settled : {J T : Type 0} (same : J → J → Type 0) (answers : J → T → Type 0) (queue : ℕ) (sent : J) (step : Step T) (settled : Settled T) → TellsStep step settled → IfDone step (answers sent) →
     IfSome (outcome_settled {J = J} settled) (Fits same answers (Job queue sent))
-fits_settled {J} same answers queue sent steps.Yield settled tells right =
-    subst (λ settled. IfSome (outcome_settled {J = J} settled) (Fits same answers (Job queue sent))) (sym tells) tt
-fits_settled {J} same answers queue sent (steps.Done value) settled tells right =
-    subst (λ settled. IfSome (outcome_settled {J = J} settled) (Fits same answers (Job queue sent))) (sym tells) right
+fits_settled same answers queue sent step settled tells right = grind arith
 
 -- what the caller is told may be answered by the job that was sent
 pub its_answer : {J T : Type 0} (answers : J → T → Type 0) (took : List (Envelope J)) (name : JobId) (queue : ℕ) (sent : J) → order_taken took name ≡ Some (Job queue sent) →

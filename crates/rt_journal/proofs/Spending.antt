@@ -1,21 +1,16 @@
 -- Each note on a submission leaves fewer that can be made before the next outcome is collected.
-use Rattle.rt_journal.proofs.Names.{◌≡◌, inl, inr, ℕ, ◌+◌, ◌*◌, ◌<◌, ◌≤◌, List, [], ◌∷◌, length, Some, refl, sym, ap}
+use Rattle.rt_journal.proofs.Names.{◌≡◌, ℕ, ◌+◌, ◌*◌, ◌<◌, ◌≤◌, List, [], ◌∷◌, length, Some, refl, sym, ap}
 use Rattle.rt_journal.proofs.Names.{subst, arith, set, get_or, slice_get, Ok, IsSome, sum_by, sum_by-set}
 use Rattle.rt_journal.proofs.Names.{slice_get_within, get_or_from_slice_get, JobId, Order, Outcome, Outward, at, tally}
-use Rattle.rt_journal.proofs.Names.{count_of, one, Adds, Removes, Lane, IsLaneOf, is_collected, is_detached, Detaches}
+use Rattle.rt_journal.proofs.Names.{count_of, Adds, Removes, Lane, IsLaneOf, is_collected, is_detached, Detaches}
 use Rattle.rt_journal.proofs.Names.{Keeps, Entry, DeskView, is_waiting, left_of, due_of, booked, Spends, HoldsSome}
-use Rattle.rt_desk.specs.declared.entry.Entry.TheVariants.{Pending, Detached, Collected}
+use Rattle.rt_desk.specs.declared.entry.Entry.TheVariants.{Pending, Collected}
 
 module _ {J T : Type 0} where
   -- each entry waits, is detached or was collected
   pub all_three : (entries : List (ℕ × Entry J T)) → count_of entries ≡ tally entries is_waiting + tally entries is_detached + tally entries is_collected
   all_three [] = refl
-  all_three (first ∷ rest) = let each : 1 ≡ one (is_waiting first.1) + one (is_detached first.1) + one (is_collected first.1) = by_entry first.1 in omega (arith, each, all_three rest)
-    where
-      by_entry : (entry : Entry J T) → 1 ≡ one (is_waiting entry) + one (is_detached entry) + one (is_collected entry)
-      by_entry Pending = refl
-      by_entry Detached = refl
-      by_entry (Collected outcome) = refl
+  all_three (first ∷ rest) = grind (arith, all_three rest)
 
   pub within_room : {fits : Order J → Outcome J T → Type 0} (lane : Lane J T) (out : Outward J T) (credited : ℕ) → IsLaneOf fits lane out credited → count_of lane.entries ≤ lane.room
   within_room lane out credited is = omega (arith, is.outstanding, is.sound.room, is.room)
@@ -36,17 +31,9 @@ module _ {J T : Type 0} where
     pub due_gone : (outcome : Outcome J T) → Removes lane.entries later.entries number (Collected outcome) → due_of later + 1 ≡ due_of lane + 0
     due_gone outcome removes = omega (arith, removes.tallies is_waiting, removes.tallies is_detached, removes.tallies is_collected)
 
-    module _ (middle : List (ℕ × Entry J T)) (entry : Entry J T) (removes : Removes lane.entries middle number Pending) (adds : Adds middle later.entries number entry) where
-      due_kept : (0 ≡ one (is_waiting entry)) → (1 ≡ one (is_detached entry) + one (is_collected entry)) → due_of later + 1 ≡ due_of lane
-      due_kept waits other =
-          omega (arith, waits, other, removes.tallies is_waiting, removes.tallies is_detached, removes.tallies is_collected, adds.tallies is_waiting, adds.tallies is_detached, adds.tallies is_collected)
-
     -- an outcome is collected: it is kept, or dropped where the submission is detached
     pub due_collected : (outcome : Outcome J T) (credited after : ℕ) → Keeps lane.entries later.entries number outcome credited after → due_of later + 1 ≡ due_of lane
-    due_collected outcome credited after keeps = elim keeps [
-      | inl kept ↦ due_kept kept.0.between (Collected outcome) kept.0.removes kept.0.adds refl refl
-      | inr dropped ↦ omega (arith, dropped.0.tallies is_waiting, dropped.0.tallies is_detached, dropped.0.tallies is_collected)
-    ]
+    due_collected outcome credited after keeps = grind arith
 
     -- it was outstanding
     pub held_gone : (outcome : Outcome J T) → Removes lane.entries later.entries number (Collected outcome) → IsSome (at lane.entries number)
@@ -54,35 +41,14 @@ module _ {J T : Type 0} where
 
   module _ (lane later : Lane J T) (number credited after : ℕ) (done : Unit {0}) (detaches : Detaches lane later number credited after (Ok done)) where
     pub spent_detached : count_of lane.entries ≤ lane.room → left_of later < left_of lane
-    spent_detached free = elim detaches.1 [
-      | inl waited ↦
-          omega (
-            arith,
-            free,
-            ap (λ lane. lane.room) detaches.0,
-            all_three lane.entries,
-            waited.0.removes.tallies is_waiting,
-            waited.0.removes.tallies is_detached,
-            waited.0.removes.tallies is_collected,
-            waited.0.adds.tallies is_waiting,
-            waited.0.adds.tallies is_detached,
-            waited.0.adds.tallies is_collected,
-          )
-      | inr had ↦ spent_gone lane later number (ap (λ lane. lane.room) detaches.0) had.0 had.1 free
-    ]
+    spent_detached free = grind (arith, all_three lane.entries)
 
     pub due_detached : due_of later + 1 ≡ due_of lane + 0
-    due_detached = elim detaches.1 [
-      | inl waited ↦ let kept : due_of later + 1 ≡ due_of lane = due_kept lane later number waited.0.between Detached waited.0.removes waited.0.adds refl refl in omega (arith, kept)
-      | inr had ↦ due_gone lane later number had.0 had.1
-    ]
+    due_detached = grind arith
 
     -- it was outstanding
     pub held_detached : IsSome (at lane.entries number)
-    held_detached = elim detaches.1 [
-      | inl waited ↦ subst IsSome (sym waited.0.removes.was) refl
-      | inr had ↦ subst IsSome (sym had.1.was) refl
-    ]
+    held_detached = grind arith
 
   -- there is room to note what becomes of a submission that is outstanding
   pub may_note : (desk now : DeskView J T) → desk ≡ now → (name : JobId) → (HoldsSome name now → length now.journal.notes < now.journal.room) → (core number : ℕ) → core ≡ name.to → number ≡ name.number →

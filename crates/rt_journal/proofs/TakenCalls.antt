@@ -1,10 +1,10 @@
 -- The calls of a desk on the lane that they took: an order is submitted, a ticket is redeemed or detached, or each is refused.
 use Rattle.rt_journal.proofs.Names.{◌≡◌, inl, inr, ℕ, ◌+◌, true, false, Some, [], ◌∷◌, ◌++◌, length, refl, sym, ◌∙◌}
-use Rattle.rt_journal.proofs.Names.{ap, subst, arith, set, ◌==◌, ◌&&◌, ◌||◌, not, Ok, Err, is_some, slice_get}
-use Rattle.rt_journal.proofs.Names.{count_by, eq-eqb, ne_eqb, eqb_tells, length-append, JobId, Order, Outcome}
+use Rattle.rt_journal.proofs.Names.{ap, subst, arith, set, Ok, Err, is_some, slice_get}
+use Rattle.rt_journal.proofs.Names.{count_by, eqb_tells, length-append, JobId, Order, Outcome}
 use Rattle.rt_journal.proofs.Names.{SendError, Closed, Full, NoCore, Journal, is_told, accepted_orders, IsNextSent}
 use Rattle.rt_journal.proofs.Names.{IsSpelledOrder, without_job, outstanding_count, is_outstanding, is_gone}
-use Rattle.rt_journal.proofs.Names.{name_redeemed, name_detached, name_collected, Outward, Sends, JournalView, at}
+use Rattle.rt_journal.proofs.Names.{name_redeemed, name_detached, Outward, Sends, JournalView, at}
 use Rattle.rt_journal.proofs.Names.{Adds, Lane, IsLaneOf, changed, unchanged, numbered_orders, DeskView, IsWritten}
 use Rattle.rt_journal.proofs.Names.{Submits, terms_of_desk, IsOutOf, name_of, KnowsLane, KnowsLanes, StaysBeside}
 use Rattle.rt_journal.proofs.Names.{is_let_go, HasLane, ◌≢◌, KeepsOut, ◌<◌, TicketError, OutcomeNote, outcome_note}
@@ -46,14 +46,7 @@ module _ {J T : Type 0} (core : ℕ) (desk : DeskView J T) (out now : Outward J 
     longer = submitted.journal.notes
 
     next_sent : IsNextSent (terms_of_desk desk) name (without_job order) journal
-    next_sent = record {
-      sender = refl;
-      receiver = is.known;
-      next = omega (arith, sends.2, is.base, accepted_count);
-      in_range = sends.3;
-      credit = omega (arith, is.outstanding, sends.1, is.capacity);
-      spelled = spelled;
-    }
+    next_sent = grind (arith, accepted_count)
 
     submits-accepted : Submits core order desk (Ok name) submitted
     submits-accepted = (next_sent, refl, refl)
@@ -66,16 +59,10 @@ module _ {J T : Type 0} (core : ℕ) (desk : DeskView J T) (out now : Outward J 
     }
 
     accepted_here : accepted_orders core longer ≡ accepted_orders core journal ++ (name, without_job order) ∷ []
-    accepted_here = found (eq-eqb core core refl)
-      where
-        found : (core == core) ≡ true → accepted_orders core longer ≡ accepted_orders core journal ++ (name, without_job order) ∷ []
-        found one = rw one
+    accepted_here = grind arith
 
     accepted_there : (other : ℕ) → (other ≡ core → ⊥) → accepted_orders other longer ≡ accepted_orders other journal
-    accepted_there other away = missed (ne_eqb core other (λ one. away (sym one)))
-      where
-        missed : (core == other) ≡ false → accepted_orders other longer ≡ accepted_orders other journal
-        missed one = rw one
+    accepted_there other away = grind arith
 
     sent_now : now.sent ≡ out.sent ++ order ∷ []
     sent_now = ap (λ end. end.sent) sends.4
@@ -90,10 +77,7 @@ module _ {J T : Type 0} (core : ℕ) (desk : DeskView J T) (out now : Outward J 
     not_gone = was_known.unsent number (omega (arith, next_number))
 
     waits_now : is_outstanding name journal ≡ true
-    waits_now =
-        let apart = neither (is_told name_redeemed name journal) (is_told name_detached name journal) false not_gone in
-        ap (λ redeemed. not (redeemed || is_told name_detached name journal && is_told name_collected name journal)) apart.0
-        ∙ ap (λ detached. not (detached && is_told name_collected name journal)) apart.1
+    waits_now = grind (arith, neither (is_told name_redeemed name journal) (is_told name_detached name journal) false not_gone)
 
     later_known : KnowsLane desk.actor core longer later
     later_known = record {

@@ -1,11 +1,11 @@
 -- Actors that are recorded each by itself are joined, where the ends of their links are.
-use Rattle.rt_journal.proofs.Names.{◌≡◌, ℕ, ◌+◌, ◌<◌, ◌≤◌, Bool, true, false, List, [], ◌∷◌, length, refl, sym, ◌∙◌}
+use Rattle.rt_journal.proofs.Names.{◌≡◌, ℕ, ◌+◌, ◌<◌, ◌≤◌, List, [], ◌∷◌, length, refl, sym, ◌∙◌}
 use Rattle.rt_journal.proofs.Names.{ap, subst, ⊎_elim, arith, Option, Some, None, take, drop, slice_get, option_map}
-use Rattle.rt_journal.proofs.Names.{cases_lt, length-append, map-append, take-append-drop, same_Some, Terms, terms_of}
+use Rattle.rt_journal.proofs.Names.{cases_lt, length-append, map-append, take-append-drop, Terms, terms_of}
 use Rattle.rt_journal.proofs.Names.{JobId, Note, Order, Outcome, Assembly, IsPrefix, journal_of, first_under, order_of}
 use Rattle.rt_journal.proofs.Names.{final_count, accepted_orders, delivered_names, given_outcomes, collected_outcomes}
 use Rattle.rt_journal.proofs.Names.{AreJoined, LinksAgree, DeliversAs, DeliversAsSent, Journal, EachNote, IsLawful}
-use Rattle.rt_journal.proofs.Names.{MayStand, MayWrite, jobs_out, without_job, Owed, Outward, Inward, Joined, final_of}
+use Rattle.rt_journal.proofs.Names.{MayStand, MayWrite, jobs_out, without_job, Owed, Outward, Inward, Joined}
 use Rattle.rt_journal.proofs.Names.{IsJobOut, numbered_orders, DeskView, terms_of_desk, RecordedView, terms_at}
 use Rattle.rt_journal.proofs.Names.{note_taken, order_taken, IsOutOf, IsInOf, name_of, named_outcomes, AreTogether}
 use Rattle.rt_journal.proofs.Names.{IsAssemblyOf}
@@ -127,13 +127,7 @@ module _ {J T : Type 0} {same : J → J → Type 0} {made : J → ℕ} {polls : 
         seen_got = (drop (out sender d).got (out sender d).seen, take-append-drop (out sender d).got (out sender d).seen)
 
     gate : (count : ℕ) → final_count sender (notes_at d) ≡ Some count → count ≡ length (accepted_orders d (notes_at sender))
-    gate count told = by_gate (inward sender d).shut refl (sym ins.gate ∙ (ap (final_count sender) (sym (notes_are d d_there)) ∙ told))
-      where
-        by_gate : (shut : Bool) → (inward sender d).shut ≡ shut → final_of (inward sender d) shut ≡ Some count → count ≡ length (accepted_orders d (notes_at sender))
-        by_gate false still final = cc
-        by_gate true closed final =
-            let all : length (inward sender d).seen ≡ length (out sender d).sent = ap length (link.final closed) in
-            omega (arith, same_Some ((inward sender d).base + length (inward sender d).seen) count final, ins.base, accepted_count, all)
+    gate count told = grind (arith, ins.gate, notes_are d d_there, link.final, accepted_count, ins.base)
 
   -- what a core took under a name is what was accepted under it
   sent_under : (d : ℕ) → d < cores → (name : JobId) (what : Order (Unit {0})) → note_taken (core d).took name ≡ Some what → order_of name assembly ≡ Some what

@@ -1,5 +1,5 @@
 use Rattle.rt_journal.proofs.Names.{[], length, refl, ◌∙◌, ap, subst, arith, length-append, StartsWith-self, DeskView}
-use Rattle.rt_journal.proofs.Names.{IsWritten, terms_of_desk, KnowsLanes}
+use Rattle.rt_journal.proofs.Names.{IsWritten, terms_of_desk, KnowsLanes, CollectsFrom, ◌≡◌, ◌+◌}
 use Rattle.rt_journal.proofs.Desked.{stays_nothing}
 use Rattle.rt_journal.proofs.CollectedNext.{stays_then, gathers_more, end_more, gathers_no_more, gets_all}
 use Rattle.rt_journal.proofs.desk.RecordedDesk.collect_from.Goals as goal
@@ -7,25 +7,15 @@ use Rattle.rt_journal.proofs.desk.RecordedDesk.collect_from.Goals as goal
 pub loop-core-init : goal.loop-core-init
 loop-core-init g c =
     let invariant = subst (λ desk. IsWritten (terms_of_desk desk) desk.journal.notes × KnowsLanes desk) c.self.view_is c.self.invariant in
-    record {
-      stays = stays_nothing c.args.self.now invariant.1 c.args.core (g.O.OutEnd.out c.args.end.now) (g.O.OutEnd.credited c.args.end.now) invariant.0 c.requires.beside c.requires.lane;
-      gathered = ([], tt, refl, refl);
-      end = refl;
-      longer = StartsWith-self (g.O.OutEnd.out c.args.end.now).seen;
-      room = c.requires.room;
-      counted = omega arith;
-      books = refl;
-      untouched = refl;
-    }
+    let none : CollectsFrom c.args.core c.args.self.now 0 c.args.self.now = ([], tt, refl, refl) in
+    let counted : 0 + (g.O.OutEnd.out c.args.end.now).got ≡ (g.O.OutEnd.out c.args.end.now).got = omega arith in
+    assumption (
+      stays_nothing c.args.self.now invariant.1 c.args.core (g.O.OutEnd.out c.args.end.now) (g.O.OutEnd.credited c.args.end.now) invariant.0 c.requires.beside c.requires.lane,
+      StartsWith-self (g.O.OutEnd.out c.args.end.now).seen,
+    )
 
-pub collect_one-requires-clause-beside : goal.collect_one-requires-clause-beside
-collect_one-requires-clause-beside g c = c.loop-core.invariant.stays.beside
-
-pub collect_one-requires-clause-lane : goal.collect_one-requires-clause-lane
-collect_one-requires-clause-lane g c = c.loop-core.invariant.stays.lane
-
-pub collect_one-requires-clause-room : goal.collect_one-requires-clause-room
-collect_one-requires-clause-room g c = c.loop-core.invariant.room
+pub collect_one-requires : goal.collect_one-requires
+collect_one-requires g c = let loop = c.loop-core.invariant in assumption (loop, loop.stays)
 
 pub overflow_add-count : goal.overflow_add-count
 overflow_add-count g c =
