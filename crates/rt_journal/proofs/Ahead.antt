@@ -1,8 +1,8 @@
 -- What a core tells ahead of a pick is what its journal says; and a core picks: the right pick takes a job out, or hands it back, or the core says why there is none.
 use Rattle.rt_journal.proofs.Names.{◌≡◌, ℕ, ◌-◌, ◌^◌, Bool, true, false, List, [], ◌∷◌, refl, sym, ◌∙◌, ap, subst}
-use Rattle.rt_journal.proofs.Names.{arith, None, Result, Ok, Err, JobId, Note, KeyAtMost, line, turns}
-use Rattle.rt_journal.proofs.Names.{has_work, no_work, work_of_line, Owed, waiting_of, Turn, Start, Resume, Idle}
-use Rattle.rt_journal.proofs.Names.{PickError, Busy, CoreView, runtime_of, TakesOut, TellsAhead, some_front, IsJobOut}
+use Rattle.rt_journal.proofs.Names.{arith, None, Result, Ok, Err, JobId, Note, KeyAtMost, line, turns, has_work}
+use Rattle.rt_journal.proofs.Names.{no_work, work_of_line, Owed, waiting_of, Turn, Start, Resume, Idle, PickError}
+use Rattle.rt_journal.proofs.Names.{Busy, CoreView, runtime_of, TakesOut, TellsAhead, some_front, IsJobOut}
 use Rattle.rt_journal.proofs.Names.{RecordedView, IsRecorded, terms_at, IsBack, ◌+◌, ◌<◌, ◌≤◌, ◌++◌, length, add-zero}
 use Rattle.rt_journal.proofs.Names.{◌==◌, Some, All, is_some, same_Some, All-head, All-tail, most_turns, Pick, Job}
 use Rattle.rt_journal.proofs.Names.{Reason, Journal, is_told, pick_count, number_if, length-with_last_if, if_from}
@@ -73,8 +73,7 @@ none≢some : {A : Type 0} (item : A) → None ≡ Some item → ⊥
 none≢some item same = cc
 
 pick_at_most_one : {T : Type 0} (note : Note T) → pick_count note ≤ 1
-pick_at_most_one (Pick queue runtime) = omega arith
-pick_at_most_one _ = omega arith
+pick_at_most_one note = grind arith
 
 -- each turn has its pick among the notes
 pub turns-within : {T : Type 0} (journal : Journal T) → turns journal ≤ length journal
@@ -84,8 +83,7 @@ turns-within (note ∷ before) = omega (arith, pick_at_most_one note, turns-with
 -- the notes of a poll that begins settle none
 no_polls : {T : Type 0} (which name : JobId) (queue runtime : ℕ) (was_started : Bool) (journal : Journal T) →
     polls_made which (poll_note name was_started ∷ Pick queue runtime ∷ journal) ≡ polls_made which journal
-no_polls which name queue runtime false journal = add-zero (polls_made which journal + 0) ∙ add-zero (polls_made which journal)
-no_polls which name queue runtime true journal = add-zero (polls_made which journal + 0) ∙ add-zero (polls_made which journal)
+no_polls which name queue runtime was_started journal = grind arith
 
 module _ {J T : Type 0} {same : J → J → Type 0} {made : J → ℕ} {polls : Owed J T}
     (old : RecordedView J T) (recorded : IsRecorded same made polls old) (left : turns old.journal.notes < most_turns) (core : CoreView J) where

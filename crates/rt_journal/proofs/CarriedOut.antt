@@ -9,9 +9,9 @@ use Rattle.rt_journal.proofs.Names.{CoreView, inside_count, Enters, Creates, Wei
 use Rattle.rt_journal.proofs.Names.{polls_made, IsDelivery, entry_note, IsKept, DeliversAs, GivesMore, told_under}
 use Rattle.rt_journal.proofs.Names.{OutcomeNote, RecordedView, terms_at, sum_upto, delivered_count, given_count}
 use Rattle.rt_journal.proofs.Names.{le-leb, Close, CloseCore, Mode, closes, queue_mode, core_mode, created_count}
-use Rattle.rt_journal.proofs.Names.{mode_of, HasClosed, Agrees, inl, ◌<◌, ◌≢◌, IfSome, reverse, IsSameTask}
-use Rattle.rt_journal.proofs.Names.{Fits, option_map, outcome_note, outcome_delivered, lt-leb}
-use Rattle.rt_journal.proofs.Names.{IsSpelledOrder, Delivered, Took, if_from}
+use Rattle.rt_journal.proofs.Names.{mode_of, HasClosed, Agrees, inl, ◌<◌, ◌≢◌, IfSome, reverse, IsSameTask, Fits}
+use Rattle.rt_journal.proofs.Names.{option_map, outcome_note, outcome_delivered, lt-leb, IsSpelledOrder, Delivered}
+use Rattle.rt_journal.proofs.Names.{Took, if_from}
 use Rattle.rt_ids.specs.declared.note.Note.TheVariants as writes
 use Rattle.rt_ids.specs.declared.order.Answer.TheVariants as answers
 pub use Rattle.rt_journal.specs.Ends.{KeepsLists}

@@ -1,17 +1,15 @@
 -- The next outcome of a core is collected, and noted; so are all that an end shows, one after another.
 use Rattle.rt_journal.proofs.Names.{◌≡◌, ◌≢◌, inl, inr, ℕ, ◌+◌, ◌-◌, ◌<◌, ◌≤◌, Bool, true, false, List, [], ◌∷◌, ◌++◌}
 use Rattle.rt_journal.proofs.Names.{length, Some, None, refl, sym, ◌∙◌, ap, subst, arith, cond, set, Option, unwrap_or}
-use Rattle.rt_journal.proofs.Names.{◌||◌, not, is_some, slice_get, take, IfSome, eq-eqb, take_more}
-use Rattle.rt_journal.proofs.Names.{take-append-le, map-append, slice_get_within, get_or_from_slice_get, JobId}
-use Rattle.rt_journal.proofs.Names.{OutcomeNote, Order, Outcome}
-use Rattle.rt_journal.proofs.Names.{IsNextCollected, collected_outcomes, Journal, is_told, with_last, without_job}
-use Rattle.rt_journal.proofs.Names.{outcome_note, FitsOrder, IsSpelledOutcome, outstanding_count}
-use Rattle.rt_journal.proofs.Names.{is_gone, is_outstanding, name_redeemed, name_detached, name_collected}
-use Rattle.rt_journal.proofs.Names.{same_as_itself, Outward, StartsWith, Fits}
-use Rattle.rt_journal.proofs.Names.{JournalView, at, Lane, IsLaneOf, IsAwaited, IsSent, CollectsNext, told_of}
-use Rattle.rt_journal.proofs.Names.{taken-get, DeskView, IsWritten, terms_of_desk, IsOutOf, ShowsMore, name_of}
-use Rattle.rt_journal.proofs.Names.{named_outcomes, KnowsLane, KnowsLanes, StaysBeside, is_let_go, booked}
-use Rattle.rt_journal.proofs.Names.{append_assoc, CollectsFrom, GetsAll, GetsNext}
+use Rattle.rt_journal.proofs.Names.{◌||◌, not, is_some, slice_get, take, IfSome, eq-eqb, take_more, take-append-le}
+use Rattle.rt_journal.proofs.Names.{map-append, slice_get_within, get_or_from_slice_get, JobId, OutcomeNote, Order}
+use Rattle.rt_journal.proofs.Names.{Outcome, IsNextCollected, collected_outcomes, Journal, is_told, with_last}
+use Rattle.rt_journal.proofs.Names.{without_job, outcome_note, FitsOrder, IsSpelledOutcome, outstanding_count, is_gone}
+use Rattle.rt_journal.proofs.Names.{is_outstanding, name_redeemed, name_detached, name_collected, same_as_itself}
+use Rattle.rt_journal.proofs.Names.{Outward, StartsWith, Fits, JournalView, at, Lane, IsLaneOf, IsAwaited, IsSent}
+use Rattle.rt_journal.proofs.Names.{CollectsNext, told_of, taken-get, DeskView, IsWritten, terms_of_desk, IsOutOf}
+use Rattle.rt_journal.proofs.Names.{ShowsMore, name_of, named_outcomes, KnowsLane, KnowsLanes, StaysBeside, is_let_go}
+use Rattle.rt_journal.proofs.Names.{booked, append_assoc, CollectsFrom, GetsAll, GetsNext}
 use Rattle.rt_ids.specs.declared.note.Note.TheVariants as writes
 use Rattle.rt_desk.specs.declared.entry.Entry.TheVariants as entry
 use Rattle.rt_journal.proofs.Desked.{desk_same, HasTaken, carry, refused_stays}

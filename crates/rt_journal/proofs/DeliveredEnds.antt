@@ -1,10 +1,9 @@
 -- The ends of links stay beside a core and its journal as an order is delivered.
-use Rattle.rt_journal.proofs.Names.{◌≡◌, ℕ, suc, ◌+◌, cond, List, [], ◌∷◌, length, refl, sym}
-use Rattle.rt_journal.proofs.Names.{◌∙◌, ap, subst, ◌⊎◌, ⊎_elim, arith, ◌==◌, Option, Some, None, slice_get}
-use Rattle.rt_journal.proofs.Names.{option_map, eq-eqb, ne_eqb, JobId, Envelope, Order, Outcome, OutcomeNote}
-use Rattle.rt_journal.proofs.Names.{with_last, outcome_note, given_outcomes, number_if, Inward}
-use Rattle.rt_journal.proofs.Names.{SoundIn, AreNamed, Takes, RecordedView, desk_of, order_taken}
-use Rattle.rt_journal.proofs.Names.{delivered_count, IsInOf, IsInOwing, IsUngiven, GivesMore, told_under}
+use Rattle.rt_journal.proofs.Names.{◌≡◌, ℕ, suc, ◌+◌, cond, List, [], ◌∷◌, length, refl, sym, ◌∙◌, ap, subst, ◌⊎◌}
+use Rattle.rt_journal.proofs.Names.{⊎_elim, arith, ◌==◌, Option, Some, None, slice_get, option_map, eq-eqb, ne_eqb}
+use Rattle.rt_journal.proofs.Names.{JobId, Envelope, Order, Outcome, OutcomeNote, with_last, outcome_note}
+use Rattle.rt_journal.proofs.Names.{given_outcomes, number_if, Inward, SoundIn, AreNamed, Takes, RecordedView, desk_of}
+use Rattle.rt_journal.proofs.Names.{order_taken, delivered_count, IsInOf, IsInOwing, IsUngiven, GivesMore, told_under}
 use Rattle.rt_journal.proofs.Names.{KeepsIn, IsSameSeat, named_outcomes, IsNextIn, Receives, KeepsOuts}
 use Rattle.rt_journal.proofs.Received.{order_taken-parts}
 use Rattle.rt_journal.proofs.EndsKept.{keeps_in, slice_get-seen, keeps_outs, sees_more_in, final_of-more}

@@ -16,8 +16,7 @@ prefix-along a b c one two = (one.0 ++ two.0, sym (append_assoc a one.0 two.0) �
 
 pub slice_get-prefix : {A : Type 0} (front rest : List A) (place : ℕ) (item : A) → slice_get front place ≡ Some item → slice_get (front ++ rest) place ≡ Some item
 slice_get-prefix [] rest place item at = cc
-slice_get-prefix (first ∷ front) rest zero item at = at
-slice_get-prefix (first ∷ front) rest (suc place) item at = slice_get-prefix front rest place item at
+slice_get-prefix (first ∷ front) rest place item at = grind (arith, slice_get-prefix front rest)
 
 -- an item stays at its place in a list that sees more
 pub slice_get-seen : {A : Type 0} (whole front : List A) → StartsWith whole front → (place : ℕ) (item : A) → slice_get front place ≡ Some item → slice_get whole place ≡ Some item
@@ -100,8 +99,7 @@ last_or_before (first ∷ items) (Some more) zero item at = inl at
 last_or_before (first ∷ items) (Some more) (suc place) item at = last_or_before items (Some more) place item at
 
 nothing_at : {A : Type 0} (place : ℕ) (item : A) → slice_get [] place ≡ Some item → ⊥
-nothing_at zero item at = none-some item at
-nothing_at (suc place) item at = none-some item at
+nothing_at place item at = grind arith
 
 another : (name other : JobId) → same_name name other ≡ false → other ≡ name → ⊥
 another name other apart one = true≢false (sym (same_as_itself name) ∙ subst (λ other. same_name name other ≡ false) one apart)

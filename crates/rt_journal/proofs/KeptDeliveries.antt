@@ -1,17 +1,17 @@
 -- What a core tells of itself stays what its journal says, as a submission is delivered: a job enters or goes back, a command is answered, creates, weighs or closes; and as a gate is shut.
 use Rattle.rt_journal.proofs.Names.{◌≡◌, ℕ, ◌+◌, ◌<◌, ◌≤◌, Bool, true, false, [], ◌∷◌, ◌++◌, length, refl, sym, ◌∙◌}
 use Rattle.rt_journal.proofs.Names.{ap, subst, arith, get_or, set, get_or-set_same, get_or-set_other, cond, ◌==◌}
-use Rattle.rt_journal.proofs.Names.{Option, Some, None, is_some, max, eqb-true, eqb-false, true≢false, map-append}
+use Rattle.rt_journal.proofs.Names.{Option, Some, None, is_some, max, true≢false, map-append}
 use Rattle.rt_journal.proofs.Names.{All-append, All-cons, All-nil, Terms, JobId, same_name, Journal, EachNote, is_told}
 use Rattle.rt_journal.proofs.Names.{with_last, delivered_names, name_started, if_from, has_work, queue_of}
-use Rattle.rt_journal.proofs.Names.{virtual_runtime, line, refusal, MayStand, IsNextDelivered, known_of}
-use Rattle.rt_journal.proofs.Names.{not_old, started_of, line-took, line-took_elsewhere, false_from_ne_true}
-use Rattle.rt_journal.proofs.Names.{same_as_itself, virtual_runtime-took_idle, virtual_runtime-took_busy}
+use Rattle.rt_journal.proofs.Names.{virtual_runtime, line, refusal, MayStand, IsNextDelivered, known_of, not_old}
+use Rattle.rt_journal.proofs.Names.{started_of, line-took, line-took_elsewhere, false_from_ne_true, same_as_itself}
+use Rattle.rt_journal.proofs.Names.{virtual_runtime-took_idle, virtual_runtime-took_busy}
 use Rattle.rt_journal.proofs.Names.{virtual_runtime-took_elsewhere, floor-stays, waiting_of, CoreView, JobOut}
 use Rattle.rt_journal.proofs.Names.{no_tally, tally_of, runtime_of, delivered_of, is_working, entry_runtime, Enters}
 use Rattle.rt_journal.proofs.Names.{counted, Agrees, IsJobOut, AreMarked, figures_of, figures_told, Note, Order}
 use Rattle.rt_journal.proofs.Names.{Reason, Answer, shares, created_count, IsAnswer, has_effect, CountsAlone}
-use Rattle.rt_journal.proofs.Names.{queue_just_picked, effect_awaited, inr, zero, suc, List, nat_le, le-leb, lt-leb}
+use Rattle.rt_journal.proofs.Names.{queue_just_picked, effect_awaited, inr, List, nat_le, le-leb, lt-leb}
 use Rattle.rt_journal.proofs.Names.{length-append, InRange, list_told, core_mode, IsCreationAnswer, queue_created}
 use Rattle.rt_journal.proofs.Names.{shares-created, shares-created_elsewhere, shares-set, shares-set_elsewhere}
 use Rattle.rt_journal.proofs.Names.{queue_count, shares_of, Creates, Weighs, slice_set, Mode, or_else, queue_mode}
@@ -184,10 +184,8 @@ module _ {J T : Type 0} (terms : Terms) (old new : CoreView J) (name : JobId) (j
 
 -- one more at the end, that is what is read past the end, is not seen
 get_or-append_default : {A : Type 0} (items : List A) (default : A) (place : ℕ) → get_or (items ++ default ∷ []) place default ≡ get_or items place default
-get_or-append_default [] default zero = refl
-get_or-append_default [] default (suc place) = refl
-get_or-append_default (item ∷ items) default zero = refl
-get_or-append_default (item ∷ items) default (suc place) = get_or-append_default items default place
+get_or-append_default [] default place = grind arith
+get_or-append_default (item ∷ items) default place = grind (arith, get_or-append_default items default)
 
 module _ {J T : Type 0} (old new : CoreView J) (queue weight : ℕ) (journal : Journal T) (agrees : Agrees old journal) where
   -- a queue is created
@@ -270,29 +268,18 @@ module _ {J T : Type 0} (old new : CoreView J) (journal : Journal T) (agrees : A
   -- a gate is shut
   pub agrees-shut : (from count : ℕ) → from ≤ old.cores → new ≡ record old { gates = slice_set old.gates from (Some count) } → Agrees new (writes.Shut from count ∷ journal)
   agrees-shut from count known is =
+      let places = length-set old.gates from (Some count) ∙ agrees.closing.gate_places in
+      let gates : (sender : ℕ) → get_or (slice_set old.gates from (Some count)) sender None ≡ or_else (cond (sender == from) (Some count) None) (final_count sender journal) =
+      λ sender. grind (arith, get_or-set_same old.gates from (Some count) None, get_or-set_other old.gates from sender (Some count) None, agrees.closing.gates sender) in
       subst (λ core. Agrees core (writes.Shut from count ∷ journal)) (sym is)
       (agrees_unmoved old journal (writes.Shut from count) agrees refl refl (λ queue. refl) old.delivered agrees.senders agrees.delivered
-      (slice_set old.gates from (Some count)) old.mode
-      (record {
-        modes = agrees.closing.modes;
-        mode = agrees.closing.mode;
-        gate_places = length-set old.gates from (Some count) ∙ agrees.closing.gate_places;
-        gates = λ sender. gate_now sender (sender == from) refl;
-      }))
-    where
-      gate_now : (sender : ℕ) (test : Bool) → (sender == from) ≡ test → get_or (slice_set old.gates from (Some count)) sender None ≡ or_else (cond test (Some count) None) (final_count sender journal)
-      gate_now sender true same =
-          ap (λ at. get_or (slice_set old.gates from (Some count)) at None) (eqb-true sender from same)
-          ∙ get_or-set_same old.gates from (Some count) None (omega (arith, known, agrees.closing.gate_places))
-      gate_now sender false apart = get_or-set_other old.gates from sender (Some count) None (eqb-false sender from apart) ∙ agrees.closing.gates sender
+      (slice_set old.gates from (Some count)) old.mode (assumption (places, gates)))
 
   -- a queue is closed
   pub agrees-queue_closed : (queue : ℕ) (mode : Mode) → HasClosed old queue mode new → Agrees new (writes.QueueClosed queue mode ∷ journal)
   agrees-queue_closed queue mode has =
+      let modes : (other : ℕ) → mode_of other new.queues ≡ or_else (cond (other == queue) (Some mode) None) (queue_mode other journal) =
+      λ other. grind (arith, has.closed.changed, has.closed.others other, agrees.closing.modes other) in
       agrees_steady old new journal (writes.QueueClosed queue mode) agrees refl new.queues old.tallies has.rest has.closed.same_lines (λ other. refl) (agrees.tallied ∙ sym has.closed.same_count)
       (has.closed.same_count ∙ agrees.last) (omega (arith, has.closed.same_count))
-      (λ other there. has.closed.same_shares other ∙ agrees.weights other (rw (← has.closed.same_count) there)) (λ sender. refl) (assumption (λ (other : ℕ). mode_now other (other == queue) refl))
-    where
-      mode_now : (other : ℕ) (test : Bool) → (other == queue) ≡ test → mode_of other new.queues ≡ or_else (cond test (Some mode) None) (queue_mode other journal)
-      mode_now other true same = ap (λ at. mode_of at new.queues) (eqb-true other queue same) ∙ has.closed.changed
-      mode_now other false apart = has.closed.others other (eqb-false other queue apart) ∙ agrees.closing.modes other
+      (λ other there. has.closed.same_shares other ∙ agrees.weights other (rw (← has.closed.same_count) there)) (λ sender. refl) (assumption modes)

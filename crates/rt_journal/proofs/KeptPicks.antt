@@ -4,15 +4,14 @@ use Rattle.rt_journal.proofs.Names.{true≢false, or_parts, All-cons, All-nil, A
 use Rattle.rt_journal.proofs.Names.{Journal, is_told, name_started, among, one_name, same_as_itself}
 use Rattle.rt_journal.proofs.Names.{is_told-start_elsewhere, AreMarked, Note, queue_joined, charge_noted}
 use Rattle.rt_journal.proofs.Names.{runtime_picked, pick_count, figures_noted, no_figures, ℕ, ◌+◌, ◌<◌, ◌≤◌, length}
-use Rattle.rt_journal.proofs.Names.{refl, ap, arith, get_or_past, Some, None, max}
-use Rattle.rt_journal.proofs.Names.{same_Some, Terms, most_turns, KeyAtMost, delivered_names, queue_of}
-use Rattle.rt_journal.proofs.Names.{virtual_runtime, shares, line, jobs_out, IsRightPick, turns, queue_just_picked}
-use Rattle.rt_journal.proofs.Names.{created_count, effect_awaited, MayStand, IsTurnOf, jobs_out-start, jobs_out-resume}
-use Rattle.rt_journal.proofs.Names.{known_of, Distinct, apart_of, line-turn, line-turn_elsewhere}
-use Rattle.rt_journal.proofs.Names.{virtual_runtime-stays, floor-stays, right_pick_of_lines, queue_count, waiting_of}
-use Rattle.rt_journal.proofs.Names.{no_queue, CoreView, JobOut, tally_of, runtime_of, delivered_of, TakesOut}
-use Rattle.rt_journal.proofs.Names.{AgreesOnClosing, IsJobOut, figures_of, figures_told, poll_note, set, Reason}
-use Rattle.rt_journal.proofs.Names.{EachNote, HandsBack, Agrees, ⊎_elim, cases_lt}
+use Rattle.rt_journal.proofs.Names.{refl, ap, arith, get_or_past, Some, None, max, same_Some, Terms, most_turns}
+use Rattle.rt_journal.proofs.Names.{KeyAtMost, delivered_names, queue_of, virtual_runtime, shares, line, jobs_out}
+use Rattle.rt_journal.proofs.Names.{IsRightPick, turns, queue_just_picked, created_count, effect_awaited, MayStand}
+use Rattle.rt_journal.proofs.Names.{IsTurnOf, jobs_out-start, jobs_out-resume, known_of, Distinct, apart_of, line-turn}
+use Rattle.rt_journal.proofs.Names.{line-turn_elsewhere, virtual_runtime-stays, floor-stays, right_pick_of_lines}
+use Rattle.rt_journal.proofs.Names.{queue_count, waiting_of, no_queue, CoreView, JobOut, tally_of, runtime_of}
+use Rattle.rt_journal.proofs.Names.{delivered_of, TakesOut, AgreesOnClosing, IsJobOut, figures_of, figures_told}
+use Rattle.rt_journal.proofs.Names.{poll_note, set, Reason, EachNote, HandsBack, Agrees, ⊎_elim, cases_lt}
 use Rattle.rt_ids.specs.declared.note.Note.TheVariants as writes
 use Rattle.rt_journal.specs.Agreement.{names_of}
 use Rattle.std.proofs.Common.{length-set}
@@ -21,8 +20,7 @@ use Rattle.rt_core.specs.Closing as core
 use Rattle.rt_journal.proofs.Sums.{everywhere}
 use Rattle.rt_journal.proofs.Kept.{set_runtime, figures-grow, figures-stays, one_pick, counts-pick, told-picked}
 use Rattle.rt_journal.proofs.Kept.{SameModes, IsOpenNote, same_modes, closing-stays, return_reason-agrees, IsKept}
-use Rattle.rt_journal.proofs.Kept.{plainly_stands, turns-stays, one_return, counts-return, told-returned}
-use Rattle.rt_journal.proofs.KeptSettles.{none≢some}
+use Rattle.rt_journal.proofs.Kept.{plainly_stands, turns-stays, one_return, counts-return, told-returned, none≢some}
 
 -- a name that isn't among some is none of them
 pub other_way : (name other : JobId) → same_name name other ≡ false → same_name other name ≡ false
@@ -177,30 +175,26 @@ module _ {J T : Type 0} (terms : Terms) (old new : CoreView J) (name : JobId) (q
   closing_picked = closing-stays old new (writes.Pick queue runtime) journal modes_stay (record { queues = λ queue. refl; core = refl; gates = λ sender. refl }) kept.agrees.closing
 
   pub kept-picked : core.return_reason queue old ≡ None → turns journal < most_turns → IsKept terms new polled
-  kept-picked keeps left = record {
-    is_core = kept.is_core;
-    agrees = record {
-      tallied = ap (λ core. length core.tallies) takes.rest ∙ (length-set old.tallies queue _ ∙ (kept.agrees.tallied ∙ sym takes.line.same_count));
-      senders = ap (λ core. length core.delivered) takes.rest ∙ (kept.agrees.senders ∙ ap (λ cores. cores + 1) (sym (ap (λ core. core.cores) takes.rest)));
-      last = takes.line.same_count ∙ (kept.agrees.last ∙ ap (λ count. count + 1) (sym its.created));
-      lines = lines_now was_started;
-      marks = marks_now was_started;
-      runtimes = runtimes_now;
-      weights = λ other there. takes.line.same_shares other ∙ (kept.agrees.weights other (rw (← takes.line.same_count) there) ∙ sym (its.weighs other));
-      the_floor = ap (λ core. core.floor) takes.rest ∙ (ap (λ at. max at runtime) kept.agrees.the_floor ∙ sym (floor-stays note picked its.picks));
-      turns = ap (λ core. core.turns) takes.rest ∙ (ap (λ count. count + 1) kept.agrees.turns ∙ sym (turns-stays note picked its.turns_made));
-      out = out_now was_started;
-      out_exists = one_out;
-      delivered = λ sender known.
-          ap (λ core. delivered_of sender core) takes.rest
-          ∙ (kept.agrees.delivered sender (rw (← ap (λ core. core.cores) takes.rest) known) ∙ ap length (sym (its.delivered sender)));
-      figures = λ other. figures_picked other ∙ sym (figures-stays other note picked (its.counts other));
-      closing = closing-stays new new note picked (same_modes new) its.opens closing_picked;
-    };
-    notes = (poll_stands (not_returning keeps) was_started (sym start_told), (pick_stands left, kept.notes));
-    no_pick = its.no_pick;
-    no_answer = its.no_answer;
-  }
+  kept-picked keeps left =
+      let agrees : Agrees new polled = record {
+        tallied = ap (λ core. length core.tallies) takes.rest ∙ (length-set old.tallies queue _ ∙ (kept.agrees.tallied ∙ sym takes.line.same_count));
+        senders = ap (λ core. length core.delivered) takes.rest ∙ (kept.agrees.senders ∙ ap (λ cores. cores + 1) (sym (ap (λ core. core.cores) takes.rest)));
+        last = takes.line.same_count ∙ (kept.agrees.last ∙ ap (λ count. count + 1) (sym its.created));
+        lines = lines_now was_started;
+        marks = marks_now was_started;
+        runtimes = runtimes_now;
+        weights = λ other there. takes.line.same_shares other ∙ (kept.agrees.weights other (rw (← takes.line.same_count) there) ∙ sym (its.weighs other));
+        the_floor = ap (λ core. core.floor) takes.rest ∙ (ap (λ at. max at runtime) kept.agrees.the_floor ∙ sym (floor-stays note picked its.picks));
+        turns = ap (λ core. core.turns) takes.rest ∙ (ap (λ count. count + 1) kept.agrees.turns ∙ sym (turns-stays note picked its.turns_made));
+        out = out_now was_started;
+        out_exists = one_out;
+        delivered = λ sender known.
+            ap (λ core. delivered_of sender core) takes.rest
+            ∙ (kept.agrees.delivered sender (rw (← ap (λ core. core.cores) takes.rest) known) ∙ ap length (sym (its.delivered sender)));
+        figures = λ other. figures_picked other ∙ sym (figures-stays other note picked (its.counts other));
+        closing = closing-stays new new note picked (same_modes new) its.opens closing_picked;
+      } in
+      assumption (agrees, poll_stands (not_returning keeps) was_started (sym start_told), pick_stands left, its)
 
 module _ {J T : Type 0} (terms : Terms) (old new : CoreView J) (name : JobId) (queue : ℕ) (job : J) (reason : Reason) (journal : Journal T)
     (kept : IsKept terms old journal) (hands : HandsBack old name queue job new) (returns : core.return_reason queue old ≡ Some reason) where
@@ -292,28 +286,9 @@ module _ {J T : Type 0} (terms : Terms) (old new : CoreView J) (name : JobId) (q
   -- the pick is right, and the job goes back for the reason that the journal gives
   return_stands : turns journal < most_turns → EachNote (MayStand terms) longer
   return_stands left = (
-    record {
-      may_follow = (
-        queue,
-        record { picked = refl; others = names_of hands.others; first = first_back },
-        returns_told,
-      );
-      turn = refl;
-      effect = tt;
-      writer = kept.is_core;
-    },
-    (
-      plainly_stands terms (writes.Pick queue its_runtime) journal kept.is_core
-          (record { right = right_return; turn_left = left }) kept.no_pick kept.no_answer refl tt,
-      kept.notes,
-    ),
+    record { may_follow = (queue, record { picked = refl; others = names_of hands.others; first = first_back }, returns_told); turn = refl; effect = tt; writer = kept.is_core },
+    (plainly_stands terms (writes.Pick queue its_runtime) journal kept.is_core (record { right = right_return; turn_left = left }) kept.no_pick kept.no_answer refl tt, kept.notes),
   )
 
   pub kept-returned : turns journal < most_turns → IsKept terms new longer
-  kept-returned left = record {
-    is_core = kept.is_core;
-    agrees = agrees-returned;
-    notes = return_stands left;
-    no_pick = refl;
-    no_answer = refl;
-  }
+  kept-returned left = assumption (agrees-returned, return_stands left)

@@ -3,7 +3,7 @@ use Rattle.rt_journal.proofs.Names.{◌≡◌, ℕ, Bool, true, false, ◌∷◌
 use Rattle.rt_journal.proofs.Names.{JobId, Note, OutcomeNote, queue_just_picked, effect_awaited, accepted_orders}
 use Rattle.rt_journal.proofs.Names.{collected_outcomes, Journal, is_told, with_last, MayWrite, takes_turn, IsEffectDue}
 use Rattle.rt_journal.proofs.Names.{same_name, is_gone, is_outstanding, name_collected, name_redeemed, name_detached}
-use Rattle.rt_journal.proofs.Names.{Terms, ◌≢◌, inl, inr, zero, suc, ◌+◌, ◌<◌, ◌≤◌, List, [], ◌++◌, length, reverse}
+use Rattle.rt_journal.proofs.Names.{Terms, ◌≢◌, inl, inr, ◌+◌, ◌<◌, ◌≤◌, List, [], ◌++◌, length, reverse}
 use Rattle.rt_journal.proofs.Names.{sym, ◌∙◌, subst, arith, set, get_or-set_same, is_some, slice_get, take, count_by}
 use Rattle.rt_journal.proofs.Names.{ne_eqb, eqb_tells, slice_get-get_or, slice_get_within, Order, Outcome, MayFollow}
 use Rattle.rt_journal.proofs.Names.{outstanding_count, Outward, at, Lane, IsLaneOf, changed, unchanged, JournalView}
@@ -66,10 +66,7 @@ set_there items place was item there = grind (arith, slice_get_within items plac
 -- an item at another place stays
 pub slice_get-set_other : {A : Type 0} (items : List A) (place other : ℕ) (item : A) → other ≢ place → slice_get (set items place item) other ≡ slice_get items other
 slice_get-set_other [] place other item away = refl
-slice_get-set_other (first ∷ rest) zero zero item away = absurd (away refl)
-slice_get-set_other (first ∷ rest) zero (suc other) item away = refl
-slice_get-set_other (first ∷ rest) (suc place) zero item away = refl
-slice_get-set_other (first ∷ rest) (suc place) (suc other) item away = slice_get-set_other rest place other item (λ same. away (ap suc same))
+slice_get-set_other (first ∷ rest) place other item away = grind (arith, slice_get-set_other rest)
 
 -- what is outstanding, counted over the orders of a link
 pub outstanding_as : {J T : Type 0} (actor core : ℕ) (journal : Journal T) (sent : List (Order J)) → accepted_orders core journal ≡ numbered_orders actor core 0 sent →

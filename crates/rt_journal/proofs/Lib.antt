@@ -4,7 +4,6 @@ pub mod NumberedOrders
 pub mod Kept
 pub mod KeptDeliveries
 pub mod KeptPicks
-pub mod KeptSettles
 pub mod CarriedOut
 pub mod EndsKept
 pub mod GivenEnds

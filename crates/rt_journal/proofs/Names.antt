@@ -1,10 +1,10 @@
 -- The words of the crates below and of the specs of this one that these proofs use.
 pub use Rattle.std.proofs.Common.{Bool, List, None, Some, [], add-zero, ap, append_assoc, arith, cond, false, get_or}
-pub use Rattle.std.proofs.Common.{get_or-set_other, get_or-set_same, inl, inr, length, refl, reverse, rules, set, subst}
-pub use Rattle.std.proofs.Common.{suc, sym, take, true, zero, zero-add, ℕ, ⊎_elim, ◌*◌, ◌++◌, ◌+◌, ◌-◌, ◌<◌, ◌^◌, ◌∙◌}
-pub use Rattle.std.proofs.Common.{◌∷◌, ◌≡◌, ◌≢◌, ◌≤◌, ◌⊎◌}
+pub use Rattle.std.proofs.Common.{get_or-set_other, get_or-set_same, inl, inr, length, refl, reverse, rules, set}
+pub use Rattle.std.proofs.Common.{subst, suc, sym, take, true, zero, zero-add, ℕ, ⊎_elim, ◌*◌, ◌++◌, ◌+◌, ◌-◌, ◌<◌}
+pub use Rattle.std.proofs.Common.{◌^◌, ◌∙◌, ◌∷◌, ◌≡◌, ◌≢◌, ◌≤◌, ◌⊎◌}
 pub use Rattle.std.proofs.lemmas.Bool.{cases_eq, cases_lt, eq-eqb, eqb-false, eqb-true, false_from_ne_true, le-leb}
-pub use Rattle.std.proofs.lemmas.Bool.{le-ltb, leb-false, leb-true, lt-leb, lt-ltb, ne_eqb, or_parts, true≢false}
+pub use Rattle.std.proofs.lemmas.Bool.{lt-leb, lt-ltb, ne_eqb, or_parts, true≢false}
 pub use Rattle.std.proofs.lemmas.Bool.Decides.{eqb_tells}
 pub use Rattle.std.proofs.lemmas.List.{append-nil, get_or-replicate, get_or_past, length-append, length-replicate}
 pub use Rattle.std.proofs.lemmas.List.{length-reverse, length-take, map-append, set-get_or, take-append-drop}
@@ -14,8 +14,8 @@ pub use Rattle.std.proofs.lemmas.List.Sums.{sum_by-append, sum_by-le, sum_by-set
 pub use Rattle.std.proofs.lemmas.Option.{get_or_from_slice_get, none-some, same_Some, slice_get-get_or, slice_get-map}
 pub use Rattle.std.proofs.lemmas.Option.{slice_get_within}
 pub use Rattle.std.specs.Option.{option_map}
-pub use Rattle.std.specs.Prelude.{All, Err, IfOk, IfSome, IsSome, Ok, Option, Result, count_by, drop, is_some, map, max}
-pub use Rattle.std.specs.Prelude.{nat_le, nat_lt, not, replicate, slice_get, slice_index_or, slice_set, sum_by}
+pub use Rattle.std.specs.Prelude.{All, Err, IfOk, IfSome, IsSome, Ok, Option, Result, count_by, drop, is_some, map}
+pub use Rattle.std.specs.Prelude.{max, nat_le, nat_lt, not, replicate, slice_get, slice_index_or, slice_set, sum_by}
 pub use Rattle.std.specs.Prelude.{unwrap_or, ◌&&◌, ◌==◌, ◌||◌}
 pub use Rattle.std.specs.Vec.{vec_capacity}
 pub use Rattle.rt_core.proofs.AheadTaken.{ahead_picks}
@@ -39,7 +39,7 @@ pub use Rattle.rt_core.specs.declared.turn.Turn.TheVariants.{Idle, Resume, Start
 pub use Rattle.rt_desk.proofs.Cores.{changed, found, unchanged}
 pub use Rattle.rt_desk.proofs.Lanes.{IsLaneOf-fresh, IsLaneOf-more, Stands-sent, option_cases}
 pub use Rattle.rt_desk.proofs.Taken.{get-taken, taken-get}
-pub use Rattle.rt_desk.specs.Held.{Adds, Removes, at, count_of, one, tally}
+pub use Rattle.rt_desk.specs.Held.{Adds, Removes, at, count_of, tally}
 pub use Rattle.rt_desk.specs.Lanes.{FitsSent, IsAwaited, IsGot, IsLaneOf, IsSent, IsUnused, Lane, fresh_lane}
 pub use Rattle.rt_desk.specs.Lanes.{is_collected, is_detached}
 pub use Rattle.rt_desk.specs.Steps.{CollectsNext, Detaches, Keeps, Redeems, Refuses}
@@ -50,7 +50,7 @@ pub use Rattle.rt_ids.proofs.Counts.{queue_out-alone, queue_out-nobody}
 pub use Rattle.rt_ids.proofs.JobsOut.{alone_out, jobs_out-done, jobs_out-resume, jobs_out-start, jobs_out-yield}
 pub use Rattle.rt_ids.proofs.Known.{IsOld, known_of, not_old}
 pub use Rattle.rt_ids.proofs.LineDistinct.{Distinct, apart_of}
-pub use Rattle.rt_ids.proofs.LineSteps.{TurnLeaves, line-done, line-stays, line-took, line-took_elsewhere, line-turn}
+pub use Rattle.rt_ids.proofs.LineSteps.{line-done, line-stays, line-took, line-took_elsewhere, line-turn}
 pub use Rattle.rt_ids.proofs.LineSteps.{line-turn_elsewhere, line-yield, line-yield_elsewhere}
 pub use Rattle.rt_ids.proofs.NameLemmas.{among, one_name, same_as_itself}
 pub use Rattle.rt_ids.proofs.RuntimeSteps.{floor-stays, shares-created, shares-created_elsewhere, shares-set}
@@ -59,16 +59,16 @@ pub use Rattle.rt_ids.proofs.RuntimeSteps.{virtual_runtime-stays, virtual_runtim
 pub use Rattle.rt_ids.proofs.RuntimeSteps.{virtual_runtime-took_elsewhere, virtual_runtime-took_idle}
 pub use Rattle.rt_ids.proofs.RuntimeSteps.{virtual_runtime-yield, virtual_runtime-yield_elsewhere}
 pub use Rattle.rt_ids.proofs.Starts.{is_told-alone, is_told-start_elsewhere, started_of}
-pub use Rattle.rt_ids.proofs.Told.{grows, length-with_last_if, one_longer}
+pub use Rattle.rt_ids.proofs.Told.{grows, length-with_last_if}
 pub use Rattle.rt_ids.proofs.Under.{first_under-came, first_under-last, first_under-longer}
 pub use Rattle.rt_ids.proofs.WorkOfLines.{has_work-line, no_work, right_pick_of_lines, work_of_line}
 pub use Rattle.rt_ids.specs.Assembly.{Assembly, IsPrefix, first_under, journal_of, order_of}
 pub use Rattle.rt_ids.specs.Clauses.{queue_just_picked}
-pub use Rattle.rt_ids.specs.Closing.{IsCounted, IsNextShut, closes, core_mode, core_mode_told, count_told, final_count}
-pub use Rattle.rt_ids.specs.Closing.{mode_told, queue_mode}
+pub use Rattle.rt_ids.specs.Closing.{IsNextShut, closes, core_mode, core_mode_told, count_told, final_count, mode_told}
+pub use Rattle.rt_ids.specs.Closing.{queue_mode}
 pub use Rattle.rt_ids.specs.Collecting.{IsDetachable, IsNextCollected, IsRedeemable}
 pub use Rattle.rt_ids.specs.Commands.{IsAnswer, IsCreationAnswer, IsOpening, created_count, effect_awaited, has_effect}
-pub use Rattle.rt_ids.specs.Commands.{queue_created, reason_if_closed, reason_if_returning, refusal}
+pub use Rattle.rt_ids.specs.Commands.{queue_created, reason_if_returning, refusal}
 pub use Rattle.rt_ids.specs.Filters.{accepted_orders, collected_outcomes, delivered_names, given_outcomes, if_from}
 pub use Rattle.rt_ids.specs.Filters.{name_delivered, name_ended, name_started, order_sent, outcome_collected}
 pub use Rattle.rt_ids.specs.Filters.{outcome_given}
@@ -81,7 +81,7 @@ pub use Rattle.rt_ids.specs.Limits.{most_turns}
 pub use Rattle.rt_ids.specs.Lines.{jobs_out, line, name_joining, name_leaving, name_polled, name_settled, queue_out}
 pub use Rattle.rt_ids.specs.Names.{is_name, is_number, same_name}
 pub use Rattle.rt_ids.specs.Orders.{IsSpelledOrder, without_job}
-pub use Rattle.rt_ids.specs.Outcomes.{FitsOrder, IsSpelledAnswer, IsSpelledOutcome, outcome_note}
+pub use Rattle.rt_ids.specs.Outcomes.{FitsOrder, IsSpelledOutcome, outcome_note}
 pub use Rattle.rt_ids.specs.Outstanding.{is_gone, is_outstanding, name_collected, name_detached, name_redeemed}
 pub use Rattle.rt_ids.specs.Outstanding.{outstanding_count}
 pub use Rattle.rt_ids.specs.Picks.{IsRightPick, pick_count, turns}
@@ -113,7 +113,8 @@ pub use Rattle.rt_journal.specs.Deliveries.{IsDelivery, entry_note, outcome_deli
 pub use Rattle.rt_journal.specs.Ends.{Gives, GivesMore, IsInOf, IsInOwing, IsOutOf, IsSameSeat, IsUngiven, KeepsIn}
 pub use Rattle.rt_journal.specs.Ends.{KeepsOut, KeepsOuts, KeepsSent, LeavesOwed, ShowsMore, name_of, named_outcomes}
 pub use Rattle.rt_journal.specs.Ends.{told_under}
-pub use Rattle.rt_journal.specs.Figures.{Figures, figures_in, figures_noted, figures_of, figures_told, no_figures, plus}
+pub use Rattle.rt_journal.specs.Figures.{Figures, figures_in, figures_noted, figures_of, figures_told, no_figures}
+pub use Rattle.rt_journal.specs.Figures.{plus}
 pub use Rattle.rt_journal.specs.Orders.{numbered_orders}
 pub use Rattle.rt_journal.specs.Owed.{IsSentUnder, OwesSettled, outcome_settled, owed_back}
 pub use Rattle.rt_journal.specs.Polls.{poll_note, polls_made, settle_note}
@@ -134,7 +135,7 @@ pub use Rattle.rt_journal.specs.Whole.{IsPostingTurn, MayAnswer, StaysPut, Turns
 pub use Rattle.rt_link.proofs.Lists.{StartsWith-self, slice_get-behind}
 pub use Rattle.rt_link.specs.Calls.{MayGive, SeesMore, Sends, Shuts, Takes, final_of}
 pub use Rattle.rt_link.specs.Ends.{AreDistinct, AreNamed, Joined, SoundIn, StartsWith}
-pub use Rattle.rt_link.specs.Fits.{AnswersCreation, AnswersShares, Fits}
+pub use Rattle.rt_link.specs.Fits.{Fits}
 pub use Rattle.rt_link.specs.declared.ends.Inward.{Inward}
 pub use Rattle.rt_link.specs.declared.ends.Outward.{Outward}
 pub use Rattle.rt_notes.specs.Journals.{JournalView}

@@ -15,10 +15,8 @@ use Rattle.rt_ids.specs.declared.note.Note.TheVariants.{Collected}
 
 -- reading a mapped list
 pub get_or-map : {A B : Type 0} (f : A → B) (items : List A) (place : ℕ) (default : A) → get_or (map f items) place (f default) ≡ f (get_or items place default)
-get_or-map f [] zero default = refl
-get_or-map f [] (suc place) default = refl
-get_or-map f (item ∷ items) zero default = refl
-get_or-map f (item ∷ items) (suc place) default = get_or-map f items place default
+get_or-map f [] place default = grind arith
+get_or-map f (item ∷ items) place default = grind (arith, get_or-map f items)
 
 module _ {J : Type 0} (sender core : ℕ) where
   pub length-numbered : (before : ℕ) (orders : List (Order J)) → length (numbered_orders sender core before orders) ≡ length orders
@@ -183,9 +181,7 @@ module _ {J T : Type 0} (actor core number : ℕ) where
       first_under (name_of actor core number) (named_outcomes actor core outcomes) ≡ None
   named-missing [] none = refl
   named-missing (first ∷ rest) none =
-      ap (λ test. cond test (Some (outcome_note first.1)) (first_under (name_of actor core number) (named_outcomes actor core rest)))
-      (other_name (name_of actor core number) (name_of actor core first.0) (λ same. none 0 first refl (sym (ap (λ id. id.number) same))))
-      ∙ named-missing rest (λ place found at. none (suc place) found at)
+      grind (arith, one_name, none 0 first refl, named-missing rest (λ place found at. none (suc place) found at))
 
 -- what came last stands there, and nothing stood there before where nothing stands now
 last_there : {A : Type 0} (name : JobId) (entries : List (JobId × A)) (item : A) → first_under name (entries ++ (name, item) ∷ []) ≡ None → ⊥

@@ -3,15 +3,15 @@ use Rattle.rt_journal.proofs.Names.{Some, Ok, Option, slice_get, ◌≡◌, refl
 use Rattle.rt_journal.proofs.Names.{length, reverse, sym, ◌∙◌, ap, subst, arith, most_turns, JobId, Note, Envelope}
 use Rattle.rt_journal.proofs.Names.{Order, Outcome, turns, Step, Owed, Start, Resume, CoreView, IsAhead, goes_out}
 use Rattle.rt_journal.proofs.Names.{pick_notes, settle_notes, ahead_picks, Outward, DeskView, IsWritten, terms_of_desk}
-use Rattle.rt_journal.proofs.Names.{desk_with, RecordedView, IsRecorded, desk_of, KeepsSent, KeepsIn, LeavesOwed}
+use Rattle.rt_journal.proofs.Names.{desk_with, RecordedView, IsRecorded, desk_of, KeepsIn, LeavesOwed}
 use Rattle.rt_journal.proofs.Names.{AreOutsOf, IsPick, StaysPut, None, option_map, ◌*◌, ◌≤◌, same_Some, outcome_note}
 use Rattle.rt_journal.proofs.Names.{Call, Doing, Makes, IsSameTask, JobOut, TurnsWhole, settled_of, IsSameSeat}
 use Rattle.rt_journal.proofs.Names.{told_under, OwesSettled, outcome_settled, PostView, HasPosted, lends, Does}
 use Rattle.rt_journal.proofs.Names.{IsPolled, Settles, post_of, IsPostingTurn, MayAnswer, TurnsNoted}
 use Rattle.rt_core.specs.Turns.{Picks as CorePicks}
 use Rattle.rt_journal.proofs.Ahead.{picked_did}
-use Rattle.rt_journal.proofs.QuietSteps.{nobody, everyone, HasDone, view_of, quiet_written, quiet_sent}
-use Rattle.rt_journal.proofs.QuietSteps.{quiet_invariant, quiet_now, given_settled}
+use Rattle.rt_journal.proofs.QuietSteps.{nobody, everyone, HasDone, view_of}
+use Rattle.rt_journal.proofs.QuietSteps.{quiet_invariant, quiet_now, given_settled, MayNote, quiet_noted}
 use Rattle.rt_journal.proofs.Posting.{posted_rest, posted_silent}
 use Rattle.rt_journal.proofs.SentNotes.{HasSaid, has_said}
 use Rattle.rt_journal.proofs.SettledPolls.{owes_settled, its_answer, settled_did}
@@ -47,11 +47,8 @@ module _ {J T : Type 0} {same : J → J → Type 0} {made : J → ℕ} {polls : 
   went_out true notes picks = ap (λ (view : CoreView J). view.out) picks.0.rest
 
   module _ (picks : CorePicks core (Ok (goes_out name queue started job)) mid pick_told) (slice : List (Note T)) (slice_is : slice ≡ pick_told) where
-    may_pick : IsWritten (terms_of_desk said) (reverse slice ++ said.journal.notes)
-    may_pick = quiet_written core took said invariant slice_is (did started pick_told picks)
-
-    sent_pick : KeepsSent said.journal.notes (reverse slice ++ said.journal.notes)
-    sent_pick = quiet_sent core took said invariant slice_is (did started pick_told picks)
+    note_pick : {before : RecordedView J T} → view_of core took said ≡ before → length before.journal.notes + 2 ≤ before.journal.room → MayNote said slice
+    note_pick = quiet_noted core took said invariant slice_is (did started pick_told picks)
 
     module _ (noted : DeskView J T) (wrote : noted ≡ desk_with (reverse slice) said) where
       pub is_picked : IsRecorded same made polls (view_of mid took noted) × (noted ≡ desk_of (view_of mid took noted))
@@ -76,11 +73,8 @@ module _ {J T : Type 0} {same : J → J → Type 0} {made : J → ℕ} {polls : 
     (core : CoreView J) (took : List (Envelope J)) (said : DeskView J T)
     (invariant : IsRecorded same made polls (view_of core took said) × (said ≡ desk_of (view_of core took said))) (left : turns said.journal.notes < most_turns)
     (queue vr : ℕ) (name : JobId) (started : Bool) (ahead : IsAhead core queue vr name started) (slice : List (Note T)) (slice_is : slice ≡ pick_notes queue vr name started) where
-  pub may_note_pick : IsWritten (terms_of_desk said) (reverse slice ++ said.journal.notes)
-  may_note_pick = let picks = ahead_picks T core queue vr name started ahead in may_pick core took said invariant left queue vr name started picks.0 picks.1 picks.2 slice slice_is
-
-  pub sent_note_pick : KeepsSent said.journal.notes (reverse slice ++ said.journal.notes)
-  sent_note_pick = let picks = ahead_picks T core queue vr name started ahead in sent_pick core took said invariant left queue vr name started picks.0 picks.1 picks.2 slice slice_is
+  pub may_note_pick : {before : RecordedView J T} → view_of core took said ≡ before → length before.journal.notes + 2 ≤ before.journal.room → MayNote said slice
+  may_note_pick = let picks = ahead_picks T core queue vr name started ahead in note_pick core took said invariant left queue vr name started picks.0 picks.1 picks.2 slice slice_is
 
   pub outs_note_pick : {E : Type 0} {fits : Order J → Outcome J T → Type 0} {out : E → Outward J T} {credited : E → ℕ} (ends : List E) → AreOutsOf fits out credited (desk_of (view_of core took said)) ends →
       (noted : DeskView J T) → noted ≡ desk_with (reverse slice) said → AreOutsOf fits out credited noted ends
@@ -155,11 +149,8 @@ module _ {J T E : Type 0} {same : J → J → Type 0} {done : J → Bool} {can_p
       (subst (λ desk. P (record { desk = noted; ends = ends }) (record { desk = desk; ends = later })) at_poll.1 holds)
 
   module _ (last : List (Note T)) (last_is : last ≡ told) where
-    pub may_settle : IsWritten (terms_of_desk left) (reverse last ++ left.journal.notes)
-    may_settle = quiet_written whole.mid took left at_poll last_is last_step
-
-    pub sent_settled : KeepsSent left.journal.notes (reverse last ++ left.journal.notes)
-    sent_settled = quiet_sent whole.mid took left at_poll last_is last_step
+    pub may_settle : length left.journal.notes + 1 ≤ left.journal.room → MayNote left last
+    may_settle = quiet_noted whole.mid took left at_poll last_is last_step refl
 
     module _ (said_now : DeskView J T) (wrote_it : said_now ≡ desk_with (reverse last) left) where
       abbrev new : RecordedView J T
@@ -237,14 +228,4 @@ module _ {J T E : Type 0} {same : J → J → Type 0} {done : J → Bool} {can_p
       pub turned_noted : {fits : Order J → Outcome J T → Type 0} {credited : E → ℕ} {tells : ℕ → Type 0} → tells spent → Makes (Does fits out credited untouched) calls (lends noted ends) (lends left later) →
           AreOutsOf fits out credited left later → length said_now.journal.notes ≤ length said.journal.notes + core.cores * (3 * said.cap) + 3 →
           TurnsNoted same made polls answers fits out credited untouched tells old ends name queue started (settled_of step) new later
-      turned_noted told_it makes outs few = record {
-        turns = turned told_it makes;
-        owes = turned_owes;
-        may_answer = turned_answer;
-        outs = turned_outs outs;
-        few = few;
-        at_rest = turned_rest;
-        took = refl;
-        seat = turned_seat;
-        sound = turned_invariant.0;
-      }
+      turned_noted {tells = tells} told_it makes outs few = assumption (turned {tells = tells} told_it makes, turned_owes, turned_answer, turned_outs outs, turned_rest, turned_seat, turned_invariant)

@@ -1,17 +1,16 @@
 -- A core beside its journal stays recorded as an order is delivered to it: the orders by their names, the polls of a new job, and all else.
-use Rattle.rt_journal.proofs.Names.{◌≡◌, Bool, true, false, List, [], ◌∷◌, ◌++◌, refl, ◌∙◌, ap, ◌⊎◌}
-use Rattle.rt_journal.proofs.Names.{Option, Some, None, option_map, JobId, Note, Envelope, Order, Job}
-use Rattle.rt_journal.proofs.Names.{Journal, EachNote, IsOpening, one_name, same_as_itself, without_job, CarriesOut}
-use Rattle.rt_journal.proofs.Names.{DeliversAs, order_taken, note_taken, ◌+◌, sym, subst, arith, true≢false}
-use Rattle.rt_journal.proofs.Names.{false_from_ne_true, Terms, Yield, Done, is_name, delivered_names, name_delivered}
-use Rattle.rt_journal.proofs.Names.{number_if, name_settled, MayFollow, MayStand, grows, alone_out, IsOld, known_of}
-use Rattle.rt_journal.proofs.Names.{polls_made, ℕ, ◌*◌, ◌<◌, ◌≤◌, length, ⊎_elim, get_or, zero-add, ◌==◌, All, reverse}
-use Rattle.rt_journal.proofs.Names.{eq-eqb, ne_eqb, cases_eq, length-reverse, All-append, given_outcomes, Owed}
-use Rattle.rt_journal.proofs.Names.{IsSameTask, waiting_of, CoreView, inside_count, delivered_of, Delivered}
-use Rattle.rt_journal.proofs.Names.{IsNextDelivered, IsSpelledOrder, IsKept, IsWritten, RecordedView, terms_at}
-use Rattle.rt_journal.proofs.Names.{IsRecorded, IsHeld, IsTaken, HasTask, OwesAfter, sum_upto, delivered_count}
-use Rattle.rt_journal.proofs.Names.{given_count, IsSameSeat, KeepsSent, GivesMore, told_under, outcome_delivered}
-use Rattle.rt_journal.proofs.Names.{OutcomeNote, outcome_note, IsNextIn, Receives}
+use Rattle.rt_journal.proofs.Names.{◌≡◌, Bool, true, false, List, [], ◌∷◌, ◌++◌, refl, ◌∙◌, ap, ◌⊎◌, Option, Some}
+use Rattle.rt_journal.proofs.Names.{None, option_map, JobId, Note, Envelope, Order, Job, Journal, EachNote, IsOpening}
+use Rattle.rt_journal.proofs.Names.{one_name, same_as_itself, without_job, CarriesOut, DeliversAs, order_taken}
+use Rattle.rt_journal.proofs.Names.{note_taken, ◌+◌, sym, subst, arith, true≢false, false_from_ne_true, Terms, Yield}
+use Rattle.rt_journal.proofs.Names.{Done, is_name, delivered_names, name_delivered, number_if, name_settled, MayFollow}
+use Rattle.rt_journal.proofs.Names.{MayStand, grows, alone_out, IsOld, known_of, polls_made, ℕ, ◌*◌, ◌<◌, ◌≤◌, length}
+use Rattle.rt_journal.proofs.Names.{⊎_elim, get_or, zero-add, ◌==◌, All, reverse, eq-eqb, ne_eqb, cases_eq}
+use Rattle.rt_journal.proofs.Names.{length-reverse, All-append, given_outcomes, Owed, IsSameTask, waiting_of, CoreView}
+use Rattle.rt_journal.proofs.Names.{inside_count, delivered_of, Delivered, IsNextDelivered, IsSpelledOrder, IsKept}
+use Rattle.rt_journal.proofs.Names.{IsWritten, RecordedView, terms_at, IsRecorded, IsHeld, IsTaken, HasTask, OwesAfter}
+use Rattle.rt_journal.proofs.Names.{sum_upto, delivered_count, given_count, IsSameSeat, KeepsSent, GivesMore}
+use Rattle.rt_journal.proofs.Names.{told_under, outcome_delivered, OutcomeNote, outcome_note, IsNextIn, Receives}
 use Rattle.rt_ids.specs.declared.note.Note.TheVariants as writes
 use Rattle.rt_core.specs.Deliveries.{Delivers as CoreDelivers}
 use Rattle.rt_journal.proofs.Sums.{sum_upto-one_more, sum_upto-room}

@@ -1,7 +1,7 @@
 -- A core beside its journal settles the poll of the job that is out, and the end of the job's sender gets the outcome.
-use Rattle.rt_journal.proofs.Names.{◌≡◌, ℕ, zero, suc, ◌+◌, ◌<◌, ◌≤◌, Bool, true, false, List, [], ◌∷◌, ◌++◌, length}
+use Rattle.rt_journal.proofs.Names.{◌≡◌, ℕ, ◌+◌, ◌<◌, ◌≤◌, Bool, true, false, List, [], ◌∷◌, ◌++◌, length}
 use Rattle.rt_journal.proofs.Names.{refl, sym, ◌∙◌, ap, subst, arith, add-zero, get_or, ◌==◌, Option, Some, None, All}
-use Rattle.rt_journal.proofs.Names.{is_some, unwrap_or, false_from_ne_true, or_parts, length-append, All-append}
+use Rattle.rt_journal.proofs.Names.{is_some, unwrap_or, false_from_ne_true, length-append, All-append}
 use Rattle.rt_journal.proofs.Names.{All-cons, All-nil, JobId, Note, same_name, is_name, Journal, is_told, jobs_out}
 use Rattle.rt_journal.proofs.Names.{name_settled, number_if, alone_out, apart_of, among, same_as_itself, Step, Call}
 use Rattle.rt_journal.proofs.Names.{Owed, AfterPoll, IsSameTask, IfDone, OnYield, OwesOn, waiting_of, held_count}
@@ -18,8 +18,7 @@ use Rattle.rt_core.specs.declared.turn.Settled.TheVariants.{Finished}
 use Rattle.rt_core.specs.Turns.{Settles as CoreSettles}
 use Rattle.rt_journal.specs.Agreement.{names_of}
 use Rattle.rt_journal.proofs.Sums.{everywhere, sum_upto-at_most_one}
-use Rattle.rt_journal.proofs.Kept.{IsKept}
-use Rattle.rt_journal.proofs.KeptSettles.{none≢some, kept-yield, kept-done}
+use Rattle.rt_journal.proofs.Kept.{IsKept, none≢some, kept-yield, kept-done}
 use Rattle.rt_journal.proofs.KeptPicks.{other_way}
 use Rattle.rt_ids.specs.declared.note.OutcomeNote.TheVariants as outcomes
 use Rattle.rt_journal.proofs.EndsKept.{ungiven_if, not_given}
@@ -33,13 +32,10 @@ use Rattle.rt_journal.proofs.GivenEnds.{may_give, gave}
 among-place : {J : Type 0} (name : JobId) (waiting : List (JobId × Bool × J)) → among name (names_of waiting) ≡ false →
     (place : ℕ) (default : JobId × Bool × J) → place < length waiting → same_name name (get_or waiting place default).0 ≡ false
 among-place name [] apart place default within = absurd (omega arith)
-among-place name (entry ∷ rest) apart zero default within = (or_parts (same_name name entry.0) (among name (names_of rest)) apart).0
-among-place name (entry ∷ rest) apart (suc place) default within =
-    among-place name rest (or_parts (same_name name entry.0) (among name (names_of rest)) apart).1 place default (omega arith)
+among-place name (entry ∷ rest) apart place default within = grind (arith, among-place name rest)
 
 settled_name : {T : Type 0} (name : JobId) (time : ℕ) (step : Step T) → name_settled (settle_note name time step) ≡ Some name
-settled_name name time (steps.Done out) = refl
-settled_name name time steps.Yield = refl
+settled_name name time step = grind arith
 
 -- what is given by the note is the outcome that the caller is told
 pub given_told : (J : Type 0) {T : Type 0} (name : JobId) (step : Step T) (settled : Settled T) → TellsStep step settled → (sender : ℕ) →

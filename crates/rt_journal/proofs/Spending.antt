@@ -1,9 +1,9 @@
 -- Each note on a submission leaves fewer that can be made before the next outcome is collected.
-use Rattle.rt_journal.proofs.Names.{◌≡◌, ℕ, ◌+◌, ◌*◌, ◌<◌, ◌≤◌, List, [], ◌∷◌, length, Some, refl, sym, ap}
-use Rattle.rt_journal.proofs.Names.{subst, arith, set, get_or, slice_get, Ok, IsSome, sum_by, sum_by-set}
-use Rattle.rt_journal.proofs.Names.{slice_get_within, get_or_from_slice_get, JobId, Order, Outcome, Outward, at, tally}
-use Rattle.rt_journal.proofs.Names.{count_of, Adds, Removes, Lane, IsLaneOf, is_collected, is_detached, Detaches}
-use Rattle.rt_journal.proofs.Names.{Keeps, Entry, DeskView, is_waiting, left_of, due_of, booked, Spends, HoldsSome}
+use Rattle.rt_journal.proofs.Names.{◌≡◌, ℕ, ◌+◌, ◌*◌, ◌<◌, ◌≤◌, List, [], ◌∷◌, length, Some, refl, sym, ap, subst}
+use Rattle.rt_journal.proofs.Names.{arith, set, get_or, slice_get, Ok, IsSome, sum_by, sum_by-set, slice_get_within}
+use Rattle.rt_journal.proofs.Names.{get_or_from_slice_get, JobId, Order, Outcome, Outward, at, tally, count_of, Adds}
+use Rattle.rt_journal.proofs.Names.{Removes, Lane, IsLaneOf, is_collected, is_detached, Detaches, Keeps, Entry}
+use Rattle.rt_journal.proofs.Names.{DeskView, is_waiting, left_of, due_of, booked, Spends, HoldsSome}
 use Rattle.rt_desk.specs.declared.entry.Entry.TheVariants.{Pending, Collected}
 
 module _ {J T : Type 0} where

@@ -1,6 +1,5 @@
 -- What holds at one place and at each other one, and counts of the first actors together, as the count of one of them grows.
-use Rattle.rt_journal.proofs.Names.{◌≡◌, ℕ, sym, subst, ◌==◌, zero, suc}
-use Rattle.rt_journal.proofs.Names.{◌+◌, ◌*◌, ◌<◌, ◌≤◌, arith, number_if}
+use Rattle.rt_journal.proofs.Names.{◌≡◌, ℕ, sym, subst, ◌==◌, zero, suc, ◌+◌, ◌*◌, ◌<◌, ◌≤◌, arith, number_if}
 use Rattle.rt_journal.proofs.Names.{sum_upto, eqb_tells, inl, inr}
 
 -- it holds everywhere

@@ -1,14 +1,14 @@
 -- The calls of a desk on the lane that they took: an order is submitted, a ticket is redeemed or detached, or each is refused.
 use Rattle.rt_journal.proofs.Names.{◌≡◌, inl, inr, ℕ, ◌+◌, true, false, Some, [], ◌∷◌, ◌++◌, length, refl, sym, ◌∙◌}
-use Rattle.rt_journal.proofs.Names.{ap, subst, arith, set, Ok, Err, is_some, slice_get}
-use Rattle.rt_journal.proofs.Names.{count_by, eqb_tells, length-append, JobId, Order, Outcome}
-use Rattle.rt_journal.proofs.Names.{SendError, Closed, Full, NoCore, Journal, is_told, accepted_orders, IsNextSent}
-use Rattle.rt_journal.proofs.Names.{IsSpelledOrder, without_job, outstanding_count, is_outstanding, is_gone}
-use Rattle.rt_journal.proofs.Names.{name_redeemed, name_detached, Outward, Sends, JournalView, at}
-use Rattle.rt_journal.proofs.Names.{Adds, Lane, IsLaneOf, changed, unchanged, numbered_orders, DeskView, IsWritten}
-use Rattle.rt_journal.proofs.Names.{Submits, terms_of_desk, IsOutOf, name_of, KnowsLane, KnowsLanes, StaysBeside}
-use Rattle.rt_journal.proofs.Names.{is_let_go, HasLane, ◌≢◌, KeepsOut, ◌<◌, TicketError, OutcomeNote, outcome_note}
-use Rattle.rt_journal.proofs.Names.{count_of, IsGot, Redeems, Detaches, RedeemsTicket, DetachesTicket}
+use Rattle.rt_journal.proofs.Names.{ap, subst, arith, set, Ok, Err, is_some, slice_get, count_by, eqb_tells}
+use Rattle.rt_journal.proofs.Names.{length-append, JobId, Order, Outcome, SendError, Closed, Full, NoCore, Journal}
+use Rattle.rt_journal.proofs.Names.{is_told, accepted_orders, IsNextSent, IsSpelledOrder, without_job}
+use Rattle.rt_journal.proofs.Names.{outstanding_count, is_outstanding, is_gone, name_redeemed, name_detached, Outward}
+use Rattle.rt_journal.proofs.Names.{Sends, JournalView, at, Adds, Lane, IsLaneOf, changed, unchanged, numbered_orders}
+use Rattle.rt_journal.proofs.Names.{DeskView, IsWritten, Submits, terms_of_desk, IsOutOf, name_of, KnowsLane}
+use Rattle.rt_journal.proofs.Names.{KnowsLanes, StaysBeside, is_let_go, HasLane, ◌≢◌, KeepsOut, ◌<◌, TicketError}
+use Rattle.rt_journal.proofs.Names.{OutcomeNote, outcome_note, count_of, IsGot, Redeems, Detaches, RedeemsTicket}
+use Rattle.rt_journal.proofs.Names.{DetachesTicket}
 use Rattle.std.proofs.lemmas.List.{length-set}
 use Rattle.rt_ids.specs.declared.note.Note.TheVariants as writes
 use Rattle.rt_ids.specs.declared.order.SendError.TheVariants.{Spent}

@@ -1,14 +1,13 @@
 -- Actors that are recorded each by itself are joined, where the ends of their links are.
-use Rattle.rt_journal.proofs.Names.{◌≡◌, ℕ, ◌+◌, ◌<◌, ◌≤◌, List, [], ◌∷◌, length, refl, sym, ◌∙◌}
-use Rattle.rt_journal.proofs.Names.{ap, subst, ⊎_elim, arith, Option, Some, None, take, drop, slice_get, option_map}
-use Rattle.rt_journal.proofs.Names.{cases_lt, length-append, map-append, take-append-drop, Terms, terms_of}
-use Rattle.rt_journal.proofs.Names.{JobId, Note, Order, Outcome, Assembly, IsPrefix, journal_of, first_under, order_of}
-use Rattle.rt_journal.proofs.Names.{final_count, accepted_orders, delivered_names, given_outcomes, collected_outcomes}
-use Rattle.rt_journal.proofs.Names.{AreJoined, LinksAgree, DeliversAs, DeliversAsSent, Journal, EachNote, IsLawful}
-use Rattle.rt_journal.proofs.Names.{MayStand, MayWrite, jobs_out, without_job, Owed, Outward, Inward, Joined}
-use Rattle.rt_journal.proofs.Names.{IsJobOut, numbered_orders, DeskView, terms_of_desk, RecordedView, terms_at}
-use Rattle.rt_journal.proofs.Names.{note_taken, order_taken, IsOutOf, IsInOf, name_of, named_outcomes, AreTogether}
-use Rattle.rt_journal.proofs.Names.{IsAssemblyOf}
+use Rattle.rt_journal.proofs.Names.{◌≡◌, ℕ, ◌+◌, ◌<◌, ◌≤◌, List, [], ◌∷◌, length, refl, sym, ◌∙◌, ap, subst, ⊎_elim}
+use Rattle.rt_journal.proofs.Names.{arith, Option, Some, None, take, drop, slice_get, option_map, cases_lt}
+use Rattle.rt_journal.proofs.Names.{length-append, map-append, take-append-drop, Terms, terms_of, JobId, Note, Order}
+use Rattle.rt_journal.proofs.Names.{Outcome, Assembly, IsPrefix, journal_of, first_under, order_of, final_count}
+use Rattle.rt_journal.proofs.Names.{accepted_orders, delivered_names, given_outcomes, collected_outcomes, AreJoined}
+use Rattle.rt_journal.proofs.Names.{LinksAgree, DeliversAs, DeliversAsSent, Journal, EachNote, IsLawful, MayStand}
+use Rattle.rt_journal.proofs.Names.{MayWrite, jobs_out, without_job, Owed, Outward, Inward, Joined, IsJobOut}
+use Rattle.rt_journal.proofs.Names.{numbered_orders, DeskView, terms_of_desk, RecordedView, terms_at, note_taken}
+use Rattle.rt_journal.proofs.Names.{order_taken, IsOutOf, IsInOf, name_of, named_outcomes, AreTogether, IsAssemblyOf}
 use Rattle.rt_ids.specs.declared.note.Note.TheVariants as writes
 use Rattle.rt_ids.specs.Assembly.{names_of}
 use Rattle.rt_journal.proofs.NumberedOrders.{names_from, names_from-prefix, names_of-numbered, delivered_numbered}

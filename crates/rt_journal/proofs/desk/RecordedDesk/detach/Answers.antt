@@ -1,4 +1,4 @@
-use Rattle.rt_journal.proofs.Names.{rules, ap, refl, subst, ◌∙◌, Unknown, RefusesTicket}
+use Rattle.rt_journal.proofs.Names.{ap, refl, subst, ◌∙◌, Unknown, RefusesTicket}
 use Rattle.rt_journal.proofs.Desked.{are_same, are_apart, lane_taken, its_name}
 use Rattle.rt_journal.proofs.Redeemed.{foreign}
 use Rattle.rt_journal.proofs.Spending.{held_detached, may_note}
@@ -27,26 +27,14 @@ returns-in-Ok g c =
     let taken = lane_taken c.self.view_is c.self.invariant (ap (λ id. id.to) (c.name.view_is ∙ c.name-name.ensures)) c.requires.beside c.requires.lane c.index_mut-lane.ensures.value in
     let named = its_name (c.name.view_is ∙ c.name-name.ensures) (are_same _ _ c.ne.result c.ne.ensures c.if-ne.false) in
     let called = detached_call c.args.ticket taken named c.in-Ok.ensures.lane c.in-Ok.ensures.out _ c.in-Ok.ensures.detaches c.name-name.ensures c.push.ensures.notes in
-    record {
-      detaches = called.does_so;
-      out = c.in-Ok.ensures.out;
-      stays = called.stays;
-      spends = called.spends;
-      untouched = search rules;
-    }
+    assumption called
 
 pub returns-in-Err : goal.returns-in-Err
 returns-in-Err g c =
     let taken = lane_taken c.self.view_is c.self.invariant (ap (λ id. id.to) (c.name.view_is ∙ c.name-name.ensures)) c.requires.beside c.requires.lane c.index_mut-lane.ensures.value in
     let named = its_name (c.name.view_is ∙ c.name-name.ensures) (are_same _ _ c.ne.result c.ne.ensures c.if-ne.false) in
     let refused = detach_refused c.args.ticket taken named c.in-Err.ensures.lane c.in-Err.ensures.out c.in-Err.error c.in-Err.ensures.detaches in
-    record {
-      detaches = refused.0;
-      out = c.in-Err.ensures.out;
-      stays = refused.1;
-      spends = tt;
-      untouched = search rules;
-    }
+    assumption refused
 
 pub push-requires : goal.push-requires
 push-requires g c =

