@@ -163,7 +163,7 @@ module _ {J T : Type 0} (old : RecordedView J T) (name : JobId)
       let held : Held (note ∷ writes.Answered name answer ∷ []) = omega (arith, inside, one_given (note ∷ writes.Answered name answer ∷ journal) (outcome.Answered answer) gives) in
       let few : 2 ≤ 2 = omega arith in
       let as_sent : (under : JobId → Option (Order (Unit {0}))) → under name ≡ Some (without_job order) → EachNote (DeliversAs under) journal →
-          EachNote (DeliversAs under) (note ∷ writes.Answered name answer ∷ journal) = λ under at before. (effect under at, ((without_job order, at, right), before)) in
+      EachNote (DeliversAs under) (note ∷ writes.Answered name answer ∷ journal) = λ under at before. (effect under at, ((without_job order, at, right), before)) in
       let delivered = λ (from : ℕ). ap length (delivers from) ∙ counted_one from in
       let unpolled_now = λ (which : JobId). polls which ∙ unpolled which in
       assumption (none_entered old.core core name order lines)

@@ -33,9 +33,9 @@ module _ {J T : Type 0} (view : RecordedView J T) (name : JobId) (order : Order 
         let found = is.orders name order refl took in
         let its_name : name ≡ name_of name.from view.core.core name.number = found.1 ∙ ap (name_of name.from view.core.core) (sym (ap (λ name. name.number) found.1)) in
         assumption (
-          owes.given
-              ∙ (ap (λ id. named_outcomes name.from view.core.core inward.given ++ (id, outcome_note outcome) ∷ []) its_name
-              ∙ sym (map-append (λ outcome. (name_of name.from view.core.core outcome.0, outcome_note outcome.1)) inward.given ((name.number, outcome) ∷ [])))
+        owes.given
+        ∙ (ap (λ id. named_outcomes name.from view.core.core inward.given ++ (id, outcome_note outcome) ∷ []) its_name
+        ∙ sym (map-append (λ outcome. (name_of name.from view.core.core outcome.0, outcome_note outcome.1)) inward.given ((name.number, outcome) ∷ [])))
         )
 
   -- the same of an outcome that there may be

@@ -339,8 +339,14 @@ module _ {J T : Type 0} (terms : Terms) (old : CoreView J) (job : JobOut J) (tim
 
       lines : (other : ℕ) → names_of (waiting_of other queues) ≡ line other yielded
       lines other =
-          grind (arith, map-append (λ (entry : JobId × Bool × J). entry.0) (waiting_of job.queue old.queues) ((job.name, true, back) ∷ []), kept.agrees.lines other, changes.others other,
-          line-yield job.queue time job.name journal is_out.1, line-yield_elsewhere other job.queue time job.name journal is_out.1)
+          grind (
+            arith,
+            map-append (λ (entry : JobId × Bool × J). entry.0) (waiting_of job.queue old.queues) ((job.name, true, back) ∷ []),
+            kept.agrees.lines other,
+            changes.others other,
+            line-yield job.queue time job.name journal is_out.1,
+            line-yield_elsewhere other job.queue time job.name journal is_out.1,
+          )
 
       marks : (other : ℕ) → AreMarked yielded (waiting_of other queues)
       marks = everywhere (λ at. AreMarked yielded (waiting_of at queues)) job.queue

@@ -110,8 +110,13 @@ module _ {J T : Type 0} (terms : Terms) (old new : CoreView J) (name : JobId) (q
 
   lines_now : (before : Bool) → (other : ℕ) → names_of (waiting_of other new.queues) ≡ line other (poll_note name before ∷ picked)
   lines_now before other =
-      grind (arith, line-turn terms journal kept.notes queue runtime name (names_of takes.others) first_in_line, takes.line.others other, kept.agrees.lines other,
-      line-turn_elsewhere terms journal kept.notes other queue runtime name (names_of takes.others) first_in_line)
+      grind (
+        arith,
+        line-turn terms journal kept.notes queue runtime name (names_of takes.others) first_in_line,
+        takes.line.others other,
+        kept.agrees.lines other,
+        line-turn_elsewhere terms journal kept.notes other queue runtime name (names_of takes.others) first_in_line,
+      )
 
   pub apart_in : (other : ℕ) → among name (names_of (waiting_of other new.queues)) ≡ false
   apart_in = everywhere (λ at. among name (names_of (waiting_of at new.queues)) ≡ false) queue
@@ -228,8 +233,13 @@ module _ {J T : Type 0} (terms : Terms) (old new : CoreView J) (name : JobId) (q
 
   lines_back : (other : ℕ) → names_of (waiting_of other new.queues) ≡ line other longer
   lines_back other =
-      grind (arith, line-turn terms journal kept.notes queue its_runtime name (names_of hands.others) first_back, hands.line.others other, kept.agrees.lines other,
-      line-turn_elsewhere terms journal kept.notes other queue its_runtime name (names_of hands.others) first_back)
+      grind (
+        arith,
+        line-turn terms journal kept.notes queue its_runtime name (names_of hands.others) first_back,
+        hands.line.others other,
+        kept.agrees.lines other,
+        line-turn_elsewhere terms journal kept.notes other queue its_runtime name (names_of hands.others) first_back,
+      )
 
   runtime_back : (other : ℕ) → runtime_of other new ≡ runtime_of other old
   runtime_back other = ap (λ core. runtime_of other core) hands.rest ∙ set_runtime old.tallies queue _ exists_back refl other
