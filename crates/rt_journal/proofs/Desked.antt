@@ -34,15 +34,7 @@ module _ {J T : Type 0} {fits : Order J → Outcome J T → Type 0} (desk : Desk
 
   -- a step by which nothing was noted
   pub stays_nothing : (now : Outward J T) (after : ℕ) → IsWritten (terms_of_desk desk) desk.journal.notes → IsOutOf core desk now after → HasLane fits core desk now after → StaysBeside fits core desk desk now after
-  stays_nothing now after written beside has = record {
-    beside = beside;
-    lane = has;
-    others = λ other away. record { each = λ out credited is. is };
-    lanes = λ other away. refl;
-    rest = refl;
-    written = written;
-    known = known;
-  }
+  stays_nothing now after written beside has = assumption
 
   pub stays_refused : (lane later : Lane J T) (lane_is : slice_get desk.lanes core ≡ Some lane) → later ≡ lane → (now : Outward J T) (after : ℕ) → IsWritten (terms_of_desk desk) desk.journal.notes → IsOutOf core desk now after →
       IsLaneOf fits later now after → StaysBeside fits core desk (record desk { lanes = set desk.lanes core later }) now after
@@ -94,15 +86,7 @@ module _ {J T : Type 0} {fits : Order J → Outcome J T → Type 0} {desk now : 
       let beside = subst (λ core. IsOutOf core desk out credited) (sym core_is) (subst (λ desk. IsOutOf to desk out credited) (sym is) end_beside) in
       let its = subst (λ core. HasLane fits core desk out credited) (sym core_is) (subst (λ desk. HasLane fits to desk out credited) (sym is) has) in
       let there = lane_there desk invariant.1 core beside lane lane_is in
-      record {
-        is = is;
-        core_is = core_is;
-        written = invariant.0;
-        known = invariant.1;
-        beside = beside;
-        there = there;
-        lane_of = lane_beside desk invariant.1 core its lane there;
-      }
+      assumption (beside, there, lane_beside desk invariant.1 core its lane there)
 
   module _ (taken : HasTaken fits desk now core to lane out credited) where
     -- what holds by its own names holds by its caller's

@@ -62,12 +62,7 @@ module _ {J T : Type 0} (terms : Terms) (old new : CoreView J) (name : JobId) (q
   took_counted = record { known = sender; next = next; now = ap (λ core. core.delivered) enters.rest; cores = ap (λ core. core.cores) enters.rest }
 
   modes_stay : SameModes old new
-  modes_stay = record {
-    modes = enters.line.same_modes;
-    mode = ap (λ core. core.mode) enters.rest;
-    gates = ap (λ core. core.gates) enters.rest;
-    cores = ap (λ core. core.cores) enters.rest;
-  }
+  modes_stay = grind (arith, enters.line.same_modes, enters.rest)
 
   took_lines : (other : ℕ) → names_of (waiting_of other new.queues) ≡ line other (writes.Took name queue ∷ journal)
   took_lines other =

@@ -169,12 +169,7 @@ module _ {J T : Type 0} (terms : Terms) (old new : CoreView J) (name : JobId) (q
       (ap (λ core. core.tallies) takes.rest) journal picked one_pick (counts-pick (tally_of queue old)) kept.agrees.figures (λ other. told-picked other queue journal runtime)
 
   modes_stay : SameModes old new
-  modes_stay = record {
-    modes = takes.line.same_modes;
-    mode = ap (λ core. core.mode) takes.rest;
-    gates = ap (λ core. core.gates) takes.rest;
-    cores = ap (λ core. core.cores) takes.rest;
-  }
+  modes_stay = grind (arith, takes.line.same_modes, takes.rest)
 
   closing_picked : AgreesOnClosing new picked
   closing_picked = closing-stays old new (writes.Pick queue runtime) journal modes_stay (record { queues = λ queue. refl; core = refl; gates = λ sender. refl }) kept.agrees.closing
@@ -245,12 +240,7 @@ module _ {J T : Type 0} (terms : Terms) (old new : CoreView J) (name : JobId) (q
   runtime_back other = ap (λ core. runtime_of other core) hands.rest ∙ set_runtime old.tallies queue _ exists_back refl other
 
   modes_back : SameModes old new
-  modes_back = record {
-    modes = hands.line.same_modes;
-    mode = ap (λ core. core.mode) hands.rest;
-    gates = ap (λ core. core.gates) hands.rest;
-    cores = ap (λ core. core.cores) hands.rest;
-  }
+  modes_back = grind (arith, hands.line.same_modes, hands.rest)
 
   nobody_out : new.out ≡ None
   nobody_out = ap (λ core. core.out) hands.rest ∙ hands.next.free

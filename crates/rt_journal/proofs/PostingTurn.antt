@@ -218,12 +218,7 @@ module _ {J T E : Type 0} {same : J → J → Type 0} {done : J → Bool} {can_p
       turned_seat =
           let one = stays_picked_it.seat in
           let other = stays_it.seat in
-          record {
-            number = other.number ∙ one.number;
-            cores = other.cores ∙ one.cores;
-            cap = other.cap ∙ (ap (λ desk. desk.cap) rest ∙ one.cap);
-            room = other.room ∙ (ap (λ desk. desk.journal.room) rest ∙ one.room);
-          }
+          assumption (other.number ∙ one.number, other.cores ∙ one.cores, other.cap ∙ (ap (λ desk. desk.cap) rest ∙ one.cap), other.room ∙ (ap (λ desk. desk.journal.room) rest ∙ one.room))
 
       pub turned_noted : {fits : Order J → Outcome J T → Type 0} {credited : E → ℕ} {tells : ℕ → Type 0} → tells spent → Makes (Does fits out credited untouched) calls (lends noted ends) (lends left later) →
           AreOutsOf fits out credited left later → length said_now.journal.notes ≤ length said.journal.notes + core.cores * (3 * said.cap) + 3 →

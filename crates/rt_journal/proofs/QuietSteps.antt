@@ -39,8 +39,7 @@ module _ {T : Type 0} (notes : Journal T) where
   quiet-picked name queue runtime true = assumption
 
   pub gates-picked : (name : JobId) (queue runtime : ℕ) (was_started : Bool) → KeepsGates notes (poll_note name was_started ∷ writes.Pick queue runtime ∷ notes)
-  gates-picked name queue runtime false sender = refl
-  gates-picked name queue runtime true sender = refl
+  gates-picked name queue runtime was_started sender = grind arith
 
   -- a poll that is settled
   pub quiet-settled : (name : JobId) (time : ℕ) (step : Step T) → IsQuiet (given_settled name step) notes (settle_note name time step ∷ notes)
@@ -48,8 +47,7 @@ module _ {T : Type 0} (notes : Journal T) where
   quiet-settled name time steps.Yield = assumption
 
   pub gates-settled : (name : JobId) (time : ℕ) (step : Step T) → KeepsGates notes (settle_note name time step ∷ notes)
-  gates-settled name time (steps.Done out) sender = refl
-  gates-settled name time steps.Yield sender = refl
+  gates-settled name time step sender = grind arith
 
   -- deliveries stay as sent behind the notes of a poll
   pub as_sent-picked : (under : JobId → Option (Order (Unit {0}))) (name : JobId) (queue runtime : ℕ) (was_started : Bool) → EachNote (DeliversAs under) notes →

@@ -14,7 +14,7 @@ use Rattle.rt_journal.proofs.Kept.{IsOpenNote, same_modes, closing-stays, agrees
 use Rattle.rt_journal.proofs.EndsKept.{keeps_in}
 use Rattle.rt_journal.proofs.Received.{task_stays}
 use Rattle.rt_journal.proofs.Sums.{sum_upto-same}
-use Rattle.rt_journal.proofs.QuietSteps.{view_of}
+use Rattle.rt_journal.proofs.QuietSteps.{view_of, desk_is}
 
 -- the longer journal says no more of the core, of what was delivered and given, of gates and of polls
 pub record SaysNoMore {T : Type 0} (old new : Journal T) : Type 1 where
@@ -131,13 +131,7 @@ module _ {J T : Type 0} {same : J → J → Type 0} {made : J → ℕ} {polls : 
       record {
         sound = subst (IsRecorded same made polls) (sym now_is)
             (recorded_silent old now.journal.notes now.lanes silent invariant.0 (subst (λ terms. IsWritten terms now.journal.notes) (ap terms_of_desk rest ∙ ap terms_of_desk invariant.1) written));
-        is_its = λ i. record {
-          actor = (ap (λ desk. desk.actor) rest ∙ ap (λ desk. desk.actor) invariant.1) i;
-          cores = (ap (λ desk. desk.cores) rest ∙ ap (λ desk. desk.cores) invariant.1) i;
-          cap = now.cap;
-          journal = now.journal;
-          lanes = now.lanes;
-        };
+        is_its = desk_is now inside took (ap (λ desk. desk.actor) rest ∙ ap (λ desk. desk.actor) invariant.1) (ap (λ desk. desk.cores) rest ∙ ap (λ desk. desk.cores) invariant.1);
         ins = λ sender. subst (λ before. KeepsIn sender before (view_of inside took now)) view_is (subst (KeepsIn sender old) (sym now_is) (ins_silent old now.journal.notes now.lanes silent sender));
       }
 
