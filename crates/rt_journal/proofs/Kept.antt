@@ -4,18 +4,18 @@ use Rattle.rt_journal.proofs.Names.{cond, add-zero, get_or, set, get_or-set_same
 use Rattle.rt_journal.proofs.Names.{clamped, JobId, Note, Reason, Journal, is_number, queue_of, number_if, Tally}
 use Rattle.rt_journal.proofs.Names.{CoreView, no_tally, Figures, no_figures, plus, figures_in, figures_of}
 use Rattle.rt_journal.proofs.Names.{figures_told, figures_noted, ◌≤◌, [], arith, Option, None, nat_lt, slice_index_or}
-use Rattle.rt_journal.proofs.Names.{◌||◌, Terms, Mode, EachNote, name_started, delivered_names}
-use Rattle.rt_journal.proofs.Names.{virtual_runtime, shares, floor, charge_noted, runtime_picked, has_work}
-use Rattle.rt_journal.proofs.Names.{queue_entered, queue_joined, line, queue_out, name_joining, name_leaving}
-use Rattle.rt_journal.proofs.Names.{name_polled, name_settled, queue_just_picked, created_count, effect_awaited}
-use Rattle.rt_journal.proofs.Names.{pick_count, turns, MayFollow, MayWrite, MayStand, takes_turn, IsEffectDue}
-use Rattle.rt_journal.proofs.Names.{has_work-line, virtual_runtime-stays, floor-stays, line-stays, queue_out-alone}
-use Rattle.rt_journal.proofs.Names.{queue_out-nobody, waiting_of, JobOut, is_working, is_any, runtime_of, Agrees}
-use Rattle.rt_journal.proofs.Names.{AgreesOnClosing, IsJobOut, AreMarked, QueuesView, queue_count, shares_of, Created}
-use Rattle.rt_journal.proofs.Names.{or_else, mode_told, core_mode_told, count_told, queue_mode, core_mode, final_count}
-use Rattle.rt_journal.proofs.Names.{IsOpening, refusal, reason_if_returning, mode_of, ◌++◌, map-append, All-append}
-use Rattle.rt_journal.proofs.Names.{All-cons, All-nil, charge, is_told, jobs_out, jobs_out-yield, jobs_out-done}
-use Rattle.rt_journal.proofs.Names.{line-yield, line-yield_elsewhere, line-done, is_told-alone, virtual_runtime-yield}
+use Rattle.rt_journal.proofs.Names.{◌||◌, Terms, Mode, EachNote, name_started, delivered_names, virtual_runtime}
+use Rattle.rt_journal.proofs.Names.{shares, floor, charge_noted, runtime_picked, has_work, queue_entered, queue_joined}
+use Rattle.rt_journal.proofs.Names.{line, queue_out, name_joining, name_leaving, name_polled, name_settled}
+use Rattle.rt_journal.proofs.Names.{queue_just_picked, created_count, effect_awaited, pick_count, turns, MayFollow}
+use Rattle.rt_journal.proofs.Names.{MayWrite, MayStand, takes_turn, IsEffectDue, has_work-line, virtual_runtime-stays}
+use Rattle.rt_journal.proofs.Names.{floor-stays, line-stays, queue_out-alone, queue_out-nobody, waiting_of, JobOut}
+use Rattle.rt_journal.proofs.Names.{is_working, is_any, runtime_of, Agrees, AgreesOnClosing, IsJobOut, AreMarked}
+use Rattle.rt_journal.proofs.Names.{QueuesView, queue_count, shares_of, Created, or_else, mode_told, core_mode_told}
+use Rattle.rt_journal.proofs.Names.{count_told, queue_mode, core_mode, final_count, IsOpening, refusal}
+use Rattle.rt_journal.proofs.Names.{reason_if_returning, mode_of, ◌++◌, map-append, All-append, All-cons, All-nil}
+use Rattle.rt_journal.proofs.Names.{charge, is_told, jobs_out, jobs_out-yield, jobs_out-done, line-yield}
+use Rattle.rt_journal.proofs.Names.{line-yield_elsewhere, line-done, is_told-alone, virtual_runtime-yield}
 use Rattle.rt_journal.proofs.Names.{virtual_runtime-yield_elsewhere, virtual_runtime-done}
 use Rattle.rt_journal.proofs.Names.{virtual_runtime-done_elsewhere, ChangesLine, tally_of, settled_view}
 use Rattle.rt_ids.specs.declared.note.Note.TheVariants as writes
@@ -339,14 +339,9 @@ module _ {J T : Type 0} (terms : Terms) (old : CoreView J) (job : JobOut J) (tim
 
       lines : (other : ℕ) → names_of (waiting_of other queues) ≡ line other yielded
       lines other =
-          grind (
-            arith,
-            map-append (λ (entry : JobId × Bool × J). entry.0) (waiting_of job.queue old.queues) ((job.name, true, back) ∷ []),
-            kept.agrees.lines other,
-            changes.others other,
-            line-yield job.queue time job.name journal is_out.1,
-            line-yield_elsewhere other job.queue time job.name journal is_out.1,
-          )
+          let longer = map-append (λ (entry : JobId × Bool × J). entry.0) (waiting_of job.queue old.queues) ((job.name, true, back) ∷ []) in
+          let here = line-yield job.queue time job.name journal is_out.1 in
+          grind (arith, longer, here, kept.agrees.lines other, changes.others other, line-yield_elsewhere other job.queue time job.name journal is_out.1)
 
       marks : (other : ℕ) → AreMarked yielded (waiting_of other queues)
       marks = everywhere (λ at. AreMarked yielded (waiting_of at queues)) job.queue

@@ -1,21 +1,20 @@
 -- What a core tells of itself stays what its journal says, as a submission is delivered: a job enters or goes back, a command is answered, creates, weighs or closes; and as a gate is shut.
 use Rattle.rt_journal.proofs.Names.{◌≡◌, ℕ, ◌+◌, ◌<◌, ◌≤◌, Bool, true, false, [], ◌∷◌, ◌++◌, length, refl, sym, ◌∙◌}
 use Rattle.rt_journal.proofs.Names.{ap, subst, arith, get_or, set, get_or-set_same, get_or-set_other, cond, ◌==◌}
-use Rattle.rt_journal.proofs.Names.{Option, Some, None, is_some, max, true≢false, map-append}
-use Rattle.rt_journal.proofs.Names.{All-append, All-cons, All-nil, Terms, JobId, same_name, Journal, EachNote, is_told}
-use Rattle.rt_journal.proofs.Names.{with_last, delivered_names, name_started, if_from, has_work, queue_of}
-use Rattle.rt_journal.proofs.Names.{virtual_runtime, line, refusal, MayStand, IsNextDelivered, known_of, not_old}
-use Rattle.rt_journal.proofs.Names.{started_of, line-took, line-took_elsewhere, false_from_ne_true, same_as_itself}
-use Rattle.rt_journal.proofs.Names.{virtual_runtime-took_idle, virtual_runtime-took_busy}
-use Rattle.rt_journal.proofs.Names.{virtual_runtime-took_elsewhere, floor-stays, waiting_of, CoreView, JobOut}
-use Rattle.rt_journal.proofs.Names.{no_tally, tally_of, runtime_of, delivered_of, is_working, entry_runtime, Enters}
-use Rattle.rt_journal.proofs.Names.{counted, Agrees, IsJobOut, AreMarked, figures_of, figures_told, Note, Order}
-use Rattle.rt_journal.proofs.Names.{Reason, Answer, shares, created_count, IsAnswer, has_effect, CountsAlone}
-use Rattle.rt_journal.proofs.Names.{queue_just_picked, effect_awaited, inr, List, nat_le, le-leb, lt-leb}
-use Rattle.rt_journal.proofs.Names.{length-append, InRange, list_told, core_mode, IsCreationAnswer, queue_created}
-use Rattle.rt_journal.proofs.Names.{shares-created, shares-created_elsewhere, shares-set, shares-set_elsewhere}
-use Rattle.rt_journal.proofs.Names.{queue_count, shares_of, Creates, Weighs, slice_set, Mode, or_else, queue_mode}
-use Rattle.rt_journal.proofs.Names.{final_count, mode_of, HasClosed}
+use Rattle.rt_journal.proofs.Names.{Option, Some, None, is_some, max, true≢false, map-append, All-append, All-cons}
+use Rattle.rt_journal.proofs.Names.{All-nil, Terms, JobId, same_name, Journal, EachNote, is_told, with_last}
+use Rattle.rt_journal.proofs.Names.{delivered_names, name_started, if_from, has_work, queue_of, virtual_runtime, line}
+use Rattle.rt_journal.proofs.Names.{refusal, MayStand, IsNextDelivered, known_of, not_old, started_of, line-took}
+use Rattle.rt_journal.proofs.Names.{line-took_elsewhere, false_from_ne_true, same_as_itself, virtual_runtime-took_idle}
+use Rattle.rt_journal.proofs.Names.{virtual_runtime-took_busy, virtual_runtime-took_elsewhere, floor-stays, waiting_of}
+use Rattle.rt_journal.proofs.Names.{CoreView, JobOut, no_tally, tally_of, runtime_of, delivered_of, is_working}
+use Rattle.rt_journal.proofs.Names.{entry_runtime, Enters, counted, Agrees, IsJobOut, AreMarked, figures_of}
+use Rattle.rt_journal.proofs.Names.{figures_told, Note, Order, Reason, Answer, shares, created_count, IsAnswer}
+use Rattle.rt_journal.proofs.Names.{has_effect, CountsAlone, queue_just_picked, effect_awaited, inr, List, nat_le}
+use Rattle.rt_journal.proofs.Names.{le-leb, lt-leb, length-append, InRange, list_told, core_mode, IsCreationAnswer}
+use Rattle.rt_journal.proofs.Names.{queue_created, shares-created, shares-created_elsewhere, shares-set}
+use Rattle.rt_journal.proofs.Names.{shares-set_elsewhere, queue_count, shares_of, Creates, Weighs, slice_set, Mode}
+use Rattle.rt_journal.proofs.Names.{or_else, queue_mode, final_count, mode_of, HasClosed, turns}
 use Rattle.std.proofs.Common.{length-set}
 use Rattle.rt_ids.specs.declared.note.Note.TheVariants as writes
 use Rattle.rt_journal.specs.Agreement.{names_of}

@@ -11,7 +11,7 @@ use Rattle.rt_journal.proofs.Names.{IsTurnOf, jobs_out-start, jobs_out-resume, k
 use Rattle.rt_journal.proofs.Names.{line-turn_elsewhere, virtual_runtime-stays, floor-stays, right_pick_of_lines}
 use Rattle.rt_journal.proofs.Names.{queue_count, waiting_of, no_queue, CoreView, JobOut, tally_of, runtime_of}
 use Rattle.rt_journal.proofs.Names.{delivered_of, TakesOut, AgreesOnClosing, IsJobOut, figures_of, figures_told}
-use Rattle.rt_journal.proofs.Names.{poll_note, set, Reason, EachNote, HandsBack, Agrees, ⊎_elim, cases_lt}
+use Rattle.rt_journal.proofs.Names.{poll_note, set, Reason, EachNote, HandsBack, Agrees, ⊎_elim, cases_lt, floor}
 use Rattle.rt_ids.specs.declared.note.Note.TheVariants as writes
 use Rattle.rt_journal.specs.Agreement.{names_of}
 use Rattle.std.proofs.Common.{length-set}
@@ -110,13 +110,9 @@ module _ {J T : Type 0} (terms : Terms) (old new : CoreView J) (name : JobId) (q
 
   lines_now : (before : Bool) → (other : ℕ) → names_of (waiting_of other new.queues) ≡ line other (poll_note name before ∷ picked)
   lines_now before other =
-      grind (
-        arith,
-        line-turn terms journal kept.notes queue runtime name (names_of takes.others) first_in_line,
-        takes.line.others other,
-        kept.agrees.lines other,
-        line-turn_elsewhere terms journal kept.notes other queue runtime name (names_of takes.others) first_in_line,
-      )
+      let here = line-turn terms journal kept.notes queue runtime name (names_of takes.others) first_in_line in
+      let there = line-turn_elsewhere terms journal kept.notes other queue runtime name (names_of takes.others) first_in_line in
+      grind (arith, here, there, takes.line.others other, kept.agrees.lines other)
 
   pub apart_in : (other : ℕ) → among name (names_of (waiting_of other new.queues)) ≡ false
   apart_in = everywhere (λ at. among name (names_of (waiting_of at new.queues)) ≡ false) queue
@@ -228,13 +224,9 @@ module _ {J T : Type 0} (terms : Terms) (old new : CoreView J) (name : JobId) (q
 
   lines_back : (other : ℕ) → names_of (waiting_of other new.queues) ≡ line other longer
   lines_back other =
-      grind (
-        arith,
-        line-turn terms journal kept.notes queue its_runtime name (names_of hands.others) first_back,
-        hands.line.others other,
-        kept.agrees.lines other,
-        line-turn_elsewhere terms journal kept.notes other queue its_runtime name (names_of hands.others) first_back,
-      )
+      let here = line-turn terms journal kept.notes queue its_runtime name (names_of hands.others) first_back in
+      let there = line-turn_elsewhere terms journal kept.notes other queue its_runtime name (names_of hands.others) first_back in
+      grind (arith, here, there, hands.line.others other, kept.agrees.lines other)
 
   runtime_back : (other : ℕ) → runtime_of other new ≡ runtime_of other old
   runtime_back other = ap (λ core. runtime_of other core) hands.rest ∙ set_runtime old.tallies queue _ exists_back refl other

@@ -3,9 +3,9 @@ use Rattle.rt_journal.proofs.Names.{◌≡◌, ℕ, Bool, true, false, ◌∷◌
 use Rattle.rt_journal.proofs.Names.{JobId, Note, OutcomeNote, queue_just_picked, effect_awaited, accepted_orders}
 use Rattle.rt_journal.proofs.Names.{collected_outcomes, Journal, is_told, with_last, MayWrite, takes_turn, IsEffectDue}
 use Rattle.rt_journal.proofs.Names.{same_name, is_gone, is_outstanding, name_collected, name_redeemed, name_detached}
-use Rattle.rt_journal.proofs.Names.{Terms, ◌≢◌, inl, inr, ◌+◌, ◌<◌, ◌≤◌, List, [], ◌++◌, length, reverse}
-use Rattle.rt_journal.proofs.Names.{sym, ◌∙◌, subst, arith, set, get_or-set_same, is_some, slice_get, take, count_by}
-use Rattle.rt_journal.proofs.Names.{ne_eqb, eqb_tells, slice_get-get_or, slice_get_within, Order, Outcome, MayFollow}
+use Rattle.rt_journal.proofs.Names.{Terms, ◌≢◌, inl, inr, ◌+◌, ◌<◌, ◌≤◌, List, [], ◌++◌, length, reverse, sym, ◌∙◌}
+use Rattle.rt_journal.proofs.Names.{subst, arith, set, get_or-set_same, is_some, slice_get, take, count_by, ne_eqb}
+use Rattle.rt_journal.proofs.Names.{eqb_tells, slice_get-get_or, slice_get_within, Order, Outcome, MayFollow}
 use Rattle.rt_journal.proofs.Names.{outstanding_count, Outward, at, Lane, IsLaneOf, changed, unchanged, JournalView}
 use Rattle.rt_journal.proofs.Names.{DeskView, IsWritten, terms_of_desk, IsOutOf, KeepsOut, KeepsSent, name_of}
 use Rattle.rt_journal.proofs.Names.{named_outcomes, numbered_orders, KnowsLane, KnowsLanes, StaysBeside, is_let_go}

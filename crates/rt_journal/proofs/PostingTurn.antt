@@ -3,15 +3,15 @@ use Rattle.rt_journal.proofs.Names.{Some, Ok, Option, slice_get, ◌≡◌, refl
 use Rattle.rt_journal.proofs.Names.{length, reverse, sym, ◌∙◌, ap, subst, arith, most_turns, JobId, Note, Envelope}
 use Rattle.rt_journal.proofs.Names.{Order, Outcome, turns, Step, Owed, Start, Resume, CoreView, IsAhead, goes_out}
 use Rattle.rt_journal.proofs.Names.{pick_notes, settle_notes, ahead_picks, Outward, DeskView, IsWritten, terms_of_desk}
-use Rattle.rt_journal.proofs.Names.{desk_with, RecordedView, IsRecorded, desk_of, KeepsIn, LeavesOwed}
-use Rattle.rt_journal.proofs.Names.{AreOutsOf, IsPick, StaysPut, None, option_map, ◌*◌, ◌≤◌, same_Some, outcome_note}
-use Rattle.rt_journal.proofs.Names.{Call, Doing, Makes, IsSameTask, JobOut, TurnsWhole, settled_of, IsSameSeat}
-use Rattle.rt_journal.proofs.Names.{told_under, OwesSettled, outcome_settled, PostView, HasPosted, lends, Does}
-use Rattle.rt_journal.proofs.Names.{IsPolled, Settles, post_of, IsPostingTurn, MayAnswer, TurnsNoted}
+use Rattle.rt_journal.proofs.Names.{desk_with, RecordedView, IsRecorded, desk_of, KeepsIn, LeavesOwed, AreOutsOf}
+use Rattle.rt_journal.proofs.Names.{IsPick, StaysPut, None, option_map, ◌*◌, ◌≤◌, same_Some, outcome_note, Call, Doing}
+use Rattle.rt_journal.proofs.Names.{Makes, IsSameTask, JobOut, TurnsWhole, settled_of, IsSameSeat, told_under}
+use Rattle.rt_journal.proofs.Names.{OwesSettled, outcome_settled, PostView, HasPosted, lends, Does, IsPolled, Settles}
+use Rattle.rt_journal.proofs.Names.{post_of, IsPostingTurn, MayAnswer, TurnsNoted}
 use Rattle.rt_core.specs.Turns.{Picks as CorePicks}
 use Rattle.rt_journal.proofs.Ahead.{picked_did}
-use Rattle.rt_journal.proofs.QuietSteps.{nobody, everyone, HasDone, view_of}
-use Rattle.rt_journal.proofs.QuietSteps.{quiet_invariant, quiet_now, given_settled, MayNote, quiet_noted}
+use Rattle.rt_journal.proofs.QuietSteps.{nobody, everyone, HasDone, view_of, quiet_invariant, quiet_now, given_settled}
+use Rattle.rt_journal.proofs.QuietSteps.{MayNote, quiet_noted}
 use Rattle.rt_journal.proofs.Posting.{posted_rest, posted_silent}
 use Rattle.rt_journal.proofs.SentNotes.{HasSaid, has_said}
 use Rattle.rt_journal.proofs.SettledPolls.{owes_settled, its_answer, settled_did}

@@ -1,17 +1,17 @@
 -- A core beside its journal settles the poll of the job that is out, and the end of the job's sender gets the outcome.
-use Rattle.rt_journal.proofs.Names.{◌≡◌, ℕ, ◌+◌, ◌<◌, ◌≤◌, Bool, true, false, List, [], ◌∷◌, ◌++◌, length}
-use Rattle.rt_journal.proofs.Names.{refl, sym, ◌∙◌, ap, subst, arith, add-zero, get_or, ◌==◌, Option, Some, None, All}
-use Rattle.rt_journal.proofs.Names.{is_some, unwrap_or, false_from_ne_true, length-append, All-append}
-use Rattle.rt_journal.proofs.Names.{All-cons, All-nil, JobId, Note, same_name, is_name, Journal, is_told, jobs_out}
-use Rattle.rt_journal.proofs.Names.{name_settled, number_if, alone_out, apart_of, among, same_as_itself, Step, Call}
-use Rattle.rt_journal.proofs.Names.{Owed, AfterPoll, IsSameTask, IfDone, OnYield, OwesOn, waiting_of, held_count}
-use Rattle.rt_journal.proofs.Names.{ChangesLine, Settled, Yielded, CoreView, JobOut, inside_count, IsTaskOut}
-use Rattle.rt_journal.proofs.Names.{settled_view, IsJobOut, polls_made, settle_note, RecordedView, terms_at}
-use Rattle.rt_journal.proofs.Names.{IsRecorded, HasTask, note_taken, OwesAfter, sum_upto, given_count, IsOut, IsPolled}
-use Rattle.rt_journal.proofs.Names.{Settles, TellsStep, Job, name_ended, without_job, known_of, option_map, Inward}
-use Rattle.rt_journal.proofs.Names.{IsInOf, IsUngiven, told_under, outcome_note, outcome_settled, length-with_last_if}
-use Rattle.rt_journal.proofs.Names.{given_outcomes, IfSome, same_Some, Envelope, Outcome, MayGive, Fits, order_taken}
-use Rattle.rt_journal.proofs.Names.{IsInOwing, KeepsIn, LeavesOwed, Gives, IsOutUnder, OwesSettled, MayAnswer}
+use Rattle.rt_journal.proofs.Names.{◌≡◌, ℕ, ◌+◌, ◌<◌, ◌≤◌, Bool, true, false, List, [], ◌∷◌, ◌++◌, length, refl, sym}
+use Rattle.rt_journal.proofs.Names.{◌∙◌, ap, subst, arith, add-zero, get_or, ◌==◌, Option, Some, None, All, is_some}
+use Rattle.rt_journal.proofs.Names.{unwrap_or, false_from_ne_true, length-append, All-append, All-cons, All-nil, JobId}
+use Rattle.rt_journal.proofs.Names.{Note, same_name, is_name, Journal, is_told, jobs_out, name_settled, number_if}
+use Rattle.rt_journal.proofs.Names.{alone_out, apart_of, among, same_as_itself, Step, Call, Owed, AfterPoll}
+use Rattle.rt_journal.proofs.Names.{IsSameTask, IfDone, OnYield, OwesOn, waiting_of, held_count, ChangesLine, Settled}
+use Rattle.rt_journal.proofs.Names.{Yielded, CoreView, JobOut, inside_count, IsTaskOut, settled_view, IsJobOut}
+use Rattle.rt_journal.proofs.Names.{polls_made, settle_note, RecordedView, terms_at, IsRecorded, HasTask, note_taken}
+use Rattle.rt_journal.proofs.Names.{OwesAfter, sum_upto, given_count, IsOut, IsPolled, Settles, TellsStep, Job}
+use Rattle.rt_journal.proofs.Names.{name_ended, without_job, known_of, option_map, Inward, IsInOf, IsUngiven}
+use Rattle.rt_journal.proofs.Names.{told_under, outcome_note, outcome_settled, length-with_last_if, given_outcomes}
+use Rattle.rt_journal.proofs.Names.{IfSome, same_Some, Envelope, Outcome, MayGive, Fits, order_taken, IsInOwing}
+use Rattle.rt_journal.proofs.Names.{KeepsIn, LeavesOwed, Gives, IsOutUnder, OwesSettled, MayAnswer}
 use Rattle.rt_ids.specs.declared.note.Note.TheVariants as writes
 use Rattle.rt_jobs.specs.declared.job.Step.TheVariants as steps
 use Rattle.rt_core.specs.declared.turn.Settled.TheVariants.{Finished}

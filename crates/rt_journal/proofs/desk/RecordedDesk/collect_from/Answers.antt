@@ -52,19 +52,7 @@ returns g c =
     record {
       collects = gathers_no_more c.args.core c.args.self.now c.loop-core.self c.collect_one.new.self (g.O.OutEnd.out c.args.end.now) (g.O.OutEnd.out c.loop-core.end) (g.O.OutEnd.out c.collect_one.new.end) c.loop-core.count loop.gathered loop.end loop.longer gets;
       books = c.collect_one.ensures.books ∙ loop.books;
-      few = omega (
-        arith,
-        gathered.2,
-        ap (λ journal. length journal.notes) gathered.3,
-        length-append gathered.0 c.args.self.now.journal.notes,
-        ap (λ (desk : DeskView _ _). length desk.journal.notes) gets.0,
-        loop.counted,
-        loop.stays.lane.lane_of.sound.within,
-        ap (λ end. length end.sent) loop.end,
-        sound.room,
-        sound.credits,
-        c.requires.beside.capacity,
-      );
+      few = omega (arith, gathered.2, ap (λ journal. length journal.notes) gathered.3, length-append gathered.0 c.args.self.now.journal.notes, ap (λ (desk : DeskView _ _). length desk.journal.notes) gets.0, loop.stays.lane.lane_of.sound.within, ap (λ end. length end.sent) loop.end);
       end = gets_all c.args.core c.args.self.now c.loop-core.self c.collect_one.new.self (g.O.OutEnd.out c.args.end.now) (g.O.OutEnd.out c.loop-core.end) (g.O.OutEnd.out c.collect_one.new.end) c.loop-core.count loop.gathered loop.end loop.longer gets;
       stays = stays_then c.args.core c.args.self.now c.loop-core.self c.collect_one.new.self loop.stays c.collect_one.ensures.stays;
       untouched = c.collect_one.ensures.untouched ∙ loop.untouched;

@@ -1,6 +1,7 @@
-use Rattle.rt_journal.proofs.Names.{subst, ap, ◌∙◌, Fits, IsRecorded, IsInOf}
+use Rattle.rt_journal.proofs.Names.{true, subst, ap, ◌∙◌, Fits, IsRecorded, IsInOf}
 use Rattle.rt_journal.proofs.DeliveredEnds.{next_in, outs_keep, beside_owes, rest_keep, nothing_keeps}
 use Rattle.rt_journal.proofs.GivenEnds.{may_give, gave}
+use Rattle.rt_journal.specs.Steps.{Delivers}
 use Rattle.rt_journal.proofs.recorded.Recorded.deliver.Goals as goal
 
 pub receive-outcome-requires-clause-next : goal.receive-outcome-requires-clause-next
@@ -22,16 +23,11 @@ returns-in-Some g c =
     let taken = g.I.InEnd.inward c.take.new.self in
     let owes = beside_owes c.args.self.now c.receive-outcome.new.self c.in-Some.envelope next received.receives received.seat c.receive-outcome.result received.gives _ taken c.requires.beside took.takes took.sound took.named in
     let now = gave c.receive-outcome.new.self c.in-Some.envelope.name c.in-Some.envelope.order received.stands taken c.receive-outcome.result owes _ c.give_if.ensures.gives in
-    record {
-      delivers = (c.in-Some.envelope, (taken, c.receive-outcome.result, took.takes, c.give_if.ensures.gives), received.receives);
-      beside = subst (λ from. IsInOf from c.receive-outcome.new.self (g.I.InEnd.inward c.give_if.new.end)) (ap (λ name. name.from) took.takes.2) now;
-      others = rest_keep c.args.self.now c.receive-outcome.new.self c.in-Some.envelope next received.receives received.seat c.receive-outcome.result received.gives (g.I.InEnd.inward c.args.end.now) taken took.takes;
-      outs = outs_keep c.args.self.now c.receive-outcome.new.self c.in-Some.envelope next received.receives received.seat c.receive-outcome.result received.gives;
-      seat = received.seat;
-      lanes = received.lanes;
-      sound = received.sound;
-      untouched = c.give_if.ensures.untouched ∙ took.untouched;
-    }
+    let delivers : Delivers c.args.self.now (g.I.InEnd.inward c.args.end.now) c.receive-outcome.new.self (g.I.InEnd.inward c.give_if.new.end) true = (c.in-Some.envelope, (taken, c.receive-outcome.result, took.takes, c.give_if.ensures.gives), received.receives) in
+    let beside = subst (λ from. IsInOf from c.receive-outcome.new.self (g.I.InEnd.inward c.give_if.new.end)) (ap (λ name. name.from) took.takes.2) now in
+    let others = rest_keep c.args.self.now c.receive-outcome.new.self c.in-Some.envelope next received.receives received.seat c.receive-outcome.result received.gives (g.I.InEnd.inward c.args.end.now) taken took.takes in
+    let outs = outs_keep c.args.self.now c.receive-outcome.new.self c.in-Some.envelope next received.receives received.seat c.receive-outcome.result received.gives in
+    assumption (delivers, beside, others, outs, c.give_if.ensures.untouched ∙ took.untouched)
 
 pub returns-in-None-clause-beside : goal.returns-in-None-clause-beside
 returns-in-None-clause-beside g c = nothing_keeps c.args.self.now (g.I.InEnd.inward c.args.end.now) (g.I.InEnd.inward c.take.new.self) c.requires.beside c.in-None.ensures.takes
