@@ -1,7 +1,7 @@
 -- What a core does with an order that is delivered to it, case by case, told in one form.
 use Rattle.rt_journal.proofs.Names.{◌≡◌, ℕ, ◌+◌, ◌≤◌, Bool, true, false, List, [], ◌∷◌, ◌++◌, length, refl, sym, ◌∙◌}
 use Rattle.rt_journal.proofs.Names.{ap, subst, arith, add-zero, cond, ◌==◌, Option, Some, None, is_some, All, eqb-true}
-use Rattle.rt_journal.proofs.Names.{eqb-false, append-nil, length-append, All-cons, All-nil, InRange, JobId, Note}
+use Rattle.rt_journal.proofs.Names.{append-nil, length-append, All-cons, All-nil, InRange, JobId, Note}
 use Rattle.rt_journal.proofs.Names.{Order, Job, Create, SetShares, Reason, Answer, Journal, EachNote, with_last}
 use Rattle.rt_journal.proofs.Names.{delivered_names, given_outcomes, number_if, refusal, IsAnswer, has_effect}
 use Rattle.rt_journal.proofs.Names.{IsNextDelivered, length-with_last_if, queue_count, waiting_of, held_count}
@@ -93,10 +93,7 @@ module _ {J T : Type 0} (old : RecordedView J T) (name : JobId)
       )
     where
       line_now : (other : ℕ) (test : Bool) → (other == queue) ≡ test → waiting_of other core.queues ≡ waiting_of other old.core.queues ++ cond test ((name, false, job) ∷ []) []
-      line_now other true one =
-          let here : other ≡ queue = eqb-true other queue one in
-          subst (λ at. waiting_of at core.queues ≡ waiting_of at old.core.queues ++ (name, false, job) ∷ []) (sym here) enters.line.changed
-      line_now other false apart = enters.line.others other (eqb-false other queue apart) ∙ sym (append-nil (waiting_of other old.core.queues))
+      line_now other test is = grind (arith, enters.line.changed, enters.line.others other, append-nil (waiting_of other old.core.queues))
 
       came_now : (other : ℕ) (test : Bool) → (other == queue) ≡ test → All (IsOf name (Job queue job) other) (cond test ((name, false, job) ∷ []) [])
       came_now other true one =

@@ -7,7 +7,7 @@ use Rattle.rt_journal.proofs.Names.{CreatesQueue, Bool, true, false, cond, Optio
 use Rattle.rt_journal.proofs.Names.{closes, core_mode, effect_awaited, has_effect, CarriesOut, waiting_of, ClosesCore}
 use Rattle.rt_journal.proofs.Names.{ClosesItself, ◌≤◌, ◌++◌, length, reverse, ◌≢◌, IsSome, slice_set, eq-eqb, ne_eqb}
 use Rattle.rt_journal.proofs.Names.{true≢false, length-append, IsNextShut, final_count, or_else, gate_of, ShutsGate}
-use Rattle.rt_journal.proofs.Names.{Inward, SoundIn, Shuts, IsInOf, TellsShut, shares}
+use Rattle.rt_journal.proofs.Names.{Inward, SoundIn, Shuts, IsInOf, TellsShut}
 use Rattle.rt_ids.specs.declared.note.Note.TheVariants as writes
 use Rattle.rt_core.specs.Deliveries.{CreatesQueue as CoreCreates}
 use Rattle.rt_journal.proofs.Kept.{IsKept, kept_after}

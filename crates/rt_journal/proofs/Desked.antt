@@ -1,5 +1,5 @@
 -- What a call of a recorded desk knows of the lane that it took, by its own names and by its caller's, and a call that changed nothing.
-use Rattle.rt_journal.proofs.Names.{◌≡◌, ℕ, ◌<◌, Bool, true, false, List, ◌∷◌, length, Some, refl, sym, ◌∙◌, ap, subst}
+use Rattle.rt_journal.proofs.Names.{◌≡◌, ℕ, ◌<◌, Bool, true, false, List, ◌∷◌, length, Some, sym, ◌∙◌, ap, subst}
 use Rattle.rt_journal.proofs.Names.{arith, set, get_or, ◌==◌, not, slice_get, eq-eqb, true≢false, set-get_or}
 use Rattle.rt_journal.proofs.Names.{get_or_from_slice_get, JobId, Note, Order, Outcome, Outward, JournalView, Lane}
 use Rattle.rt_journal.proofs.Names.{IsLaneOf, found, DeskView, IsWritten, terms_of_desk, IsOutOf, KnowsLanes, HasLane}

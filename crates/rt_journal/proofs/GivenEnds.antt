@@ -1,6 +1,6 @@
 -- An outcome that is owed may be given on the end of its sender, and is owed no more then.
-use Rattle.rt_journal.proofs.Names.{◌≡◌, ℕ, ◌+◌, ◌-◌, [], ◌∷◌, ◌++◌, refl, sym, ◌∙◌, ap, subst, arith, cond, Option}
-use Rattle.rt_journal.proofs.Names.{Some, None, IfSome, slice_get, option_map, eq-eqb, map-append, JobId, Order, Job}
+use Rattle.rt_journal.proofs.Names.{◌≡◌, ℕ, [], ◌∷◌, ◌++◌, refl, sym, ◌∙◌, ap, subst, arith, cond, Option}
+use Rattle.rt_journal.proofs.Names.{Some, None, IfSome, option_map, eq-eqb, map-append, JobId, Order, Job}
 use Rattle.rt_journal.proofs.Names.{Outcome, Reason, outcome_note, Owed, Inward, MayGive, Fits, Settled, Yielded}
 use Rattle.rt_journal.proofs.Names.{IsSentUnder, outcome_settled, MayAnswer, RecordedView, IsRecorded, IsTaken}
 use Rattle.rt_journal.proofs.Names.{order_taken, IsInOf, IsInOwing, Gives, told_under, name_of, named_outcomes}
@@ -20,13 +20,7 @@ module _ {J T : Type 0} (view : RecordedView J T) (name : JobId) (order : Order 
     pub may_give_one : IsTaken view.core.cores view.journal.notes name → (fits : Order J → Outcome J T → Type 0) → fits order outcome → MayGive fits inward name.number outcome
     may_give_one taken fits fit =
         let found = is.orders name order refl took in
-        let number : name.number ≡ found.0 + 1 = ap (λ name. name.number) found.1 in
-        let place : name.number - inward.base - 1 ≡ found.0 = omega (arith, number, is.base) in (
-          omega (arith, number, is.base),
-          omega (arith, taken.old, is.taken, is.base),
-          subst (λ found. IfSome found (λ order. fits order outcome)) (sym (ap (slice_get inward.seen) place ∙ found.2)) fit,
-          owes.ungiven,
-        )
+        grind (arith, found, taken, fit, owes.ungiven)
 
     pub gave_one : IsInOf name.from view (record inward { given = inward.given ++ (name.number, outcome) ∷ [] })
     gave_one =

@@ -14,7 +14,7 @@ use Rattle.rt_journal.proofs.Names.{has_effect, CountsAlone, queue_just_picked, 
 use Rattle.rt_journal.proofs.Names.{le-leb, lt-leb, length-append, InRange, list_told, core_mode, IsCreationAnswer}
 use Rattle.rt_journal.proofs.Names.{queue_created, shares-created, shares-created_elsewhere, shares-set}
 use Rattle.rt_journal.proofs.Names.{shares-set_elsewhere, queue_count, shares_of, Creates, Weighs, slice_set, Mode}
-use Rattle.rt_journal.proofs.Names.{or_else, queue_mode, final_count, mode_of, HasClosed, turns}
+use Rattle.rt_journal.proofs.Names.{or_else, queue_mode, final_count, mode_of, HasClosed}
 use Rattle.std.proofs.Common.{length-set}
 use Rattle.rt_ids.specs.declared.note.Note.TheVariants as writes
 use Rattle.rt_journal.specs.Agreement.{names_of}

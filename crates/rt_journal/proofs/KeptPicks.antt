@@ -11,7 +11,7 @@ use Rattle.rt_journal.proofs.Names.{IsTurnOf, jobs_out-start, jobs_out-resume, k
 use Rattle.rt_journal.proofs.Names.{line-turn_elsewhere, virtual_runtime-stays, floor-stays, right_pick_of_lines}
 use Rattle.rt_journal.proofs.Names.{queue_count, waiting_of, no_queue, CoreView, JobOut, tally_of, runtime_of}
 use Rattle.rt_journal.proofs.Names.{delivered_of, TakesOut, AgreesOnClosing, IsJobOut, figures_of, figures_told}
-use Rattle.rt_journal.proofs.Names.{poll_note, set, Reason, EachNote, HandsBack, Agrees, ⊎_elim, cases_lt, floor}
+use Rattle.rt_journal.proofs.Names.{poll_note, set, Reason, EachNote, HandsBack, Agrees, ⊎_elim, cases_lt}
 use Rattle.rt_ids.specs.declared.note.Note.TheVariants as writes
 use Rattle.rt_journal.specs.Agreement.{names_of}
 use Rattle.std.proofs.Common.{length-set}

@@ -2,9 +2,9 @@
 use Rattle.rt_journal.proofs.Names.{◌≡◌, ℕ, zero, suc, ◌+◌, Bool, true, false, List, [], ◌∷◌, ◌++◌, length, refl, ◌∙◌}
 use Rattle.rt_journal.proofs.Names.{ap, subst, arith, get_or, cond, Some, slice_get, map, JobId, Order, first_under}
 use Rattle.rt_journal.proofs.Names.{same_name, one_name, same_as_itself, without_job, numbered_orders, ◌-◌, ◌≤◌, sym}
-use Rattle.rt_journal.proofs.Names.{◌==◌, None, eqb-true, length-append, Terms, Note, IsPrefix, Journal, EachNote}
+use Rattle.rt_journal.proofs.Names.{None, length-append, Terms, Note, IsPrefix, Journal, EachNote}
 use Rattle.rt_journal.proofs.Names.{with_last, delivered_names, if_from, MayFollow, MayStand, IsNextDelivered, name_of}
-use Rattle.rt_journal.proofs.Names.{◌≢◌, inl, inr, ◌<◌, count_by, eqb_tells, sum_by-append, ◌||◌, eq-eqb, Sent}
+use Rattle.rt_journal.proofs.Names.{◌≢◌, inl, inr, ◌<◌, count_by, eqb_tells, sum_by-append, ◌||◌, Sent}
 use Rattle.rt_journal.proofs.Names.{Outcome, accepted_orders, collected_outcomes, outcome_collected, order_sent}
 use Rattle.rt_journal.proofs.Names.{is_told, is_name, outcome_note, name_collected, first_under-longer}
 use Rattle.rt_journal.proofs.Names.{first_under-came, nothing_collected_under, AreDistinct, slice_get-behind}
@@ -68,19 +68,9 @@ module _ {T : Type 0} (terms : Terms) (sender : ℕ) where
   -- one more is delivered, or none
   one_more : (name : JobId) (before : Journal T) → IsNextDelivered terms name before → delivered_names sender before ≡ names terms sender (length (delivered_names sender before)) →
       with_last (delivered_names sender before) (if_from sender name name) ≡ names terms sender (length (with_last (delivered_names sender before) (if_from sender name name)))
-  one_more name before next was = by_test (name.from == sender) refl
-    where
-      by_test : (test : Bool) → (name.from == sender) ≡ test →
-          with_last (delivered_names sender before) (cond test (Some name) None) ≡ names terms sender (length (with_last (delivered_names sender before) (cond test (Some name) None)))
-      by_test false other = was
-      by_test true one =
-          let from : name.from ≡ sender = eqb-true name.from sender one in
-          let count = length (delivered_names sender before) in
-          let number : name.number ≡ 0 + count + 1 = subst (λ at. name.number ≡ 0 + length (delivered_names at before) + 1) from (omega (arith, next.next)) in
-          let is : name ≡ name_of sender terms.actor (0 + count + 1) = λ i. record { from = from i; to = next.receiver i; number = number i } in
-          ap (λ front. front ++ name ∷ []) was
-          ∙ (ap (λ last. names terms sender count ++ last ∷ []) is
-          ∙ (sym (names_from-add sender terms.actor 0 count 1) ∙ ap (names terms sender) (sym (length-append (delivered_names sender before) (name ∷ [])))))
+  one_more name before next was =
+      let longer = names_from-add sender terms.actor 0 (length (delivered_names sender before)) 1 in
+      grind (arith, longer, next.next, next.receiver, length-append (delivered_names sender before) (name ∷ []))
 
   -- what a lawful journal says was delivered from a sender is numbered without gaps
   pub delivered_numbered : (journal : Journal T) → EachNote (MayStand terms) journal → delivered_names sender journal ≡ names terms sender (length (delivered_names sender journal))
@@ -166,10 +156,7 @@ module _ {J T : Type 0} (actor core number : ℕ) where
   pub named-found : (outcomes : List (ℕ × Outcome J T)) → AreDistinct outcomes → (place : ℕ) (outcome : Outcome J T) → slice_get outcomes place ≡ Some (number, outcome) →
       first_under (name_of actor core number) (named_outcomes actor core outcomes) ≡ Some (outcome_note outcome)
   named-found [] distinct place outcome at = absurd cc
-  named-found (first ∷ rest) distinct zero outcome at =
-      let is : first ≡ (number, outcome) = cc in
-      subst (λ first. cond (same_name (name_of actor core number) (name_of actor core first.0)) (Some (outcome_note first.1)) (first_under (name_of actor core number) (named_outcomes actor core rest)) ≡ Some (outcome_note outcome)) (sym is)
-      (ap (λ test. cond test (Some (outcome_note outcome)) (first_under (name_of actor core number) (named_outcomes actor core rest))) (same_as_itself (name_of actor core number)))
+  named-found (first ∷ rest) distinct zero outcome at = grind (arith, same_as_itself)
   named-found (first ∷ rest) distinct (suc place) outcome at =
       ap (λ test. cond test (Some (outcome_note first.1)) (first_under (name_of actor core number) (named_outcomes actor core rest)))
       (other_name (name_of actor core number) (name_of actor core first.0) (λ same.
@@ -199,22 +186,8 @@ module _ {T : Type 0} where
       by_note : (note : Note T) → (is_name name (name_collected note) || is_told name_collected name before) ≡ true →
           first_under name (with_last (collected_outcomes name.to before) (outcome_collected name.to note)) ≡ None →
           (is_told name_collected name before ≡ true → first_under name (collected_outcomes name.to before) ≡ None → ⊥) → ⊥
-      by_note (Collected other outcome) is none was = by_name (same_name name other) refl is
-        where
-          came : name ≡ other → ⊥
-          came one =
-              let at : first_under name (collected_outcomes name.to before ++ (name, outcome) ∷ []) ≡ None =
-              subst (λ test. first_under name (with_last (collected_outcomes name.to before) (cond test (Some (name, outcome)) None)) ≡ None) (eq-eqb name.to name.to refl)
-              (subst (λ other. first_under name (with_last (collected_outcomes name.to before) (outcome_collected name.to (Collected other outcome))) ≡ None) (sym one) none) in
-              last_there name (collected_outcomes name.to before) outcome at
-
-          earlier : (test : Bool) → first_under name (with_last (collected_outcomes name.to before) (cond test (Some (other, outcome)) None)) ≡ None → first_under name (collected_outcomes name.to before) ≡ None
-          earlier false none = none
-          earlier true none = not_before name (collected_outcomes name.to before) (other, outcome) none
-
-          by_name : (test : Bool) → same_name name other ≡ test → (test || is_told name_collected name before) ≡ true → ⊥
-          by_name true same is = came (one_name name other same)
-          by_name false same is = was is (earlier (other.to == name.to) none)
+      by_note (Collected other outcome) is none was =
+          grind (arith, was, last_there name (collected_outcomes name.to before) outcome, not_before name (collected_outcomes name.to before) (other, outcome), one_name name other)
       by_note _ is none was = was is none
 
   -- where nothing stands under a name among the collected, no note says that it was collected
@@ -234,15 +207,8 @@ module _ {T : Type 0} (terms : Terms) where
     where
       by_note : (note : Note T) → MayFollow terms note before → (first_under name (accepted_orders name.to before) ≡ Some order → (name.from ≡ terms.actor) × (name.to < terms.cores)) →
           first_under name (with_last (accepted_orders name.to before) (order_sent name.to note)) ≡ Some order → (name.from ≡ terms.actor) × (name.to < terms.cores)
-      by_note (Sent other sent) law was found = by_test (other.to == name.to) found
-        where
-          by_test : (test : Bool) → first_under name (with_last (accepted_orders name.to before) (cond test (Some (other, sent)) None)) ≡ Some order → (name.from ≡ terms.actor) × (name.to < terms.cores)
-          by_test false found = was found
-          by_test true found =
-              elim (first_under-came name (accepted_orders name.to before) (other, sent) order found) [
-                | inl there ↦ was there
-                | inr came ↦ subst (λ name. (name.from ≡ terms.actor) × (name.to < terms.cores)) (sym (one_name name other came.0)) (law.sender, law.receiver)
-              ]
+      by_note (Sent other sent) law was found =
+          grind (arith, was, law.sender, law.receiver, first_under-came name (accepted_orders name.to before) (other, sent) order, one_name)
       by_note _ law was found = was found
 
   -- so nothing was accepted under another's name, or for a core that there isn't

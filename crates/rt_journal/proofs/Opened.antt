@@ -3,7 +3,7 @@ use Rattle.rt_journal.proofs.Names.{◌≡◌, ℕ, zero, suc, ◌+◌, ◌*◌,
 use Rattle.rt_journal.proofs.Names.{None, All, replicate, slice_index_or, length-replicate, get_or-replicate, All-nil}
 use Rattle.rt_journal.proofs.Names.{Owed, waiting_of, shares_of, mode_of, CoreView, runtime_of, opened, Agrees}
 use Rattle.rt_journal.proofs.Names.{AreMarked, no_figures, figures_of, IsRecorded, HasTask, sum_upto, given_count}
-use Rattle.rt_journal.proofs.Names.{opened_beside, turns}
+use Rattle.rt_journal.proofs.Names.{opened_beside}
 use Rattle.rt_journal.specs.Agreement.{names_of}
 
 none≢some : {A : Type 0} (item : A) → None ≡ Some item → ⊥
@@ -25,8 +25,7 @@ module _ (J : Type 0) (core cores cap : ℕ) where
   at_first (suc (suc queue)) = (refl, refl, refl, refl)
 
   first_shares : (queue : ℕ) → queue < 1 → shares_of queue new_core.queues ≡ 1000
-  first_shares zero first = refl
-  first_shares (suc queue) past = absurd (omega (arith, past))
+  first_shares queue there = grind arith
 
   -- it agrees with a journal without a note
   pub agrees-opened : (T : Type 0) → Agrees {J = J} {T = T} new_core []
