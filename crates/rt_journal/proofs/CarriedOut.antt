@@ -1,17 +1,16 @@
 -- What a core does with an order that is delivered to it, case by case, told in one form.
 use Rattle.rt_journal.proofs.Names.{◌≡◌, ℕ, ◌+◌, ◌≤◌, Bool, true, false, List, [], ◌∷◌, ◌++◌, length, refl, sym, ◌∙◌}
 use Rattle.rt_journal.proofs.Names.{ap, subst, arith, add-zero, cond, ◌==◌, Option, Some, None, is_some, All, eqb-true}
-use Rattle.rt_journal.proofs.Names.{append-nil, length-append, All-cons, All-nil, InRange, JobId, Note}
-use Rattle.rt_journal.proofs.Names.{Order, Job, Create, SetShares, Reason, Answer, Journal, EachNote, with_last}
-use Rattle.rt_journal.proofs.Names.{delivered_names, given_outcomes, number_if, refusal, IsAnswer, has_effect}
-use Rattle.rt_journal.proofs.Names.{IsNextDelivered, length-with_last_if, queue_count, waiting_of, held_count}
-use Rattle.rt_journal.proofs.Names.{CoreView, inside_count, Enters, Creates, Weighs, CountsAlone, counted, without_job}
-use Rattle.rt_journal.proofs.Names.{polls_made, IsDelivery, entry_note, IsKept, DeliversAs, GivesMore, told_under}
-use Rattle.rt_journal.proofs.Names.{OutcomeNote, RecordedView, terms_at, sum_upto, delivered_count, given_count}
-use Rattle.rt_journal.proofs.Names.{le-leb, Close, CloseCore, Mode, closes, queue_mode, core_mode, created_count}
-use Rattle.rt_journal.proofs.Names.{mode_of, HasClosed, Agrees, inl, ◌<◌, ◌≢◌, IfSome, reverse, IsSameTask, Fits}
-use Rattle.rt_journal.proofs.Names.{option_map, outcome_note, outcome_delivered, lt-leb, IsSpelledOrder, Delivered}
-use Rattle.rt_journal.proofs.Names.{Took, if_from}
+use Rattle.rt_journal.proofs.Names.{append-nil, length-append, All-cons, All-nil, InRange, JobId, Note, Order, Job}
+use Rattle.rt_journal.proofs.Names.{Create, SetShares, Reason, Answer, Journal, EachNote, with_last, delivered_names}
+use Rattle.rt_journal.proofs.Names.{given_outcomes, number_if, refusal, IsAnswer, has_effect, IsNextDelivered}
+use Rattle.rt_journal.proofs.Names.{length-with_last_if, queue_count, waiting_of, held_count, CoreView, inside_count}
+use Rattle.rt_journal.proofs.Names.{Enters, Creates, Weighs, CountsAlone, counted, without_job, polls_made, IsDelivery}
+use Rattle.rt_journal.proofs.Names.{entry_note, IsKept, DeliversAs, GivesMore, told_under, OutcomeNote, RecordedView}
+use Rattle.rt_journal.proofs.Names.{terms_at, sum_upto, delivered_count, given_count, le-leb, Close, CloseCore, Mode}
+use Rattle.rt_journal.proofs.Names.{closes, queue_mode, core_mode, created_count, mode_of, HasClosed, Agrees, inl, ◌<◌}
+use Rattle.rt_journal.proofs.Names.{◌≢◌, IfSome, reverse, IsSameTask, Fits, option_map, outcome_note}
+use Rattle.rt_journal.proofs.Names.{outcome_delivered, lt-leb, IsSpelledOrder, Delivered, Took, if_from}
 use Rattle.rt_ids.specs.declared.note.Note.TheVariants as writes
 use Rattle.rt_ids.specs.declared.order.Answer.TheVariants as answers
 pub use Rattle.rt_journal.specs.Ends.{KeepsLists}

@@ -1,9 +1,9 @@
 -- An outcome that is owed may be given on the end of its sender, and is owed no more then.
-use Rattle.rt_journal.proofs.Names.{◌≡◌, ℕ, [], ◌∷◌, ◌++◌, refl, sym, ◌∙◌, ap, subst, arith, cond, Option}
-use Rattle.rt_journal.proofs.Names.{Some, None, IfSome, option_map, eq-eqb, map-append, JobId, Order, Job}
-use Rattle.rt_journal.proofs.Names.{Outcome, Reason, outcome_note, Owed, Inward, MayGive, Fits, Settled, Yielded}
-use Rattle.rt_journal.proofs.Names.{IsSentUnder, outcome_settled, MayAnswer, RecordedView, IsRecorded, IsTaken}
-use Rattle.rt_journal.proofs.Names.{order_taken, IsInOf, IsInOwing, Gives, told_under, name_of, named_outcomes}
+use Rattle.rt_journal.proofs.Names.{◌≡◌, ℕ, [], ◌∷◌, ◌++◌, refl, sym, ◌∙◌, ap, subst, arith, cond, Option, Some, None}
+use Rattle.rt_journal.proofs.Names.{IfSome, option_map, eq-eqb, map-append, JobId, Order, Job, Outcome, Reason}
+use Rattle.rt_journal.proofs.Names.{outcome_note, Owed, Inward, MayGive, Fits, Settled, Yielded, IsSentUnder}
+use Rattle.rt_journal.proofs.Names.{outcome_settled, MayAnswer, RecordedView, IsRecorded, IsTaken, order_taken, IsInOf}
+use Rattle.rt_journal.proofs.Names.{IsInOwing, Gives, told_under, name_of, named_outcomes}
 use Rattle.rt_ids.specs.declared.order.Outcome.TheVariants as outcome
 use Rattle.rt_ids.specs.declared.note.OutcomeNote.TheVariants as note
 use Rattle.rt_core.specs.declared.turn.Settled.TheVariants.{Finished}

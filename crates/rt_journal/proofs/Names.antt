@@ -3,8 +3,8 @@ pub use Rattle.std.proofs.Common.{Bool, List, None, Some, [], add-zero, ap, appe
 pub use Rattle.std.proofs.Common.{get_or-set_other, get_or-set_same, inl, inr, length, refl, reverse, rules, set}
 pub use Rattle.std.proofs.Common.{subst, suc, sym, take, true, zero, zero-add, ℕ, ⊎_elim, ◌*◌, ◌++◌, ◌+◌, ◌-◌, ◌<◌}
 pub use Rattle.std.proofs.Common.{◌^◌, ◌∙◌, ◌∷◌, ◌≡◌, ◌≢◌, ◌≤◌, ◌⊎◌}
-pub use Rattle.std.proofs.lemmas.Bool.{cases_eq, cases_lt, eq-eqb, eqb-false, eqb-true, false_from_ne_true, le-leb}
-pub use Rattle.std.proofs.lemmas.Bool.{lt-leb, lt-ltb, ne_eqb, or_parts, true≢false}
+pub use Rattle.std.proofs.lemmas.Bool.{cases_eq, cases_lt, eq-eqb, eqb-true, false_from_ne_true, le-leb, lt-leb}
+pub use Rattle.std.proofs.lemmas.Bool.{lt-ltb, ne_eqb, or_parts, true≢false}
 pub use Rattle.std.proofs.lemmas.Bool.Decides.{eqb_tells}
 pub use Rattle.std.proofs.lemmas.List.{append-nil, get_or-replicate, get_or_past, length-append, length-replicate}
 pub use Rattle.std.proofs.lemmas.List.{length-reverse, length-take, map-append, set-get_or, take-append-drop}

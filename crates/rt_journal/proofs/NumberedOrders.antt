@@ -2,13 +2,12 @@
 use Rattle.rt_journal.proofs.Names.{◌≡◌, ℕ, zero, suc, ◌+◌, Bool, true, false, List, [], ◌∷◌, ◌++◌, length, refl, ◌∙◌}
 use Rattle.rt_journal.proofs.Names.{ap, subst, arith, get_or, cond, Some, slice_get, map, JobId, Order, first_under}
 use Rattle.rt_journal.proofs.Names.{same_name, one_name, same_as_itself, without_job, numbered_orders, ◌-◌, ◌≤◌, sym}
-use Rattle.rt_journal.proofs.Names.{None, length-append, Terms, Note, IsPrefix, Journal, EachNote}
-use Rattle.rt_journal.proofs.Names.{with_last, delivered_names, if_from, MayFollow, MayStand, IsNextDelivered, name_of}
-use Rattle.rt_journal.proofs.Names.{◌≢◌, inl, inr, ◌<◌, count_by, eqb_tells, sum_by-append, ◌||◌, Sent}
-use Rattle.rt_journal.proofs.Names.{Outcome, accepted_orders, collected_outcomes, outcome_collected, order_sent}
-use Rattle.rt_journal.proofs.Names.{is_told, is_name, outcome_note, name_collected, first_under-longer}
-use Rattle.rt_journal.proofs.Names.{first_under-came, nothing_collected_under, AreDistinct, slice_get-behind}
-use Rattle.rt_journal.proofs.Names.{option_cases, named_outcomes, false_from_ne_true}
+use Rattle.rt_journal.proofs.Names.{None, length-append, Terms, Note, IsPrefix, Journal, EachNote, with_last}
+use Rattle.rt_journal.proofs.Names.{delivered_names, if_from, MayFollow, MayStand, IsNextDelivered, name_of, ◌≢◌, inl}
+use Rattle.rt_journal.proofs.Names.{inr, ◌<◌, count_by, eqb_tells, sum_by-append, ◌||◌, Sent, Outcome, accepted_orders}
+use Rattle.rt_journal.proofs.Names.{collected_outcomes, outcome_collected, order_sent, is_told, is_name, outcome_note}
+use Rattle.rt_journal.proofs.Names.{name_collected, first_under-longer, first_under-came, nothing_collected_under}
+use Rattle.rt_journal.proofs.Names.{AreDistinct, slice_get-behind, option_cases, named_outcomes, false_from_ne_true}
 use Rattle.rt_ids.specs.declared.note.Note.TheVariants as writes
 use Rattle.rt_ids.specs.Assembly.{names_of}
 use Rattle.rt_ids.specs.declared.note.Note.TheVariants.{Collected}
