@@ -1,10 +1,10 @@
 //! Runs scripts on the model of a thread-per-core executor with fair task queues, or on its threads, and judges journals.
 #![tactic(auto)]
 
-ghost use Rattle.std.specs.Prelude.{◌≡◌, ◌≢◌, true, IfOk, codes};
+ghost use Rattle.std.specs.Prelude.{◌≡◌, ◌≢◌, true, Err, IfOk};
 ghost use Rattle.std.specs.declared.io.ErrorKind.TheVariants as kinds;
-ghost use Rattle.clap.specs.Words.{kind_of};
-ghost use Rattle.clap.specs.declared.error.kind.ErrorKind.TheVariants as command_kinds;
+ghost use Rattle.rt_command_line.specs.declared.asked.Unasked.TheVariants as unasked;
+ghost use Rattle.rt_command_line.specs.declared.asked.What.TheVariants as whats;
 ghost use Rattle.rt_report.specs.Faults.{status_of as audit_status};
 ghost use Rattle.rt_report.specs.declared.fault.AuditFault.TheVariants as audit_faults;
 ghost use Rattle.rt_text.specs.Statuses.{status_of};
@@ -13,8 +13,7 @@ ghost use Rattle.rt_threads_script.specs.declared.fault.ThreadsFault.TheVariants
 ghost use Rattle.rt_text.specs.declared.status.Status.TheVariants as status;
 ghost use Rattle.rt_text.specs.declared.fault.EngineFault.TheVariants as faults;
 
-use clap::ArgMatches;
-use clap::error::ErrorKind as CommandErrorKind;
+use rt_command_line::{Unasked, What, parse};
 use rt_engine::run_script;
 use rt_report::fault::status_of;
 use rt_report::{AuditFault, audit_text};
@@ -27,8 +26,6 @@ use std::rt::{Env, Files};
 use std::sync::Wait;
 use std::thread::Threads;
 use std::{env, fs, io};
-
-mod command;
 
 fn main(rt: HostRuntime) -> ExitCode {
     ExitCode::from(program(&rt).code())
@@ -57,34 +54,38 @@ where
     let Ok(words) = args.collect::<Vec<String>>(rt.alloc()) else {
         return ended(rt, Err(EngineFault::Memory));
     };
-    let Ok(command) = command::command(rt.alloc()) else {
-        return ended(rt, Err(EngineFault::Memory));
-    };
-    match command.try_get_matches_from(words.as_slice()) {
-        Ok(matches) => match matches.subcommand() {
-            Some((name, found)) => done(rt, name, found),
-            None => Status::Refused,
-        },
-        Err(error) => command_refused(rt, &error),
+    match parse(rt, rt.alloc(), words.as_slice()) {
+        Ok(asked) => done(rt, asked.what, asked.file),
+        Err(why) => not_done(rt, why),
     }
 }
 
-/// Does what the subcommand of this name and its arguments ask for.
-fn done<R>(rt: &R, name: &str, found: &ArgMatches<'_>) -> Status
+/// Does what the command line asks for.
+fn done<R>(rt: &R, what: What, file: Option<&str>) -> Status
 where
     R: Files + Input + Print + Eprint + AllocGlobal + Threads + Wait + Copy + Drop + Send + 'static,
-    ensures { name.now ≢ codes "audit" → result ≢ status.FaultFound }
+    ensures { what ≢ whats.Audit → result ≢ status.FaultFound }
 {
-    let file = found.get_str(command::FILE);
-    if name == command::AUDIT {
-        return judged(rt, audit(rt, file));
+    match what {
+        What::Run { journal, stats } => ended(rt, run(rt, journal, stats, file)),
+        What::Threads => ran(rt, threads(rt, file)),
+        What::Audit => judged(rt, audit(rt, file)),
     }
-    if name == command::THREADS {
-        return ran(rt, threads(rt, file));
+}
+
+/// How a command line ends that asks for nothing.
+fn not_done<R: Eprint>(rt: &R, why: Unasked) -> Status
+    ensures told { why ≡ unasked.Told → result ≡ status.Done }
+    ensures mistake { why ≡ unasked.Mistake → result ≡ status.Refused }
+    ensures write { why ≡ unasked.Write → result ≡ status_of (Err faults.Write) }
+    ensures memory { why ≡ unasked.Memory → result ≡ status_of (Err faults.Memory) }
+{
+    match why {
+        Unasked::Told => Status::Done,
+        Unasked::Mistake => Status::Refused,
+        Unasked::Write => ended(rt, Err(EngineFault::Write)),
+        Unasked::Memory => ended(rt, Err(EngineFault::Memory)),
     }
-    let journal = found.get_flag(command::JOURNAL);
-    let stats = found.get_flag(command::STATS);
-    ended(rt, run(rt, journal, stats, file))
 }
 
 /// Runs the script of the file, or of standard input.
@@ -213,26 +214,4 @@ fn words_refused<R: Eprint>(rt: &R, kind: ErrorKind) -> Status
     }
     let _ = eprintln!(rt; "error: the command line is not UTF-8");
     Status::Refused
-}
-
-/// Help is printed as it was asked for; a mistake is told on standard error.
-fn command_refused<R: Print + Eprint>(rt: &R, error: &clap::Error) -> Status
-    ensures memory { kind_of error.now ≡ command_kinds.OutOfMemory → result ≡ status.Memory }
-    ensures mistake { kind_of error.now ≢ command_kinds.OutOfMemory → kind_of error.now ≢ command_kinds.DisplayHelp
-        → kind_of error.now ≢ command_kinds.DisplayVersion → result ≡ status.Refused }
-    ensures help { kind_of error.now ≡ command_kinds.DisplayHelp → result ≢ status.Refused }
-    ensures version { kind_of error.now ≡ command_kinds.DisplayVersion → result ≢ status.Refused }
-    ensures judged { result ≢ status.FaultFound }
-{
-    if error.kind() == CommandErrorKind::OutOfMemory {
-        return ended(rt, Err(EngineFault::Memory));
-    }
-    let printed = error.print(rt);
-    if error.use_stderr() {
-        return Status::Refused;
-    }
-    match printed {
-        Ok(()) => Status::Done,
-        Err(_) => ended(rt, Err(EngineFault::Write)),
-    }
 }

@@ -1,8 +1,8 @@
 use Rattle.std.proofs.Common.{◌≡◌, ◌∷◌, [], codes}
 use Rattle.std.proofs.lemmas.Result.{IfOk-weaker}
 use Rattle.clap.specs.Words.{AddsSubcommand, subcommand_names}
-use Rattle.fairexec.proofs.Names.{names_added}
-use Rattle.fairexec.proofs.command.command.Goals as goal
+use Rattle.rt_command_line.proofs.Names.{names_added}
+use Rattle.rt_command_line.proofs.command.command.Goals as goal
 
 pub returns-clause-names : goal.returns-clause-names
 returns-clause-names c =

@@ -1,0 +1,7 @@
+//! The program's command line, and what it asks for.
+#![tactic(auto)]
+
+mod asked;
+mod command;
+
+pub use asked::{Asked, Unasked, What, parse};
