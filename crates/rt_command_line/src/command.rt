@@ -1,7 +1,8 @@
 //! The command line. Nothing here reads, prints or runs anything.
 
-ghost use Rattle.std.specs.Prelude.{◌≡◌, ◌∷◌, [], false, IfOk, codes};
-ghost use Rattle.clap.specs.Words.{app_of, is_broken, subcommand_names};
+ghost use Rattle.std.specs.Prelude.{◌≡◌, false, IfOk};
+ghost use Rattle.clap.specs.Words.{app_of, is_broken, rule_of};
+ghost use Rattle.rt_command_line.specs.CommandLine.{audit_app, flag_rule, our_app, run_app, threads_app, with_runs};
 
 use clap::{Arg, ArgAction, Command};
 use std::alloc::{AllocError, Global};
@@ -85,7 +86,7 @@ Exit status:
 
 /// The commands and arguments of the program, with their help.
 pub fn command<'a>(alloc: Global) -> Result<Command<'a>, AllocError>
-    ensures names { IfOk result (λ command. subcommand_names command ≡ codes "run" ∷ codes "threads" ∷ codes "audit" ∷ []) }
+    ensures app { IfOk result (λ command. app_of command ≡ our_app) }
     ensures whole { IfOk result (λ command. is_broken command ≡ false) }
 {
     running(alloc)?.subcommand(audit_command(alloc)?)
@@ -93,7 +94,7 @@ pub fn command<'a>(alloc: Global) -> Result<Command<'a>, AllocError>
 
 /// The program with the two commands that run scripts.
 fn running<'a>(alloc: Global) -> Result<Command<'a>, AllocError>
-    ensures names { IfOk result (λ command. subcommand_names command ≡ codes "run" ∷ codes "threads" ∷ []) }
+    ensures app { IfOk result (λ command. app_of command ≡ with_runs) }
     ensures whole { IfOk result (λ command. is_broken command ≡ false) }
 {
     Command::new(alloc, "fairexec")
@@ -110,7 +111,7 @@ fn running<'a>(alloc: Global) -> Result<Command<'a>, AllocError>
 
 /// `run [--journal] [--stats] [FILE]`
 fn run_command<'a>(alloc: Global) -> Result<Command<'a>, AllocError>
-    ensures name { IfOk result (λ command. (app_of command).top.name ≡ codes "run") }
+    ensures app { IfOk result (λ command. app_of command ≡ run_app) }
     ensures whole { IfOk result (λ command. is_broken command ≡ false) }
 {
     let journal = flag(
@@ -136,7 +137,7 @@ fn run_command<'a>(alloc: Global) -> Result<Command<'a>, AllocError>
 
 /// `threads [FILE]`
 fn threads_command<'a>(alloc: Global) -> Result<Command<'a>, AllocError>
-    ensures name { IfOk result (λ command. (app_of command).top.name ≡ codes "threads") }
+    ensures app { IfOk result (λ command. app_of command ≡ threads_app) }
     ensures whole { IfOk result (λ command. is_broken command ≡ false) }
 {
     let file = Arg::new(alloc, FILE).help("The script; without it, standard input is read");
@@ -152,7 +153,7 @@ fn threads_command<'a>(alloc: Global) -> Result<Command<'a>, AllocError>
 
 /// `audit [FILE]`
 fn audit_command<'a>(alloc: Global) -> Result<Command<'a>, AllocError>
-    ensures name { IfOk result (λ command. (app_of command).top.name ≡ codes "audit") }
+    ensures app { IfOk result (λ command. app_of command ≡ audit_app) }
     ensures whole { IfOk result (λ command. is_broken command ≡ false) }
 {
     let file = Arg::new(alloc, FILE).help("The journal text; without it, standard input is read");
@@ -165,7 +166,10 @@ fn audit_command<'a>(alloc: Global) -> Result<Command<'a>, AllocError>
 }
 
 /// A flag of this name. Without it, what it names isn't wanted.
-fn flag<'a>(alloc: Global, name: &'a str, help: &'a str) -> Arg<'a> {
+fn flag<'a>(alloc: Global, name: &'a str, help: &'a str) -> Arg<'a>
+    ensures rule { rule_of result ≡ flag_rule name.entry.now }
+    ensures local { result.global ≡ false }
+{
     Arg::new(alloc, name)
         .long(name)
         .action(ArgAction::SetTrue)
