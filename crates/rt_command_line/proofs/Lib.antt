@@ -1,1 +1,3 @@
 mod Adds
+mod Answered
+mod Reasons

@@ -5,6 +5,7 @@ use Rattle.std.specs.Str.{bytes_eq}
 use Rattle.clap.specs.Words.{Row, Text, subcommand_of}
 use Rattle.clap.specs.Walk.{first_of}
 use Rattle.rt_command_line.specs.CommandLine.{our_app}
+use Rattle.rt_command_line.specs.declared.asked.Asked.{Asked}
 use Rattle.rt_command_line.specs.declared.asked.What.{What}
 use Rattle.rt_command_line.specs.declared.asked.What.TheVariants.{Run, Threads, Audit}
 
@@ -19,9 +20,17 @@ what_named name rows = if bytes_eq name (codes "audit") then Audit
     else Run (is_given (codes "journal") rows) (is_given (codes "stats") rows))
 
 -- what is to be done, and the path of the file
-abbrev pub Asks : Type 0
-Asks = What × Option Text
+abbrev pub Asking : Type 0
+Asking = What × Option Text
+
+-- what a subcommand with these matches asks for
+abbrev pub asks_of_subcommand : Text × List Row → Asking
+asks_of_subcommand found = (what_named found.0 found.1, first_of (codes "FILE") found.1)
 
 -- what the words ask for, the first of which is the program's name
-unfoldable pub asks_of : List Text → Option Asks
-asks_of words = option_map (λ found. (what_named found.0 found.1, first_of (codes "FILE") found.1)) (subcommand_of our_app words)
+unfoldable pub asks_of : List Text → Option Asking
+asks_of words = option_map asks_of_subcommand (subcommand_of our_app words)
+
+-- the same, as `parse` answers it
+abbrev pub asks_told : Asked → Asking
+asks_told asked = (asked.what, option_map (λ path. path.now) asked.file)

@@ -1,11 +1,11 @@
 //! What a command line asks for.
 
-ghost use Rattle.std.specs.Prelude.{◌≡◌, ◌≢◌, codes, Some, None};
-ghost use Rattle.std.specs.Option.{option_map};
-ghost use Rattle.clap.specs.Matches.{first_value, found_of, one_text};
-ghost use Rattle.clap.specs.Words.{kind_of};
+ghost use Rattle.std.specs.Prelude.{◌≡◌, ◌∷◌, [], true, Some, map, option_map, string_bytes, IfOk, IfErr};
+ghost use Rattle.clap.specs.Words.{fault_of, found_of, kind_of, rows_of, subcommand_rows_of, takes};
+ghost use Rattle.rt_command_line.specs.Asks.{asks_of, asks_of_subcommand, asks_told, is_given, what_named};
+ghost use Rattle.rt_command_line.specs.CommandLine.{our_app};
+ghost use Rattle.rt_command_line.specs.Refusals.{IsReason};
 ghost use Rattle.clap.specs.declared.error.kind.ErrorKind.TheVariants as kinds;
-ghost use Rattle.rt_command_line.specs.declared.asked.What.TheVariants as whats;
 ghost use Rattle.rt_command_line.specs.declared.asked.Unasked.TheVariants as unasked;
 
 use crate::command::{AUDIT, FILE, JOURNAL, STATS, THREADS, command};
@@ -50,26 +50,35 @@ pub fn parse<'a, R: Print + Eprint>(
     rt: &R,
     alloc: Global,
     words: &'a [String],
-) -> Result<Asked<'a>, Unasked> {
+) -> Result<Asked<'a>, Unasked>
+    ensures asked { IfOk result (λ asked. asks_of (map string_bytes words.now) ≡ Some (asks_told asked)) }
+    ensures faultless { IfOk result (λ _. fault_of our_app (map string_bytes words.now) ≡ []) }
+    ensures taken { takes our_app (map string_bytes words.now) ≡ true → IfErr result (λ why. why ≡ unasked.Memory) }
+    ensures why { IfErr result (IsReason (fault_of our_app (map string_bytes words.now))) }
+{
     let Ok(command) = command(alloc) else {
         return Err(Unasked::Memory);
     };
     match command.try_get_matches_from(words) {
-        Ok(matches) => match matches.subcommand() {
-            Some((name, found)) => Ok(Asked {
-                what: what_of(name, found),
-                file: found.get_str(FILE),
-            }),
-            None => Err(Unasked::Mistake),
-        },
+        Ok(matches) => asked_by(&matches).ok_or(Unasked::Mistake),
         Err(error) => Err(unasked_by(rt, &error)),
     }
 }
 
+/// What a command line with these matches asks for.
+fn asked_by<'a>(matches: &ArgMatches<'a>) -> Option<Asked<'a>>
+    ensures { option_map asks_told result ≡ option_map asks_of_subcommand (subcommand_rows_of matches.now) }
+{
+    let (name, found) = matches.subcommand()?;
+    Some(Asked {
+        what: what_of(name, found),
+        file: found.get_str(FILE),
+    })
+}
+
 /// What the subcommand of this name does.
 fn what_of(name: &str, found: &ArgMatches<'_>) -> What
-    ensures audit { name.now ≡ codes "audit" → result ≡ whats.Audit }
-    ensures threads { name.now ≡ codes "threads" → result ≡ whats.Threads }
+    ensures { result ≡ what_named name.now (rows_of (found_of found.now)) }
 {
     if name == AUDIT {
         return What::Audit;
@@ -78,18 +87,25 @@ fn what_of(name: &str, found: &ArgMatches<'_>) -> What
         return What::Threads;
     }
     What::Run {
-        journal: found.get_flag(JOURNAL),
-        stats: found.get_flag(STATS),
+        journal: flag_is_given(found, JOURNAL),
+        stats: flag_is_given(found, STATS),
+    }
+}
+
+/// Whether the flag of this name is given. Its text is `true` then, and `false` without it.
+fn flag_is_given(found: &ArgMatches<'_>, name: &str) -> bool
+    ensures { result ≡ is_given name.now (rows_of (found_of found.now)) }
+{
+    match found.get_str(name) {
+        Some(text) => text == "true",
+        None => false,
     }
 }
 
 /// Tells why the words aren't read, and answers what that is.
 fn unasked_by<R: Print + Eprint>(rt: &R, error: &clap::Error) -> Unasked
     ensures memory { kind_of error.now ≡ kinds.OutOfMemory → result ≡ unasked.Memory }
-    ensures mistake { kind_of error.now ≢ kinds.OutOfMemory → kind_of error.now ≢ kinds.DisplayHelp
-        → kind_of error.now ≢ kinds.DisplayVersion → result ≡ unasked.Mistake }
-    ensures help { kind_of error.now ≡ kinds.DisplayHelp → result ≢ unasked.Mistake }
-    ensures version { kind_of error.now ≡ kinds.DisplayVersion → result ≢ unasked.Mistake }
+    ensures why { IsReason (kind_of error.now ∷ []) result }
 {
     if error.kind() == ErrorKind::OutOfMemory {
         return Unasked::Memory;
