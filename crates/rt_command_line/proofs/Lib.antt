@@ -1,3 +1,4 @@
 mod Adds
 mod Answered
 mod Reasons
+mod Rows

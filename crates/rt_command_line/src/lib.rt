@@ -3,5 +3,6 @@
 
 mod asked;
 mod command;
+pub mod laws;
 
 pub use asked::{Asked, Unasked, What, parse};
