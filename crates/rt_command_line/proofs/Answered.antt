@@ -1,5 +1,5 @@
 -- What a parse that succeeds tells of the words.
-use Rattle.std.proofs.Common.{◌≡◌, ◌∙◌, Bool, true, false, List, Option, Some, None, option_map, is_some, refl, sym, ap, ap₂, true≢false}
+use Rattle.std.proofs.Common.{◌≡◌, ◌∙◌, true, List, Option, Some, None, option_map, is_some, refl, sym, ap, ap₂, true≢false}
 use Rattle.clap.specs.Words.{App, HasMatchesOf, IsParsedFrom, Row, Text, app_of, found_of, has_subcommand, is_simple, rows_of, subcommand_name_of, subcommand_of, subcommand_rows_of}
 use Rattle.clap.specs.Faults.{is_simple_and_free}
 use Rattle.std.specs.Box.{box_value}

@@ -2,7 +2,7 @@
 use Rattle.std.specs.Prelude.{◌≡◌, ◌≢◌, ◌⊎◌, ⊤}
 use Rattle.clap.specs.Kinds.{IsAmong, Kinds}
 use Rattle.clap.specs.declared.error.kind.ErrorKind.{ErrorKind}
-use Rattle.clap.specs.declared.error.kind.ErrorKind.TheVariants.{DisplayHelp, DisplayVersion}
+use Rattle.clap.specs.declared.error.kind.ErrorKind.TheVariants.{DisplayHelp, DisplayVersion, OutOfMemory}
 use Rattle.rt_command_line.specs.declared.asked.Unasked.{Unasked}
 use Rattle.rt_command_line.specs.declared.asked.Unasked.TheVariants as unasked
 
@@ -12,15 +12,20 @@ IsTold kind = (kind ≡ DisplayHelp) ⊎ (kind ≡ DisplayVersion)
 
 -- the words are wrong
 abbrev pub IsWrong : ErrorKind → Type 0
-IsWrong kind = (kind ≢ DisplayHelp) × (kind ≢ DisplayVersion)
+IsWrong kind = (kind ≢ DisplayHelp) × (kind ≢ DisplayVersion) × (kind ≢ OutOfMemory)
 
--- one of the kinds is such a kind
-abbrev pub HasFault : (ErrorKind → Type 0) → Kinds → Type 0
-HasFault is kinds = (kind : ErrorKind) × IsAmong kind kinds × is kind
+-- an error of this kind is answered so
+abbrev pub IsAnswerTo : ErrorKind → Unasked → Type 0
+IsAnswerTo kind unasked.Told = IsTold kind
+IsAnswerTo kind unasked.Write = IsTold kind
+IsAnswerTo kind unasked.Mistake = IsWrong kind
+IsAnswerTo kind unasked.Memory = kind ≡ OutOfMemory
 
--- words with these faults may be answered so: memory may run out at any words
+-- one of the faults is answered so
+abbrev pub AnswersOne : Kinds → Unasked → Type 0
+AnswersOne faults why = (kind : ErrorKind) × IsAmong kind faults × IsAnswerTo kind why
+
+-- words with these faults may be answered so; memory may run out at any words
 abbrev pub IsReason : Kinds → Unasked → Type 0
-IsReason faults unasked.Told = HasFault IsTold faults
-IsReason faults unasked.Write = HasFault IsTold faults
-IsReason faults unasked.Mistake = HasFault IsWrong faults
 IsReason faults unasked.Memory = ⊤
+IsReason faults why = AnswersOne faults why

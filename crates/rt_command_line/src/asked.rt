@@ -1,11 +1,10 @@
 //! What a command line asks for.
 
-ghost use Rattle.std.specs.Prelude.{◌≡◌, ◌∷◌, [], true, Some, map, option_map, string_bytes, IfOk, IfErr};
+ghost use Rattle.std.specs.Prelude.{◌≡◌, [], true, Some, map, option_map, string_bytes, IfOk, IfErr};
 ghost use Rattle.clap.specs.Words.{fault_of, found_of, kind_of, rows_of, subcommand_rows_of, takes};
 ghost use Rattle.rt_command_line.specs.Asks.{asks_of, asks_of_subcommand, asks_told, is_given, what_named};
 ghost use Rattle.rt_command_line.specs.CommandLine.{our_app};
-ghost use Rattle.rt_command_line.specs.Refusals.{IsReason};
-ghost use Rattle.clap.specs.declared.error.kind.ErrorKind.TheVariants as kinds;
+ghost use Rattle.rt_command_line.specs.Refusals.{IsAnswerTo, IsReason};
 ghost use Rattle.rt_command_line.specs.declared.asked.Unasked.TheVariants as unasked;
 
 use crate::command::{AUDIT, FILE, JOURNAL, STATS, THREADS, command};
@@ -104,8 +103,7 @@ fn flag_is_given(found: &ArgMatches<'_>, name: &str) -> bool
 
 /// Tells why the words aren't read, and answers what that is.
 fn unasked_by<R: Print + Eprint>(rt: &R, error: &clap::Error) -> Unasked
-    ensures memory { kind_of error.now ≡ kinds.OutOfMemory → result ≡ unasked.Memory }
-    ensures why { IsReason (kind_of error.now ∷ []) result }
+    ensures { IsAnswerTo (kind_of error.now) result }
 {
     if error.kind() == ErrorKind::OutOfMemory {
         return Unasked::Memory;

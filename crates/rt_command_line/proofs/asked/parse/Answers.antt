@@ -1,10 +1,10 @@
 use Rattle.std.proofs.Common.{◌≡◌, ◌∙◌, [], ap, map, string_bytes, subst, sym}
-use Rattle.clap.specs.Words.{App, app_of, fault_of, kind_of}
+use Rattle.clap.specs.Words.{App, app_of, fault_of, kind_of, takes}
 use Rattle.clap.specs.Faults.{is_simple_and_free}
 use Rattle.rt_command_line.specs.CommandLine.{our_app}
 use Rattle.rt_command_line.specs.Refusals.{IsReason}
 use Rattle.rt_command_line.proofs.Answered.{answered, our_is_free}
-use Rattle.rt_command_line.proofs.Reasons.{reason_of}
+use Rattle.rt_command_line.proofs.Reasons.{memory_answered, reason_of}
 use Rattle.rt_command_line.proofs.asked.parse.Goals as goal
 
 pub returns-in-Ok-try_get_matches_from : goal.returns-in-Ok-try_get_matches_from
@@ -26,5 +26,11 @@ returns-in-Err-clause-why g c =
     let words = map string_bytes c.args.words.now in
     let is = c.in-Ok.ensures.app in
     let kind = c.in-Err.ensures.kinds (ap is_simple_and_free is ∙ our_is_free) in
-    let reason = reason_of (kind_of c.in-Err.error) (fault_of (app_of c.in-Ok.command) words) c.unasked_by.result c.unasked_by.ensures.memory c.unasked_by.ensures.why kind in
+    let reason = reason_of (kind_of c.in-Err.error) (fault_of (app_of c.in-Ok.command) words) c.unasked_by.result c.unasked_by.ensures kind in
     subst (λ (a : App). IsReason (fault_of a words) c.unasked_by.result) is reason
+
+pub returns-in-Err-clause-taken : goal.returns-in-Err-clause-taken
+returns-in-Err-clause-taken g c =
+    let words = map string_bytes c.args.words.now in
+    let passes = c.in-Err.ensures.passes in
+    λ good. memory_answered (kind_of c.in-Err.error) c.unasked_by.result (passes (ap (λ (a : App). takes a words) c.in-Ok.ensures.app ∙ good)) c.unasked_by.ensures
