@@ -1,5 +1,5 @@
 -- What a delivered command came to, from what its parts did.
-use Rattle.std.proofs.Common.{◌≡◌, ◌↔◌, ℕ, ◌<◌, ◌≤◌, Bool, true, false, List, [], ◌∷◌, ◌++◌, length, Option, Some, None, Result, Ok, Err, ⊎_elim, refl, sym, ap, ◌∙◌, subst, arith}
+use Rattle.std.proofs.Common.{◌≡◌, ◌↔◌, ℕ, ◌<◌, ◌≤◌, Bool, true, false, List, [], ◌∷◌, ◌++◌, length, Option, Some, None, Result, Ok, Err, ⊎_elim, inl, inr, refl, sym, ap, ◌∙◌, subst, arith}
 use Rattle.std.proofs.lemmas.Bool.{cases_lt, true≢false}
 use Rattle.std.specs.Prelude.{slice_set, is_some}
 use Rattle.rt_ids.specs.declared.names.JobId.{JobId}
@@ -15,7 +15,7 @@ use Rattle.rt_taskqueue.specs.declared.queues.CreateError.TheVariants.{TooMany, 
 use Rattle.rt_core.specs.declared.delivery.Delivered.{Delivered}
 use Rattle.rt_core.specs.declared.delivery.Delivered.TheVariants as deliveries
 use Rattle.rt_core.specs.State.{CoreView, no_tally}
-use Rattle.rt_core.specs.Closing.{ClosesQueue}
+use Rattle.rt_core.specs.Closing.{ClosesQueue, ClosesCore}
 use Rattle.rt_core.specs.Deliveries.{Creates, CreatesQueue, CountsAlone, Delivers, counted}
 
 -- what isn't there is none
@@ -36,6 +36,13 @@ module _ {J T : Type 0} where
   same_cores old weight (Ok queue) new written creates = ap (λ (view : CoreView J). view.cores) creates.1.rest
   same_cores old weight (Err TooMany) new written creates = ap (λ (view : CoreView J). view.cores) creates.1
   same_cores old weight (Err Memory) new written creates = ap (λ (view : CoreView J). view.cores) creates.1
+
+  -- a refused creation changes nothing; there are 256 queues, or there was no memory
+  pub creates_nothing : (old : CoreView J) (weight : ℕ) (error : CreateError) (new : CoreView J) (written : List (Note T)) →
+      (◌≡◌ {A = Result ℕ CreateError} (Err error) (Err TooMany)) ↔ (queue_count old.queues ≡ 256) → queue_count old.queues ≤ 256 → new ≡ old → written ≡ [] → CreatesQueue old weight (Err error) new written
+  creates_nothing old weight TooMany new written says few same none = (says.0 refl, same, none)
+  creates_nothing old weight Memory new written says few same none =
+      (elim (cases_lt (queue_count old.queues) 256) [ inl below ↦ below | inr past ↦ (let other = says.1 (omega (arith, past, few)) in cc) ], same, none)
 
   -- a closing of a queue leaves at most one note
   pub one_effect : (old : CoreView J) (queue : ℕ) (mode : Mode) (answer : Answer) (new : CoreView J) (written : List (Note T)) →
@@ -58,6 +65,28 @@ module _ {J T : Type 0} where
         effect,
         subst (λ (mid : CoreView J). ClosesQueue mid queue mode answer new effect) counts closes,
         both ∙ ap (λ (note : Note T). note ∷ effect) noted,
+      )
+
+  -- a closing of the core leaves at most one note
+  pub one_effect_of_core : (old : CoreView J) (mode : Mode) (did : Bool) (new : CoreView J) (written : List (Note T)) → ClosesCore old mode did new written → length written ≤ 1
+  one_effect_of_core old mode true new written closes = omega (arith, ap length closes.2)
+  one_effect_of_core old mode false new written closes = omega (arith, ap length closes.2)
+
+  -- so is that of the core
+  pub delivers_core_closed : (old mid new : CoreView J) (name : JobId) (mode : Mode) (did : Bool) (answer : Answer) (told : Delivered J) (note : Note T) (effect written : List (Note T)) →
+      CountsAlone old name mid → ClosesCore mid mode did new effect → (did ≡ true → answer ≡ answers.Closed) → (did ≡ false → answer ≡ answers.AlreadyClosed) →
+      told ≡ deliveries.Answered answer → note ≡ notes.Answered name answer → written ≡ note ∷ effect → Delivers old name (orders.CloseCore mode) told new written
+  delivers_core_closed old mid new name mode true answer told note effect written counts closes closed before tells noted both =
+      subst (λ (told : Delivered J). Delivers old name (orders.CloseCore mode) told new written) (sym (tells ∙ (λ i. deliveries.Answered (closed refl i)))) (
+        effect,
+        subst (λ (mid : CoreView J). ClosesCore mid mode true new effect) counts closes,
+        both ∙ (λ i. (noted ∙ (λ j. notes.Answered name (closed refl j))) i ∷ effect),
+      )
+  delivers_core_closed old mid new name mode false answer told note effect written counts closes closed before tells noted both =
+      subst (λ (told : Delivered J). Delivers old name (orders.CloseCore mode) told new written) (sym (tells ∙ (λ i. deliveries.Answered (before refl i)))) (
+        effect,
+        subst (λ (mid : CoreView J). ClosesCore mid mode false new effect) counts closes,
+        both ∙ (λ i. (noted ∙ (λ j. notes.Answered name (before refl j))) i ∷ effect),
       )
 
 module _ {J : Type 0} where

@@ -1,6 +1,6 @@
 -- What settling a poll came to, from what its parts did.
 use Rattle.std.proofs.Common.{◌≡◌, ℕ, true, List, [], ◌∷◌, ◌++◌, Option, Some, None, refl, sym, ap, ◌∙◌, subst}
-use Rattle.std.specs.Prelude.{Bool, unwrap_or}
+use Rattle.std.specs.Prelude.{Bool, IsSome, unwrap_or}
 use Rattle.rt_ids.specs.declared.names.JobId.{JobId}
 use Rattle.rt_ids.specs.declared.note.Note.{Note}
 use Rattle.rt_ids.specs.declared.note.Note.TheVariants as notes
@@ -39,3 +39,13 @@ pub answers_out : {J T : Type 0} (same : J → J → Type 0) (answers : J → T 
     ((a b : J) (one : T) → same a b → answers a one → answers b one) → IsTaskOut same out before → answers before answer → AnswersOut answers out (Finished answer)
 answers_out same answers None before answer laws along task owed = task
 answers_out same answers (Some out) before answer laws along task owed = along before out.job answer (laws.back out.job before task) owed
+
+-- a job that has the task of the one that is out shows that one is out
+pub out_if_same : {J : Type 0} (same : J → J → Type 0) (out : Option (JobOut J)) (before : J) → IsTaskOut same out before → IsSome out
+out_if_same same None before task = absurd task
+out_if_same same (Some out) before task = refl
+
+-- a job that wants another poll tells no answer
+pub yields_no_answer : {J T : Type 0} (answers : J → T → Type 0) (out : Option (JobOut J)) → AnswersOut answers out Yielded
+yields_no_answer answers None = tt
+yields_no_answer answers (Some out) = tt

@@ -1,12 +1,14 @@
-use Rattle.std.proofs.Common.{◌≡◌, List, [], ◌∷◌, None, refl, sym, ◌∙◌, ap, subst, arith, length, length-append}
+use Rattle.std.proofs.Common.{◌≡◌, List, [], ◌∷◌, None, Err, refl, sym, ◌∙◌, ap, subst, arith, length, length-append}
 use Rattle.std.specs.Prelude.{slice_index_or}
 use Rattle.std.proofs.lemmas.List.Elements.{All-push}
 use Rattle.rt_taskqueue.specs.Queues.{queue_count, AddsQueue}
 use Rattle.rt_core.specs.declared.tally.Tally.{Tally}
 use Rattle.rt_taskqueue.specs.Slips.{queues_alone}
 use Rattle.rt_core.specs.State.{CoreView, no_tally}
+use Rattle.rt_core.specs.Deliveries.{CreatesQueue}
 use Rattle.rt_core.specs.Inside.{core_view, job_out, unsettled_count, FitsTurns}
 use Rattle.rt_core.proofs.Fits.{no_tally_fits, IsBounded-from_turns}
+use Rattle.rt_core.proofs.Outcomes.{creates_nothing}
 use Rattle.rt_core.proofs.Parts.{IsPollable-same}
 use Rattle.rt_core.proofs.Picking.{nothing_past}
 use Rattle.rt_core.proofs.Counting.{get_or-push_default, IsCounted-creates, IsListed-same}
@@ -69,3 +71,19 @@ returns-in-Err-clause-bounded g c =
       tallies = core.turns.tallies;
       floor = core.turns.floor;
     })
+
+pub returns-in-Err-clause-creates : goal.returns-in-Err-clause-creates
+returns-in-Err-clause-creates g c =
+    let inside = c.self.inside in
+    let old = core_view inside.core inside.cores (queues_alone inside.queues) inside.tallies.items inside.floor inside.turns (job_out inside.out) inside.senders inside.mode in
+    let same = ap (λ queues. core_view inside.core inside.cores (queues_alone queues) inside.tallies.items inside.floor inside.turns (job_out inside.out) inside.senders inside.mode) c.in-Err.ensures.refused in
+    subst (λ (view : CoreView g.row.J.Denot). CreatesQueue view c.args.shares (Err c.in-Err.error) (core_view inside.core inside.cores (queues_alone c.try_create.new.self) inside.tallies.items inside.floor inside.turns (job_out inside.out) inside.senders inside.mode) c.new.result.items) c.self.view_is (creates_nothing old c.args.shares c.in-Err.error _ c.new.result.items c.in-Err.ensures.too_many c.self.invariant.counted.limits.few_queues same c.new.ensures)
+
+pub invariant_of-self-in-Err : goal.invariant_of-self-in-Err
+invariant_of-self-in-Err g c = rw c.in-Err.ensures.refused c.self.invariant
+
+pub one_note-requires : goal.one_note-requires
+one_note-requires g c = assumption
+
+pub new-requires : goal.new-requires
+new-requires g c = assumption

@@ -22,3 +22,15 @@ returns-in-Err-TooMany-clause-bounded g c = c.count.ensures.bounded
 
 pub returns-in-Err-Memory-clause-bounded : goal.returns-in-Err-Memory-clause-bounded
 returns-in-Err-Memory-clause-bounded g c = c.count.ensures.bounded
+
+pub create-made-requires : goal.create-made-requires
+create-made-requires g c = (assumption, c.requires.is_open)
+
+pub two_notes-notes-requires : goal.two_notes-notes-requires
+two_notes-notes-requires g c = assumption
+
+pub one_note-requires : goal.one_note-requires
+one_note-requires g c = assumption
+
+pub one_note-requires-in-Err-Memory : goal.one_note-requires-in-Err-Memory
+one_note-requires-in-Err-Memory g c = assumption

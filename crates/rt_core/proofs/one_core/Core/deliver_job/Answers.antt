@@ -27,3 +27,9 @@ returns-in-None-clause-delivers g c = (sym c.refusal.ensures ∙ c.in-None.is, c
 
 pub returns-in-None-clause-bounded : goal.returns-in-None-clause-bounded
 returns-in-None-clause-bounded g c = c.take_in.ensures.bounded
+
+pub one_note-requires : goal.one_note-requires
+one_note-requires g c = assumption
+
+pub one_note-requires-in-None : goal.one_note-requires-in-None
+one_note-requires-in-None g c = assumption

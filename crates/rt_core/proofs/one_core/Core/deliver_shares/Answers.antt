@@ -1,6 +1,7 @@
-use Rattle.std.proofs.Common.{◌<◌, refl, sym, ap, subst, rules, length-set}
+use Rattle.std.proofs.Common.{◌<◌, ◌≤◌, refl, sym, ◌∙◌, ap, subst, arith, rules, length-set}
 use Rattle.rt_taskqueue.specs.Queues.{queue_count}
 use Rattle.rt_taskqueue.specs.Slips.{queues_alone}
+use Rattle.rt_ids.specs.declared.names.JobId.{JobId}
 use Rattle.rt_core.specs.Senders.{SendersView}
 use Rattle.rt_core.specs.State.{CoreView}
 use Rattle.rt_core.specs.Inside.{core_view, job_out}
@@ -59,3 +60,20 @@ pub set_shares-requires : goal.set_shares-requires
 set_shares-requires g c = record {
   exists = subst (λ (view : CoreView g.row.J.Denot). c.args.queue < queue_count view.queues) (sym c.self.view_is) (c.has_queue.ensures.0 c.if-not-has_queue.false);
 }
+
+pub same-self : goal.same-self
+same-self g c = refl
+
+pub same-name : goal.same-name
+same-name g c = refl
+
+pub count-requires-2 : goal.count-requires-2
+count-requires-2 g c =
+    let known : c.args.name.from ≤ c.self.inside.cores = subst (λ (view : CoreView g.row.J.Denot). c.args.name.from ≤ view.cores) (sym c.self.view_is) c.requires in
+    omega (arith, known, c.self.invariant.counted.senders, c.from.ensures ∙ ap (λ (name : JobId). name.from) c.name.view_is)
+
+pub one_note-requires : goal.one_note-requires
+one_note-requires g c = assumption
+
+pub two_notes-requires : goal.two_notes-requires
+two_notes-requires g c = assumption

@@ -1,4 +1,7 @@
+use Rattle.std.proofs.Common.{◌≤◌, Some, sym, ◌∙◌, ap, subst, arith}
+use Rattle.std.specs.Prelude.{slice_set}
 use Rattle.rt_taskqueue.specs.Slips.{queues_alone}
+use Rattle.rt_core.specs.State.{CoreView}
 use Rattle.rt_core.specs.Inside.{core_view, job_out}
 use Rattle.rt_core.proofs.Closings.{IsCore-closed}
 use Rattle.rt_core.proofs.Fits.{IsBounded-from_turns}
@@ -15,3 +18,17 @@ returns-clause-bounded g c =
     let inside = c.self.inside in
     let old = core_view inside.core inside.cores (queues_alone inside.queues) inside.tallies.items inside.floor inside.turns (job_out inside.out) inside.senders inside.mode in
     IsBounded-from_turns old c.self.invariant.turns
+
+pub shut-requires : goal.shut-requires
+shut-requires g c =
+    let known : c.args.from ≤ c.self.inside.cores = subst (λ (view : CoreView g.row.J.Denot). c.args.from ≤ view.cores) (sym c.self.view_is) c.requires.sender in
+    omega (arith, known, c.self.invariant.counted.senders)
+
+pub returns-clause-shuts : goal.returns-clause-shuts
+returns-clause-shuts g c =
+    let inside = c.self.inside in
+    let shut = c.shut.ensures ∙ ap (λ from. record inside.senders { gates = slice_set inside.senders.gates from (Some c.args.count) }) (c.from-2.ensures ∙ c.from.view_is) in
+    rw (← c.self.view_is) (λ i. core_view inside.core inside.cores (queues_alone inside.queues) inside.tallies.items inside.floor inside.turns (job_out inside.out) (shut i) inside.mode, c.one_note.ensures)
+
+pub one_note-requires : goal.one_note-requires
+one_note-requires g c = assumption

@@ -19,3 +19,9 @@ invariant_of-self g c =
       pollable = IsPollable-pushed _ _ _ _ c.args.queue c.args.name false c.args.job joins.queues c.requires.ready old.pollable;
       turns = record { tallies = old.turns.tallies; floor = old.turns.floor };
     })
+
+pub overflow_add-self : goal.overflow_add-self
+overflow_add-self g c =
+    let old = c.self.invariant in
+    let room = subst (λ (view : CoreView g.row.J.Denot). inside_count view < view.queues.room) (sym c.self.view_is) c.requires.room in
+    omega (arith, old.counted.all_inside, old.counted.same_room, room, c.self.ranges)

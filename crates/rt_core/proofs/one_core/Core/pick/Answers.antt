@@ -1,4 +1,4 @@
-use Rattle.std.proofs.Common.{◌≡◌, [], refl, sym, ◌∙◌, arith, rules}
+use Rattle.std.proofs.Common.{◌≡◌, [], refl, sym, ◌∙◌, arith}
 use Rattle.rt_taskqueue.specs.Slips.{queues_alone}
 use Rattle.rt_core.specs.Inside.{core_view, job_out}
 use Rattle.std.proofs.lemmas.Bool.{true≢false}
@@ -60,7 +60,7 @@ pick_first-turn-requires g c =
     let view = core_view inside.core inside.cores (queues_alone inside.queues) inside.tallies.items inside.floor inside.turns (job_out inside.out) inside.senders inside.mode in
     let free = job_out-none inside.out (sym c.is_some.ensures ∙ c.if-is_some.false) in
     let some : inside.ready.keys ≡ [] → ⊥ = λ none. true≢false (sym (c.is_empty.ensures.1 none) ∙ c.if-is_empty.false) in
-    (search rules, rw (← c.self.view_is) (free, (omega (arith, c.self.ranges), work_if_key view inside.ready.keys some free c.self.invariant.listed)))
+    (assumption, rw (← c.self.view_is) (free, (omega (arith, c.self.ranges), work_if_key view inside.ready.keys some free c.self.invariant.listed)))
 
 pub returns-clause-picks : goal.returns-clause-picks
 returns-clause-picks g c = c.pick_first-turn.ensures.picks
@@ -70,3 +70,18 @@ returns-clause-ready g c = c.pick_first-turn.ensures.ready
 
 pub returns-clause-bounded : goal.returns-clause-bounded
 returns-clause-bounded g c = c.pick_first-turn.ensures.bounded
+
+pub same-self : goal.same-self
+same-self g c = refl
+
+pub same-self-2 : goal.same-self-2
+same-self-2 g c = refl
+
+pub new-requires : goal.new-requires
+new-requires g c = assumption
+
+pub new-requires-then-is_empty : goal.new-requires-then-is_empty
+new-requires-then-is_empty g c = assumption
+
+pub new-requires-then-self : goal.new-requires-then-self
+new-requires-then-self g c = assumption

@@ -1,7 +1,7 @@
 use Rattle.std.proofs.Common.{sym, ◌∙◌, ap, subst}
 use Rattle.std.specs.Prelude.{unwrap_or}
-use Rattle.rt_jobs.specs.Steps.{IfDone}
-use Rattle.rt_core.proofs.PollsSettled.{settles_yield, settles_done, answers_out}
+use Rattle.rt_jobs.specs.Steps.{is_done_step, IfDone, OnYield}
+use Rattle.rt_core.proofs.PollsSettled.{settles_yield, settles_done, answers_out, out_if_same, yields_no_answer}
 use Rattle.rt_core.proofs.one_core.Core.settle.Goals as goal
 
 pub returns-in-Yield-clause-settles : goal.returns-in-Yield-clause-settles
@@ -22,3 +22,30 @@ pub returns-in-Done-clause-answers : goal.returns-in-Done-clause-answers
 returns-in-Done-clause-answers g c =
     let owed = subst (λ step. IfDone step (g.J.Task.Answers c.args.ran.before)) c.in-Done.is c.into_parts-job.ensures.answers in
     answers_out g.J.Task.SameTask g.J.Task.Answers c.args.self.now.out c.args.ran.before c.in-Done.answer g.met.J.Task.same_task g.met.J.Task.answers_same c.requires owed
+
+pub yield_out-name-requires : goal.yield_out-name-requires
+yield_out-name-requires g c =
+    let parts = c.into_parts-job.ensures in
+    let job = c.into_parts-job.result.0 in
+    record {
+      out = out_if_same g.J.Task.SameTask c.args.self.now.out c.args.ran.before c.requires;
+      ready = (parts.done ∙ ap is_done_step c.in-Yield.is, subst (λ step. OnYield step (g.J.Task.CanPoll job)) c.in-Yield.is parts.ready);
+    }
+
+pub finish_out-name-requires : goal.finish_out-name-requires
+finish_out-name-requires g c = out_if_same g.J.Task.SameTask c.args.self.now.out c.args.ran.before c.requires
+
+pub returns-in-Yield-clause-answers : goal.returns-in-Yield-clause-answers
+returns-in-Yield-clause-answers g c = yields_no_answer g.J.Task.Answers c.args.self.now.out
+
+pub returns-in-Yield-clause-bounded : goal.returns-in-Yield-clause-bounded
+returns-in-Yield-clause-bounded g c = c.yield_out-name.ensures.bounded
+
+pub returns-in-Done-clause-bounded : goal.returns-in-Done-clause-bounded
+returns-in-Done-clause-bounded g c = c.finish_out-name.ensures.bounded
+
+pub one_note-requires : goal.one_note-requires
+one_note-requires g c = assumption
+
+pub one_note-requires-in-Done : goal.one_note-requires-in-Done
+one_note-requires-in-Done g c = assumption

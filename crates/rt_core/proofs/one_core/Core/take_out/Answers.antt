@@ -1,19 +1,20 @@
-use Rattle.std.proofs.Common.{◌≡◌, ◌+◌, ◌<◌, Bool, true, false, List, length, max, drop, Some, None, sym, ◌∙◌, ap, subst, arith}
+use Rattle.std.proofs.Common.{◌≡◌, ℕ, ◌+◌, ◌-◌, ◌^◌, ◌<◌, Bool, true, false, List, [], length, max, drop, Some, None, refl, sym, ◌∙◌, ap, subst, arith}
+use Rattle.std.proofs.lemmas.Bool.{true≢false}
 use Rattle.std.specs.Prelude.{All, slice_index_or, slice_set}
 use Rattle.std.proofs.lemmas.List.Elements.{All-head}
 use Rattle.rt_jobs.specs.Ready.{IsReady}
 use Rattle.rt_taskqueue.specs.Queues.{waiting_of, ChangesLine}
 use Rattle.rt_taskqueue.specs.Slips.{queues_alone}
 use Rattle.rt_core.specs.declared.tally.Tally.{Tally}
-use Rattle.rt_core.specs.State.{CoreView}
+use Rattle.rt_core.specs.State.{CoreView, is_any}
 use Rattle.rt_core.specs.Inside.{core_view, job_out, KeepsSlips, IsCore}
 use Rattle.rt_core.specs.Turns.{TakesOut}
 use Rattle.rt_core.proofs.Charging.{tally_read}
 use Rattle.rt_core.proofs.Fits.{IsBounded-from_turns}
-use Rattle.rt_core.proofs.Picking.{first_runtime, first_is_next}
+use Rattle.rt_core.proofs.Picking.{first_waits, first_runtime, first_is_next, some_keys}
 use Rattle.rt_core.proofs.SlipsKept.{slip_out}
 use Rattle.rt_core.proofs.Whole.{IsCore-taken}
-use Rattle.rt_core.proofs.WholeTurn.{first_exists}
+use Rattle.rt_core.proofs.WholeTurn.{first_exists, first_fits}
 use Rattle.rt_core.proofs.one_core.Core.take_out.Given.{Over}
 use Rattle.rt_core.proofs.one_core.Core.take_out.Goals as goal
 use Rattle.rt_core.proofs.one_core.Core.take_out.Goals.{Joined-self}
@@ -109,3 +110,47 @@ returns g c =
       ready = All-head (λ one. IsReady g.J.Task.done g.J.Task.CanPoll one.2) (c.in-Some-pop_front.name, c.in-Some-pop_front.started, c.in-Some-pop_front.job) others all;
       bounded = IsBounded-from_turns _ (core_of g c).turns;
     })
+
+pub unreachable-requires : goal.unreachable-requires
+unreachable-requires g c =
+    let inside = c.self.inside in
+    let old = core_view inside.core inside.cores (queues_alone inside.queues) inside.tallies.items inside.floor inside.turns (job_out inside.out) inside.senders inside.mode in
+    let free : job_out inside.out ≡ None = subst (λ (view : CoreView g.row.J.Denot). view.out ≡ None) (sym c.self.view_is) c.requires.free in
+    let work = subst (λ (view : CoreView g.row.J.Denot). (queue : ℕ) × (waiting_of queue view.queues ≡ [] → ⊥)) (sym c.self.view_is) c.requires.work in
+    some_keys old inside.ready.keys free c.self.invariant.listed work (c.in_default.ensures.empty.0 refl)
+
+pub unreachable-requires-in_default-pop_front : goal.unreachable-requires-in_default-pop_front
+unreachable-requires-in_default-pop_front g c =
+    let inside = c.self.inside in
+    let old = core_view inside.core inside.cores (queues_alone inside.queues) inside.tallies.items inside.floor inside.turns (job_out inside.out) inside.senders inside.mode in
+    let free : job_out inside.out ≡ None = subst (λ (view : CoreView g.row.J.Denot). view.out ≡ None) (sym c.self.view_is) c.requires.free in
+    let waits = first_waits old inside.ready.keys c.in-Some.key c.take_least.new.self.keys c.in-Some.ensures.least c.self.invariant.listed free in
+    true≢false (sym waits ∙ ap is_any c.in_default-pop_front.ensures.empty)
+
+pub index_mut-requires : goal.index_mut-requires
+index_mut-requires g c =
+    let inside = c.self.inside in
+    let core = c.self.invariant in
+    let old = core_view inside.core inside.cores (queues_alone inside.queues) inside.tallies.items inside.floor inside.turns (job_out inside.out) inside.senders inside.mode in
+    let free : job_out inside.out ≡ None = subst (λ (view : CoreView g.row.J.Denot). view.out ≡ None) (sym c.self.view_is) c.requires.free in
+    let exists = first_exists old inside.ready.keys c.in-Some.key c.take_least.new.self.keys c.in-Some.ensures.least core.listed free in
+    omega (arith, c.place.ensures, core.counted.tallies, exists)
+
+pub overflow_add-index_mut : goal.overflow_add-index_mut
+overflow_add-index_mut g c =
+    let inside = c.self.inside in
+    let core = c.self.invariant in
+    let old = core_view inside.core inside.cores (queues_alone inside.queues) inside.tallies.items inside.floor inside.turns (job_out inside.out) inside.senders inside.mode in
+    let key = c.in-Some.key in
+    let free : job_out inside.out ≡ None = subst (λ (view : CoreView g.row.J.Denot). view.out ≡ None) (sym c.self.view_is) c.requires.free in
+    let exists = first_exists old inside.ready.keys key c.take_least.new.self.keys c.in-Some.ensures.least core.listed free in
+    let there : c.place.result < length inside.tallies.items = omega (arith, c.place.ensures, core.counted.tallies, exists) in
+    let read = tally_read inside.tallies.items c.place.result key.queue c.index_mut.result.now c.place.ensures there c.index_mut.ensures.value in
+    let left : inside.turns < 2 ^ 64 - 1 = subst (λ (view : CoreView g.row.J.Denot). view.turns < 2 ^ 64 - 1) (sym c.self.view_is) c.requires.turns in
+    let before = first_fits g.J.Task.done g.J.Task.CanPoll old inside.queues.slips inside.ready.keys inside.inside inside.room inside.tallies.cap key.queue core free in
+    omega (arith, left, ap (λ (tally : Tally). tally.selected) read, before.selected)
+
+pub overflow_add-self : goal.overflow_add-self
+overflow_add-self g c =
+    let left : c.self.inside.turns < 2 ^ 64 - 1 = subst (λ (view : CoreView g.row.J.Denot). view.turns < 2 ^ 64 - 1) (sym c.self.view_is) c.requires.turns in
+    omega (arith, left)

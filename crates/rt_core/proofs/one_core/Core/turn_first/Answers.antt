@@ -1,4 +1,4 @@
-use Rattle.std.proofs.Common.{◌≡◌, ◌+◌, ◌-◌, ◌^◌, ◌<◌, Bool, false, List, length, None, sym, ◌∙◌, ap, subst, arith}
+use Rattle.std.proofs.Common.{◌≡◌, ℕ, ◌+◌, ◌-◌, ◌^◌, ◌<◌, Bool, false, List, [], length, None, refl, sym, ◌∙◌, ap, subst, arith}
 use Rattle.std.specs.Prelude.{slice_index_or}
 use Rattle.rt_jobs.specs.Steps.{is_done_step}
 use Rattle.rt_taskqueue.specs.Queues.{waiting_of}
@@ -7,7 +7,7 @@ use Rattle.rt_core.specs.declared.tally.Tally.{Tally}
 use Rattle.rt_core.specs.State.{CoreView}
 use Rattle.rt_core.specs.Inside.{core_view, job_out, KeepsSlips, FitsTurns}
 use Rattle.rt_core.proofs.Charging.{after_poll, tally_read}
-use Rattle.rt_core.proofs.Picking.{first_waits}
+use Rattle.rt_core.proofs.Picking.{first_waits, some_keys}
 use Rattle.rt_core.proofs.SlipsKept.{slip_out}
 use Rattle.rt_core.proofs.Whole.{front_ready, one_at_most, turned_count}
 use Rattle.rt_core.proofs.WholeTurn.{first_exists, first_fits, HasTurned, IsCore-turned, IsBounded-turned, TurnsFirst-turned}
@@ -120,3 +120,16 @@ returns g c =
       turns = (turns.0, turns.1, (c.turn_front-step.result.2, c.turn_front-step.ensures.tells, first));
       bounded = bounded;
     })
+
+pub unreachable-requires : goal.unreachable-requires
+unreachable-requires g c =
+    let inside = c.self.inside in
+    let old = core_view inside.core inside.cores (queues_alone inside.queues) inside.tallies.items inside.floor inside.turns (job_out inside.out) inside.senders inside.mode in
+    let free : job_out inside.out ≡ None = subst (λ (view : CoreView g.row.J.Denot). view.out ≡ None) (sym c.self.view_is) c.requires.free in
+    let work = subst (λ (view : CoreView g.row.J.Denot). (queue : ℕ) × (waiting_of queue view.queues ≡ [] → ⊥)) (sym c.self.view_is) c.requires.work in
+    some_keys old inside.ready.keys free c.self.invariant.listed work (c.in_default.ensures.empty.0 refl)
+
+pub overflow_add-self : goal.overflow_add-self
+overflow_add-self g c =
+    let left : c.self.inside.turns < 2 ^ 64 - 1 = subst (λ (view : CoreView g.row.J.Denot). view.turns < 2 ^ 64 - 1) (sym c.self.view_is) c.requires.turns in
+    omega (arith, left)
