@@ -1,5 +1,5 @@
 -- A whole turn, from what is known inside: the head of the first queue goes out, is polled, and its poll is settled.
-use Rattle.std.proofs.Common.{◌≡◌, ℕ, ◌+◌, ◌<◌, Bool, true, List, ◌∷◌, length, max, Option, Some, None, refl, sym, ap, ◌∙◌, subst, arith}
+use Rattle.std.proofs.Common.{◌≡◌, ℕ, ◌+◌, ◌<◌, ◌≤◌, Bool, true, List, ◌∷◌, length, max, Option, Some, None, refl, sym, ap, ◌∙◌, subst, arith}
 use Rattle.std.specs.Prelude.{◌-◌, is_some, unwrap_or, slice_set}
 use Rattle.std.proofs.lemmas.List.{set-set, get_or-set_same}
 use Rattle.rt_ids.specs.declared.names.Key.{Key}
@@ -17,6 +17,7 @@ use Rattle.rt_core.specs.Turns.{TakesOut}
 use Rattle.rt_core.specs.Relisted.{keys_after, slips_after}
 use Rattle.rt_core.specs.Whole.{TurnsFirst}
 use Rattle.rt_core.proofs.Charging.{after_poll}
+use Rattle.rt_core.proofs.Counting.{some_inside}
 use Rattle.rt_core.proofs.Fits.{tally_fits, IsBounded-from_turns}
 use Rattle.rt_core.proofs.Picking.{exists_if_waiting, first_runtime, first_waits, first_is_next}
 use Rattle.rt_core.proofs.Whole.{IsCore-taken, IsCore-settled, turned_shares, settles_step}
@@ -88,13 +89,18 @@ module _ {J T : Type 0} (same : J → J → Type 0) (done : J → Bool) (can_pol
     same_floor : max old.floor key.vr ≡ max old.floor (runtime_of key.queue old)
     same_floor = ap (max old.floor) (sym (first_runtime old keys key turn.later turn.are turn.core.listed))
 
+    IsCore-between : IsCore done can_poll between (slice_set slips key.queue true) turn.later inside room places
+    IsCore-between = IsCore-taken done can_poll old between slips keys turn.later key inside room places turn.turned.name turn.turned.started turn.turned.was turn.core turn.are turn.absent takes turn.turned.limits
+
+    pub one_inside : 1 ≤ inside
+    one_inside = (some_inside between inside room places job_between refl IsCore-between.counted).0
+
     -- what holds inside
     pub IsCore-turned : IsCore done can_poll (after_turn old key tally queues) (slips_after (is_any (waiting_of key.queue queues)) key.queue (slice_set slips key.queue true))
         (keys_after (is_any (waiting_of key.queue queues)) tally.runtime key.queue turn.later) (inside - number_if (is_done_step step)) room places
     IsCore-turned =
-        let middle = IsCore-taken done can_poll old between slips keys turn.later key inside room places turn.turned.name turn.turned.started turn.turned.was turn.core turn.are turn.absent takes turn.turned.limits in
         IsCore-settled done can_poll between (after_turn old key tally queues) (slice_set slips key.queue true) turn.later inside room places job_between turn.turned.job tally (is_any (waiting_of key.queue queues)) step
-        middle refl turn.free turn.turned.joins turn.limits (sym (set-set old.tallies key.queue (picked_tally old key.queue) tally))
+        IsCore-between refl turn.free turn.turned.joins turn.limits (sym (set-set old.tallies key.queue (picked_tally old key.queue) tally))
         (turn.fits (first_fits done can_poll old slips keys inside room places key.queue turn.core turn.free)) refl refl refl same_floor turn.turned.polled.ended turn.turned.polled.ready refl
 
     pub IsBounded-turned : IsBounded (after_turn old key tally queues)

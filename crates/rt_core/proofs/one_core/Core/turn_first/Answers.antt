@@ -1,88 +1,96 @@
 use Rattle.std.proofs.Common.{◌≡◌, ℕ, ◌+◌, ◌-◌, ◌^◌, ◌<◌, Bool, false, List, [], length, None, refl, sym, ◌∙◌, ap, subst, arith}
 use Rattle.std.specs.Prelude.{slice_index_or}
 use Rattle.rt_jobs.specs.Steps.{is_done_step}
-use Rattle.rt_taskqueue.specs.Queues.{waiting_of}
+use Rattle.rt_taskqueue.specs.Queues.{queue_count, waiting_of}
 use Rattle.rt_taskqueue.specs.Slips.{queues_alone}
 use Rattle.rt_core.specs.declared.tally.Tally.{Tally}
-use Rattle.rt_core.specs.State.{CoreView}
+use Rattle.rt_core.specs.State.{CoreView, tally_of}
 use Rattle.rt_core.specs.Inside.{core_view, job_out, KeepsSlips, FitsTurns}
 use Rattle.rt_core.proofs.Charging.{after_poll, tally_read}
 use Rattle.rt_core.proofs.Picking.{first_waits, some_keys}
 use Rattle.rt_core.proofs.SlipsKept.{slip_out}
 use Rattle.rt_core.proofs.Whole.{front_ready, one_at_most, turned_count}
-use Rattle.rt_core.proofs.WholeTurn.{first_exists, first_fits, HasTurned, IsCore-turned, IsBounded-turned, TurnsFirst-turned}
+use Rattle.rt_core.proofs.WholeTurn.{first_exists, first_fits, HasTurned, one_inside, IsCore-turned, IsBounded-turned, TurnsFirst-turned}
 use Rattle.rt_core.proofs.one_core.Core.turn_first.Given.{Over}
 use Rattle.rt_core.proofs.one_core.Core.turn_first.Goals as goal
-use Rattle.rt_core.proofs.one_core.Core.turn_first.Goals.{After-relist}
+use Rattle.rt_core.proofs.one_core.Core.turn_first.Goals.{In-Some, After-turned-tally}
+
+-- the core before, with none out
+abbrev old_of : (g : Over) (c : In-Some g) → CoreView g.row.J.Denot
+old_of g c =
+    let inside = c.self.inside in
+    core_view inside.core inside.cores (queues_alone inside.queues) inside.tallies.items inside.floor inside.turns (job_out inside.out) inside.senders inside.mode
+
+free : (g : Over) (c : In-Some g) → job_out c.self.inside.out ≡ None
+free g c = subst (λ (view : CoreView g.row.J.Denot). view.out ≡ None) (sym c.self.view_is) c.requires.free
+
+left : (g : Over) (c : In-Some g) → c.self.inside.turns < 2 ^ 64 - 1
+left g c = subst (λ (view : CoreView g.row.J.Denot). view.turns < 2 ^ 64 - 1) (sym c.self.view_is) c.requires.turns
+
+-- the queue of the first key, and its tally
+exists : (g : Over) (c : In-Some g) → c.in-Some.key.queue < queue_count (queues_alone c.self.inside.queues)
+exists g c = first_exists (old_of g c) c.self.inside.ready.keys c.in-Some.key c.take_least.new.self.keys c.in-Some.ensures.least c.self.invariant.listed (free g c)
+
+read : (g : Over) (c : In-Some g) (place : ℕ) → place ≡ c.in-Some.key.queue → (was : Tally) → was ≡ slice_index_or c.self.inside.tallies.items place was → was ≡ tally_of c.in-Some.key.queue (old_of g c)
+read g c place at was found =
+    let there : place < length c.self.inside.tallies.items = omega (arith, at, c.self.invariant.counted.tallies, exists g c) in
+    tally_read c.self.inside.tallies.items place c.in-Some.key.queue was at there found
+
+fits : (g : Over) (c : In-Some g) → FitsTurns c.self.inside.turns 0 (tally_of c.in-Some.key.queue (old_of g c))
+fits g c =
+    let inside = c.self.inside in
+    first_fits g.J.Task.done g.J.Task.CanPoll (old_of g c) inside.queues.slips inside.ready.keys inside.inside inside.room inside.tallies.cap c.in-Some.key.queue c.self.invariant (free g c)
 
 pub turn_front-step-requires : goal.turn_front-step-requires
 turn_front-step-requires g c =
-    let inside = c.self.inside in
+    let at = (goal.at.turn_front-step-requires g c).In-Some in
     let core = c.self.invariant in
-    let key = c.in-Some.key in
-    let later = c.take_least.new.self.keys in
-    let are = c.in-Some.ensures.least in
-    let old = core_view inside.core inside.cores (queues_alone inside.queues) inside.tallies.items inside.floor inside.turns (job_out inside.out) inside.senders inside.mode in
-    let free : job_out inside.out ≡ None = subst (λ (view : CoreView g.row.J.Denot). view.out ≡ None) (sym c.self.view_is) c.requires.free in
+    let queue = c.in-Some.key.queue in
     record {
-      exists = first_exists old inside.ready.keys key later are core.listed free;
-      ready = front_ready g.J.Task.done g.J.Task.CanPoll (waiting_of key.queue (queues_alone inside.queues)) (first_waits old inside.ready.keys key later are core.listed free) (core.pollable.at key.queue);
+      exists = exists g at;
+      ready = front_ready g.J.Task.done g.J.Task.CanPoll (waiting_of queue (queues_alone c.self.inside.queues))
+          (first_waits (old_of g at) c.self.inside.ready.keys c.in-Some.key c.take_least.new.self.keys c.in-Some.ensures.least core.listed (free g at)) (core.pollable.at queue);
     }
+
+pub index-requires : goal.index-requires
+index-requires g c = omega (arith, c.self.invariant.counted.tallies, exists g (goal.at.index-requires g c).In-Some, c.place.ensures)
+
+pub index_mut-requires : goal.index_mut-requires
+index_mut-requires g c = omega (arith, c.self.invariant.counted.tallies, exists g (goal.at.index_mut-requires g c).In-Some, c.place-2.ensures)
 
 pub turned-tally-requires : goal.turned-tally-requires
 turned-tally-requires g c =
-    let inside = c.self.inside in
-    let core = c.self.invariant in
-    let key = c.in-Some.key in
-    let old = core_view inside.core inside.cores (queues_alone inside.queues) inside.tallies.items inside.floor inside.turns (job_out inside.out) inside.senders inside.mode in
-    let free : job_out inside.out ≡ None = subst (λ (view : CoreView g.row.J.Denot). view.out ≡ None) (sym c.self.view_is) c.requires.free in
-    let exists = first_exists old inside.ready.keys key c.take_least.new.self.keys c.in-Some.ensures.least core.listed free in
-    let there : c.place.result < length inside.tallies.items = omega (arith, c.place.ensures, core.counted.tallies, exists) in
-    let read = tally_read inside.tallies.items c.place.result key.queue c.index.result.now c.place.ensures there c.index.ensures in
-    let left : inside.turns < 2 ^ 64 - 1 = subst (λ (view : CoreView g.row.J.Denot). view.turns < 2 ^ 64 - 1) (sym c.self.view_is) c.requires.turns in
-    let before = first_fits g.J.Task.done g.J.Task.CanPoll old inside.queues.slips inside.ready.keys inside.inside inside.room inside.tallies.cap key.queue core free in
+    let at = (goal.at.turned-tally-requires g c).In-Some in
     record {
-      fits = (inside.turns, left, subst (FitsTurns inside.turns 0) (sym read) before);
+      fits = (c.self.inside.turns, left g at, subst (FitsTurns c.self.inside.turns 0) (sym (read g at c.place.result c.place.ensures c.index.result.now c.index.ensures)) (fits g at));
       few = omega (arith, c.ended-done.ensures, one_at_most (is_done_step c.turn_front-step.result.0));
     }
 
 pub relist-requires : goal.relist-requires
 relist-requires g c =
-    let inside = c.self.inside in
-    let core = c.self.invariant in
+    let at = (goal.at.relist-requires g c).In-Some in
     let key = c.in-Some.key in
     let later = c.take_least.new.self.keys in
-    let are = c.in-Some.ensures.least in
-    let old = core_view inside.core inside.cores (queues_alone inside.queues) inside.tallies.items inside.floor inside.turns (job_out inside.out) inside.senders inside.mode in
-    let free : job_out inside.out ≡ None = subst (λ (view : CoreView g.row.J.Denot). view.out ≡ None) (sym c.self.view_is) c.requires.free in
-    let exists = first_exists old inside.ready.keys key later are core.listed free in
     let turned = c.turn_front-step.ensures.turns.2 in
     let count = turned_count c.turn_front-step.result.0 turned.between (queues_alone c.turn_front-step.new.self) key.queue turned.name turned.job turned.joins in
     record {
-      exists = omega (arith, exists, count, turned.leaves.same_count, c.in-Some.ensures.slip);
+      exists = omega (arith, exists g at, count, turned.leaves.same_count, c.in-Some.ensures.slip);
       out = ap (λ queue. slice_index_or c.turn_front-step.new.self.slips queue false) c.in-Some.ensures.slip
-          ∙ ap (λ (slips : List Bool). slice_index_or slips key.queue false) c.turn_front-step.ensures.slips ∙ slip_out _ _ key later exists (subst (KeepsSlips _ _) are core.slipped);
+          ∙ ap (λ (slips : List Bool). slice_index_or slips key.queue false) c.turn_front-step.ensures.slips ∙ slip_out _ _ key later (exists g at) (subst (KeepsSlips _ _) c.in-Some.ensures.least c.self.invariant.slipped);
       absent = rw c.in-Some.ensures.slip c.in-Some.ensures.absent;
     }
 
 -- what is known once the slip has its place again
-turn_of : (g : Over) (c : After-relist g) → HasTurned g.J.Task.SameTask g.J.Task.done g.J.Task.CanPoll g.J.Task.made g.J.Task.Polls g.J.Task.Answers
+turn_of : (g : Over) (c : After-turned-tally g) → job_out c.self.inside.out ≡ None → c.index.result.now ≡ tally_of c.in-Some.key.queue (core_view c.self.inside.core c.self.inside.cores (queues_alone c.self.inside.queues) c.self.inside.tallies.items c.self.inside.floor c.self.inside.turns (job_out c.self.inside.out) c.self.inside.senders c.self.inside.mode) →
+    HasTurned g.J.Task.SameTask g.J.Task.done g.J.Task.CanPoll g.J.Task.made g.J.Task.Polls g.J.Task.Answers
     (core_view c.self.inside.core c.self.inside.cores (queues_alone c.self.inside.queues) c.self.inside.tallies.items c.self.inside.floor c.self.inside.turns (job_out c.self.inside.out) c.self.inside.senders c.self.inside.mode)
     c.self.inside.queues.slips c.self.inside.ready.keys c.self.inside.inside c.self.inside.room c.self.inside.tallies.cap c.in-Some.key c.turn_front-step.ensures.turns.0 c.turn_front-step.result.0 c.turn_front-step.result.1
     c.unwrap_or-time.result c.turned-tally.result (queues_alone c.turn_front-step.new.self)
-turn_of g c =
-    let inside = c.self.inside in
-    let core = c.self.invariant in
-    let key = c.in-Some.key in
-    let old = core_view inside.core inside.cores (queues_alone inside.queues) inside.tallies.items inside.floor inside.turns (job_out inside.out) inside.senders inside.mode in
-    let free : job_out inside.out ≡ None = subst (λ (view : CoreView g.row.J.Denot). view.out ≡ None) (sym c.self.view_is) c.requires.free in
-    let exists = first_exists old inside.ready.keys key c.take_least.new.self.keys c.in-Some.ensures.least core.listed free in
-    let there : c.place.result < length inside.tallies.items = omega (arith, c.place.ensures, core.counted.tallies, exists) in
-    let read = tally_read inside.tallies.items c.place.result key.queue c.index.result.now c.place.ensures there c.index.ensures in
+turn_of g c free known =
     let was = c.index.result.now in
     let value : c.turned-tally.result ≡ after_poll (record was { selected = was.selected + 1 }) c.unwrap_or-time.result c.shares-shares.result c.ended-done.result = c.turned-tally.ensures.value in
     record {
-      core = core;
+      core = c.self.invariant;
       later = c.take_least.new.self.keys;
       are = c.in-Some.ensures.least;
       absent = c.in-Some.ensures.absent;
@@ -90,32 +98,36 @@ turn_of g c =
       free = free;
       turned = c.turn_front-step.ensures.turns.2;
       limits = c.turn_front-step.ensures.limits;
-      charged = value ∙ (λ i. after_poll (record (read i) { selected = (read i).selected + 1 }) c.unwrap_or-time.result (c.shares-shares.ensures i) (c.ended-done.ensures i));
-      fits = subst (λ (one : Tally). FitsTurns inside.turns 0 one → FitsTurns (inside.turns + 1) 0 c.turned-tally.result) read (c.turned-tally.ensures.fits inside.turns);
+      charged = value ∙ (λ i. after_poll (record (known i) { selected = (known i).selected + 1 }) c.unwrap_or-time.result (c.shares-shares.ensures i) (c.ended-done.ensures i));
+      fits = subst (λ (one : Tally). FitsTurns c.self.inside.turns 0 one → FitsTurns (c.self.inside.turns + 1) 0 c.turned-tally.result) known (c.turned-tally.ensures.fits c.self.inside.turns);
     }
 
 pub invariant_of-self : goal.invariant_of-self
 unfolding turn_of
 invariant_of-self g c =
+    let some = (goal.at.invariant_of-self g c).In-Some in
+    let turn = turn_of g (goal.at.invariant_of-self g c).After-turned-tally (free g some) (read g some c.place.result c.place.ensures c.index.result.now c.index.ensures) in
     let inside = c.self.inside in
     let key = c.in-Some.key in
     let queues = c.turn_front-step.new.self in
     let old = core_view inside.core inside.cores (queues_alone inside.queues) inside.tallies.items inside.floor inside.turns (job_out inside.out) inside.senders inside.mode in
     rw (c.relist.ensures.keys, c.relist.ensures.slips, c.in-Some.ensures.slip, c.turn_front-step.ensures.slips, c.ended-done.ensures, c.place-2.ensures, c.max-self-inside.ensures)
     (IsCore-turned g.J.Task.SameTask g.J.Task.done g.J.Task.CanPoll g.J.Task.made g.J.Task.Polls g.J.Task.Answers old inside.queues.slips inside.ready.keys inside.inside inside.room inside.tallies.cap key c.turn_front-step.ensures.turns.0
-    c.turn_front-step.result.0 c.turn_front-step.result.1 c.unwrap_or-time.result c.turned-tally.result (queues_alone queues) (turn_of g c))
+    c.turn_front-step.result.0 c.turn_front-step.result.1 c.unwrap_or-time.result c.turned-tally.result (queues_alone queues) turn)
 
 pub returns : goal.returns
 returns g c =
+    let some = (goal.at.returns g c).In-Some in
+    let turn = turn_of g (goal.at.returns g c).After-turned-tally (free g some) (read g some c.place.result c.place.ensures c.index.result.now c.index.ensures) in
     let inside = c.self.inside in
     let key = c.in-Some.key in
     let queues = c.turn_front-step.new.self in
     let turns = c.turn_front-step.ensures.turns in
     let old = core_view inside.core inside.cores (queues_alone inside.queues) inside.tallies.items inside.floor inside.turns (job_out inside.out) inside.senders inside.mode in
     let bounded = IsBounded-turned g.J.Task.SameTask g.J.Task.done g.J.Task.CanPoll g.J.Task.made g.J.Task.Polls g.J.Task.Answers old inside.queues.slips inside.ready.keys inside.inside inside.room inside.tallies.cap key turns.0
-    c.turn_front-step.result.0 c.turn_front-step.result.1 c.unwrap_or-time.result c.turned-tally.result (queues_alone queues) (turn_of g c) in
+    c.turn_front-step.result.0 c.turn_front-step.result.1 c.unwrap_or-time.result c.turned-tally.result (queues_alone queues) turn in
     let first = TurnsFirst-turned g.J.Task.SameTask g.J.Task.done g.J.Task.CanPoll g.J.Task.made g.J.Task.Polls g.J.Task.Answers old inside.queues.slips inside.ready.keys inside.inside inside.room inside.tallies.cap key turns.0
-    c.turn_front-step.result.0 c.turn_front-step.result.1 c.unwrap_or-time.result c.turned-tally.result (queues_alone queues) (turn_of g c) c.turn_front-step.result.2 c.unwrap_or-time.ensures in
+    c.turn_front-step.result.0 c.turn_front-step.result.1 c.unwrap_or-time.result c.turned-tally.result (queues_alone queues) turn c.turn_front-step.result.2 c.unwrap_or-time.ensures in
     rw (← c.self.view_is, c.relist.ensures.slips, c.place-2.ensures, c.max-self-inside.ensures) (record {
       turns = (turns.0, turns.1, (c.turn_front-step.result.2, c.turn_front-step.ensures.tells, first));
       bounded = bounded;
@@ -128,6 +140,19 @@ unreachable-requires g c =
     let free : job_out inside.out ≡ None = subst (λ (view : CoreView g.row.J.Denot). view.out ≡ None) (sym c.self.view_is) c.requires.free in
     let work = subst (λ (view : CoreView g.row.J.Denot). (queue : ℕ) × (waiting_of queue view.queues ≡ [] → ⊥)) (sym c.self.view_is) c.requires.work in
     some_keys old inside.ready.keys free c.self.invariant.listed work (c.in_default.ensures.empty.0 refl)
+
+pub overflow_sub-self : goal.overflow_sub-self
+overflow_sub-self g c =
+    let some = (goal.at.overflow_sub-self g c).In-Some in
+    let turn = turn_of g (goal.at.overflow_sub-self g c).After-turned-tally (free g some) (read g some c.place.result c.place.ensures c.index.result.now c.index.ensures) in
+    let inside = c.self.inside in
+    let old = core_view inside.core inside.cores (queues_alone inside.queues) inside.tallies.items inside.floor inside.turns (job_out inside.out) inside.senders inside.mode in
+    let one = one_inside g.J.Task.SameTask g.J.Task.done g.J.Task.CanPoll g.J.Task.made g.J.Task.Polls g.J.Task.Answers old inside.queues.slips inside.ready.keys inside.inside inside.room inside.tallies.cap c.in-Some.key c.turn_front-step.ensures.turns.0
+    c.turn_front-step.result.0 c.turn_front-step.result.1 c.unwrap_or-time.result c.turned-tally.result (queues_alone c.turn_front-step.new.self) turn in
+    omega (arith, one, c.ended-done.ensures, one_at_most (is_done_step c.turn_front-step.result.0))
+
+pub unreachable-unreachable : goal.unreachable-unreachable
+unreachable-unreachable g c = c.unreachable.result
 
 pub overflow_add-self : goal.overflow_add-self
 overflow_add-self g c =
