@@ -103,6 +103,13 @@ module _ {J T : Type 0} (same : J → J → Type 0) (done : J → Bool) (can_pol
         IsCore-between refl turn.free turn.turned.joins turn.limits (sym (set-set old.tallies key.queue (picked_tally old key.queue) tally))
         (turn.fits (first_fits done can_poll old slips keys inside room places key.queue turn.core turn.free)) refl refl refl same_floor turn.turned.polled.ended turn.turned.polled.ready refl
 
+    -- the same of what is equal to it
+    pub IsCore-turned_as : (new : CoreView J) (new_slips : List Bool) (new_keys : List Key) (new_inside : ℕ) → new ≡ after_turn old key tally queues →
+        new_slips ≡ slips_after (is_any (waiting_of key.queue queues)) key.queue (slice_set slips key.queue true) →
+        new_keys ≡ keys_after (is_any (waiting_of key.queue queues)) tally.runtime key.queue turn.later → new_inside ≡ inside - number_if (is_done_step step) →
+        IsCore done can_poll new new_slips new_keys new_inside room places
+    IsCore-turned_as new new_slips new_keys new_inside view slips_are keys_are count = rw (view, slips_are, keys_are, count) IsCore-turned
+
     pub IsBounded-turned : IsBounded (after_turn old key tally queues)
     IsBounded-turned = IsBounded-from_turns (after_turn old key tally queues) IsCore-turned.turns
 

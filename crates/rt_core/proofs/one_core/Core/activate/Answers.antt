@@ -1,7 +1,8 @@
-use Rattle.std.proofs.Common.{◌≡◌, ◌<◌, false, refl, sym, ◌∙◌, ap, subst, arith, length, length-set}
+use Rattle.std.proofs.Common.{◌≡◌, ◌<◌, ◌≤◌, false, None, refl, sym, ◌∙◌, ap, subst, arith, length, length-set}
 use Rattle.std.specs.Prelude.{Bool, List, slice_set, slice_index_or}
 use Rattle.std.proofs.lemmas.List.Elements.{All-set}
-use Rattle.rt_taskqueue.specs.Queues.{queue_count}
+use Rattle.rt_ids.specs.declared.names.JobId.{JobId}
+use Rattle.rt_taskqueue.specs.Queues.{queue_count, mode_of}
 use Rattle.rt_core.specs.declared.tally.Tally.{Tally}
 use Rattle.rt_taskqueue.specs.Slips.{queues_alone}
 use Rattle.rt_core.specs.State.{CoreView, inside_count, is_working}
@@ -55,3 +56,32 @@ invariant_of-self g c =
       pollable = IsPollable-pushed _ _ _ _ c.args.queue c.args.name false c.args.job c.admit.ensures.joins.queues c.requires.ready core.pollable;
       turns = record { tallies = All-set (FitsTurns inside.turns polls) inside.tallies.items c.place.result tally fits core.turns.tallies; floor = core.turns.floor };
     })
+
+pub same-name : goal.same-name
+same-name g c = refl
+
+pub count-requires : goal.count-requires
+count-requires g c =
+    let known : c.args.name.from ≤ c.self.inside.cores = subst (λ (view : CoreView g.row.J.Denot). c.args.name.from ≤ view.cores) (sym c.self.view_is) c.requires.sender in
+    omega (arith, known, c.self.invariant.counted.senders, c.from.ensures ∙ ap (λ (name : JobId). name.from) c.name.view_is)
+
+pub admit-requires : goal.admit-requires
+admit-requires g c =
+    let back = sym c.self.view_is in
+    let room = subst (λ (view : CoreView g.row.J.Denot). inside_count view < view.queues.room) back c.requires.room in
+    record {
+      exists = subst (λ (view : CoreView g.row.J.Denot). c.args.queue < queue_count view.queues) back c.requires.exists;
+      is_open = subst (λ (view : CoreView g.row.J.Denot). mode_of c.args.queue view.queues ≡ None) back c.requires.is_open;
+      room = omega (arith, room);
+    }
+
+pub overflow_add-self : goal.overflow_add-self
+overflow_add-self g c =
+    let core = c.self.invariant in
+    let room = subst (λ (view : CoreView g.row.J.Denot). inside_count view < view.queues.room) (sym c.self.view_is) c.requires.room in
+    omega (arith, core.counted.all_inside, core.counted.same_room, room, c.self.ranges)
+
+pub index_mut-tally-requires : goal.index_mut-tally-requires
+index_mut-tally-requires g c =
+    let exists = subst (λ (view : CoreView g.row.J.Denot). c.args.queue < queue_count view.queues) (sym c.self.view_is) c.requires.exists in
+    omega (arith, c.self.invariant.counted.tallies, exists, c.place.ensures)

@@ -1,5 +1,10 @@
-use Rattle.std.proofs.Common.{◌≡◌, ◌<◌, true, false, refl, sym, subst, arith, length-set}
+use Rattle.std.proofs.Common.{◌≡◌, ◌<◌, ◌≤◌, true, false, None, refl, sym, ◌∙◌, ap, subst, arith, length-set}
+use Rattle.rt_ids.specs.declared.names.JobId.{JobId}
+use Rattle.rt_taskqueue.specs.Queues.{queue_count, mode_of}
+use Rattle.rt_taskqueue.specs.Slips.{queues_alone}
 use Rattle.rt_core.specs.State.{CoreView, inside_count, is_working}
+use Rattle.rt_core.specs.Inside.{core_view, job_out}
+use Rattle.rt_core.proofs.Fits.{IsBounded-from_turns}
 use Rattle.rt_core.proofs.Parts.{IsCounted-enters, IsListed-joins, IsPollable-pushed}
 use Rattle.rt_core.proofs.SlipsKept.{KeepsSlips-same}
 use Rattle.rt_core.proofs.one_core.Core.join.Goals as goal
@@ -25,3 +30,30 @@ overflow_add-self g c =
     let old = c.self.invariant in
     let room = subst (λ (view : CoreView g.row.J.Denot). inside_count view < view.queues.room) (sym c.self.view_is) c.requires.room in
     omega (arith, old.counted.all_inside, old.counted.same_room, room, c.self.ranges)
+
+pub same-name : goal.same-name
+same-name g c = refl
+
+pub count-requires : goal.count-requires
+count-requires g c =
+    let known : c.args.name.from ≤ c.self.inside.cores = subst (λ (view : CoreView g.row.J.Denot). c.args.name.from ≤ view.cores) (sym c.self.view_is) c.requires.sender in
+    omega (arith, known, c.self.invariant.counted.senders, c.from.ensures ∙ ap (λ (name : JobId). name.from) c.name.view_is)
+
+pub admit-requires : goal.admit-requires
+admit-requires g c =
+    let back = sym c.self.view_is in
+    let room = subst (λ (view : CoreView g.row.J.Denot). inside_count view < view.queues.room) back c.requires.room in
+    record {
+      exists = subst (λ (view : CoreView g.row.J.Denot). c.args.queue < queue_count view.queues) back c.requires.exists;
+      is_open = subst (λ (view : CoreView g.row.J.Denot). mode_of c.args.queue view.queues ≡ None) back c.requires.is_open;
+      room = omega (arith, room);
+    }
+
+pub returns-clause-bounded : goal.returns-clause-bounded
+returns-clause-bounded g c =
+    let inside = c.self.inside in
+    let core = c.self.invariant in
+    IsBounded-from_turns (core_view inside.core inside.cores (queues_alone c.admit.new.self) inside.tallies.items inside.floor inside.turns (job_out inside.out) c.count.new.self inside.mode) (record {
+      tallies = core.turns.tallies;
+      floor = core.turns.floor;
+    })

@@ -1,16 +1,17 @@
-use Rattle.std.proofs.Common.{◌≡◌, ℕ, ◌+◌, ◌-◌, ◌^◌, ◌<◌, Bool, false, List, [], length, None, refl, sym, ◌∙◌, ap, subst, arith}
-use Rattle.std.specs.Prelude.{slice_index_or}
+use Rattle.std.proofs.Common.{◌≡◌, ℕ, ◌+◌, ◌-◌, ◌^◌, ◌<◌, Bool, true, false, List, [], length, None, refl, sym, ◌∙◌, ap, subst, arith}
+use Rattle.std.specs.Prelude.{slice_index_or, slice_set}
 use Rattle.rt_jobs.specs.Steps.{is_done_step}
 use Rattle.rt_taskqueue.specs.Queues.{queue_count, waiting_of}
 use Rattle.rt_taskqueue.specs.Slips.{queues_alone}
 use Rattle.rt_core.specs.declared.tally.Tally.{Tally}
-use Rattle.rt_core.specs.State.{CoreView, tally_of}
+use Rattle.rt_core.specs.State.{CoreView, is_any, tally_of}
 use Rattle.rt_core.specs.Inside.{core_view, job_out, KeepsSlips, FitsTurns}
+use Rattle.rt_core.specs.Relisted.{keys_after, slips_after}
 use Rattle.rt_core.proofs.Charging.{after_poll, tally_read}
 use Rattle.rt_core.proofs.Picking.{first_waits, some_keys}
 use Rattle.rt_core.proofs.SlipsKept.{slip_out}
 use Rattle.rt_core.proofs.Whole.{front_ready, one_at_most, turned_count}
-use Rattle.rt_core.proofs.WholeTurn.{first_exists, first_fits, HasTurned, one_inside, IsCore-turned, IsBounded-turned, TurnsFirst-turned}
+use Rattle.rt_core.proofs.WholeTurn.{first_exists, first_fits, HasTurned, one_inside, IsCore-turned_as, IsBounded-turned, TurnsFirst-turned}
 use Rattle.rt_core.proofs.one_core.Core.turn_first.Given.{Over}
 use Rattle.rt_core.proofs.one_core.Core.turn_first.Goals as goal
 use Rattle.rt_core.proofs.one_core.Core.turn_first.Goals.{In-Some, After-turned-tally}
@@ -111,9 +112,14 @@ invariant_of-self g c =
     let key = c.in-Some.key in
     let queues = c.turn_front-step.new.self in
     let old = core_view inside.core inside.cores (queues_alone inside.queues) inside.tallies.items inside.floor inside.turns (job_out inside.out) inside.senders inside.mode in
-    rw (c.relist.ensures.keys, c.relist.ensures.slips, c.in-Some.ensures.slip, c.turn_front-step.ensures.slips, c.ended-done.ensures, c.place-2.ensures, c.max-self-inside.ensures)
-    (IsCore-turned g.J.Task.SameTask g.J.Task.done g.J.Task.CanPoll g.J.Task.made g.J.Task.Polls g.J.Task.Answers old inside.queues.slips inside.ready.keys inside.inside inside.room inside.tallies.cap key c.turn_front-step.ensures.turns.0
-    c.turn_front-step.result.0 c.turn_front-step.result.1 c.unwrap_or-time.result c.turned-tally.result (queues_alone queues) turn)
+    let slip = c.in-Some.ensures.slip in
+    let tally = c.turned-tally.result in
+    IsCore-turned_as g.J.Task.SameTask g.J.Task.done g.J.Task.CanPoll g.J.Task.made g.J.Task.Polls g.J.Task.Answers old inside.queues.slips inside.ready.keys inside.inside inside.room inside.tallies.cap key c.turn_front-step.ensures.turns.0
+    c.turn_front-step.result.0 c.turn_front-step.result.1 c.unwrap_or-time.result tally (queues_alone queues) turn _ _ _ _
+    (λ i. core_view inside.core inside.cores (queues_alone (c.relist.ensures.slips i)) (slice_set inside.tallies.items (c.place-2.ensures i) tally) (c.max-self-inside.ensures i) (inside.turns + 1) (job_out inside.out) inside.senders inside.mode)
+    (ap (λ lines. lines.slips) c.relist.ensures.slips ∙ (λ i. slips_after (is_any (waiting_of (slip i) (queues_alone queues))) (slip i) (slice_set (c.turn_front-step.ensures.slips i) (slip i) true)))
+    (c.relist.ensures.keys ∙ (λ i. keys_after (is_any (waiting_of (slip i) (queues_alone queues))) tally.runtime (slip i) c.take_least.new.self.keys))
+    (ap (λ count. inside.inside - count) c.ended-done.ensures)
 
 pub returns : goal.returns
 returns g c =
