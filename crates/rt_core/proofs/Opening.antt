@@ -2,13 +2,17 @@
 use Rattle.std.proofs.Common.{◌≡◌, ℕ, zero, suc, ◌+◌, ◌≤◌, length, Bool, false, List, [], ◌∷◌, None, refl, sym, ap, arith}
 use Rattle.std.proofs.lemmas.List.Elements.{All-push}
 use Rattle.rt_taskqueue.specs.Queues.{first_queue, waiting_of}
+use Rattle.rt_taskqueue.specs.Slips.{SlippedView, queues_alone}
+use Rattle.rt_taskqueue.specs.Slips as slipped
+use Rattle.rt_ids.specs.declared.names.Key.{Key}
 use Rattle.rt_core.specs.declared.tally.Tally.{Tally}
 use Rattle.rt_core.specs.Senders.{SendersView}
 use Rattle.rt_core.specs.State.{CoreView, no_tally, is_any}
-use Rattle.rt_core.specs.Inside.{core_view, FitsTurns, IsCounted, IsListed, IsPollable, IsWithinTurns}
+use Rattle.rt_core.specs.Inside.{core_view, FitsTurns, IsCore, IsCounted, IsListed, IsPollable, IsWithinTurns}
 use Rattle.rt_core.proofs.Entries.{entry_of-none}
 use Rattle.rt_core.proofs.Fits.{no_tally_fits}
 use Rattle.rt_core.proofs.Settling.{may_run-free}
+use Rattle.rt_core.proofs.SlipsKept.{KeepsSlips-opened}
 
 module _ {J : Type 0} (core cores room turns : ℕ) (senders : SendersView) where
   abbrev first_view : List Tally → CoreView J
@@ -19,12 +23,12 @@ module _ {J : Type 0} (core cores room turns : ℕ) (senders : SendersView) wher
   no_job tallies zero = refl
   no_job tallies (suc queue) = refl
 
-  pub IsListed-opened : (tallies : List Tally) → IsListed (first_view tallies) []
+  IsListed-opened : (tallies : List Tally) → IsListed (first_view tallies) []
   IsListed-opened tallies = record {
     at = λ queue. sym (entry_of-none (first_view tallies) queue (may_run-free (first_view tallies) queue false refl (ap is_any (no_job tallies queue))));
   }
 
-  pub IsCounted-opened : (places : ℕ) → length senders.delivered ≡ cores + 1 → 256 ≤ places → IsCounted (first_view (no_tally ∷ [])) 0 room places
+  IsCounted-opened : (places : ℕ) → length senders.delivered ≡ cores + 1 → 256 ≤ places → IsCounted (first_view (no_tally ∷ [])) 0 room places
   IsCounted-opened places known reserved = record {
     limits = record { some_queue = omega arith; few_queues = omega arith; within_room = omega arith };
     tallies = refl;
@@ -36,11 +40,22 @@ module _ {J : Type 0} (core cores room turns : ℕ) (senders : SendersView) wher
     out = tt;
   }
 
-  pub IsPollable-opened : (done : J → Bool) (can_poll : J → Type 0) (tallies : List Tally) → IsPollable done can_poll (first_view tallies)
+  IsPollable-opened : (done : J → Bool) (can_poll : J → Type 0) (tallies : List Tally) → IsPollable done can_poll (first_view tallies)
   IsPollable-opened done can_poll tallies = record { at = λ queue. rw (no_job tallies queue) (λ k d below. absurd (omega arith)) }
 
-  pub IsWithinTurns-opened : IsWithinTurns (first_view (no_tally ∷ []))
+  IsWithinTurns-opened : IsWithinTurns (first_view (no_tally ∷ []))
   IsWithinTurns-opened = record {
     tallies = All-push (FitsTurns turns 0) [] no_tally (λ k d below. absurd (omega arith)) (no_tally_fits turns 0 0 (omega arith));
     floor = omega arith;
   }
+
+  -- all of it, of values that are equal to those
+  pub IsCore-opened : (done : J → Bool) (can_poll : J → Type 0) (queues : SlippedView J) (tallies : List Tally) (keys : List Key) (places : ℕ) → queues ≡ slipped.first_queue room → tallies ≡ no_tally ∷ [] → keys ≡ [] →
+      length senders.delivered ≡ cores + 1 → 256 ≤ places → IsCore done can_poll (core_view core cores (queues_alone queues) tallies 0 turns None senders None) queues.slips keys 0 room places
+  IsCore-opened done can_poll queues tallies keys places queues_are tallies_are keys_are known reserved = rw (queues_are, tallies_are, keys_are) (record {
+    counted = IsCounted-opened places known reserved;
+    listed = IsListed-opened (no_tally ∷ []);
+    slipped = KeepsSlips-opened;
+    pollable = IsPollable-opened done can_poll (no_tally ∷ []);
+    turns = IsWithinTurns-opened;
+  })

@@ -57,9 +57,6 @@ invariant_of-self g c =
       turns = record { tallies = All-set (FitsTurns inside.turns polls) inside.tallies.items c.place.result tally fits core.turns.tallies; floor = core.turns.floor };
     })
 
-pub same-name : goal.same-name
-same-name g c = refl
-
 pub count-requires : goal.count-requires
 count-requires g c =
     let known : c.args.name.from ≤ c.self.inside.cores = subst (λ (view : CoreView g.row.J.Denot). c.args.name.from ≤ view.cores) (sym c.self.view_is) c.requires.sender in

@@ -5,9 +5,6 @@ use Rattle.rt_core.proofs.Closings.{IsCore-closed}
 use Rattle.rt_core.proofs.Fits.{IsBounded-from_turns}
 use Rattle.rt_core.proofs.one_core.Core.close.Goals as goal
 
-pub same-self : goal.same-self
-same-self g c = refl
-
 pub returns-then-not-closes-clause-closes : goal.returns-then-not-closes-clause-closes
 returns-then-not-closes-clause-closes g c = rw (← c.self.view_is) (sym c.closes.ensures ∙ c.if-not-closes.true, refl, c.new.ensures)
 

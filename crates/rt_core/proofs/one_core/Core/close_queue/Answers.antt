@@ -73,9 +73,6 @@ returns-clause-bounded g c =
       floor = core.turns.floor;
     })
 
-pub same-self : goal.same-self
-same-self g c = refl
-
 pub new-requires : goal.new-requires
 new-requires g c = assumption
 
@@ -84,3 +81,6 @@ new-requires-then-not-closes g c = assumption
 
 pub one_note-requires : goal.one_note-requires
 one_note-requires g c = assumption
+
+pub same-self : goal.same-self
+same-self g c = refl

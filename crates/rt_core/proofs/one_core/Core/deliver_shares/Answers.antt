@@ -61,12 +61,6 @@ set_shares-requires g c = record {
   exists = subst (λ (view : CoreView g.row.J.Denot). c.args.queue < queue_count view.queues) (sym c.self.view_is) (c.has_queue.ensures.0 c.if-not-has_queue.false);
 }
 
-pub same-self : goal.same-self
-same-self g c = refl
-
-pub same-name : goal.same-name
-same-name g c = refl
-
 pub count-requires-2 : goal.count-requires-2
 count-requires-2 g c =
     let known : c.args.name.from ≤ c.self.inside.cores = subst (λ (view : CoreView g.row.J.Denot). c.args.name.from ≤ view.cores) (sym c.self.view_is) c.requires in
@@ -77,3 +71,6 @@ one_note-requires g c = assumption
 
 pub two_notes-requires : goal.two_notes-requires
 two_notes-requires g c = assumption
+
+pub same-self : goal.same-self
+same-self g c = refl

@@ -31,9 +31,6 @@ overflow_add-self g c =
     let room = subst (λ (view : CoreView g.row.J.Denot). inside_count view < view.queues.room) (sym c.self.view_is) c.requires.room in
     omega (arith, old.counted.all_inside, old.counted.same_room, room, c.self.ranges)
 
-pub same-name : goal.same-name
-same-name g c = refl
-
 pub count-requires : goal.count-requires
 count-requires g c =
     let known : c.args.name.from ≤ c.self.inside.cores = subst (λ (view : CoreView g.row.J.Denot). c.args.name.from ≤ view.cores) (sym c.self.view_is) c.requires.sender in

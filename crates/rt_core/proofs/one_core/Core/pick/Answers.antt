@@ -71,12 +71,6 @@ returns-clause-ready g c = c.pick_first-turn.ensures.ready
 pub returns-clause-bounded : goal.returns-clause-bounded
 returns-clause-bounded g c = c.pick_first-turn.ensures.bounded
 
-pub same-self : goal.same-self
-same-self g c = refl
-
-pub same-self-2 : goal.same-self-2
-same-self-2 g c = refl
-
 pub new-requires : goal.new-requires
 new-requires g c = assumption
 
@@ -85,3 +79,9 @@ new-requires-then-is_empty g c = assumption
 
 pub new-requires-then-self : goal.new-requires-then-self
 new-requires-then-self g c = assumption
+
+pub same-self : goal.same-self
+same-self g c = refl
+
+pub same-self-2 : goal.same-self-2
+same-self-2 g c = refl

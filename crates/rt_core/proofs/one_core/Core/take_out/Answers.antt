@@ -154,9 +154,3 @@ pub overflow_add-self : goal.overflow_add-self
 overflow_add-self g c =
     let left : c.self.inside.turns < 2 ^ 64 - 1 = subst (λ (view : CoreView g.row.J.Denot). view.turns < 2 ^ 64 - 1) (sym c.self.view_is) c.requires.turns in
     omega (arith, left)
-
-pub unreachable-unreachable : goal.unreachable-unreachable
-unreachable-unreachable g c = c.unreachable.result
-
-pub unreachable-unreachable-in_default-pop_front : goal.unreachable-unreachable-in_default-pop_front
-unreachable-unreachable-in_default-pop_front g c = c.unreachable-in_default-pop_front.result

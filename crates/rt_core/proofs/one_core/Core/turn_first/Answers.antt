@@ -157,9 +157,6 @@ overflow_sub-self g c =
     c.turn_front-step.result.0 c.turn_front-step.result.1 c.unwrap_or-time.result c.turned-tally.result (queues_alone c.turn_front-step.new.self) turn in
     omega (arith, one, c.ended-done.ensures, one_at_most (is_done_step c.turn_front-step.result.0))
 
-pub unreachable-unreachable : goal.unreachable-unreachable
-unreachable-unreachable g c = c.unreachable.result
-
 pub overflow_add-self : goal.overflow_add-self
 overflow_add-self g c =
     let left : c.self.inside.turns < 2 ^ 64 - 1 = subst (λ (view : CoreView g.row.J.Denot). view.turns < 2 ^ 64 - 1) (sym c.self.view_is) c.requires.turns in
