@@ -89,9 +89,11 @@ module _ {J T : Type 0} (same : J → J → Type 0) (done : J → Bool) (can_pol
     same_floor : max old.floor key.vr ≡ max old.floor (runtime_of key.queue old)
     same_floor = ap (max old.floor) (sym (first_runtime old keys key turn.later turn.are turn.core.listed))
 
+    -- what holds inside between them
     IsCore-between : IsCore done can_poll between (slice_set slips key.queue true) turn.later inside room places
     IsCore-between = IsCore-taken done can_poll old between slips keys turn.later key inside room places turn.turned.name turn.turned.started turn.turned.was turn.core turn.are turn.absent takes turn.turned.limits
 
+    -- the job that has its turn is inside
     pub one_inside : 1 ≤ inside
     one_inside = (some_inside between inside room places job_between refl IsCore-between.counted).0
 

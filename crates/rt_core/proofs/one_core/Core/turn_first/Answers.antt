@@ -16,27 +16,30 @@ use Rattle.rt_core.proofs.one_core.Core.turn_first.Given.{Over}
 use Rattle.rt_core.proofs.one_core.Core.turn_first.Goals as goal
 use Rattle.rt_core.proofs.one_core.Core.turn_first.Goals.{In-Some, After-turned-tally}
 
--- the core before, with none out
+-- the core before
 abbrev old_of : (g : Over) (c : In-Some g) → CoreView g.row.J.Denot
 old_of g c =
     let inside = c.self.inside in
     core_view inside.core inside.cores (queues_alone inside.queues) inside.tallies.items inside.floor inside.turns (job_out inside.out) inside.senders inside.mode
 
+-- none is out, and a turn is left
 free : (g : Over) (c : In-Some g) → job_out c.self.inside.out ≡ None
 free g c = subst (λ (view : CoreView g.row.J.Denot). view.out ≡ None) (sym c.self.view_is) c.requires.free
 
 left : (g : Over) (c : In-Some g) → c.self.inside.turns < 2 ^ 64 - 1
 left g c = subst (λ (view : CoreView g.row.J.Denot). view.turns < 2 ^ 64 - 1) (sym c.self.view_is) c.requires.turns
 
--- the queue of the first key, and its tally
+-- the queue of the first key exists
 exists : (g : Over) (c : In-Some g) → c.in-Some.key.queue < queue_count (queues_alone c.self.inside.queues)
 exists g c = first_exists (old_of g c) c.self.inside.ready.keys c.in-Some.key c.take_least.new.self.keys c.in-Some.ensures.least c.self.invariant.listed (free g c)
 
+-- what is read at its place
 read : (g : Over) (c : In-Some g) (place : ℕ) → place ≡ c.in-Some.key.queue → (was : Tally) → was ≡ slice_index_or c.self.inside.tallies.items place was → was ≡ tally_of c.in-Some.key.queue (old_of g c)
 read g c place at was found =
     let there : place < length c.self.inside.tallies.items = omega (arith, at, c.self.invariant.counted.tallies, exists g c) in
     tally_read c.self.inside.tallies.items place c.in-Some.key.queue was at there found
 
+-- its tally fits the turns
 fits : (g : Over) (c : In-Some g) → FitsTurns c.self.inside.turns 0 (tally_of c.in-Some.key.queue (old_of g c))
 fits g c =
     let inside = c.self.inside in
