@@ -1,6 +1,6 @@
 -- How many keys a balanced tree has at least.
-use Rattle.std.proofs.Common.{◌≡◌, ℕ, zero, suc, ◌+◌, ◌*◌, ◌<◌, ◌≤◌, ◌^◌, max, ◌∷◌, ◌++◌, length, inl, inr, arith, length-append}
-use Rattle.std.proofs.lemmas.Bool.{cases_order}
+use Rattle.std.proofs.Common.{◌≡◌, ℕ, zero, suc, ◌+◌, ◌*◌, ◌<◌, ◌≤◌, ◌^◌, max, Bool, true, false, ◌∷◌, ◌++◌, length, refl, inl, inr, arith, length-append}
+use Rattle.std.proofs.lemmas.Bool.{both_ways, cases_order}
 use Rattle.std.proofs.Math.Nat.{pow-suc}
 use Rattle.rt_ids.specs.declared.names.Key.{Key}
 use Rattle.rt_timeline.specs.Tree.{KeyTree, fewest, IsFilled, IsLow}
@@ -8,13 +8,13 @@ use Rattle.rt_timeline.specs.declared.tree.Link.{Link}
 use Rattle.rt_timeline.specs.declared.tree.Link.TheVariants.{Empty, Top}
 use Rattle.rt_timeline.specs.declared.tree.Lean.{Lean}
 use Rattle.rt_timeline.specs.declared.tree.Lean.TheVariants.{Left, Even, Right}
-use Rattle.rt_timeline.specs.Nodes.{key_of, seen, Leans, IsBalanced}
+use Rattle.rt_timeline.specs.Nodes.{key_of, seen, Leans, IsBalanced, IsTiltHeight}
 
 -- neither height is more than one above the other
-abbrev DifferByOne : ℕ → ℕ → Type 0
+abbrev pub DifferByOne : ℕ → ℕ → Type 0
 DifferByOne one other = (one ≤ other + 1) × (other ≤ one + 1)
 
-Leans-near : (lean : Lean) (left right : ℕ) → Leans lean left right → DifferByOne left right
+pub Leans-near : (lean : Lean) (left right : ℕ) → Leans lean left right → DifferByOne left right
 Leans-near Left left right leans = (omega arith, omega arith)
 Leans-near Even left right leans = (omega arith, omega arith)
 Leans-near Right left right leans = (omega arith, omega arith)
@@ -63,13 +63,22 @@ fewest-low (suc (suc height)) count (suc digits) many below =
 pub IsLow-from_filled : (tree : KeyTree) → IsFilled tree → IsLow tree
 IsLow-from_filled tree filled = λ digits below. fewest-low tree.height (length tree.keys + 1) digits filled below
 
--- where a side grew by a level and the sides are even once the node is settled, the node is as high as before
-pub settled-right : (lean : Lean) (left right height : ℕ) → Leans lean left right → height + height ≡ left + (right + 1) + 2 → height ≡ max left right + 1
-settled-right Left left right height leans twice = omega arith
-settled-right Even left right height leans twice = absurd (omega arith)
-settled-right Right left right height leans twice = omega arith
+-- the height of a node that is settled, of which the one side rose by a level against the other
 
-pub settled-left : (lean : Lean) (left right height : ℕ) → Leans lean left right → height + height ≡ right + (left + 1) + 2 → height ≡ max left right + 1
-settled-left Left left right height leans twice = omega arith
-settled-left Even left right height leans twice = absurd (omega arith)
-settled-left Right left right height leans twice = omega arith
+pub record IsRisen (before height : ℕ) (even : Bool) : Type 0 where
+  pub as_high : even ≡ true → height ≡ before
+  pub higher : even ≡ false → height ≡ before + 1
+
+pub risen : (before one other new height : ℕ) (even : Bool) → before ≡ max one other + 1 → DifferByOne one other → new ≡ one + 1 → IsTiltHeight even other new height → IsRisen before height even
+risen before one other new height true is near rose tilted = record { as_high = λ _. omega arith; higher = λ e. absurd (both_ways true e refl) }
+risen before one other new height false is near rose tilted = record { as_high = λ e. absurd (both_ways false refl e); higher = λ _. omega arith }
+
+-- and of one of which the one side fell by a level
+
+pub record IsFallen (before height : ℕ) (even : Bool) : Type 0 where
+  pub lower : even ≡ true → before ≡ height + 1
+  pub as_high : even ≡ false → before ≡ height
+
+pub fallen : (before one other new height : ℕ) (even : Bool) → before ≡ max one other + 1 → DifferByOne one other → one ≡ new + 1 → IsTiltHeight even new other height → IsFallen before height even
+fallen before one other new height true is near fell tilted = record { lower = λ _. omega arith; as_high = λ e. absurd (both_ways true e refl) }
+fallen before one other new height false is near fell tilted = record { lower = λ e. absurd (both_ways false refl e); as_high = λ _. omega arith }

@@ -4,3 +4,4 @@ pub mod Places
 pub mod Queues
 pub mod Removed
 pub mod Rising
+pub mod Steps
