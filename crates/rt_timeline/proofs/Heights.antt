@@ -64,7 +64,6 @@ pub IsLow-from_filled : (tree : KeyTree) → IsFilled tree → IsLow tree
 IsLow-from_filled tree filled = λ digits below. fewest-low tree.height (length tree.keys + 1) digits filled below
 
 -- the height of a node that is settled, of which the one side rose by a level against the other
-
 pub record IsRisen (before height : ℕ) (even : Bool) : Type 0 where
   pub as_high : even ≡ true → height ≡ before
   pub higher : even ≡ false → height ≡ before + 1
@@ -74,7 +73,6 @@ risen before one other new height true is near rose tilted = record { as_high = 
 risen before one other new height false is near rose tilted = record { as_high = λ e. absurd (both_ways false refl e); higher = λ _. omega arith }
 
 -- and of one of which the one side fell by a level
-
 pub record IsFallen (before height : ℕ) (even : Bool) : Type 0 where
   pub lower : even ≡ true → before ≡ height + 1
   pub as_high : even ≡ false → before ≡ height

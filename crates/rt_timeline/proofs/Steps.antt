@@ -1,7 +1,7 @@
 -- A step down a tree and back: what its top node becomes where one of its sides changes.
 use Rattle.std.proofs.Common.{◌≡◌, ℕ, ◌+◌, ◌<◌, max, Bool, true, false, not, ◌∷◌, ◌++◌, length, Box, refl, sym, ap, ◌∙◌, subst, arith, length-append}
 use Rattle.std.specs.Box.{with_value}
-use Rattle.std.proofs.lemmas.Bool.{both_ways}
+use Rattle.std.proofs.lemmas.Bool.{both_ways, not-true, not-false}
 use Rattle.rt_ids.specs.declared.names.Key.{Key}
 use Rattle.rt_timeline.specs.declared.tree.Lean.{Lean}
 use Rattle.rt_timeline.specs.declared.tree.Lean.TheVariants.{Left, Even, Right}
@@ -25,18 +25,20 @@ pub record IsStep {A : Type 0} (tree : KeyTree) (vr : ℕ) (node : Node A) (righ
   pub balanced : IsInBalance node.left node.right node.lean
   pub side : old ≡ side_of right node
 
-pub stepped : {A : Type 0} (root : Link A) (top : Box (Node A) A) (vr : ℕ) (node : Node A) (tree : KeyTree) (right : Bool) (old : KeyTree) → seen root ≡ tree → IsBalanced root → root ≡ Top top vr → node ≡ top.value → old ≡ side_of right node → IsStep tree vr node right old
-stepped {A = A} root top vr node tree right old view balanced is value side = record {
-  whole = sym view ∙ ap seen is ∙ ap (tree_of vr) (sym value);
-  balanced = subst (λ (node : Node A). IsInBalance node.left node.right node.lean) (sym value) (subst IsBalanced is balanced);
-  side = side;
-}
+pub stepped : {A : Type 0} (root : Link A) (top : Box (Node A) A) (vr : ℕ) (node : Node A) (tree : KeyTree) (right : Bool) (old : KeyTree) → seen root ≡ tree → IsBalanced root → root ≡ Top top vr →
+    node ≡ top.value → old ≡ side_of right node → IsStep tree vr node right old
+stepped {A = A} root top vr node tree right old view balanced is value side =
+    let balanced = subst (λ (node : Node A). IsInBalance node.left node.right node.lean) (sym value) (subst IsBalanced is balanced) in
+    record { whole = sym view ∙ ap seen is ∙ ap (tree_of vr) (sym value); balanced = balanced; side = side }
+
+rising-here : {A : Type 0} {tree : KeyTree} {vr : ℕ} {node : Node A} {right : Bool} {old : KeyTree} → IsStep tree vr node right old → IsRising tree.keys → IsRising (keys_of vr node)
+rising-here step rising = subst (λ (t : KeyTree). IsRising t.keys) step.whole rising
 
 pub rising-side : {A : Type 0} {tree : KeyTree} {vr : ℕ} {node : Node A} {right : Bool} {old : KeyTree} → IsStep tree vr node right old → IsRising tree.keys → IsRising old.keys
 rising-side {vr = vr} {node = node} {right = true} step rising =
-    subst (λ (t : KeyTree). IsRising t.keys) (sym step.side) (IsRising-back node.left.keys (key_of vr node) node.right.keys (subst (λ (t : KeyTree). IsRising t.keys) step.whole rising))
+    subst (λ (t : KeyTree). IsRising t.keys) (sym step.side) (IsRising-back node.left.keys (key_of vr node) node.right.keys (rising-here step rising))
 rising-side {vr = vr} {node = node} {right = false} step rising =
-    subst (λ (t : KeyTree). IsRising t.keys) (sym step.side) (IsRising-front node.left.keys (key_of vr node ∷ node.right.keys) (subst (λ (t : KeyTree). IsRising t.keys) step.whole rising))
+    subst (λ (t : KeyTree). IsRising t.keys) (sym step.side) (IsRising-front node.left.keys (key_of vr node ∷ node.right.keys) (rising-here step rising))
 
 pub shorter-side : {A : Type 0} {tree : KeyTree} {vr : ℕ} {node : Node A} {right : Bool} {old : KeyTree} → IsStep tree vr node right old → length old.keys < length tree.keys
 shorter-side {vr = vr} {node = node} {right = true} step =
@@ -45,18 +47,14 @@ shorter-side {vr = vr} {node = node} {right = false} step =
     omega (arith, ap (λ (t : KeyTree). length t.keys) step.whole, ap (λ (t : KeyTree). length t.keys) step.side, length-append node.left.keys (key_of vr node ∷ node.right.keys))
 
 -- with a side as high as before the node is in balance, and as high as before
-
-pub balanced-as_high : {A : Type 0} {tree : KeyTree} {vr : ℕ} {node : Node A} {right : Bool} {old : KeyTree} (new : KeyTree) → IsStep tree vr node right old → IsFilled new → old.height ≡ new.height → IsInBalance (with_side right node new).left (with_side right node new).right (with_side right node new).lean
-balanced-as_high {node = node} {right = true} new step filled same = record {
-  leans = subst (Leans node.lean node.left.height) (ap (λ (t : KeyTree). t.height) (sym step.side) ∙ same) step.balanced.leans;
-  left_filled = step.balanced.left_filled;
-  right_filled = filled;
-}
-balanced-as_high {node = node} {right = false} new step filled same = record {
-  leans = subst (λ height. Leans node.lean height node.right.height) (ap (λ (t : KeyTree). t.height) (sym step.side) ∙ same) step.balanced.leans;
-  left_filled = filled;
-  right_filled = step.balanced.right_filled;
-}
+pub balanced-as_high : {A : Type 0} {tree : KeyTree} {vr : ℕ} {node : Node A} {right : Bool} {old : KeyTree} (new : KeyTree) → IsStep tree vr node right old → IsFilled new → old.height ≡ new.height →
+    IsInBalance (with_side right node new).left (with_side right node new).right (with_side right node new).lean
+balanced-as_high {node = node} {right = true} new step filled same =
+    let leans = subst (Leans node.lean node.left.height) (ap (λ (t : KeyTree). t.height) (sym step.side) ∙ same) step.balanced.leans in
+    record { leans = leans; left_filled = step.balanced.left_filled; right_filled = filled }
+balanced-as_high {node = node} {right = false} new step filled same =
+    let leans = subst (λ height. Leans node.lean height node.right.height) (ap (λ (t : KeyTree). t.height) (sym step.side) ∙ same) step.balanced.leans in
+    record { leans = leans; left_filled = filled; right_filled = step.balanced.right_filled }
 
 pub height-as_high : {A : Type 0} {tree : KeyTree} {vr : ℕ} {node : Node A} {right : Bool} {old : KeyTree} (new : KeyTree) → IsStep tree vr node right old → old.height ≡ new.height → tree.height ≡ (tree_of vr (with_side right node new)).height
 height-as_high {node = node} {right = true} new step same =
@@ -65,60 +63,53 @@ height-as_high {node = node} {right = false} new step same =
     ap (λ (t : KeyTree). t.height) step.whole ∙ ap (λ height. max height node.right.height + 1) (ap (λ (t : KeyTree). t.height) (sym step.side) ∙ same)
 
 -- a side that rose by a level makes its node tilt that way, and one that fell the other way
-
 leans-both : (lean : Lean) (left right : ℕ) → Leans lean left right → Leans lean (left + 1) (right + 1)
 leans-both Left left right leans = omega arith
 leans-both Even left right leans = omega arith
 leans-both Right left right leans = omega arith
 
-pub tilts-risen : {A : Type 0} {tree : KeyTree} {vr : ℕ} {node : Node A} {right : Bool} {old : KeyTree} (new : KeyTree) (top : Box (Node A) A) → IsStep tree vr node right old → new.height ≡ old.height + 1 → Tilts right (Top (with_value top (with_side right node new)) vr)
+pub tilts-risen : {A : Type 0} {tree : KeyTree} {vr : ℕ} {node : Node A} {right : Bool} {old : KeyTree} (new : KeyTree) (top : Box (Node A) A) → IsStep tree vr node right old →
+    new.height ≡ old.height + 1 → Tilts right (Top (with_value top (with_side right node new)) vr)
 tilts-risen {node = node} {right = true} new top step risen =
     subst (Leans node.lean (node.left.height + 1)) (ap (λ (t : KeyTree). t.height + 1) (sym step.side) ∙ sym risen) (leans-both node.lean node.left.height node.right.height step.balanced.leans)
 tilts-risen {node = node} {right = false} new top step risen =
     subst (λ height. Leans node.lean height (node.right.height + 1)) (ap (λ (t : KeyTree). t.height + 1) (sym step.side) ∙ sym risen) (leans-both node.lean node.left.height node.right.height step.balanced.leans)
 
-pub tilts-fallen : {A : Type 0} {tree : KeyTree} {vr : ℕ} {node : Node A} {right : Bool} {old : KeyTree} (new : KeyTree) (top : Box (Node A) A) → IsStep tree vr node right old → old.height ≡ new.height + 1 → Tilts (not right) (Top (with_value top (with_side right node new)) vr)
+pub tilts-fallen : {A : Type 0} {tree : KeyTree} {vr : ℕ} {node : Node A} {right : Bool} {old : KeyTree} (new : KeyTree) (top : Box (Node A) A) → IsStep tree vr node right old →
+    old.height ≡ new.height + 1 → Tilts (not right) (Top (with_value top (with_side right node new)) vr)
 tilts-fallen {node = node} {right = true} new top step fallen =
     subst (Leans node.lean node.left.height) (ap (λ (t : KeyTree). t.height) (sym step.side) ∙ fallen) step.balanced.leans
 tilts-fallen {node = node} {right = false} new top step fallen =
     subst (λ height. Leans node.lean height node.right.height) (ap (λ (t : KeyTree). t.height) (sym step.side) ∙ fallen) step.balanced.leans
 
 -- what a tilted node settles to
-
-pub upright-balanced : {A : Type 0} (right : Bool) (top : Box (Node A) A) (vr : ℕ) (root : Link A) (even : Bool) → IsUpright right (Top top vr) root even → IsBalanced root
-upright-balanced true top vr root even upright = upright.0
-upright-balanced false top vr root even upright = upright.0
-
 pub upright-keys : {A : Type 0} (right : Bool) (top : Box (Node A) A) (vr : ℕ) (root : Link A) (even : Bool) → IsUpright right (Top top vr) root even → (seen root).keys ≡ keys_of vr top.value
 upright-keys true top vr root even upright = upright.1
 upright-keys false top vr root even upright = upright.1
 
-near : {A : Type 0} {tree : KeyTree} {vr : ℕ} {node : Node A} {right : Bool} {old : KeyTree} → IsStep tree vr node right old → DifferByOne node.left.height node.right.height
-near {node = node} step = Leans-near node.lean node.left.height node.right.height step.balanced.leans
+-- the heights of a tree and of its side, by those of the node's sides
+heights-here : {A : Type 0} {tree : KeyTree} {vr : ℕ} {node : Node A} {right : Bool} {old : KeyTree} → IsStep tree vr node right old →
+    (tree.height ≡ max node.left.height node.right.height + 1) × (old.height ≡ (side_of right node).height) × DifferByOne node.left.height node.right.height
+heights-here {node = node} step =
+    (ap (λ (t : KeyTree). t.height) step.whole, ap (λ (t : KeyTree). t.height) step.side, Leans-near node.lean node.left.height node.right.height step.balanced.leans)
 
-pub upright-risen : {A : Type 0} {tree : KeyTree} {vr : ℕ} {node : Node A} {right : Bool} {old : KeyTree} (new : KeyTree) (top : Box (Node A) A) (root : Link A) (even : Bool) → IsStep tree vr node right old → new.height ≡ old.height + 1 → IsUpright right (Top (with_value top (with_side right node new)) vr) root even → IsRisen tree.height (seen root).height even
-upright-risen {tree = tree} {node = node} {right = true} {old = old} new top root even step rose upright =
-    let whole : tree.height ≡ max node.left.height node.right.height + 1 = ap (λ (t : KeyTree). t.height) step.whole in
-    let side : old.height ≡ node.right.height = ap (λ (t : KeyTree). t.height) step.side in
-    let by = near step in
-    risen tree.height node.right.height node.left.height new.height (seen root).height even (omega arith) (by.1, by.0) (omega arith) upright.2
-upright-risen {tree = tree} {node = node} {right = false} {old = old} new top root even step rose upright =
-    let whole : tree.height ≡ max node.left.height node.right.height + 1 = ap (λ (t : KeyTree). t.height) step.whole in
-    let side : old.height ≡ node.left.height = ap (λ (t : KeyTree). t.height) step.side in
-    risen tree.height node.left.height node.right.height new.height (seen root).height even whole (near step) (omega arith) upright.2
+pub upright-risen : {A : Type 0} {tree : KeyTree} {vr : ℕ} {node : Node A} {right : Bool} {old : KeyTree} (new : KeyTree) (top : Box (Node A) A) (root : Link A) (even : Bool) →
+    IsStep tree vr node right old → new.height ≡ old.height + 1 → IsUpright right (Top (with_value top (with_side right node new)) vr) root even → IsRisen tree.height (seen root).height even
+upright-risen {tree = tree} {node = node} {right = true} new top root even step rose upright =
+    let here = heights-here step in
+    risen tree.height node.right.height node.left.height new.height (seen root).height even (omega arith) (here.2.1, here.2.0) (omega arith) upright.2
+upright-risen {tree = tree} {node = node} {right = false} new top root even step rose upright =
+    let here = heights-here step in
+    risen tree.height node.left.height node.right.height new.height (seen root).height even here.0 here.2 (omega arith) upright.2
 
-pub upright-fallen : {A : Type 0} {tree : KeyTree} {vr : ℕ} {node : Node A} {right : Bool} {old : KeyTree} (new : KeyTree) (top : Box (Node A) A) (root : Link A) (even : Bool) → IsStep tree vr node right old → old.height ≡ new.height + 1 → IsUpright (not right) (Top (with_value top (with_side right node new)) vr) root even → IsFallen tree.height (seen root).height even
-upright-fallen {tree = tree} {node = node} {right = true} {old = old} new top root even step fell upright =
-    let whole : tree.height ≡ max node.left.height node.right.height + 1 = ap (λ (t : KeyTree). t.height) step.whole in
-    let side : old.height ≡ node.right.height = ap (λ (t : KeyTree). t.height) step.side in
-    let by = near step in
-    fallen tree.height node.right.height node.left.height new.height (seen root).height even (omega arith) (by.1, by.0) (omega arith) upright.2
-upright-fallen {tree = tree} {node = node} {right = false} {old = old} new top root even step fell upright =
-    let whole : tree.height ≡ max node.left.height node.right.height + 1 = ap (λ (t : KeyTree). t.height) step.whole in
-    let side : old.height ≡ node.left.height = ap (λ (t : KeyTree). t.height) step.side in
-    fallen tree.height node.left.height node.right.height new.height (seen root).height even whole (near step) (omega arith) upright.2
-
--- the keys where a side has one more, or one less
+pub upright-fallen : {A : Type 0} {tree : KeyTree} {vr : ℕ} {node : Node A} {right : Bool} {old : KeyTree} (new : KeyTree) (top : Box (Node A) A) (root : Link A) (even : Bool) →
+    IsStep tree vr node right old → old.height ≡ new.height + 1 → IsUpright (not right) (Top (with_value top (with_side right node new)) vr) root even → IsFallen tree.height (seen root).height even
+upright-fallen {tree = tree} {node = node} {right = true} new top root even step fell upright =
+    let here = heights-here step in
+    fallen tree.height node.right.height node.left.height new.height (seen root).height even (omega arith) (here.2.1, here.2.0) (omega arith) upright.2
+upright-fallen {tree = tree} {node = node} {right = false} new top root even step fell upright =
+    let here = heights-here step in
+    fallen tree.height node.left.height node.right.height new.height (seen root).height even here.0 here.2 (omega arith) upright.2
 
 -- the key goes into the right side, or else into the left one, by its order and the node's
 pub record IsInsertion {A : Type 0} (tree : KeyTree) (key : Key) (vr : ℕ) (node : Node A) (right : Bool) (old new : KeyTree) : Type 0 where
@@ -127,30 +118,23 @@ pub record IsInsertion {A : Type 0} (tree : KeyTree) (key : Key) (vr : ℕ) (nod
   pub behind : right ≡ not (stands_before key (key_of vr node))
   pub keys : new.keys ≡ inserted key old.keys
 
-pub behind-at : {A : Type 0} (vr here : ℕ) (right : Bool) {given one shown top other : Node A} → given ≡ one → shown ≡ top → other ≡ top → right ≡ not (stands_before (key_of vr given) (key_of here shown)) → right ≡ not (stands_before (key_of vr one) (key_of here other))
+pub behind-at : {A : Type 0} (vr here : ℕ) (right : Bool) {given one shown top other : Node A} → given ≡ one → shown ≡ top → other ≡ top →
+    right ≡ not (stands_before (key_of vr given) (key_of here shown)) → right ≡ not (stands_before (key_of vr one) (key_of here other))
 behind-at {A = A} vr here right {one = one} {shown = shown} is_one is_top is_other behind =
     behind ∙ ap (λ (node : Node A). not (stands_before (key_of vr node) (key_of here shown))) is_one ∙ ap (λ (node : Node A). not (stands_before (key_of vr one) (key_of here node))) (is_top ∙ sym is_other)
-
-is_before : (b : Bool) → false ≡ not b → b ≡ true
-is_before true e = refl
-is_before false e = e
-
-is_behind : (b : Bool) → true ≡ not b → b ≡ false
-is_behind true e = e
-is_behind false e = refl
 
 pub keys-inserted : {A : Type 0} {tree : KeyTree} {key : Key} {vr : ℕ} {node : Node A} {right : Bool} {old new : KeyTree} → IsInsertion tree key vr node right old new → keys_of vr (with_side right node new) ≡ inserted key tree.keys
 keys-inserted {key = key} {vr = vr} {node = node} {right = true} all =
     let here = key_of vr node in
-    let rising = subst (λ (t : KeyTree). IsRising t.keys) all.step.whole all.rising in
     ap (λ keys. node.left.keys ++ here ∷ keys) (all.keys ∙ ap (λ (t : KeyTree). inserted key t.keys) all.step.side)
-    ∙ sym (inserted-right key node.left.keys here node.right.keys (is_behind _ all.behind) rising) ∙ ap (λ (t : KeyTree). inserted key t.keys) (sym all.step.whole)
+    ∙ sym (inserted-right key node.left.keys here node.right.keys (not-true _ (sym all.behind)) (rising-here all.step all.rising)) ∙ ap (λ (t : KeyTree). inserted key t.keys) (sym all.step.whole)
 keys-inserted {key = key} {vr = vr} {node = node} {right = false} all =
     let here = key_of vr node in
     ap (λ keys. keys ++ here ∷ node.right.keys) (all.keys ∙ ap (λ (t : KeyTree). inserted key t.keys) all.step.side)
-    ∙ sym (inserted-left key node.left.keys here node.right.keys (is_before _ all.behind)) ∙ ap (λ (t : KeyTree). inserted key t.keys) (sym all.step.whole)
+    ∙ sym (inserted-left key node.left.keys here node.right.keys (not-false _ (sym all.behind))) ∙ ap (λ (t : KeyTree). inserted key t.keys) (sym all.step.whole)
 
-pub keys-risen : {A : Type 0} {tree : KeyTree} {key : Key} {vr : ℕ} {node : Node A} {right : Bool} {old new : KeyTree} (top : Box (Node A) A) (root : Link A) (even : Bool) → IsInsertion tree key vr node right old new → IsUpright right (Top (with_value top (with_side right node new)) vr) root even → (seen root).keys ≡ inserted key tree.keys
+pub keys-risen : {A : Type 0} {tree : KeyTree} {key : Key} {vr : ℕ} {node : Node A} {right : Bool} {old new : KeyTree} (top : Box (Node A) A) (root : Link A) (even : Bool) →
+    IsInsertion tree key vr node right old new → IsUpright right (Top (with_value top (with_side right node new)) vr) root even → (seen root).keys ≡ inserted key tree.keys
 keys-risen {vr = vr} {node = node} {right = right} {new = new} top root even all upright = upright-keys right (with_value top (with_side right node new)) vr root even upright ∙ keys-inserted all
 
 -- a key that is looked for on the right side stands behind the node's, and one on the left side before it
@@ -177,34 +161,31 @@ points-at vr right here key shown top node points is is_shown is_node = subst (�
 
 pub has_key-side : {A : Type 0} {tree : KeyTree} {key : Key} {vr : ℕ} {node : Node A} {right : Bool} {old : KeyTree} → IsSearch tree key vr node right old → has_key key old.keys ≡ has_key key tree.keys
 has_key-side {key = key} {vr = vr} {node = node} {right = true} all =
-    let rising = subst (λ (t : KeyTree). IsRising t.keys) all.step.whole all.rising in
     ap (λ (t : KeyTree). has_key key t.keys) all.step.side
-    ∙ sym (has_key-right key node.left.keys (key_of vr node) node.right.keys all.points rising) ∙ ap (λ (t : KeyTree). has_key key t.keys) (sym all.step.whole)
+    ∙ sym (has_key-right key node.left.keys (key_of vr node) node.right.keys all.points (rising-here all.step all.rising)) ∙ ap (λ (t : KeyTree). has_key key t.keys) (sym all.step.whole)
 has_key-side {key = key} {vr = vr} {node = node} {right = false} all =
-    let rising = subst (λ (t : KeyTree). IsRising t.keys) all.step.whole all.rising in
     ap (λ (t : KeyTree). has_key key t.keys) all.step.side
-    ∙ sym (has_key-left key node.left.keys (key_of vr node) node.right.keys all.points rising) ∙ ap (λ (t : KeyTree). has_key key t.keys) (sym all.step.whole)
+    ∙ sym (has_key-left key node.left.keys (key_of vr node) node.right.keys all.points (rising-here all.step all.rising)) ∙ ap (λ (t : KeyTree). has_key key t.keys) (sym all.step.whole)
 
-pub keys-removed : {A : Type 0} {tree : KeyTree} {key : Key} {vr : ℕ} {node : Node A} {right : Bool} {old : KeyTree} (new : KeyTree) → IsSearch tree key vr node right old → new.keys ≡ removed key old.keys → keys_of vr (with_side right node new) ≡ removed key tree.keys
+pub keys-removed : {A : Type 0} {tree : KeyTree} {key : Key} {vr : ℕ} {node : Node A} {right : Bool} {old : KeyTree} (new : KeyTree) → IsSearch tree key vr node right old →
+    new.keys ≡ removed key old.keys → keys_of vr (with_side right node new) ≡ removed key tree.keys
 keys-removed {key = key} {vr = vr} {node = node} {right = true} new all is =
-    let rising = subst (λ (t : KeyTree). IsRising t.keys) all.step.whole all.rising in
     ap (λ keys. node.left.keys ++ key_of vr node ∷ keys) (is ∙ ap (λ (t : KeyTree). removed key t.keys) all.step.side)
-    ∙ sym (removed-right key node.left.keys (key_of vr node) node.right.keys all.points rising) ∙ ap (λ (t : KeyTree). removed key t.keys) (sym all.step.whole)
+    ∙ sym (removed-right key node.left.keys (key_of vr node) node.right.keys all.points (rising-here all.step all.rising)) ∙ ap (λ (t : KeyTree). removed key t.keys) (sym all.step.whole)
 keys-removed {key = key} {vr = vr} {node = node} {right = false} new all is =
-    let rising = subst (λ (t : KeyTree). IsRising t.keys) all.step.whole all.rising in
     ap (λ keys. keys ++ key_of vr node ∷ node.right.keys) (is ∙ ap (λ (t : KeyTree). removed key t.keys) all.step.side)
-    ∙ sym (removed-left key node.left.keys (key_of vr node) node.right.keys all.points rising) ∙ ap (λ (t : KeyTree). removed key t.keys) (sym all.step.whole)
+    ∙ sym (removed-left key node.left.keys (key_of vr node) node.right.keys all.points (rising-here all.step all.rising)) ∙ ap (λ (t : KeyTree). removed key t.keys) (sym all.step.whole)
 
-pub keys-fallen : {A : Type 0} {tree : KeyTree} {key : Key} {vr : ℕ} {node : Node A} {right : Bool} {old : KeyTree} (new : KeyTree) (top : Box (Node A) A) (root : Link A) (even : Bool) → IsSearch tree key vr node right old → new.keys ≡ removed key old.keys → IsUpright (not right) (Top (with_value top (with_side right node new)) vr) root even → (seen root).keys ≡ removed key tree.keys
+pub keys-fallen : {A : Type 0} {tree : KeyTree} {key : Key} {vr : ℕ} {node : Node A} {right : Bool} {old : KeyTree} (new : KeyTree) (top : Box (Node A) A) (root : Link A) (even : Bool) →
+    IsSearch tree key vr node right old → new.keys ≡ removed key old.keys → IsUpright (not right) (Top (with_value top (with_side right node new)) vr) root even → (seen root).keys ≡ removed key tree.keys
 keys-fallen {vr = vr} {node = node} {right = right} new top root even all is upright = upright-keys (not right) (with_value top (with_side right node new)) vr root even upright ∙ keys-removed new all is
 
 pub with_side-same : {A : Type 0} {tree : KeyTree} {vr : ℕ} {node : Node A} {right : Bool} {old : KeyTree} (new : KeyTree) → IsStep tree vr node right old → new ≡ old → node ≡ with_side right node new
 with_side-same {node = node} {right = true} new step same = ap (with_side true node) (sym (same ∙ step.side))
 with_side-same {node = node} {right = false} new step same = ap (with_side false node) (sym (same ∙ step.side))
 
-pub keys-first : {A : Type 0} {tree : KeyTree} {vr : ℕ} {node : Node A} {old : KeyTree} (key : Key) (new : KeyTree) → IsStep tree vr node false old → old.keys ≡ key ∷ new.keys → tree.keys ≡ key ∷ keys_of vr (with_side false node new)
-keys-first {vr = vr} {node = node} key new step first =
+pub keys-first : {A : Type 0} {tree : KeyTree} {vr : ℕ} {node : Node A} {old : KeyTree} (key : Key) (new : KeyTree) (root : Link A) →
+    IsStep tree vr node false old → old.keys ≡ key ∷ new.keys → (seen root).keys ≡ keys_of vr (with_side false node new) → tree.keys ≡ key ∷ (seen root).keys
+keys-first {vr = vr} {node = node} key new root step first same =
     ap (λ (t : KeyTree). t.keys) step.whole ∙ ap (λ keys. keys ++ key_of vr node ∷ node.right.keys) (ap (λ (t : KeyTree). t.keys) (sym step.side) ∙ first)
-
-pub keys-first_fallen : {A : Type 0} {tree : KeyTree} {vr : ℕ} {node : Node A} {old : KeyTree} (key : Key) (new : KeyTree) (root : Link A) → IsStep tree vr node false old → old.keys ≡ key ∷ new.keys → (seen root).keys ≡ keys_of vr (with_side false node new) → tree.keys ≡ key ∷ (seen root).keys
-keys-first_fallen key new root step first same = keys-first key new step first ∙ ap (λ keys. key ∷ keys) (sym same)
+    ∙ ap (λ keys. key ∷ keys) (sym same)

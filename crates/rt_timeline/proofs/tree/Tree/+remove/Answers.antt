@@ -24,8 +24,7 @@ searched g t c =
 pub remove-requires : goal.remove-requires
 remove-requires g t c κs within =
     let step = stepped c.self.inside.root c.in-Top.top c.in-Top.vr c.deref_mut-top.result.now c.args.self.now c.is_before-behind.result c.side_mut-side.result.now c.self.view_is c.self.invariant c.in-Top.is c.deref_mut-top.ensures.value c.side_mut-side.ensures.value in
-    let shorter = shorter-side step in
-    (omega arith, (within, rising-side step c.requires))
+    (omega (arith, shorter-side step), (within, rising-side step c.requires))
 
 pub invariant_of-self : goal.invariant_of-self
 invariant_of-self g t c =
@@ -51,15 +50,9 @@ pub returns-then-not-lower : goal.returns-then-not-lower
 returns-then-not-lower g t c =
     let looks = searched g t (goal.at.returns-then-not-lower g t c).After-remove in
     let ok = c.in_ok-node.ensures in
-    record {
-      found = ok.found ∙ has_key-side looks;
-      unchanged = tt;
-      keys = keys-removed c.remove.new.self looks ok.keys;
-      same_queue = ok.same_queue;
-      loose = ok.loose;
-      lower = λ e. absurd (both_ways false refl e);
-      as_high = λ _. height-as_high c.remove.new.self looks.step (ok.as_high c.if-not-lower.true);
-    }
+    let keys = keys-removed c.remove.new.self looks ok.keys in
+    let as_high = height-as_high c.remove.new.self looks.step (ok.as_high c.if-not-lower.true) in
+    record { found = ok.found ∙ has_key-side looks; unchanged = tt; keys = keys; same_queue = ok.same_queue; loose = ok.loose; lower = λ e. absurd (both_ways false refl e); as_high = λ _. as_high }
 
 pub tilt-requires : goal.tilt-requires
 tilt-requires g t c = tilts-fallen c.remove.new.self c.in-Top.top (searched g t (goal.at.tilt-requires g t c).After-remove).step (c.in_ok-node.ensures.lower c.if-not-lower.false)
@@ -68,13 +61,6 @@ pub returns-then-behind : goal.returns-then-behind
 returns-then-behind g t c =
     let looks = searched g t (goal.at.returns-then-behind g t c).After-remove in
     let ok = c.in_ok-node.ensures in
+    let keys = keys-fallen c.remove.new.self c.in-Top.top c.tilt.new.root c.tilt.result looks ok.keys c.tilt.ensures in
     let heights = upright-fallen c.remove.new.self c.in-Top.top c.tilt.new.root c.tilt.result looks.step (ok.lower c.if-not-lower.false) c.tilt.ensures in
-    record {
-      found = ok.found ∙ has_key-side looks;
-      unchanged = tt;
-      keys = keys-fallen c.remove.new.self c.in-Top.top c.tilt.new.root c.tilt.result looks ok.keys c.tilt.ensures;
-      same_queue = ok.same_queue;
-      loose = ok.loose;
-      lower = heights.lower;
-      as_high = heights.as_high;
-    }
+    record { found = ok.found ∙ has_key-side looks; unchanged = tt; keys = keys; same_queue = ok.same_queue; loose = ok.loose; lower = heights.lower; as_high = heights.as_high }
