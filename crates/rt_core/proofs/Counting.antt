@@ -7,7 +7,7 @@ use Rattle.rt_ids.specs.declared.order.Mode.{Mode}
 use Rattle.rt_ids.specs.Work.{number_if}
 use Rattle.rt_taskqueue.specs.Queues.{QueuesView, waiting_of, queue_count, held_count, ChangesLine, ChangesShares, ChangesMode, AddsQueue, IsWithinLimits}
 use Rattle.rt_core.specs.State.{CoreView, JobOut, runtime_of}
-use Rattle.rt_core.specs.Inside.{job_out, unsettled_count, IsCounted, IsListed}
+use Rattle.rt_core.specs.Inside.{job_out, unsettled_count, KeepsCounts, IsListed}
 use Rattle.rt_core.specs.declared.out.Out.{Out}
 use Rattle.rt_core.proofs.Entries.{may_run-same, entry_of-same, IsListed-kept}
 
@@ -42,10 +42,10 @@ module _ {J : Type 0} where
       subst (λ (held : Option (JobOut J)). IfSome held (λ job. job.queue < queue_count new.queues)) (sym out)
       (out_among_more old.out (queue_count old.queues) (queue_count new.queues) more exists)
 
-  pub IsCounted-creates : (old new : CoreView J) (inside room places queue weight : ℕ) → AddsQueue old.queues new.queues queue weight → IsWithinLimits new.queues →
+  pub KeepsCounts-creates : (old new : CoreView J) (inside room places queue weight : ℕ) → AddsQueue old.queues new.queues queue weight → IsWithinLimits new.queues →
       new.cores ≡ old.cores → new.out ≡ old.out → length new.tallies ≡ length old.tallies + 1 → new.delivered ≡ old.delivered →
-      IsCounted old inside room places → IsCounted new inside room places
-  IsCounted-creates old new inside room places queue weight adds limits cores out tallies delivered counted = record {
+      KeepsCounts old inside room places → KeepsCounts new inside room places
+  KeepsCounts-creates old new inside room places queue weight adds limits cores out tallies delivered counted = record {
     limits = limits;
     tallies = tallies ∙ ap (λ n. n + 1) counted.tallies ∙ sym adds.count;
     senders = ap length delivered ∙ counted.senders ∙ ap (λ n. n + 1) (sym cores);
@@ -56,10 +56,10 @@ module _ {J : Type 0} where
     out = out_same old new out (omega (arith, adds.count)) counted.out;
   }
 
-  pub IsCounted-weighs : (old new : CoreView J) (inside room places queue weight : ℕ) → ChangesShares old.queues new.queues queue weight → IsWithinLimits new.queues →
+  pub KeepsCounts-weighs : (old new : CoreView J) (inside room places queue weight : ℕ) → ChangesShares old.queues new.queues queue weight → IsWithinLimits new.queues →
       new.cores ≡ old.cores → new.out ≡ old.out → new.tallies ≡ old.tallies → length new.delivered ≡ length old.delivered →
-      IsCounted old inside room places → IsCounted new inside room places
-  IsCounted-weighs old new inside room places queue weight changes limits cores out tallies delivered counted = record {
+      KeepsCounts old inside room places → KeepsCounts new inside room places
+  KeepsCounts-weighs old new inside room places queue weight changes limits cores out tallies delivered counted = record {
     limits = limits;
     tallies = ap length tallies ∙ counted.tallies ∙ sym changes.same_count;
     senders = delivered ∙ counted.senders ∙ ap (λ n. n + 1) (sym cores);
@@ -71,10 +71,10 @@ module _ {J : Type 0} where
   }
 
   -- a queue is closed
-  pub IsCounted-closes : (old new : CoreView J) (inside room places queue : ℕ) (mode : Mode) → ChangesMode old.queues new.queues queue mode → IsWithinLimits new.queues →
+  pub KeepsCounts-closes : (old new : CoreView J) (inside room places queue : ℕ) (mode : Mode) → ChangesMode old.queues new.queues queue mode → IsWithinLimits new.queues →
       new.cores ≡ old.cores → new.out ≡ old.out → new.tallies ≡ old.tallies → new.delivered ≡ old.delivered →
-      IsCounted old inside room places → IsCounted new inside room places
-  IsCounted-closes old new inside room places queue mode changes limits cores out tallies delivered counted = record {
+      KeepsCounts old inside room places → KeepsCounts new inside room places
+  KeepsCounts-closes old new inside room places queue mode changes limits cores out tallies delivered counted = record {
     limits = limits;
     tallies = ap length tallies ∙ counted.tallies ∙ sym changes.same_count;
     senders = ap length delivered ∙ counted.senders ∙ ap (λ n. n + 1) (sym cores);
@@ -86,11 +86,11 @@ module _ {J : Type 0} where
   }
 
   -- a job goes out
-  pub IsCounted-picks : (old new : CoreView J) (inside room places : ℕ) (out : JobOut J) (first : JobId × Bool × J) (others : List (JobId × Bool × J)) →
+  pub KeepsCounts-picks : (old new : CoreView J) (inside room places : ℕ) (out : JobOut J) (first : JobId × Bool × J) (others : List (JobId × Bool × J)) →
       waiting_of out.queue old.queues ≡ first ∷ others → ChangesLine old.queues new.queues out.queue others → IsWithinLimits new.queues → out.queue < queue_count old.queues →
       new.cores ≡ old.cores → old.out ≡ None → new.out ≡ Some out → length new.tallies ≡ length old.tallies → new.delivered ≡ old.delivered →
-      IsCounted old inside room places → IsCounted new inside room places
-  IsCounted-picks old new inside room places out first others head changes limits exists cores free is_out tallies delivered counted = record {
+      KeepsCounts old inside room places → KeepsCounts new inside room places
+  KeepsCounts-picks old new inside room places out first others head changes limits exists cores free is_out tallies delivered counted = record {
     limits = limits;
     tallies = tallies ∙ counted.tallies ∙ sym changes.same_count;
     senders = ap length delivered ∙ counted.senders ∙ ap (λ n. n + 1) (sym cores);
@@ -106,11 +106,11 @@ module _ {J : Type 0} where
   }
 
   -- it comes back
-  pub IsCounted-yields : (old new : CoreView J) (inside room places : ℕ) (out : JobOut J) (name : JobId) (job : J) →
+  pub KeepsCounts-yields : (old new : CoreView J) (inside room places : ℕ) (out : JobOut J) (name : JobId) (job : J) →
       ChangesLine old.queues new.queues out.queue (waiting_of out.queue old.queues ++ (name, true, job) ∷ []) → IsWithinLimits new.queues →
       new.cores ≡ old.cores → old.out ≡ Some out → new.out ≡ None → length new.tallies ≡ length old.tallies → new.delivered ≡ old.delivered →
-      IsCounted old inside room places → IsCounted new inside room places
-  IsCounted-yields old new inside room places out name job changes limits cores was_out free tallies delivered counted = record {
+      KeepsCounts old inside room places → KeepsCounts new inside room places
+  KeepsCounts-yields old new inside room places out name job changes limits cores was_out free tallies delivered counted = record {
     limits = limits;
     tallies = tallies ∙ counted.tallies ∙ sym changes.same_count;
     senders = ap length delivered ∙ counted.senders ∙ ap (λ n. n + 1) (sym cores);
@@ -126,10 +126,10 @@ module _ {J : Type 0} where
   }
 
   -- it is done
-  pub IsCounted-finishes : (old new : CoreView J) (inside room places : ℕ) (out : JobOut J) → new.queues ≡ old.queues →
+  pub KeepsCounts-finishes : (old new : CoreView J) (inside room places : ℕ) (out : JobOut J) → new.queues ≡ old.queues →
       new.cores ≡ old.cores → old.out ≡ Some out → new.out ≡ None → length new.tallies ≡ length old.tallies → new.delivered ≡ old.delivered →
-      IsCounted old inside room places → IsCounted new (inside - 1) room places
-  IsCounted-finishes old new inside room places out queues cores was_out free tallies delivered counted = record {
+      KeepsCounts old inside room places → KeepsCounts new (inside - 1) room places
+  KeepsCounts-finishes old new inside room places out queues cores was_out free tallies delivered counted = record {
     limits = subst IsWithinLimits (sym queues) counted.limits;
     tallies = tallies ∙ counted.tallies ∙ sym (ap queue_count queues);
     senders = ap length delivered ∙ counted.senders ∙ ap (λ n. n + 1) (sym cores);
@@ -144,7 +144,7 @@ module _ {J : Type 0} where
     out = subst (λ (held : Option (JobOut J)). IfSome held (λ job. job.queue < queue_count new.queues)) (sym free) tt;
   }
 
-  pub some_inside : (view : CoreView J) (inside room places : ℕ) (out : JobOut J) → view.out ≡ Some out → IsCounted view inside room places → (1 ≤ inside) × (out.queue < queue_count view.queues)
+  pub some_inside : (view : CoreView J) (inside room places : ℕ) (out : JobOut J) → view.out ≡ Some out → KeepsCounts view inside room places → (1 ≤ inside) × (out.queue < queue_count view.queues)
   some_inside view inside room places out is counted =
       let one : unsettled_count view ≡ 1 = ap polls_of is in
       (omega (arith, counted.all_inside), subst (λ (held : Option (JobOut J)). IfSome held (λ job. job.queue < queue_count view.queues)) is counted.out)

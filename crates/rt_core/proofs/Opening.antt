@@ -8,7 +8,7 @@ use Rattle.rt_ids.specs.declared.names.Key.{Key}
 use Rattle.rt_core.specs.declared.tally.Tally.{Tally}
 use Rattle.rt_core.specs.Senders.{SendersView}
 use Rattle.rt_core.specs.State.{CoreView, no_tally, is_any}
-use Rattle.rt_core.specs.Inside.{core_view, FitsTurns, IsCore, IsCounted, IsListed, IsPollable, IsWithinTurns}
+use Rattle.rt_core.specs.Inside.{core_view, FitsTurns, IsCore, KeepsCounts, IsListed, IsPollable, IsWithinTurns}
 use Rattle.rt_core.proofs.Entries.{entry_of-none}
 use Rattle.rt_core.proofs.Fits.{no_tally_fits}
 use Rattle.rt_core.proofs.Settling.{may_run-free}
@@ -28,8 +28,8 @@ module _ {J : Type 0} (core cores room turns : ℕ) (senders : SendersView) wher
     at = λ queue. sym (entry_of-none (first_view tallies) queue (may_run-free (first_view tallies) queue false refl (ap is_any (no_job tallies queue))));
   }
 
-  IsCounted-opened : (places : ℕ) → length senders.delivered ≡ cores + 1 → 256 ≤ places → IsCounted (first_view (no_tally ∷ [])) 0 room places
-  IsCounted-opened places known reserved = record {
+  KeepsCounts-opened : (places : ℕ) → length senders.delivered ≡ cores + 1 → 256 ≤ places → KeepsCounts (first_view (no_tally ∷ [])) 0 room places
+  KeepsCounts-opened places known reserved = record {
     limits = record { some_queue = omega arith; few_queues = omega arith; within_room = omega arith };
     tallies = refl;
     senders = known;
@@ -53,7 +53,7 @@ module _ {J : Type 0} (core cores room turns : ℕ) (senders : SendersView) wher
   pub IsCore-opened : (done : J → Bool) (can_poll : J → Type 0) (queues : SlippedView J) (tallies : List Tally) (keys : List Key) (places : ℕ) → queues ≡ slipped.first_queue room → tallies ≡ no_tally ∷ [] → keys ≡ [] →
       length senders.delivered ≡ cores + 1 → 256 ≤ places → IsCore done can_poll (core_view core cores (queues_alone queues) tallies 0 turns None senders None) queues.slips keys 0 room places
   IsCore-opened done can_poll queues tallies keys places queues_are tallies_are keys_are known reserved = rw (queues_are, tallies_are, keys_are) (record {
-    counted = IsCounted-opened places known reserved;
+    counted = KeepsCounts-opened places known reserved;
     listed = IsListed-opened (no_tally ∷ []);
     slipped = KeepsSlips-opened;
     pollable = IsPollable-opened done can_poll (no_tally ∷ []);

@@ -12,7 +12,7 @@ use Rattle.rt_taskqueue.specs.Queues.{waiting_of, queue_count, ChangesLine, IsWi
 use Rattle.rt_core.specs.declared.tally.Tally.{Tally}
 use Rattle.rt_core.specs.State.{CoreView, JobOut, no_tally, is_any, queue_out, is_working}
 use Rattle.rt_timeline.specs.Rising.{inserted}
-use Rattle.rt_core.specs.Inside.{may_run, unsettled_count, IsCounted, IsListed, IsPollable}
+use Rattle.rt_core.specs.Inside.{may_run, unsettled_count, KeepsCounts, IsListed, IsPollable}
 use Rattle.rt_core.proofs.Entries.{is_any-push, entry_of, may_run-same, entry_of-same, entry_of-none, entry_of-some, runtime_of-set_other, runtime_of-set_same, IsListed-kept, IsListed-inserted}
 
 both_false : (any out : Bool) → (any || out) ≡ false → (any ≡ false) × (out ≡ false)
@@ -95,11 +95,11 @@ module _ {J : Type 0} where
           entry_of-same old new other (may_run-same old new other (changes.others other apart) out) (runtime_of-set_other old new key.queue other tally tallies apart)
 
   -- the counts as a job enters
-  pub IsCounted-enters : (old new : CoreView J) (inside room places queue : ℕ) (name : JobId) (job : J) →
+  pub KeepsCounts-enters : (old new : CoreView J) (inside room places queue : ℕ) (name : JobId) (job : J) →
       ChangesLine old.queues new.queues queue (waiting_of queue old.queues ++ (name, false, job) ∷ []) → IsWithinLimits new.queues → inside < room →
       new.cores ≡ old.cores → new.out ≡ old.out → length new.tallies ≡ length old.tallies → length new.delivered ≡ length old.delivered →
-      IsCounted old inside room places → IsCounted new (inside + 1) room places
-  IsCounted-enters old new inside room places queue name job changes limits space cores out tallies delivered counted = record {
+      KeepsCounts old inside room places → KeepsCounts new (inside + 1) room places
+  KeepsCounts-enters old new inside room places queue name job changes limits space cores out tallies delivered counted = record {
     limits = limits;
     tallies = tallies ∙ counted.tallies ∙ sym changes.same_count;
     senders = delivered ∙ counted.senders ∙ ap (λ n. n + 1) (sym cores);

@@ -19,7 +19,7 @@ use Rattle.rt_core.specs.Turns.{TakesOut, settled_view}
 use Rattle.rt_core.specs.Relisted.{keys_after, slips_after}
 use Rattle.rt_core.specs.Whole.{SettlesStep}
 use Rattle.rt_core.specs.Inside.{IsCore, KeepsSlips, unsettled_count, FitsTurns}
-use Rattle.rt_core.proofs.Counting.{IsCounted-picks, IsCounted-yields, IsCounted-finishes, some_inside}
+use Rattle.rt_core.proofs.Counting.{KeepsCounts-picks, KeepsCounts-yields, KeepsCounts-finishes, some_inside}
 use Rattle.rt_core.proofs.Entries.{is_any-push}
 use Rattle.rt_core.proofs.Fits.{picked_fits, tally_fits}
 use Rattle.rt_core.proofs.Listed.{LacksQueue-from_none}
@@ -47,7 +47,7 @@ module _ {J : Type 0} (done : J → Bool) (can_poll : J → Type 0) where
       let all : All (λ waiting. IsReady done can_poll waiting.2) ((name, started, job) ∷ takes.others) =
       subst (λ (line : List (JobId × Bool × J)). All (λ waiting. IsReady done can_poll waiting.2) line) takes.first (core.pollable.at key.queue) in
       record {
-        counted = IsCounted-picks old mid inside room places out (name, started, job) takes.others takes.first takes.line limits exists (ap (λ (view : CoreView J). view.cores) takes.rest) takes.next.free is_out
+        counted = KeepsCounts-picks old mid inside room places out (name, started, job) takes.others takes.first takes.line limits exists (ap (λ (view : CoreView J). view.cores) takes.rest) takes.next.free is_out
             (ap length tallies ∙ length-set old.tallies key.queue tally) (ap (λ (view : CoreView J). view.delivered) takes.rest) core.counted;
         listed = IsListed-picks old mid keys key later out tally are absent takes.next.free is_out refl takes.line.others tallies core.listed;
         slipped = KeepsSlips-taken (queue_count mid.queues) slips key later (omega (arith, exists, takes.line.same_count)) absent
@@ -67,7 +67,7 @@ module _ {J : Type 0} (done : J → Bool) (can_poll : J → Type 0) where
       let lacks = LacksQueue-from_none out.queue keys (core.listed.at out.queue ∙ out_entry mid out was_out) in
       let any : is_any (waiting_of out.queue new.queues) ≡ true = ap is_any joins.changed ∙ is_any-push (waiting_of out.queue mid.queues) (out.name, true, job) in
       record {
-        counted = IsCounted-yields mid new inside room places out out.name job joins limits cores was_out free (ap length tallies ∙ length-set mid.tallies out.queue tally) delivered core.counted;
+        counted = KeepsCounts-yields mid new inside room places out out.name job joins limits cores was_out free (ap length tallies ∙ length-set mid.tallies out.queue tally) delivered core.counted;
         listed = IsListed-again mid new keys out tally was_out free joins.others tallies core.listed within any;
         slipped = KeepsSlips-inserted (queue_count new.queues) slips keys (record { vr = tally.runtime; queue = out.queue }) (omega (arith, exists.1, joins.same_count)) lacks
             (KeepsSlips-same (queue_count mid.queues) (queue_count new.queues) slips slips keys joins.same_count refl core.slipped);
@@ -94,14 +94,14 @@ module _ {J : Type 0} (done : J → Bool) (can_poll : J → Type 0) where
           let within : out.queue < length mid.tallies = omega (arith, core.counted.tallies, exists.1) in
           let lacks = LacksQueue-from_none out.queue keys (core.listed.at out.queue ∙ out_entry mid out was_out) in
           record {
-            counted = IsCounted-finishes mid new inside room places out queues cores was_out free (ap length tallies ∙ length-set mid.tallies out.queue tally) delivered core.counted;
+            counted = KeepsCounts-finishes mid new inside room places out queues cores was_out free (ap length tallies ∙ length-set mid.tallies out.queue tally) delivered core.counted;
             listed = IsListed-again mid new keys out tally was_out free (λ other apart. lines other) tallies core.listed within some;
             slipped = KeepsSlips-inserted (queue_count new.queues) slips keys (record { vr = tally.runtime; queue = out.queue }) (omega (arith, exists.1, ap queue_count queues)) lacks kept;
             pollable = IsPollable-same done can_poll mid new lines core.pollable;
             turns = IsWithinTurns-settles mid new out out.queue tally was_out free turns floor tallies fits core.turns;
           }
       by_any false none = record {
-        counted = IsCounted-finishes mid new inside room places out queues cores was_out free (ap length tallies ∙ length-set mid.tallies out.queue tally) delivered core.counted;
+        counted = KeepsCounts-finishes mid new inside room places out queues cores was_out free (ap length tallies ∙ length-set mid.tallies out.queue tally) delivered core.counted;
         listed = IsListed-no_more mid new keys out tally was_out free (λ other apart. lines other) tallies core.listed none;
         slipped = kept;
         pollable = IsPollable-same done can_poll mid new lines core.pollable;

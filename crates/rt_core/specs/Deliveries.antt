@@ -6,6 +6,7 @@ use Rattle.rt_ids.specs.declared.note.Note.TheVariants as notes
 use Rattle.rt_ids.specs.declared.order.Order.{Order}
 use Rattle.rt_ids.specs.declared.order.Order.TheVariants.{Job, Create, SetShares, Close, CloseCore}
 use Rattle.rt_ids.specs.declared.order.Answer.TheVariants as answers
+use Rattle.rt_ids.specs.Limits.{most_queues}
 use Rattle.rt_taskqueue.specs.declared.queues.CreateError.{CreateError}
 use Rattle.rt_taskqueue.specs.declared.queues.CreateError.TheVariants.{TooMany, Memory}
 use Rattle.rt_taskqueue.specs.Queues.{queue_count, waiting_of, ChangesLine, ChangesShares, AddsQueue}
@@ -32,7 +33,7 @@ module _ {J : Type 0} where
   -- a queue is made in an open core, with the next number and no job
   pub record Creates (old : CoreView J) (weight : ℕ) (new : CoreView J) : Type 0 where
     pub is_open : old.mode ≡ None
-    pub few : queue_count old.queues < 256
+    pub few : queue_count old.queues < most_queues
     pub added : AddsQueue old.queues new.queues (queue_count old.queues) weight
     pub rest : new ≡ record old { queues = new.queues; tallies = old.tallies ++ no_tally ∷ []; delivered = new.delivered }
 
@@ -51,8 +52,8 @@ module _ {J T : Type 0} where
   abbrev pub CreatesQueue : CoreView J → ℕ → Result ℕ CreateError → CoreView J → List (Note T) → Type 0
   CreatesQueue old weight (Ok queue) new written =
       (queue ≡ queue_count old.queues) × Creates old weight new × (new.delivered ≡ old.delivered) × (written ≡ notes.Created queue weight ∷ [])
-  CreatesQueue old weight (Err TooMany) new written = (queue_count old.queues ≡ 256) × (new ≡ old) × (written ≡ [])
-  CreatesQueue old weight (Err Memory) new written = (queue_count old.queues < 256) × (new ≡ old) × (written ≡ [])
+  CreatesQueue old weight (Err TooMany) new written = (queue_count old.queues ≡ most_queues) × (new ≡ old) × (written ≡ [])
+  CreatesQueue old weight (Err Memory) new written = (queue_count old.queues < most_queues) × (new ≡ old) × (written ≡ [])
 
   -- what a delivery does to the core, by what it answers, with its notes in their order
   abbrev pub Delivers : CoreView J → JobId → Order J → Delivered J → CoreView J → List (Note T) → Type 0
@@ -68,9 +69,9 @@ module _ {J T : Type 0} where
   Delivers old name (Create weight) (Answered answers.CoreClosing) new written =
       (old.mode ≢ None) × CountsAlone old name new × (written ≡ notes.Answered name answers.CoreClosing ∷ [])
   Delivers old name (Create weight) (Answered answers.TooMany) new written =
-      (old.mode ≡ None) × (queue_count old.queues ≡ 256) × CountsAlone old name new × (written ≡ notes.Answered name answers.TooMany ∷ [])
+      (old.mode ≡ None) × (queue_count old.queues ≡ most_queues) × CountsAlone old name new × (written ≡ notes.Answered name answers.TooMany ∷ [])
   Delivers old name (Create weight) (Answered answers.NoMemory) new written =
-      (old.mode ≡ None) × (queue_count old.queues < 256) × CountsAlone old name new × (written ≡ notes.Answered name answers.NoMemory ∷ [])
+      (old.mode ≡ None) × (queue_count old.queues < most_queues) × CountsAlone old name new × (written ≡ notes.Answered name answers.NoMemory ∷ [])
   Delivers old name (SetShares queue weight) (Answered answers.SharesSet) new written =
       Weighs old queue weight new × (new.delivered ≡ counted name old)
       × (written ≡ notes.Answered name answers.SharesSet ∷ notes.SharesSet queue weight ∷ [])

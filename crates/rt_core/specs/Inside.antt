@@ -2,6 +2,7 @@
 use Rattle.std.specs.Prelude.{◌≡◌, ℕ, ◌+◌, ◌*◌, ◌^◌, ◌<◌, ◌≤◌, ◌==◌, ◌&&◌, not, Bool, false, Option, Some, None, is_some, IfSome, List, [], ◌∷◌, length, All, slice_index_or, if◌then◌else◌}
 use Rattle.rt_ids.specs.declared.names.Key.{Key}
 use Rattle.rt_ids.specs.declared.order.Mode.{Mode}
+use Rattle.rt_ids.specs.Limits.{most_queues}
 use Rattle.rt_ids.specs.Names.{is_number}
 use Rattle.rt_ids.specs.Work.{number_if}
 use Rattle.rt_jobs.specs.Ready.{IsReady}
@@ -59,14 +60,14 @@ module _ {J : Type 0} where
   unsettled_count view = number_if (is_some view.out)
 
   -- the counts that a core keeps beside what its callers see
-  pub record IsCounted (view : CoreView J) (inside room tally_places : ℕ) : Type 0 where
+  pub record KeepsCounts (view : CoreView J) (inside room tally_places : ℕ) : Type 0 where
     pub limits : IsWithinLimits view.queues
     pub tallies : length view.tallies ≡ queue_count view.queues
     pub senders : length view.delivered ≡ view.cores + 1
     pub all_inside : inside ≡ inside_count view
     pub within_room : inside ≤ room
     pub same_room : room ≡ view.queues.room
-    pub reserved : 256 ≤ tally_places
+    pub reserved : most_queues ≤ tally_places
     pub out : IfSome view.out (λ job. job.queue < queue_count view.queues)
 
   -- the keys are those of the queues that may be picked
@@ -83,7 +84,7 @@ module _ {J : Type 0} where
     pub floor : view.floor + unsettled_count view * 2 ^ 50 ≤ view.turns * 2 ^ 50
 
   pub record IsCore (done : J → Bool) (can_poll : J → Type 0) (view : CoreView J) (slips : List Bool) (keys : List Key) (inside room tally_places : ℕ) : Type 0 where
-    pub counted : IsCounted view inside room tally_places
+    pub counted : KeepsCounts view inside room tally_places
     pub listed : IsListed view keys
     pub slipped : KeepsSlips (queue_count view.queues) slips keys
     pub pollable : IsPollable done can_poll view

@@ -14,10 +14,12 @@ use crate::delivery::Delivered;
 use crate::notes::{Notes, one_note};
 use crate::out::Out;
 use crate::senders::Senders;
-use crate::tally::{MOST_QUEUES, Tally};
+use crate::tally::Tally;
 use crate::turn::{PickError, Settled, Turn};
 use arrayvec::ArrayVec;
-use rt_ids::{CoreNo, CoreStats, Envelope, JobId, Mode, Note, Order, QueueNo, QueueStats};
+use rt_ids::{
+    CoreNo, CoreStats, Envelope, JobId, MOST_QUEUES, Mode, Note, Order, QueueNo, QueueStats,
+};
 use rt_jobs::{Ran, Step, Task};
 use rt_sealed::SealedVec;
 use rt_shares::Shares;

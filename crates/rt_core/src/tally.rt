@@ -6,9 +6,6 @@ ghost use Rattle.rt_shares.specs.Charge as spec;
 use rt_ids::QueueNo;
 use rt_shares::{Shares, charge, clamped};
 
-/// The number of a queue fits a byte.
-pub(crate) const MOST_QUEUES: usize = 256;
-
 /// What is counted of a queue. Times are nanoseconds.
 #[derive(Clone, Copy)]
 pub struct Tally {

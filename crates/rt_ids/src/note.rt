@@ -6,7 +6,7 @@ use rt_shares::Shares;
 use std::alloc::AllocError;
 
 /// What became of a submission, without its task.
-#[derive(Copy, PartialEq, Eq, Debug)]
+#[derive(Copy, PartialEq, Eq)]
 pub enum OutcomeNote<T> {
     Finished(T),
     Returned(Reason),
@@ -14,7 +14,7 @@ pub enum OutcomeNote<T> {
 }
 
 /// One note of an actor's journal. Times are nanoseconds.
-#[derive(Copy, PartialEq, Eq, Debug)]
+#[derive(Copy, PartialEq, Eq)]
 pub enum Note<T> {
     /// A send was accepted.
     Sent(JobId, Order<()>),

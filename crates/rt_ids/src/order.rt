@@ -55,7 +55,7 @@ pub enum Answer {
 }
 
 /// A job for a queue, or a command.
-#[derive(Copy, PartialEq, Eq, Debug, Drop)]
+#[derive(Copy, PartialEq, Eq, Drop)]
 pub enum Order<J> {
     /// A job for a queue.
     Job(QueueNo, J),
@@ -99,14 +99,14 @@ impl<J> Order<J> {
 }
 
 /// An accepted order on its way, under its name.
-#[derive(PartialEq, Eq, Debug, Drop)]
+#[derive(PartialEq, Eq, Drop)]
 pub struct Envelope<J> {
     pub name: JobId,
     pub order: Order<J>,
 }
 
 /// What became of a submission.
-#[derive(PartialEq, Eq, Debug, Drop)]
+#[derive(PartialEq, Eq, Drop)]
 pub enum Outcome<J, T> {
     /// The job is done, with its answer.
     Finished(T),
@@ -137,7 +137,7 @@ impl<J, T: Copy> Outcome<J, T> {
 /// Why an order was not accepted. The order comes back.
 ///
 /// A link tries the first three in this order; a desk tries the last one before them.
-#[derive(PartialEq, Eq, Debug, Drop)]
+#[derive(PartialEq, Eq, Drop)]
 pub enum SendError<J> {
     /// The gate is shut; the number is that of the last order that was accepted.
     Closed(Order<J>, u64),

@@ -23,7 +23,7 @@ const MOST_YIELDS: usize = 63;
 ///
 /// A contract sees the list of its polls, and how many of them were made. Each poll tells its own time.
 /// The last poll stands by itself, so that the answer is stored once. A job takes no memory but its own bytes.
-#[derive(PartialEq, Eq, Debug, Drop)]
+#[derive(PartialEq, Eq, Drop)]
 pub struct ScriptJob {
     yields: ArrayVec<Yielding, MOST_YIELDS>,
     last_told: u64,

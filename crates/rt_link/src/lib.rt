@@ -7,4 +7,5 @@ pub mod plain;
 
 pub use ends::{InEnd, Inward, OutEnd, Outward};
 pub use history::History;
-pub use plain::{LAST_NUMBER, PlainLink, Whole};
+pub use plain::{PlainLink, Whole};
+pub use rt_ids::LAST_NUMBER;

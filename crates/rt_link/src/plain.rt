@@ -10,14 +10,11 @@ ghost use Rattle.rt_link.specs.Whole.{fresh, out_of, inward_of, kept_by_sender, 
 use crate::ends::{InEnd, OutEnd};
 use crate::history::History;
 use circular_buffer::HeapCircularBuffer;
-use rt_ids::{ActorNo, CoreNo, Envelope, JobId, Order, Outcome, SendError};
+use rt_ids::{ActorNo, CoreNo, Envelope, JobId, LAST_NUMBER, Order, Outcome, SendError};
 use rt_jobs::Task;
 use std::alloc::{AllocError, Global};
 use std::collections::LinkedList;
 use std::marker::Model;
-
-/// The greatest number of an order: one bit of a word stays free, for the mark of a shut gate.
-pub const LAST_NUMBER: u64 = (1 << 63) - 1;
 
 /// What a plain link is: the lists of what was sent and given, and how much of them came across. No value of it is made.
 pub struct Whole<J, T> {

@@ -2,7 +2,7 @@
 use Rattle.std.specs.Prelude.{◌≡◌, ℕ, ◌+◌, ◌-◌, ◌*◌, ◌≤◌, ◌∷◌, List, codes, length, Option, Some, None, Result, Ok, Err, nat_lt, if◌then◌else◌}
 use Rattle.std.specs.Str.{bytes_eq}
 use Rattle.rt_ids.specs.declared.note.Note.{Note}
-use Rattle.rt_ids.specs.Limits.{most_notes}
+use Rattle.rt_ids.specs.Limits.{most_capacity, most_cores, most_notes}
 use Rattle.rt_words.specs.Words.{words, first, others, second, third, fourth}
 use Rattle.rt_note_words.specs.Fields.{◌>>=◌, fixed, number_in}
 use Rattle.rt_note_words.specs.NoteWords.{note_of}
@@ -29,8 +29,8 @@ with_form draft line =
 -- `cores C cap K`
 unfoldable pub size_of : List (List ℕ) → Option (ℕ × ℕ)
 size_of ws = do
-  cores ← fixed (codes "cores") (first ws) (number_in 1 16 (second ws))
-  cap ← fixed (codes "cap") (third ws) (last (number_in 1 1024 (fourth ws)) (others (others (others (others ws)))))
+  cores ← fixed (codes "cores") (first ws) (number_in 1 most_cores (second ws))
+  cap ← fixed (codes "cap") (third ws) (last (number_in 1 most_capacity (fourth ws)) (others (others (others (others ws)))))
   Some (cores, cap)
 
 abbrev pub with_size : Drafted → Option (ℕ × ℕ) → Result Drafted JournalCause
@@ -87,6 +87,6 @@ IsAloneIn part.After cores = Unit {0}
 pub record IsDraft (draft : Drafted) : Type 0 where
   pub alone : IsAloneIn draft.part draft.cores
   pub some : 1 ≤ draft.cores
-  pub few : draft.cores ≤ 16
+  pub few : draft.cores ≤ most_cores
   pub actors : length draft.earlier ≤ draft.cores
   pub short : length draft.notes ≤ most_notes

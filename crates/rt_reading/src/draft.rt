@@ -1,12 +1,13 @@
 //! The journals of a text as far as its lines are judged.
 
 ghost use Rattle.std.specs.Prelude.{◌≡◌, ◌≤◌, ◌<◌, ◌+◌, ◌++◌, ◌∷◌, [], Ok, Err, OnErr, IfOk, IfErr, IfSome, OnOk, length};
+ghost use Rattle.rt_ids.specs.Limits.{most_cores};
 ghost use Rattle.rt_words.specs.Words.{words};
 ghost use Rattle.rt_reading.specs.Drafts as spec;
 ghost use Rattle.rt_reading.specs.Faults.{IfFaulty};
 
 use crate::fault::{JournalCause, ReadError};
-use rt_ids::{MOST_NOTES, Note};
+use rt_ids::{MOST_CAPACITY, MOST_CORES, MOST_NOTES, Note};
 use rt_note_words::field::number_in;
 use rt_note_words::note_of;
 use rt_note_words::phrase::last;
@@ -235,16 +236,16 @@ impl Draft {
 fn size_of(fields: &mut Words<'_>) -> Option<(u8, u16)>
     ensures value { result ≡ spec.size_of fields.old }
     ensures some { IfSome result (λ size. 1 ≤ size.0) }
-    ensures few { IfSome result (λ size. size.0 ≤ 16) }
+    ensures few { IfSome result (λ size. size.0 ≤ most_cores) }
 {
     if !is_word(fields.next_word(), "cores") {
         return None;
     }
-    let cores = number_in(fields.next_word(), 1, 16)?;
+    let cores = number_in(fields.next_word(), 1, MOST_CORES as u64)?;
     if !is_word(fields.next_word(), "cap") {
         return None;
     }
-    let cap = number_in(fields.next_word(), 1, 1024);
+    let cap = number_in(fields.next_word(), 1, MOST_CAPACITY as u64);
     let cap = last(cap, fields)?;
     Some((cores as u8, cap as u16))
 }

@@ -10,7 +10,8 @@ use Rattle.rt_ring.specs.declared.board.Label.{Label}
 use Rattle.rt_ring.specs.declared.board.Label.TheVariants as label
 use Rattle.rt_ring.specs.declared.board.Notice.TheVariants as notice
 use Rattle.rt_ring.specs.declared.board.Slot.{Slot}
-use Rattle.rt_ring.specs.Slots.{bare, job_of, Sent, Back}
+use Rattle.rt_ids.specs.Orders.{without_job}
+use Rattle.rt_ring.specs.Slots.{job_of, Sent, Back}
 
 pub slice_get-there : {A : Type 0} (xs : List A) (i : ℕ) → i < length xs → (x : A) × (slice_get xs i ≡ Some x)
 slice_get-there [] i h = absurd (omega arith)
@@ -60,12 +61,12 @@ module _ {J : Type 0} where
   whole_or other (Close queue mode) job = Close queue mode
   whole_or other (CloseCore mode) job = CloseCore mode
 
-  whole_or-bare : (other order : Order J) → whole_or other (bare order) (job_of order) ≡ order
-  whole_or-bare other (Job queue job) = refl
-  whole_or-bare other (Create shares) = refl
-  whole_or-bare other (SetShares queue shares) = refl
-  whole_or-bare other (Close queue mode) = refl
-  whole_or-bare other (CloseCore mode) = refl
+  whole_or-without_job : (other order : Order J) → whole_or other (without_job order) (job_of order) ≡ order
+  whole_or-without_job other (Job queue job) = refl
+  whole_or-without_job other (Create shares) = refl
+  whole_or-without_job other (SetShares queue shares) = refl
+  whole_or-without_job other (Close queue mode) = refl
+  whole_or-without_job other (CloseCore mode) = refl
 
 -- what a slot holds is one thing
 module _ {J T : Type 0} where
@@ -74,7 +75,7 @@ module _ {J T : Type 0} where
   order_in other _ job = other
 
   Sent-injective : (a b : Order J) → Sent {T = T} a ≡ Sent b → a ≡ b
-  Sent-injective a b e = sym (whole_or-bare a a) ∙ (ap (λ (x : Slot J T). order_in a x.label x.job) e ∙ whole_or-bare a b)
+  Sent-injective a b e = sym (whole_or-without_job a a) ∙ (ap (λ (x : Slot J T). order_in a x.label x.job) e ∙ whole_or-without_job a b)
 
   pub same_order : (a b : Order J) (x : Slot J T) → x ≡ Sent a → x ≡ Sent b → a ≡ b
   same_order a b x p q = Sent-injective a b (sym p ∙ q)

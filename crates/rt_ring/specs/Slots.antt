@@ -6,6 +6,7 @@ use Rattle.rt_ids.specs.declared.order.Order.{Order}
 use Rattle.rt_ids.specs.declared.order.Order.TheVariants.{Job, Create, SetShares, Close, CloseCore}
 use Rattle.rt_ids.specs.declared.order.Outcome.{Outcome}
 use Rattle.rt_ids.specs.declared.order.Outcome.TheVariants.{Finished, Returned, Answered}
+use Rattle.rt_ids.specs.Orders.{without_job}
 use Rattle.rt_link.specs.declared.plain.Whole.{Whole}
 use Rattle.rt_ring.specs.declared.board.Slot.{Slot}
 use Rattle.rt_ring.specs.declared.board.Label.{Label}
@@ -29,14 +30,6 @@ abbrev pub Homes : Type 0 → Type 0 → Type 0
 Homes J T = List (maybe.Option (Slot J T))
 
 module _ {J : Type 0} where
-  -- an order without its job
-  abbrev pub bare : Order J → Order (Unit {0})
-  bare (Job queue job) = Job queue tt
-  bare (Create shares) = Create shares
-  bare (SetShares queue shares) = SetShares queue shares
-  bare (Close queue mode) = Close queue mode
-  bare (CloseCore mode) = CloseCore mode
-
   -- the job of an order, if it has one
   abbrev pub job_of : Order J → Option J
   job_of (Job queue job) = Some job
@@ -49,7 +42,7 @@ module _ {J T : Type 0} where
   -- an outcome without a job, with its order's number
   abbrev pub label_of : ℕ → Outcome J T → Label T
   label_of number (Finished out) = label.Finished number out
-  label_of number (Returned reason order) = label.Notice number (notice.Returned reason (bare order))
+  label_of number (Returned reason order) = label.Notice number (notice.Returned reason (without_job order))
   label_of number (Answered answer) = label.Notice number (notice.Answered answer)
 
   -- the job that an outcome hands back, if it does
@@ -63,7 +56,7 @@ module _ {J T : Type 0} where
   Empty = record { claim = tt; label = label.Empty; job = None }
 
   abbrev pub Sent : Order J → Slot J T
-  Sent order = record { claim = tt; label = label.Sent 0 (bare order); job = job_of order }
+  Sent order = record { claim = tt; label = label.Sent 0 (without_job order); job = job_of order }
 
   abbrev pub Back : ℕ → Outcome J T → Slot J T
   Back number outcome = record { claim = tt; label = label_of number outcome; job = job_back outcome }

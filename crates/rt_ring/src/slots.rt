@@ -2,7 +2,8 @@
 
 ghost use Rattle.std.specs.Prelude.{◌≡◌, ℕ, ◌∷◌, None};
 ghost use Rattle.atomic_table.specs.Table.{rest};
-ghost use Rattle.rt_ring.specs.Slots.{bare, job_of, Empty, Sent, Back};
+ghost use Rattle.rt_ids.specs.Orders.{without_job};
+ghost use Rattle.rt_ring.specs.Slots.{job_of, Empty, Sent, Back};
 
 use crate::board::{Board, Label, Notice, Place, Slot};
 use rt_ids::{Order, Outcome};
@@ -76,8 +77,8 @@ impl<J: Drop, T: Drop> Slot<J, T> {
     /// An order with the job that lies here.
     #[inline]
     fn with_job(&mut self, order: Order<()>) -> Order<J>
-        requires { (whole : Order J) × (order ≡ bare whole) × (self.old.job ≡ job_of whole) }
-        ensures label { order ≡ bare result }
+        requires { (whole : Order J) × (order ≡ without_job whole) × (self.old.job ≡ job_of whole) }
+        ensures label { order ≡ without_job result }
         ensures job { self.old.job ≡ job_of result }
         ensures rest { self.new ≡ record self.old { job = None } }
     {
@@ -141,7 +142,7 @@ impl<J: Drop, T: Drop> Slot<J, T> {
 /// An order without its job, and its job.
 #[inline]
 fn parted<J>(order: Order<J>) -> (Order<()>, Option<J>)
-    ensures label { result.0 ≡ bare order }
+    ensures label { result.0 ≡ without_job order }
     ensures job { result.1 ≡ job_of order }
 {
     match order {

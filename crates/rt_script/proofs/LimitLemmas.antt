@@ -13,7 +13,7 @@ use Rattle.rt_script.specs.Keywords.{keyword_of}
 use Rattle.rt_words.specs.Words.{first, others, third}
 use Rattle.rt_script.specs.Lines.{size_line, queue_line, line_of, first_line, keyword_line, later_line}
 use Rattle.rt_script.specs.Drafts.{Drafted, queue_lines}
-use Rattle.rt_script.specs.Counts.{IsCounted, count_of}
+use Rattle.rt_script.specs.Counts.{HasCountedLines, count_of}
 use Rattle.rt_script.specs.Limits.{ArePlaced, IsWithinLimits, IsCoreOf, MayFollow, AreEventsOf, IsEventFor, IsEventOf}
 use Rattle.rt_words.proofs.FieldLemmas.{made_ok, both_ok, within_ok}
 use Rattle.rt_script.proofs.EventLimits.{submit_line_ok, create_line_ok, shares_line_ok, close_line_ok, closecore_line_ok, deliver_line_ok, turn_line_ok, shut_line_ok, collect_line_ok, redeem_line_ok, detach_line_ok}
@@ -102,7 +102,7 @@ limits_more draft queue limits core room = record {
 }
 
 -- a `queue` line more is counted
-pub counted_more : (draft : Drafted) (queue : ℕ × ℕ) (old new : List ℕ) → IsCounted draft old → IsCoreOf draft.size queue.0 → queue_lines queue.0 draft.queues < 255 → ((core : ℕ) → count_of core new ≡ count_of core old + cond (eqb queue.0 core) 1 0) → IsCounted (record { size = draft.size; queues = draft.queues ++ queue ∷ []; events = draft.events }) new
+pub counted_more : (draft : Drafted) (queue : ℕ × ℕ) (old new : List ℕ) → HasCountedLines draft old → IsCoreOf draft.size queue.0 → queue_lines queue.0 draft.queues < 255 → ((core : ℕ) → count_of core new ≡ count_of core old + cond (eqb queue.0 core) 1 0) → HasCountedLines (record { size = draft.size; queues = draft.queues ++ queue ∷ []; events = draft.events }) new
 counted_more draft queue old new counted core room more = record {
   limits = limits_more draft queue counted.limits core room;
   each = λ c. more c ∙ ap (λ n. n + cond (eqb queue.0 c) 1 0) (counted.each c) ∙ sym (count_more c draft.queues queue);
@@ -120,7 +120,7 @@ limits_event draft event limits here = record {
   happen = happen_more draft.size draft.events event limits.happen here;
 }
 
-pub counted_event : (draft : Drafted) (event : ScriptEvent) (counts : List ℕ) → IsCounted draft counts → IsEventFor draft.size event → IsCounted (record { size = draft.size; queues = draft.queues; events = draft.events ++ event ∷ [] }) counts
+pub counted_event : (draft : Drafted) (event : ScriptEvent) (counts : List ℕ) → HasCountedLines draft counts → IsEventFor draft.size event → HasCountedLines (record { size = draft.size; queues = draft.queues; events = draft.events ++ event ∷ [] }) counts
 counted_event draft event counts counted here = record {
   limits = limits_event draft event counted.limits here;
   each = counted.each;

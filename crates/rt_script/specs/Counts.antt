@@ -8,6 +8,6 @@ abbrev pub count_of : ℕ → List ℕ → ℕ
 count_of core counts = get_or counts core 0
 
 -- a draft within the limits, and each core's `queue` lines are counted
-pub record IsCounted (draft : Drafted) (counts : List ℕ) : Type 0 where
+pub record HasCountedLines (draft : Drafted) (counts : List ℕ) : Type 0 where
   pub limits : IsWithinLimits draft
   pub each : (core : ℕ) → count_of core counts ≡ queue_lines core draft.queues

@@ -1,6 +1,7 @@
 -- A script keeps within the limits of a system.
 use Rattle.std.specs.Prelude.{◌≡◌, ℕ, ◌≤◌, ◌<◌, [], ◌∷◌, List, Option, Some, None, All, length}
 use Rattle.rt_ids.specs.declared.order.Order.TheVariants as order
+use Rattle.rt_ids.specs.Limits.{most_capacity, most_cores}
 use Rattle.rt_jobs.specs.Scripts.{Script}
 use Rattle.rt_script.specs.declared.event.ScriptEvent.{ScriptEvent}
 use Rattle.rt_script.specs.declared.event.ScriptEvent.TheVariants.{Send, Deliver, Turn, Shut, Collect, Redeem, Detach}
@@ -12,9 +13,9 @@ use Rattle.rt_script.specs.Drafts.{Drafted, queue_lines}
 -- 1 to 16 cores, and a capacity of 1 to 1024
 pub record IsSize (cores cap : ℕ) : Type 0 where
   pub some_cores : 1 ≤ cores
-  pub few_cores : cores ≤ 16
+  pub few_cores : cores ≤ most_cores
   pub some_cap : 1 ≤ cap
-  pub small_cap : cap ≤ 1024
+  pub small_cap : cap ≤ most_capacity
 
 -- the size, once it is told, is one
 abbrev pub IsSized : Option (ℕ × ℕ) → Type 0

@@ -1,6 +1,7 @@
 -- What one line of a script says.
 use Rattle.std.specs.Prelude.{ℕ, ◌&&◌, ◌==◌, not, Bool, false, List, codes, Option, Some, None, Result, Err, if◌then◌else◌}
 use Rattle.std.specs.Str.{bytes_eq}
+use Rattle.rt_ids.specs.Limits.{most_capacity, most_cores}
 use Rattle.rt_script.specs.declared.line.Line.{Line}
 use Rattle.rt_script.specs.declared.line.Line.TheVariants.{Size, Queue}
 use Rattle.rt_script.specs.declared.keyword.Keyword.{Keyword}
@@ -15,7 +16,7 @@ use Rattle.rt_script.specs.EventLines.{submit_line, create_line, shares_line, cl
 
 -- `C cap K`
 abbrev pub size_line : List (List ℕ) → Result Line Cause
-size_line ws = made (λ p. Size p.0 (p.1).1) (both (within 1 16 (number_of (first ws))) (both (fixed_field (codes "cap") (second ws)) (within 1 1024 (number_of (third ws)))))
+size_line ws = made (λ p. Size p.0 (p.1).1) (both (within 1 most_cores (number_of (first ws))) (both (fixed_field (codes "cap") (second ws)) (within 1 most_capacity (number_of (third ws)))))
 
 -- `d w`
 abbrev pub queue_line : ℕ → List (List ℕ) → Result Line Cause

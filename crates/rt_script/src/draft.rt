@@ -32,13 +32,13 @@ pub struct Draft {
 
 impl Model for Draft {
     ghost use Rattle.rt_script.specs.Drafts.{Drafted};
-    ghost use Rattle.rt_script.specs.Counts.{IsCounted};
+    ghost use Rattle.rt_script.specs.Counts.{HasCountedLines};
 
     ghost Value = { Drafted };
 
     ghost view = { λ d. record { size = d.size; queues = d.queues.items; events = d.events.items } };
 
-    ghost invariant = { λ d. IsCounted
+    ghost invariant = { λ d. HasCountedLines
         (record { size = d.size; queues = d.queues.items; events = d.events.items }) d.counts };
 }
 

@@ -2,6 +2,7 @@
 
 ghost use Rattle.std.specs.Prelude.{◌≡◌, ◌≤◌, ◌+◌, length, IsTrue};
 ghost use Rattle.rt_words.specs.Words.{words};
+ghost use Rattle.rt_ids.specs.Limits.{most_capacity, most_cores};
 ghost use Rattle.rt_script.specs.Keywords.{takes};
 ghost use Rattle.rt_words.specs.Numbers.{within, number_of};
 ghost use Rattle.rt_script.specs.Lines as spec;
@@ -9,7 +10,7 @@ ghost use Rattle.rt_script.specs.Lines as spec;
 use crate::event::ScriptEvent;
 use crate::event_line as event;
 use crate::keyword::{Keyword, keyword_of};
-use rt_ids::CoreNo;
+use rt_ids::{CoreNo, MOST_CAPACITY, MOST_CORES};
 use rt_shares::Shares;
 use rt_text::Cause;
 use rt_words::field::{both, core_field, fixed_field, is_word, shares_field};
@@ -96,16 +97,16 @@ fn size_line(fields: &mut Words<'_>) -> Result<Line, Cause>
 
 /// How many cores there are.
 fn cores_field(word: &[u8]) -> Result<u8, Cause>
-    ensures { result ≡ within 1 16 (number_of word.now) }
+    ensures { result ≡ within 1 most_cores (number_of word.now) }
 {
-    Ok(number_within(word, 1, 16)? as u8)
+    Ok(number_within(word, 1, MOST_CORES as u64)? as u8)
 }
 
 /// How many submissions a link may have outstanding.
 fn cap_field(word: &[u8]) -> Result<u16, Cause>
-    ensures { result ≡ within 1 1024 (number_of word.now) }
+    ensures { result ≡ within 1 most_capacity (number_of word.now) }
 {
-    Ok(number_within(word, 1, 1024)? as u16)
+    Ok(number_within(word, 1, MOST_CAPACITY as u64)? as u16)
 }
 
 fn queue_line(cores: u8, fields: &mut Words<'_>) -> Result<Line, Cause>

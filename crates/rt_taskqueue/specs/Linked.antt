@@ -2,6 +2,7 @@
 use Rattle.std.specs.Prelude.{◌≡◌, ℕ, zero, suc, ◌≤◌, ◌<◌, Bool, List, [], ◌∷◌, ◌++◌, length, map, sum_by, Option, Some, None, is_some, IsSome, slice_index_or}
 use Rattle.slab.specs.Slab.{Slab, get, slab_len}
 use Rattle.rt_ids.specs.declared.names.JobId.{JobId}
+use Rattle.rt_ids.specs.Limits.{most_queues}
 use Rattle.rt_taskqueue.specs.declared.waiting.Waiting.{Waiting}
 use Rattle.rt_taskqueue.specs.declared.line.Line.{Line}
 use Rattle.rt_taskqueue.specs.Queues.{QueueView}
@@ -62,11 +63,11 @@ module _ {J : Type 0} where
     pub within_room : slab_len jobs ≤ room
     pub reserved : room ≤ jobs.capacity
     pub some_queue : 1 ≤ length lines
-    pub few_queues : length lines ≤ 256
-    pub queues_reserved : 256 ≤ line_places
+    pub few_queues : length lines ≤ most_queues
+    pub queues_reserved : most_queues ≤ line_places
 
 -- there is a place for the slip of each queue, and a slip stands at the place of its own queue
 pub record HasOwnSlips (count slip_places : ℕ) (slips : List (Option ℕ)) : Type 0 where
   pub own : (queue slip : ℕ) → slice_index_or slips queue None ≡ Some slip → slip ≡ queue
   pub counted : length slips ≡ count
-  pub reserved : 256 ≤ slip_places
+  pub reserved : most_queues ≤ slip_places

@@ -2,6 +2,7 @@
 use Rattle.std.specs.Prelude.{◌≡◌, ℕ, ◌+◌, ◌≤◌, Bool, Option, Some, None, List, [], ◌∷◌, length, sum_by, slice_index_or}
 use Rattle.rt_ids.specs.declared.names.JobId.{JobId}
 use Rattle.rt_ids.specs.declared.order.Mode.{Mode}
+use Rattle.rt_ids.specs.Limits.{most_queues}
 
 -- a queue: its shares, the mode in which it was closed, if it was, and the jobs that wait in it from the head to the tail, each with its name and whether it was started
 pub record QueueView (J : Type 0) : Type 0 where
@@ -46,7 +47,7 @@ module _ {J : Type 0} where
   -- what holds at any time: queue 0 is there, a number fits a byte, and no more jobs wait than there is room for
   pub record IsWithinLimits (view : QueuesView J) : Type 0 where
     pub some_queue : 1 ≤ queue_count view
-    pub few_queues : queue_count view ≤ 256
+    pub few_queues : queue_count view ≤ most_queues
     pub within_room : held_count view ≤ view.room
 
   -- only the line of this queue changes, to this list

@@ -2,12 +2,13 @@
 ghost use Rattle.std.specs.Prelude.{◌≡◌, ◌+◌, ◌<◌, ◌≤◌, ◌↔◌, [], ◌∷◌, ◌++◌, true, false, drop, length, None, is_some, IsTrue, IfOk, OnErr, IfSome, IfNone, OnSome};
 ghost use Rattle.rt_taskqueue.specs.Slips.{queue_count, shares_of, mode_of, waiting_of, held_count, has_slip, without_slip, with_slip, first_queue, IsWithinLimits, ChangesLine, ChangesShares, ChangesMode, AddsQueue};
 ghost use Rattle.rt_ids.specs.Closing as spec;
+ghost use Rattle.rt_ids.specs.Limits.{most_queues};
 
 use crate::closing::closes;
 use crate::line::Line;
 use crate::slips::Slips;
 use crate::waiting::{Waiting, append};
-use rt_ids::{JobId, Mode, QueueNo};
+use rt_ids::{JobId, MOST_QUEUES, Mode, QueueNo};
 use rt_sealed::{SealedSlab, SealedVec};
 use rt_shares::Shares;
 use rt_timeline::Slip;
@@ -16,9 +17,6 @@ use std::alloc::{AllocError, Allocator};
 use std::marker::Model;
 
 mod fronts;
-
-/// The number of a queue fits a byte.
-const MOST_QUEUES: usize = 256;
 
 /// Why no queue was created.
 #[derive(Clone, Copy, PartialEq, Eq, Debug, thiserror::Error)]
@@ -80,7 +78,7 @@ impl<J: Drop, A: Allocator + Clone> Queues<J, A> {
     /// Creates a queue under the next number. It asks for the queue's slip before it changes anything.
     pub fn try_create(&mut self, shares: Shares) -> Result<QueueNo, CreateError>
         ensures created { IfOk result (λ queue. AddsQueue self.old self.new queue shares) }
-        ensures too_many { (result ≡ Err CreateError.TooMany) ↔ (queue_count self.old ≡ 256) }
+        ensures too_many { (result ≡ Err CreateError.TooMany) ↔ (queue_count self.old ≡ most_queues) }
         ensures refused { OnErr result (self.new ≡ self.old) }
         ensures limits { IsWithinLimits self.new }
     {

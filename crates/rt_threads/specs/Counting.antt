@@ -1,6 +1,7 @@
 -- Whether there is room for a script's orders, as the outside journal counts them.
 use Rattle.std.specs.Prelude.{◌≡◌, ℕ, ◌<◌, ◌≤◌, true, length}
 use Rattle.rt_ids.specs.Filters.{accepted_orders}
+use Rattle.rt_ids.specs.Limits.{most_capacity, most_cores}
 use Rattle.rt_jobs.specs.Scripts.{Script}
 use Rattle.rt_runtime.specs.State.{RuntimeView, closing_at}
 use Rattle.rt_threads.specs.Rooms.{room_of}
@@ -12,8 +13,8 @@ sent_to core view = length (accepted_orders core view.desk.journal.notes)
 -- the runtime of a script
 pub record IsOfScript (view : RuntimeView Script ℕ) : Type 0 where
   pub some_cores : 1 ≤ view.desk.cores
-  pub few_cores : view.desk.cores ≤ 16
-  pub small_cap : view.desk.cap ≤ 1024
+  pub few_cores : view.desk.cores ≤ most_cores
+  pub small_cap : view.desk.cap ≤ most_capacity
   pub room : view.desk.journal.room ≡ room_of view.desk.cores view.desk.cap
   pub closings : length view.closing ≡ view.desk.cores
 

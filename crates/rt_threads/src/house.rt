@@ -1,6 +1,7 @@
 //! How a script's runtime is started.
 
 ghost use Rattle.std.specs.Prelude.{◌≡◌, ◌≤◌, length, IfOk, IfErr, Some};
+ghost use Rattle.rt_ids.specs.Limits.{most_capacity, most_cores};
 ghost use Rattle.rt_runtime.specs.Calls.{IsStarted};
 ghost use Rattle.rt_script.specs.Limits.{IsSize, ArePlaced, HasFewQueues};
 ghost use Rattle.rt_threads.specs.Rooms as spec;
@@ -22,8 +23,8 @@ pub(crate) type House = Runtime<ScriptJob, StillClock, NoGate>;
 
 /// How many notes each journal has room for.
 fn room_of(cores: u8, cap: u16) -> u32
-    requires cores { cores ≤ 16 }
-    requires cap { cap ≤ 1024 }
+    requires cores { cores ≤ most_cores }
+    requires cap { cap ≤ most_capacity }
     ensures { result ≡ spec.room_of cores cap }
 {
     (1 << 16) + 16 * ((u32::from(cores) + 1) * (u32::from(cap) + 1))

@@ -16,7 +16,7 @@ pub type Bell = Arc<AtomicU64, Global>;
 
 /// Tells a worker that there is something for it. The bell of a worker that is awake is only read, and no system call is made.
 pub fn ring(bell: &Bell) {
-    // Of all who find the worker asleep, the one that changes the word wakes it.
+    // step: ring. A load and, if the worker lay down, a swap: of all who find it asleep, the one that changes the word wakes it.
     if bell.load(Ordering::SeqCst) == ASLEEP && bell.swap(AWAKE, Ordering::SeqCst) == ASLEEP {
         bell.wake_one();
     }
@@ -24,16 +24,19 @@ pub fn ring(bell: &Bell) {
 
 /// From here on a ring ends the sleep. What came before it is seen by the look that follows.
 pub(crate) fn lie_down(bell: &Bell) {
+    // step: lie down
     bell.store(ASLEEP, Ordering::SeqCst);
 }
 
 /// Parks until this bell rings. It doesn't if it has rung since the worker lay down.
 pub(crate) fn sleep<R: Wait>(rt: &R, bell: &Bell) {
+    // step: park, which looks at the word once more
     bell.park(rt, ASLEEP as u32);
 }
 
 /// Nobody needs to ring from here on.
 pub(crate) fn get_up(bell: &Bell) {
+    // step: get up
     bell.store(AWAKE, Ordering::SeqCst);
 }
 

@@ -37,6 +37,7 @@ pub(crate) enum Seat<W: Promised> {
 /// Waits for the signal. Whether to begin.
 fn is_told_to_begin<R: Wait>(rt: &R, signal: &Signal) -> bool {
     for _ in rt.forever() {
+        // step: hear
         let told = signal.load(Ordering::SeqCst);
         if told != WAIT {
             return told == BEGIN;
@@ -73,6 +74,7 @@ where
     ensures { IsSeatOf W.keeps worker result }
 {
     let Ok(theirs) = Arc::try_clone(signal) else {
+        // step: leave
         signal.store(LEAVE, Ordering::SeqCst);
         return Seat::Here(Left::Unbegun(worker));
     };
@@ -81,6 +83,7 @@ where
     match thread::spawn_with(&rt, promise, move || sit(rt, worker, theirs, kind)) {
         Ok(handle) => Seat::Thread(handle),
         Err(refused) => {
+            // step: leave
             signal.store(LEAVE, Ordering::SeqCst);
             Seat::Here((refused.value)())
         }

@@ -64,6 +64,7 @@ where
 
 /// Tells all threads to begin, unless they were told to leave. Whether they begin.
 fn begins(signal: &Signal) -> bool {
+    // step: begin
     let begun = signal
         .compare_exchange(WAIT, BEGIN, Ordering::SeqCst, Ordering::SeqCst)
         .is_ok();

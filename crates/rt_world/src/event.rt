@@ -6,7 +6,7 @@ ghost use Rattle.rt_world.specs.Sends.{actor_of};
 use rt_ids::{ActorNo, CoreNo, Order, Outcome, SendError, Ticket, TicketError};
 
 /// One step of one actor.
-#[derive(PartialEq, Eq, Debug, Drop)]
+#[derive(PartialEq, Eq, Drop)]
 pub enum Event<J> {
     /// The actor sends the order to the core.
     Send(ActorNo, CoreNo, Order<J>),
@@ -42,7 +42,7 @@ impl<J> Event<J> {
 }
 
 /// What an event came to.
-#[derive(PartialEq, Eq, Debug, Drop)]
+#[derive(PartialEq, Eq, Drop)]
 pub enum Reply<J> {
     /// The order was accepted, under the name of the ticket.
     Sent(Ticket),

@@ -4,7 +4,7 @@ use Rattle.rt_taskqueue.specs.Queues.{queue_count, mode_of}
 use Rattle.rt_taskqueue.specs.Slips.{queues_alone}
 use Rattle.rt_core.specs.State.{CoreView}
 use Rattle.rt_core.specs.Inside.{core_view, job_out}
-use Rattle.rt_core.proofs.Counting.{IsCounted-closes, IsListed-same}
+use Rattle.rt_core.proofs.Counting.{KeepsCounts-closes, IsListed-same}
 use Rattle.rt_core.proofs.Fits.{IsBounded-from_turns}
 use Rattle.rt_core.proofs.Outcomes.{past_if_not}
 use Rattle.rt_core.proofs.Parts.{IsPollable-same}
@@ -48,7 +48,7 @@ invariant_of-self g c =
     let did = sym c.closes.ensures ∙ c.if-not-closes.false in
     let closed = c.close.ensures.closed (c.close.ensures.told ∙ ap (λ was. closes was c.args.mode) (sym c.mode.ensures) ∙ did) in
     record {
-      counted = IsCounted-closes old _ _ _ _ c.args.queue c.args.mode closed.queues c.close.ensures.limits refl refl refl refl core.counted;
+      counted = KeepsCounts-closes old _ _ _ _ c.args.queue c.args.mode closed.queues c.close.ensures.limits refl refl refl refl core.counted;
       listed = IsListed-same old _ _ closed.queues.same_lines refl (λ queue. refl) core.listed;
       slipped = KeepsSlips-same _ _ _ _ _ closed.queues.same_count closed.slips core.slipped;
       pollable = IsPollable-same _ _ old _ closed.queues.same_lines core.pollable;

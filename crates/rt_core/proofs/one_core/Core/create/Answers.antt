@@ -11,7 +11,7 @@ use Rattle.rt_core.proofs.Fits.{no_tally_fits, IsBounded-from_turns}
 use Rattle.rt_core.proofs.Outcomes.{creates_nothing}
 use Rattle.rt_core.proofs.Parts.{IsPollable-same}
 use Rattle.rt_core.proofs.Picking.{nothing_past}
-use Rattle.rt_core.proofs.Counting.{get_or-push_default, IsCounted-creates, IsListed-same}
+use Rattle.rt_core.proofs.Counting.{get_or-push_default, KeepsCounts-creates, IsListed-same}
 use Rattle.rt_core.proofs.SlipsKept.{KeepsSlips-same, KeepsSlips-created}
 use Rattle.rt_core.proofs.one_core.Core.create.Goals as goal
 
@@ -23,7 +23,7 @@ invariant_of-self g c =
     let adds = c.in-Ok.ensures.created.queues in
     let items = c.push_reserved.ensures.items in
     record {
-      counted = rw c.push_reserved.ensures.capacity (IsCounted-creates _ _ _ _ _ c.in-Ok.queue c.args.shares adds c.try_create.ensures.limits refl refl
+      counted = rw c.push_reserved.ensures.capacity (KeepsCounts-creates _ _ _ _ _ c.in-Ok.queue c.args.shares adds c.try_create.ensures.limits refl refl
           (ap length items ∙ length-append inside.tallies.items (no_tally ∷ [])) refl core.counted);
       listed = IsListed-same _ _ _ adds.same_lines refl
           (λ queue. ap (λ (tallies : List Tally). (slice_index_or tallies queue no_tally).runtime) items ∙ ap (λ (tally : Tally). tally.runtime) (get_or-push_default inside.tallies.items no_tally queue)) core.listed;

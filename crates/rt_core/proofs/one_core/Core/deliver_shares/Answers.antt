@@ -8,7 +8,7 @@ use Rattle.rt_core.specs.Inside.{core_view, job_out}
 use Rattle.rt_core.proofs.Fits.{IsBounded-from_turns}
 use Rattle.rt_core.proofs.Outcomes.{past_if_not}
 use Rattle.rt_core.proofs.Parts.{IsPollable-same}
-use Rattle.rt_core.proofs.Counting.{IsCounted-weighs, IsListed-same}
+use Rattle.rt_core.proofs.Counting.{KeepsCounts-weighs, IsListed-same}
 use Rattle.rt_core.proofs.SlipsKept.{KeepsSlips-same}
 use Rattle.rt_core.proofs.one_core.Core.deliver_shares.Goals as goal
 
@@ -17,7 +17,7 @@ invariant_of-self g c =
     let core = c.self.invariant in
     let given = c.set_shares.ensures.given.queues in
     rw c.count-2.ensures (record {
-      counted = IsCounted-weighs _ _ _ _ _ c.args.queue c.args.shares given c.set_shares.ensures.limits refl refl refl (length-set _ _ _) core.counted;
+      counted = KeepsCounts-weighs _ _ _ _ _ c.args.queue c.args.shares given c.set_shares.ensures.limits refl refl refl (length-set _ _ _) core.counted;
       listed = IsListed-same _ _ _ given.same_lines refl (λ queue. refl) core.listed;
       slipped = KeepsSlips-same _ _ _ _ _ given.same_count c.set_shares.ensures.given.slips core.slipped;
       pollable = IsPollable-same _ _ _ _ given.same_lines core.pollable;

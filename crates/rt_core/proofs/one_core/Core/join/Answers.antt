@@ -5,7 +5,7 @@ use Rattle.rt_taskqueue.specs.Slips.{queues_alone}
 use Rattle.rt_core.specs.State.{CoreView, inside_count, is_working}
 use Rattle.rt_core.specs.Inside.{core_view, job_out}
 use Rattle.rt_core.proofs.Fits.{IsBounded-from_turns}
-use Rattle.rt_core.proofs.Parts.{IsCounted-enters, IsListed-joins, IsPollable-pushed}
+use Rattle.rt_core.proofs.Parts.{KeepsCounts-enters, IsListed-joins, IsPollable-pushed}
 use Rattle.rt_core.proofs.SlipsKept.{KeepsSlips-same}
 use Rattle.rt_core.proofs.one_core.Core.join.Goals as goal
 
@@ -18,7 +18,7 @@ invariant_of-self g c =
     let space : c.self.inside.inside < c.self.inside.room = omega (arith, old.counted.all_inside, old.counted.same_room, room) in
     let joins = c.admit.ensures.joins in
     rw c.count.ensures (record {
-      counted = IsCounted-enters _ _ _ _ _ c.args.queue c.args.name c.args.job joins.queues c.admit.ensures.limits space refl refl refl (length-set _ _ _) old.counted;
+      counted = KeepsCounts-enters _ _ _ _ _ c.args.queue c.args.name c.args.job joins.queues c.admit.ensures.limits space refl refl refl (length-set _ _ _) old.counted;
       listed = IsListed-joins _ _ _ c.args.queue c.args.name c.args.job joins.queues refl refl work old.listed;
       slipped = KeepsSlips-same _ _ _ _ _ joins.queues.same_count joins.slips old.slipped;
       pollable = IsPollable-pushed _ _ _ _ c.args.queue c.args.name false c.args.job joins.queues c.requires.ready old.pollable;
