@@ -264,7 +264,7 @@ impl<J: Task> Desk<J> {
         lane.outstanding(end)
     }
 
-    /// A desk with room for `cap` outstanding submissions to each core. It takes no memory afterwards.
+    /// A desk with room for `cap` outstanding submissions to each core. The other calls ask for no memory; no clause says so.
     ///
     /// # Errors
     ///

@@ -112,7 +112,7 @@ impl<J: Job + Task<Out = u64>, C: Clock + Drop, G: Gate + Drop> Runtime<J, C, G>
         assembly
     }
 
-    /// Waits until all workers have ended, and puts the journals together. It takes no memory.
+    /// Waits until all workers have ended, and puts the journals together. The body asks for no memory; no clause says so.
     ///
     /// # Errors
     ///

@@ -148,7 +148,9 @@ impl<W: Promised> Team<W> {
         }
     }
 
-    /// Waits until all workers have ended. What each gave back, in the order in which they were given. It takes no memory.
+    /// Waits until all workers have ended. What each gave back, in the order in which they were given.
+    ///
+    /// The body asks for no memory; no clause says so.
     pub fn join<R: Threads + Wait>(self, rt: &R) -> Vec<W::Ended>
     where
         W: Work,
