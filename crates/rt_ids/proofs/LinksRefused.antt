@@ -5,20 +5,25 @@ use Rattle.std.proofs.lemmas.Option.{same_Some}
 use Rattle.rt_ids.specs.declared.note.Note.{Note}
 use Rattle.rt_ids.specs.declared.note.Note.TheVariants as notes
 use Rattle.rt_ids.specs.declared.note.OutcomeNote.TheVariants.{Finished}
+use Rattle.rt_ids.specs.declared.order.Answer.{Answer}
 use Rattle.rt_ids.specs.declared.order.Answer.TheVariants as answers
 use Rattle.rt_ids.specs.declared.order.Mode.TheVariants.{Finish, Return}
 use Rattle.rt_ids.specs.declared.order.Order.{Order}
-use Rattle.rt_ids.specs.declared.order.Order.TheVariants.{Job, Create, Close}
+use Rattle.rt_ids.specs.declared.order.Order.TheVariants.{Job, Create, Close, CloseCore}
 use Rattle.rt_ids.specs.declared.order.Reason.TheVariants as why
 use Rattle.rt_ids.specs.BadLinks.{LinksAreRefused}
 use Rattle.rt_ids.specs.Commands.{IsAnswer, effect_note, refusal}
 use Rattle.rt_ids.specs.Filters.{Outcomes}
+use Rattle.rt_ids.specs.Journal.{Journal}
+use Rattle.rt_ids.proofs.NameLemmas.{first_number}
+
+-- what answers the order that was accepted answers the one that was sent
+answers_sent : (sent order : Order (Unit {0})) (answer : Answer) (before : Journal ℕ) → Some sent ≡ Some order → IsAnswer order answer before → IsAnswer sent answer before
+answers_sent sent order answer before accepted fits = subst (λ one. IsAnswer one answer before) (sym (same_Some sent order accepted)) fits
 
 -- no creation is answered as if it set shares
-not_shares : (order : Order (Unit {0})) → Some (Create 500) ≡ Some order → IsAnswer {T = ℕ} order answers.SharesSet [] → ⊥
-not_shares order sent fits =
-    let creation : IsAnswer {T = ℕ} (Create 500) answers.SharesSet [] = subst (λ one. IsAnswer {T = ℕ} one answers.SharesSet []) (sym (same_Some (Create 500) order sent)) fits in
-    elim creation [ inl none ↦ cc | inr created ↦ cc ]
+not_shares : IsAnswer {T = ℕ} (Create 500) answers.SharesSet [] → ⊥
+not_shares creation = elim creation [ inl none ↦ cc | inr created ↦ cc ]
 
 -- a job for this queue
 abbrev job_for : ℕ → Order (Unit {0})
@@ -44,13 +49,11 @@ not_600 order sent carried =
     let weight : ◌≡◌ {A = ℕ} 500 600 = given in
     omega arith
 
--- the first closing of an open queue is not answered as a second one
-not_closed_before : (order : Order (Unit {0})) → Some (Close 0 Finish) ≡ Some order → IsAnswer {T = ℕ} order answers.AlreadyClosed [] → ⊥
-not_closed_before order sent fits =
-    let closing : IsAnswer {T = ℕ} (Close 0 Finish) answers.AlreadyClosed [] = subst (λ one. IsAnswer {T = ℕ} one answers.AlreadyClosed []) (sym (same_Some (Close 0 Finish) order sent)) fits in
-    cc
+-- the journal of a core that is closed
+abbrev closed : Journal ℕ
+closed = notes.CoreClosed Finish ∷ []
 
--- it has one effect
+-- the closing of a queue has one effect
 not_other_effect : (order : Order (Unit {0})) (note : Note ℕ) → Some (Close 0 Finish) ≡ Some order → effect_note {T = ℕ} order answers.Closed ≡ Some note → note ≡ notes.QueueClosed 0 Finish
 not_other_effect order note sent carried =
     let same = same_Some (Close 0 Finish) order sent in
@@ -64,12 +67,15 @@ first_value _ = 0
 
 pub links_refused : LinksAreRefused
 links_refused = record {
-  answer = λ agree. let sent = (agree.as_sent 0 (omega arith)).1.0 in not_shares sent.0 sent.1 sent.2;
+  answer = λ agree. let sent = (agree.as_sent 0 (omega arith)).1.0 in not_shares (answers_sent (Create 500) sent.0 answers.SharesSet [] sent.1 sent.2);
   refusal = λ agree. let sent = (agree.as_sent 0 (omega arith)).0 in not_denied sent.0 sent.1 sent.2;
   effect = λ agree. let sent = (agree.as_sent 0 (omega arith)).0 refl in not_600 sent.0 sent.1 sent.2;
-  closing = λ agree. let sent = (agree.as_sent 0 (omega arith)).0 in not_closed_before sent.0 sent.1 sent.2;
+  closing = λ agree. let sent = (agree.as_sent 0 (omega arith)).0 in let answer = answers_sent (Close 0 Finish) sent.0 answers.AlreadyClosed [] sent.1 sent.2 in cc;
   mode = λ agree. let sent = (agree.as_sent 0 (omega arith)).0 refl in let effect = not_other_effect sent.0 (notes.QueueClosed 0 Return) sent.1 sent.2 in cc;
   core = λ agree. let sent = (agree.as_sent 0 (omega arith)).0 refl in let effect = not_other_effect sent.0 (notes.CoreClosed Finish) sent.1 sent.2 in cc;
+  again = λ agree. let sent = (agree.as_sent 0 (omega arith)).0 in let answer = answers_sent (CloseCore Finish) sent.0 answers.Closed closed sent.1 sent.2 in cc;
+  stricter = λ agree. let sent = (agree.as_sent 0 (omega arith)).0 in let answer = answers_sent (CloseCore Return) sent.0 answers.AlreadyClosed closed sent.1 sent.2 in cc;
+  delivered = λ agree. let first : 2 ≡ 1 = ap first_number (agree.deliveries 1 0 (omega arith) (omega arith)).1 in cc;
   count = λ agree. let count : 0 ≡ 1 = agree.gates 1 0 (omega arith) (omega arith) 0 refl in omega arith;
   outcome = λ agree. let given = (agree.collections 1 0 (omega arith) (omega arith)).1 in let value : 8 ≡ 7 = ap first_value given in cc;
 }

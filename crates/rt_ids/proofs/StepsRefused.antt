@@ -11,7 +11,7 @@ use Rattle.rt_ids.specs.StepsRefused.{StepsAreRefused}
 use Rattle.rt_ids.proofs.NameLemmas.{first_number}
 
 -- the queue of a turn is the one that was picked
-its_queue : (name : JobId) (queue : ℕ) (before : Journal ℕ) → IsTurnOf name queue before → queue_just_picked before ≡ Some 0 → queue ≡ 0
+pub its_queue : (name : JobId) (queue : ℕ) (before : Journal ℕ) → IsTurnOf name queue before → queue_just_picked before ≡ Some 0 → queue ≡ 0
 its_queue name queue before turn picked = sym (same_Some 0 queue (sym picked ∙ turn.picked))
 
 -- an open core refuses a job for no closed queue
@@ -33,13 +33,18 @@ steps_refused = record {
   back = λ law. not_closed (nat_le law.0.may_follow.1.0 0) law.0.may_follow.1.1;
   skipped = λ law. let next = law.0.may_follow.next in cc;
   missing = λ law. law.0.effect;
+  other_effect = λ law. let effect = law.0.effect in cc;
   unasked = λ law. law.0.effect;
   created = λ law. law.0.effect;
+  second_sent = λ law. let next = law.0.may_follow.next in cc;
   capacity = λ law. let credit : 4 < 4 = law.0.may_follow.credit in omega arith;
   sender = λ law. let sender = law.0.may_follow.sender in cc;
   no_core = λ law. let receiver : 7 < 1 = law.0.may_follow.receiver in omega arith;
   beyond_queues = λ law. let queue : 256 < 256 = law.0.may_follow.spelled in omega arith;
   no_actor = λ law. let sender : 7 ≤ 1 = law.0.may_follow.0.sender in omega arith;
+  another_core = λ law. let receiver = law.0.may_follow.0.receiver in cc;
   outside = λ law. let core : 1 < 1 = law.0.writer in omega arith;
   open_end = λ lawful. let nobody = lawful.nobody_out in cc;
+  picked_end = λ lawful. let no_pick = lawful.no_pick in cc;
+  answered_end = λ lawful. let no_answer = lawful.no_answer in cc;
 }

@@ -4,10 +4,10 @@ use Rattle.rt_ids.specs.declared.note.Note.TheVariants as notes
 use Rattle.rt_ids.specs.declared.note.OutcomeNote.TheVariants.{Finished}
 use Rattle.rt_ids.specs.declared.order.Answer.TheVariants as answers
 use Rattle.rt_ids.specs.declared.order.Mode.TheVariants.{Finish, Return}
-use Rattle.rt_ids.specs.declared.order.Order.TheVariants.{Close}
+use Rattle.rt_ids.specs.declared.order.Order.TheVariants.{Close, CloseCore}
 use Rattle.rt_ids.specs.declared.order.Reason.TheVariants as why
 use Rattle.rt_ids.specs.Assembly.{Assembly}
-use Rattle.rt_ids.specs.BadJournals.{submission, with_journals, one_job, one_command, done}
+use Rattle.rt_ids.specs.BadJournals.{submission, with_journals, one_job, two_jobs, one_command, done}
 use Rattle.rt_ids.specs.Joining.{LinksAgree}
 use Rattle.rt_ids.specs.Journal.{Journal}
 
@@ -39,6 +39,18 @@ closed_otherwise = with_journals (notes.QueueClosed 0 Return ∷ notes.Answered 
 abbrev pub core_closed_instead : Assembly ℕ
 core_closed_instead = with_journals (notes.CoreClosed Finish ∷ notes.Answered (submission 1) answers.Closed ∷ []) one_closing
 
+-- a core that is closed answers a closing as if it were the first
+abbrev pub closed_once_more : Assembly ℕ
+closed_once_more = with_journals (notes.Answered (submission 1) answers.Closed ∷ notes.CoreClosed Finish ∷ []) (notes.Sent (submission 1) (CloseCore Finish) ∷ [])
+
+-- a core that is closed in mode `Finish` answers a closing in mode `Return` as if it changed nothing
+abbrev pub never_returning : Assembly ℕ
+never_returning = with_journals (notes.Answered (submission 1) answers.AlreadyClosed ∷ notes.CoreClosed Finish ∷ []) (notes.Sent (submission 1) (CloseCore Return) ∷ [])
+
+-- the second job of the outside actor is delivered first
+abbrev pub delivered_second : Assembly ℕ
+delivered_second = with_journals (notes.Took (submission 2) 0 ∷ []) two_jobs
+
 -- a gate is shut at another count than that of the accepted orders
 abbrev pub shut_at_another : Assembly ℕ
 shut_at_another = with_journals (notes.Shut 1 0 ∷ notes.CoreClosed Finish ∷ []) one_job
@@ -55,5 +67,8 @@ pub record LinksAreRefused : Type 0 where
   pub closing : LinksAgree closed_before → ⊥
   pub mode : LinksAgree closed_otherwise → ⊥
   pub core : LinksAgree core_closed_instead → ⊥
+  pub again : LinksAgree closed_once_more → ⊥
+  pub stricter : LinksAgree never_returning → ⊥
+  pub delivered : LinksAgree delivered_second → ⊥
   pub count : LinksAgree shut_at_another → ⊥
   pub outcome : LinksAgree collected_another → ⊥

@@ -45,6 +45,10 @@ queue_skipped = notes.Created 2 500 ∷ []
 abbrev pub effect_missing : Journal ℕ
 effect_missing = notes.Took (submission 2) 0 ∷ notes.Answered (submission 1) (answers.Created 1) ∷ []
 
+-- a creation is answered, and shares are set
+abbrev pub effect_of_another : Journal ℕ
+effect_of_another = notes.SharesSet 0 500 ∷ notes.Answered (submission 1) (answers.Created 1) ∷ []
+
 -- a queue gets other shares by nobody's command
 abbrev pub effect_unasked : Journal ℕ
 effect_unasked = notes.SharesSet 0 500 ∷ []
@@ -52,6 +56,10 @@ effect_unasked = notes.SharesSet 0 500 ∷ []
 -- a queue is created after the opening by nobody's command
 abbrev pub created_unasked : Journal ℕ
 created_unasked = notes.Created 1 500 ∷ notes.Took (submission 1) 0 ∷ []
+
+-- the first order of a link has number 2
+abbrev pub second_sent : Journal ℕ
+second_sent = notes.Sent (submission 2) (Job 0 tt) ∷ []
 
 -- a fifth order is sent on a link that holds four
 abbrev pub sent_beyond_capacity : Journal ℕ
@@ -70,6 +78,10 @@ sent_beyond_queues = notes.Sent (submission 1) (Job 256 tt) ∷ []
 abbrev pub taken_from_nobody : Journal ℕ
 taken_from_nobody = notes.Took (record { from = 7; to = 0; number = 1 }) 0 ∷ []
 
+-- a job is delivered that was sent to another core
+abbrev pub taken_for_another : Journal ℕ
+taken_for_another = notes.Took (record { from = 1; to = 7; number = 1 }) 0 ∷ []
+
 -- the outside actor takes a job
 abbrev pub taken_outside : Journal ℕ
 taken_outside = notes.Took (record { from = 1; to = 1; number = 1 }) 0 ∷ []
@@ -77,3 +89,11 @@ taken_outside = notes.Took (record { from = 1; to = 1; number = 1 }) 0 ∷ []
 -- a core sends in the name of the outside actor
 abbrev pub sent_for_another : Journal ℕ
 sent_for_another = notes.Sent (submission 1) (Job 0 tt) ∷ []
+
+-- a journal ends behind a pick
+abbrev pub picked_at_the_end : Journal ℕ
+picked_at_the_end = notes.Pick 0 0 ∷ notes.Took (submission 1) 0 ∷ []
+
+-- a journal ends behind an answer, before its effect
+abbrev pub answered_at_the_end : Journal ℕ
+answered_at_the_end = notes.Answered (submission 1) (answers.Created 1) ∷ []

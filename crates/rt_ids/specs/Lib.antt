@@ -32,7 +32,9 @@ pub mod BadPicks
 pub mod PicksRefused
 pub mod BadSteps
 pub mod StepsRefused
+pub mod BadTurns
 pub mod BadCollects
+pub mod BadRanges
 pub mod BadClosings
 pub mod BadLinks
 pub mod GoodJournals

@@ -20,13 +20,18 @@ pub record StepsAreRefused : Type 0 where
   pub back : CoreMayWrite bad.back_from_open → ⊥
   pub skipped : CoreMayWrite bad.queue_skipped → ⊥
   pub missing : CoreMayWrite bad.effect_missing → ⊥
+  pub other_effect : CoreMayWrite bad.effect_of_another → ⊥
   pub unasked : CoreMayWrite bad.effect_unasked → ⊥
   pub created : CoreMayWrite bad.created_unasked → ⊥
+  pub second_sent : EachNote (MayStand outside_terms) bad.second_sent → ⊥
   pub capacity : EachNote (MayStand outside_terms) bad.sent_beyond_capacity → ⊥
   pub sender : CoreMayWrite bad.sent_for_another → ⊥
   pub no_core : EachNote (MayStand outside_terms) bad.sent_to_nobody → ⊥
   pub beyond_queues : EachNote (MayStand outside_terms) bad.sent_beyond_queues → ⊥
   pub no_actor : CoreMayWrite bad.taken_from_nobody → ⊥
+  pub another_core : CoreMayWrite bad.taken_for_another → ⊥
   pub outside : EachNote (MayStand outside_terms) bad.taken_outside → ⊥
-  -- a journal doesn't end while a job is out
+  -- a journal doesn't end while a job is out, nor behind a pick, nor before the effect of an answer
   pub open_end : IsLawful core_terms polled → ⊥
+  pub picked_end : IsLawful core_terms bad.picked_at_the_end → ⊥
+  pub answered_end : IsLawful core_terms bad.answered_at_the_end → ⊥

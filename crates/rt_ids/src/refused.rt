@@ -6,7 +6,9 @@ ghost use Rattle.rt_ids.specs.BadCollects.{CollectsAreRefused};
 ghost use Rattle.rt_ids.specs.BadLinks.{LinksAreRefused};
 ghost use Rattle.rt_ids.specs.BadOrder.{OrderIsRefused};
 ghost use Rattle.rt_ids.specs.BadOutcomes.{OutcomesAreRefused};
+ghost use Rattle.rt_ids.specs.BadRanges.{RangesAreRefused};
 ghost use Rattle.rt_ids.specs.BadStarts.{StartsAreRefused};
+ghost use Rattle.rt_ids.specs.BadTurns.{TurnsAreRefused};
 ghost use Rattle.rt_ids.specs.PicksRefused.{PicksAreRefused};
 ghost use Rattle.rt_ids.specs.StepsRefused.{StepsAreRefused};
 
@@ -32,6 +34,14 @@ pub fn picks()
 
 pub fn steps()
     ensures { StepsAreRefused }
+{}
+
+pub fn turns()
+    ensures { TurnsAreRefused }
+{}
+
+pub fn ranges()
+    ensures { RangesAreRefused }
 {}
 
 pub fn links()
