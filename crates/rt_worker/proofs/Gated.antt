@@ -17,9 +17,11 @@ use Rattle.rt_notes.specs.Journals.{JournalView}
 use Rattle.rt_journal.specs.Recorded.{RecordedView, IsRecorded, desk_of, sum_upto, given_count}
 use Rattle.rt_journal.specs.Ends.{IsInOf, IsSameSeat, KeepsIn, KeepsOuts, name_of}
 use Rattle.rt_grid.specs.Ends.{EndsView, in_at}
+use Rattle.rt_grid.proofs.Using.{ends_same}
 use Rattle.rt_ids.specs.Outcomes.{outcome_note}
 use Rattle.rt_journal.specs.Steps.{ClosesItself}
 use Rattle.rt_worker.specs.Linked.{LinkedView, IsLinked, StaysLinked}
+use Rattle.rt_worker.specs.Queues.{opening_of}
 use Rattle.rt_worker.specs.Steps.{ShutsGate}
 use Rattle.rt_worker.specs.Gates.{WritesShut, WritesReturn, IsShutWithin, LeavesShut, LeavesReturning, ShutsFirst}
 use Rattle.rt_worker.specs.Rooms.{last_through, least_free, ClosesRightly, ClosesOnlyShort, HasSpare, IsShort, IsEnding}
@@ -173,6 +175,19 @@ module _ {J T : Type 0} where
       still : (did : Bool) → ClosesItself old Return did new → new.core.out ≡ None
       still true closes = closes.2 ∙ linked.at_rest
       still false closes = ap (λ view. view.core.out) closes.1 ∙ linked.at_rest
+
+  -- it noted that it closed in that mode, or it was in it before
+  pub returned_leaves : (old new : RecordedView J T) (ends : EndsView J T) (did : Bool) → ClosesItself old Return did new → IsSameSeat old new → LeavesReturning (record { recorded = old; ends = ends }) (record { recorded = new; ends = ends })
+  returned_leaves old new ends true closes seat = record {
+    wrote = inr closes.1;
+    returning = ap (λ journal. core_mode journal.notes) closes.1;
+    stays = record { seat = seat; ends = ends_same ends; opening = ap (λ journal. opening_of journal.notes) closes.1 };
+  }
+  returned_leaves old new ends false closes seat = record {
+    wrote = inl (ap (λ view. view.journal) closes.1);
+    returning = ap (λ view. core_mode view.journal.notes) closes.1 ∙ was_returning (core_mode old.journal.notes) closes.0;
+    stays = record { seat = seat; ends = ends_same ends; opening = ap (λ view. opening_of view.journal.notes) closes.1 };
+  }
 
   -- a gate that was shut just now
   pub shut_now : (sender : ℕ) (old new : LinkedView J T) → ShutsGate sender old new → WritesShut sender old.recorded.journal new.recorded.journal × IsSome (final_count sender new.recorded.journal.notes)

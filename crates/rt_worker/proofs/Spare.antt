@@ -1,5 +1,6 @@
 -- Sums over senders, and the room that a worker keeps.
 use Rattle.std.proofs.Common.{◌≡◌, ℕ, zero, suc, ◌+◌, ◌*◌, ◌≤◌, [], ◌∷◌, ◌++◌, length, ap, subst, arith}
+use Rattle.std.proofs.Math.Nat.{add-mul, mul-add, suc-mul, mul_left_comm}
 use Rattle.std.specs.Prelude.{Some, unwrap_or, IsSome, Bool, true, false}
 use Rattle.rt_ids.specs.declared.order.Outcome.{Outcome}
 use Rattle.rt_ids.specs.declared.order.Order.{Order}
@@ -24,8 +25,7 @@ sums_within f g more zero each = let one : f 0 ≤ g 0 + more = each 0 (omega ar
 sums_within f g more (suc last) each =
     let one : f (suc last) ≤ g (suc last) + more = each (suc last) (omega arith) in
     let rest : sum_upto f last ≤ sum_upto g last + (last + 1) * more = sums_within f g more last (λ s low. each s (omega (arith, low))) in
-    let places : (suc last + 1) * more ≡ (last + 1) * more + more = grind arith in
-    omega (arith, one, rest, places)
+    omega (arith, one, rest, add-mul (suc last) 1 more, suc-mul last more, add-mul last 1 more)
 
 pub sums_below : (f g : ℕ → ℕ) (last : ℕ) → ((s : ℕ) → s ≤ last → f s ≤ g s) → sum_upto f last ≤ sum_upto g last
 sums_below f g last each =
@@ -34,7 +34,10 @@ sums_below f g last each =
 
 -- the places of a house, and one more for each of its links
 pub places_more : (cores cap : ℕ) → (cores + 1) * (cap + 1) ≡ (cores + 1) * cap + (cores + 1)
-places_more cores cap = grind arith
+places_more cores cap = omega (arith, mul-add (cores + 1) cap 1)
+
+places_all : (cores cap : ℕ) → (cores + 1) * (cap + 1) ≡ cores * cap + cores + cap + 1
+places_all cores cap = omega (arith, places_more cores cap, add-mul cores 1 cap)
 
 -- there is at least one place
 pub places_some : (cores cap : ℕ) → 1 ≤ (cores + 1) * (cap + 1)
@@ -42,15 +45,10 @@ places_some cores cap = omega (arith, places_more cores cap)
 
 -- a link's places, and all notes of a turn, are few enough
 pub places_few : (cores cap : ℕ) → cap ≤ 4 * ((cores + 1) * (cap + 1))
-places_few cores cap =
-    let all : (cores + 1) * (cap + 1) ≡ cores * cap + cores + cap + 1 = grind arith in
-    omega (arith, all)
+places_few cores cap = omega (arith, places_all cores cap)
 
 pub posts_few : (cores cap : ℕ) → cores * (3 * cap) + 3 ≤ 4 * ((cores + 1) * (cap + 1))
-posts_few cores cap =
-    let all : (cores + 1) * (cap + 1) ≡ cores * cap + cores + cap + 1 = grind arith in
-    let posts : cores * (3 * cap) ≡ 3 * (cores * cap) = grind arith in
-    omega (arith, all, posts)
+posts_few cores cap = omega (arith, places_all cores cap, mul_left_comm cores 3 cap)
 
 module _ {T : Type 0} (terms : Terms) where
   -- a core that hands back goes on so

@@ -4,9 +4,10 @@ ghost use Rattle.std.specs.Prelude.{◌≡◌, ◌+◌, ◌<◌, ◌≤◌, ◌�
 ghost use Rattle.rt_ids.specs.declared.note.Note.TheVariants.{Created};
 ghost use Rattle.rt_ids.specs.Commands.{IsOpening, created_count};
 ghost use Rattle.rt_settings.specs.Configs.{least_room, queues_of};
+ghost use Rattle.rt_journal.specs.Recorded.{IsRecorded};
 ghost use Rattle.rt_journal.specs.Steps.{opened_beside};
 ghost use Rattle.rt_worker.specs.Opening.{AreEndsOf, CreatesSince, IsOpenedOver};
-ghost use Rattle.rt_worker.specs.Queues.{creations};
+ghost use Rattle.rt_worker.specs.Queues.{behind_entries, creations};
 
 use crate::bell::Bell;
 use crate::linked::Linked;
@@ -36,6 +37,27 @@ fn create_one<J: Task<Out = u64>>(
     }
 }
 
+/// Makes the queues that are named for this core, in their order.
+fn create_all<J: Task<Out = u64>>(
+    recorded: &mut Recorded<J>,
+    core: u8,
+    queues: &[(CoreNo, Shares)],
+) -> Result<(), AllocError>
+    requires opening { IsOpening recorded.old.journal.notes }
+    requires sound { IsRecorded J.SameTask J.made J.Polls recorded.old }
+    requires room { length recorded.old.journal.notes + queues_of core queues.now ≤ recorded.old.journal.room }
+    ensures since { OnOk result (CreatesSince J.SameTask J.made J.Polls (queues_of core queues.now) recorded.old recorded.new) }
+    ensures noted { OnOk result (recorded.new.journal.notes ≡ behind_entries core queues.now recorded.old.journal.notes) }
+{
+    for index in 0..queues.len() {
+        let (of, shares) = queues[index];
+        if of.0 == core {
+            create_one(recorded, shares)?;
+        }
+    }
+    Ok(())
+}
+
 /// Opens a core with its queues.
 fn open_core<J: Task<Out = u64>>(
     alloc: Global,
@@ -51,12 +73,7 @@ fn open_core<J: Task<Out = u64>>(
     ensures noted { IfOk result (λ recorded. recorded.journal.notes ≡ creations core queues.now) }
 {
     let mut recorded = Recorded::open(alloc, alloc, CoreNo(core), cores, cap, room)?;
-    for index in 0..queues.len() {
-        let (of, shares) = queues[index];
-        if of.0 == core {
-            create_one(&mut recorded, shares)?;
-        }
-    }
+    create_all(&mut recorded, core, queues)?;
     Ok(recorded)
 }
 

@@ -1,6 +1,7 @@
 //! A worker: it serves one core until the core is drained.
 
 ghost use Rattle.std.specs.Prelude.{◌≡◌, ◌≤◌, length};
+ghost use Rattle.rt_ids.specs.Closing.{IsDrained};
 ghost use Rattle.rt_worker.specs.Linked.{StaysLinked};
 
 use crate::bell::{Bell, get_up, lie_down, ring_for, sleep};
@@ -91,6 +92,15 @@ impl<J: Task<Out = u64>, C: Drop, G: Drop> Worker<J, C, G> {
         let mut worker = self;
         worker.bells = bells;
         worker
+    }
+
+    /// What a worker of a drained core leaves.
+    fn into_ended(self) -> Ended<J>
+        requires { IsDrained self.recorded.core.cores self.recorded.journal.notes }
+        ensures { result ≡ self }
+    {
+        let Worker { served, .. } = self;
+        served.into_ended()
     }
 
     /// Wakes the workers that have something from the notes behind the first `count`.
@@ -219,8 +229,7 @@ impl<J: Job + Task<Out = u64>, C: Clock + Drop, G: Gate + Drop> Work for Worker<
         worker.served.prefault();
         for _ in rt.forever() {
             if worker.served.is_drained() {
-                let Worker { served, .. } = worker;
-                return served.into_ended();
+                return worker.into_ended();
             }
             worker.serve(rt);
         }

@@ -1,41 +1,20 @@
-use Rattle.std.proofs.Common.{◌+◌, ◌∷◌, ◌∙◌, sym, ap, subst, arith}
-use Rattle.std.proofs.lemmas.List.{get_or_default}
-use Rattle.rt_ids.specs.declared.note.Note.TheVariants.{Created}
-use Rattle.rt_ids.specs.Commands.{IsOpening, created_count}
-use Rattle.rt_settings.specs.Configs.{Entry}
-use Rattle.rt_journal.specs.Steps.{opened_beside}
-use Rattle.rt_worker.proofs.Creating.{IsCreating, creating_first, creating_left, creating_more, creating_on, creating_noted}
-use Rattle.rt_worker.proofs.opening.open_core.Goals.{then-of-core+in_ok-create_one, else-of-core}
+use Rattle.std.proofs.Common.{◌+◌, ◌∙◌, ◌≤◌, sym, ap, subst, arith, length}
+use Rattle.rt_ids.specs.Commands.{IsOpening}
+use Rattle.rt_settings.specs.Configs.{queues_of}
+use Rattle.rt_worker.specs.Opening.{CreatesSince}
+use Rattle.rt_worker.specs.Queues.{behind_entries}
 use Rattle.rt_worker.proofs.opening.open_core.Goals as goal
 
-pub loop-index-init : goal.loop-index-init
-loop-index-init g c =
-    subst (λ old. IsCreating g.J.Task.SameTask g.J.Task.made g.J.Task.Polls c.args.core c.args.queues.now 0 old c.in_ok-recorded.recorded) c.in_ok-recorded.ensures.opened
-    (creating_first c.args.core c.args.queues.now c.in_ok-recorded.recorded (subst (λ view. IsOpening view.journal.notes) (sym c.in_ok-recorded.ensures.opened) tt) c.in_ok-recorded.ensures.sound)
+pub create_all-requires-clause-opening : goal.create_all-requires-clause-opening
+create_all-requires-clause-opening g c = subst (λ view. IsOpening view.journal.notes) (sym c.in_ok-recorded.ensures.opened) tt
 
-pub create_one-requires-clause-room : goal.create_one-requires-clause-room
-create_one-requires-clause-room g c =
-    let was = c.loop-index.invariant in
-    let left =
-    creating_left c.args.core c.args.queues.now c.loop-index.index (c.loop-index.index + 1) (omega arith) c.loop-index-test.true c.index-queues-index.result _ _ was
-    (sym c.of.view_is ∙ c.if-of-core.true) in
-    omega (arith, left, was.created.few, was.created.seat.room, c.requires.room)
+pub create_all-requires-clause-room : goal.create_all-requires-clause-room
+create_all-requires-clause-room g c =
+    subst (λ view. length view.journal.notes + queues_of c.args.core c.args.queues.now ≤ view.journal.room) (sym c.in_ok-recorded.ensures.opened) (omega (arith, c.requires.room))
 
-pub loop-index-preserved : goal.loop-index-preserved
-loop-index-preserved g c =
-    elim c.if-of-core.branch [
-      | then-of-core+in_ok-create_one w ↦
-          subst (λ view. IsCreating g.J.Task.SameTask g.J.Task.made g.J.Task.Polls c.args.core c.args.queues.now (c.loop-index.index + 1) (opened_beside c.args.core c.args.cores c.args.cap c.args.room) view) (sym w.recorded-is)
-          (creating_more c.args.core c.args.queues.now c.loop-index.index (c.loop-index.index + 1) (omega arith) c.loop-index-test.true c.index-queues-index.result _ c.loop-index.recorded c.loop-index.invariant
-          (sym c.of.view_is ∙ w.if-of-core.true) w.create_one.new.recorded w.in_ok-create_one.ensures.since
-          (w.in_ok-create_one.ensures.noted
-          ∙ ap (λ (entry : Entry). Created (created_count c.loop-index.recorded.journal.notes + 1) entry.1 ∷ c.loop-index.recorded.journal.notes)
-          (get_or_default c.args.queues.now c.loop-index.index c.index-queues-index-in-loop-index.result c.index-queues-index.result c.loop-index-test.true)))
-      | else-of-core w ↦
-          subst (λ view. IsCreating g.J.Task.SameTask g.J.Task.made g.J.Task.Polls c.args.core c.args.queues.now (c.loop-index.index + 1) (opened_beside c.args.core c.args.cores c.args.cap c.args.room) view) (sym w.recorded-is)
-          (creating_on c.args.core c.args.queues.now c.loop-index.index (c.loop-index.index + 1) (omega arith) c.loop-index-test.true c.index-queues-index.result _ c.loop-index.recorded c.loop-index.invariant
-          (λ one. w.if-of-core.false (c.of.view_is ∙ one)))
-    ]
+pub returns-clause-since : goal.returns-clause-since
+returns-clause-since g c =
+    subst (λ old. CreatesSince g.J.Task.SameTask g.J.Task.made g.J.Task.Polls (queues_of c.args.core c.args.queues.now) old c.create_all.new.recorded) c.in_ok-recorded.ensures.opened c.in_ok-create_all.ensures.since
 
 pub returns-clause-noted : goal.returns-clause-noted
-returns-clause-noted g c = creating_noted c.args.core c.args.queues.now c.loop-index.index _ c.loop-index.recorded c.loop-index-test.false c.loop-index.invariant
+returns-clause-noted g c = c.in_ok-create_all.ensures.noted ∙ ap (λ view. behind_entries c.args.core c.args.queues.now view.journal.notes) c.in_ok-recorded.ensures.opened
