@@ -11,7 +11,7 @@ use Rattle.rt_worker.specs.Queues.{creations, opening_of}
 abbrev some_queues : List Entry
 some_queues = (0, 900) ∷ (1, 100) ∷ (0, 50) ∷ []
 
--- the journal of its worker
+-- the creations of the worker of core 0
 abbrev wanted : Journal ℕ
 wanted = Created 2 50 ∷ Created 1 900 ∷ []
 
