@@ -6,12 +6,13 @@ use Rattle.rt_link.specs.declared.ends.Outward.{Outward}
 use Rattle.rt_link.specs.declared.ends.Inward.{Inward}
 use Rattle.rt_link.specs.Whole.{fresh, out_of, inward_of}
 use Rattle.rt_desk.proofs.Cores.{IsUnused-fresh}
-use Rattle.rt_journal.specs.Submissions.{DeskView, opened_desk}
+use Rattle.rt_recorded_desk.specs.Submissions.{DeskView, opened_desk}
 use Rattle.rt_journal.specs.Recorded.{RecordedView}
-use Rattle.rt_journal.specs.Ends.{IsInOf, IsOutOf}
+use Rattle.rt_journal.specs.Ends.{IsInOf}
+use Rattle.rt_recorded_desk.specs.Ends.{IsOutOf}
 use Rattle.rt_journal.specs.Steps.{opened_beside}
-use Rattle.rt_journal.specs.Tickets.{HasLane}
-use Rattle.rt_journal.proofs.LaneEnds.{fresh_has_lane}
+use Rattle.rt_recorded_desk.specs.Tickets.{HasLane}
+use Rattle.rt_recorded_desk.proofs.LaneEnds.{fresh_has_lane}
 
 module _ {J T : Type 0} (actor : ℕ) (desk : DeskView J T) (cap room : ℕ) (out : Outward J T) (credited : ℕ) (desk_is : desk ≡ opened_desk actor 1 cap room)
     (out_is : out ≡ out_of (fresh actor 0 cap 0)) (none : credited ≡ 0) where

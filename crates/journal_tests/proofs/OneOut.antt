@@ -5,10 +5,10 @@ use Rattle.std.proofs.lemmas.Option.{same_Some, slice_get_within}
 use Rattle.rt_ids.specs.declared.order.Order.{Order}
 use Rattle.rt_ids.specs.declared.order.Outcome.{Outcome}
 use Rattle.rt_link.specs.declared.ends.Outward.{Outward}
-use Rattle.rt_journal.specs.Submissions.{DeskView}
-use Rattle.rt_journal.specs.Ends.{IsOutOf}
-use Rattle.rt_journal.specs.Posts.{AreOutsOf}
-use Rattle.rt_journal.specs.Tickets.{HasLane}
+use Rattle.rt_recorded_desk.specs.Submissions.{DeskView}
+use Rattle.rt_recorded_desk.specs.Ends.{IsOutOf}
+use Rattle.rt_recorded_desk.specs.Posts.{AreOutsOf}
+use Rattle.rt_recorded_desk.specs.Tickets.{HasLane}
 
 module _ {E : Type 0} (end its : E) (core : ℕ) (at : slice_get (end ∷ []) core ≡ Some its) where
   at_zero : core ≡ 0

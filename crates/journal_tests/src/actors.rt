@@ -186,8 +186,8 @@ pub struct Sender<O: OutEnd<ScriptJob> + Drop> {
 impl<O: OutEnd<ScriptJob> + Drop> Model for Sender<O> {
     ghost use Rattle.std.specs.Prelude.{ℕ};
     ghost use Rattle.rt_link.specs.Fits.{Fits};
-    ghost use Rattle.rt_journal.specs.Ends.{IsOutOf};
-    ghost use Rattle.rt_journal.specs.Tickets.{HasLane};
+    ghost use Rattle.rt_recorded_desk.specs.Ends.{IsOutOf};
+    ghost use Rattle.rt_recorded_desk.specs.Tickets.{HasLane};
 
     ghost Value = { ℕ };
 

@@ -1,9 +1,10 @@
 //! A core whose jobs submit from inside their polls, with the ends of its links, whatever kind of links these are.
 
 ghost use Rattle.std.specs.Prelude.{◌≡◌};
-ghost use Rattle.rt_journal.specs.Ends.{IsInOf, IsOutOf};
+ghost use Rattle.rt_journal.specs.Ends.{IsInOf};
+ghost use Rattle.rt_recorded_desk.specs.Ends.{IsOutOf};
 ghost use Rattle.rt_journal.specs.Recorded.{desk_of};
-ghost use Rattle.rt_journal.specs.Tickets.{HasLane};
+ghost use Rattle.rt_recorded_desk.specs.Tickets.{HasLane};
 ghost use Rattle.rt_link.specs.Fits.{Fits};
 ghost use Rattle.rt_link.specs.Whole.{fresh, inward_of, out_of};
 
@@ -30,7 +31,7 @@ impl<O: OutEnd<ScriptJob> + Drop, I: InEnd<ScriptJob> + Drop> Model for Poster<O
     ghost use Rattle.rt_link.specs.Fits.{Fits};
     ghost use Rattle.rt_journal.specs.Recorded.{desk_of};
     ghost use Rattle.rt_journal.specs.Ends.{IsInOf};
-    ghost use Rattle.rt_journal.specs.Posts.{AreOutsOf};
+    ghost use Rattle.rt_recorded_desk.specs.Posts.{AreOutsOf};
 
     ghost Value = { ℕ };
 

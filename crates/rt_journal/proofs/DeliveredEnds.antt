@@ -6,7 +6,8 @@ use Rattle.rt_journal.proofs.Names.{given_outcomes, number_if, Inward, SoundIn, 
 use Rattle.rt_journal.proofs.Names.{order_taken, delivered_count, IsInOf, IsInOwing, IsUngiven, GivesMore, told_under}
 use Rattle.rt_journal.proofs.Names.{KeepsIn, IsSameSeat, named_outcomes, IsNextIn, Receives, KeepsOuts}
 use Rattle.rt_journal.proofs.Received.{order_taken-parts}
-use Rattle.rt_journal.proofs.EndsKept.{keeps_in, slice_get-seen, keeps_outs, sees_more_in, final_of-more}
+use Rattle.rt_journal.proofs.EndsKept.{keeps_in, slice_get-seen, sees_more_in, final_of-more}
+use Rattle.rt_recorded_desk.proofs.OutEnds.{keeps_outs}
 
 length-named : {J T : Type 0} (sender core : ℕ) (outcomes : List (ℕ × Outcome J T)) → length (named_outcomes sender core outcomes) ≡ length outcomes
 length-named sender core [] = refl

@@ -1,14 +1,13 @@
 -- The ends of links beside a journal that grows; and a job that is inside was given no outcome, neither by its journal nor on its end.
-use Rattle.rt_journal.proofs.Names.{◌≡◌, ℕ, zero, suc, ◌+◌, ◌≤◌, List, [], ◌∷◌, ◌++◌, length, append_assoc, refl, sym}
-use Rattle.rt_journal.proofs.Names.{◌∙◌, ap, arith, Option, Some, slice_get, take, Bool, true, false, length-append}
-use Rattle.rt_journal.proofs.Names.{take-append-le, JobId, OutcomeNote, with_last, Order, IsPrefix, given_outcomes}
-use Rattle.rt_journal.proofs.Names.{Inward, final_count, Outward, StartsWith, SeesMore, final_of, DeskView}
-use Rattle.rt_journal.proofs.Names.{RecordedView, order_taken, delivered_count, IsOutOf, IsInOf, KeepsSent, KeepsOuts}
-use Rattle.rt_journal.proofs.Names.{LeavesOwed, IsUngiven, ShowsMore, IsSameSeat, named_outcomes, subst, KeepsOut, ◌⊎◌}
-use Rattle.rt_journal.proofs.Names.{⊎_elim, inl, inr, cond, ◌==◌, None, or_parts, eqb-true, true≢false, option_map}
-use Rattle.rt_journal.proofs.Names.{none-some, same_Some, slice_get-map, Note, Job, IsAnswer, if_from, name_ended}
-use Rattle.rt_journal.proofs.Names.{outcome_given, DeliversAs, Journal, EachNote, is_told, same_name, is_name}
-use Rattle.rt_journal.proofs.Names.{outcome_note, same_as_itself, name_of}
+use Rattle.rt_journal.proofs.Names.{◌≡◌, ℕ, zero, suc, ◌+◌, List, [], ◌∷◌, ◌++◌, length, append_assoc, refl, sym, ◌∙◌}
+use Rattle.rt_journal.proofs.Names.{ap, arith, Option, Some, slice_get, Bool, true, false, length-append, JobId}
+use Rattle.rt_journal.proofs.Names.{OutcomeNote, with_last, Order, IsPrefix, given_outcomes, Inward, final_count}
+use Rattle.rt_journal.proofs.Names.{StartsWith, SeesMore, final_of, RecordedView, order_taken, delivered_count, IsInOf}
+use Rattle.rt_journal.proofs.Names.{LeavesOwed, IsUngiven, IsSameSeat, named_outcomes, subst, ◌⊎◌, ⊎_elim, inl, inr}
+use Rattle.rt_journal.proofs.Names.{cond, ◌==◌, None, or_parts, eqb-true, true≢false, option_map, none-some, same_Some}
+use Rattle.rt_journal.proofs.Names.{slice_get-map, Note, Job, IsAnswer, if_from, name_ended, outcome_given, DeliversAs}
+use Rattle.rt_journal.proofs.Names.{Journal, EachNote, is_told, same_name, is_name, outcome_note, same_as_itself}
+use Rattle.rt_journal.proofs.Names.{name_of}
 use Rattle.rt_ids.specs.declared.note.Note.TheVariants as writes
 
 pub prefix-along : {A : Type 0} (a b c : List A) → IsPrefix a b → IsPrefix b c → IsPrefix a c
@@ -21,13 +20,6 @@ slice_get-prefix (first ∷ front) rest place item at = grind (arith, slice_get-
 -- an item stays at its place in a list that sees more
 pub slice_get-seen : {A : Type 0} (whole front : List A) → StartsWith whole front → (place : ℕ) (item : A) → slice_get front place ≡ Some item → slice_get whole place ≡ Some item
 slice_get-seen whole front starts place item at = ap (λ list. slice_get list place) starts.1 ∙ slice_get-prefix front starts.0 place item at
-
--- notes by which nothing is sent and nothing collected leave the sender's ends as they are
-pub keeps_outs : {J T : Type 0} (old new : DeskView J T) → new ≡ record old { journal = new.journal; lanes = new.lanes } → KeepsSent old.journal.notes new.journal.notes → KeepsOuts old new
-keeps_outs old new rest sent core = subst (KeepsOut core old) (sym rest) (record {
-  each = λ out credited is.
-      assumption (sent.accepted core ∙ is.accepted, ap (λ count. count + credited) (sent.outstanding core) ∙ is.outstanding, sent.collected core ∙ is.collected);
-})
 
 module _ {J T : Type 0} (old new : RecordedView J T) (seat : IsSameSeat old new) (sender : ℕ)
     (owed : Option (JobId × OutcomeNote T)) (given : given_outcomes sender new.journal.notes ≡ with_last (given_outcomes sender old.journal.notes) owed)
@@ -76,18 +68,6 @@ sees_more_in sender view old new rest more is = record {
   orders = λ name order from at.
       let found = is.orders name order from at in (found.0, found.1, slice_get-seen new.seen old.seen more.0 found.0 order found.2);
 }
-
--- what was got of a list is got of one that sees more
-take-seen : {A : Type 0} (whole front : List A) → StartsWith whole front → (count : ℕ) → count ≤ length front → take count whole ≡ take count front
-take-seen whole front starts count within = ap (take count) starts.1 ∙ take-append-le count front starts.0 within
-
--- and for the sender's end
-pub sees_more_out : {J T : Type 0} (core : ℕ) (desk : DeskView J T) (old new : Outward J T) (credited : ℕ) → ShowsMore old new →
-    IsOutOf core desk old credited → IsOutOf core desk new credited
-sees_more_out core desk old new credited more is =
-    let behind : old.got ≤ length new.seen = omega (arith, is.behind, ap length more.seen.1, length-append old.seen more.seen.0) in
-    let collected = is.collected ∙ ap (named_outcomes desk.actor core) (sym (take-seen new.seen old.seen more.seen old.got is.behind)) in
-    subst (λ end. IsOutOf core desk end credited) (sym more.rest) (assumption (behind, collected))
 
 -- what stands in a list with one more at its end stood there, or is the last
 last_or_before : {A : Type 0} (items : List A) (more : Option A) (place : ℕ) (item : A) → slice_get (with_last items more) place ≡ Some item →

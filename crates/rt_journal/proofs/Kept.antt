@@ -28,6 +28,7 @@ use Rattle.rt_ids.specs.Commands.{return_reason}
 use Rattle.rt_core.specs.Closing as core_says
 use Rattle.std.proofs.Common.{length-set}
 use Rattle.rt_journal.proofs.Sums.{everywhere}
+use Rattle.rt_recorded_desk.proofs.LaneNotes.{plainly_stands}
 
 pub plus-none : (some : Figures) → plus some no_figures ≡ some
 plus-none some = grind arith
@@ -104,13 +105,6 @@ module _ {J : Type 0} (old new : CoreView J) (queue : ℕ) (tally : Tally) (ther
 pub set_runtime : (tallies : List Tally) (queue : ℕ) (tally : Tally) → queue < length tallies → tally.runtime ≡ (get_or tallies queue no_tally).runtime → (other : ℕ) →
     (get_or (set tallies queue tally) other no_tally).runtime ≡ (get_or tallies other no_tally).runtime
 set_runtime tallies queue tally there same other = grind (arith, get_or-set_same tallies queue tally no_tally there, get_or-set_other tallies queue other tally no_tally)
-
--- a note that takes no turn and is no effect may stand where nothing is awaited
-pub plainly_stands : {T : Type 0} (terms : Terms) (note : Note T) (before : Journal T) → MayWrite terms note → MayFollow terms note before →
-    queue_just_picked before ≡ None → effect_awaited before ≡ None → takes_turn note ≡ false → IsEffectDue None note before →
-    MayStand terms note before
-plainly_stands terms note before writer law no_pick no_answer plain free =
-    record { may_follow = law; turn = rw (no_pick, plain); effect = rw no_answer free; writer = writer }
 
 module _ {J : Type 0} where
   -- something is there where a job waits or is out

@@ -20,7 +20,8 @@ use Rattle.rt_ids.specs.declared.note.Note.TheVariants as writes
 use Rattle.rt_journal.specs.Agreement.{names_of}
 use Rattle.rt_journal.proofs.Sums.{everywhere}
 use Rattle.rt_journal.proofs.Kept.{figures-same, figures-stays, IsKept, turns-stays, working, kept_after, SameModes}
-use Rattle.rt_journal.proofs.Kept.{closing-stays, plainly_stands, agrees_unmoved, IsCalm, IsOpenNote, agrees_steady}
+use Rattle.rt_journal.proofs.Kept.{closing-stays, agrees_unmoved, IsCalm, IsOpenNote, agrees_steady}
+use Rattle.rt_recorded_desk.proofs.LaneNotes.{plainly_stands}
 use Rattle.rt_ids.specs.declared.order.Order.TheVariants as orders
 use Rattle.rt_ids.specs.declared.order.Answer.TheVariants as answers
 

@@ -20,7 +20,8 @@ use Rattle.rt_core.specs.Closing as core
 use Rattle.rt_journal.proofs.Sums.{everywhere}
 use Rattle.rt_journal.proofs.Kept.{set_runtime, figures-grow, figures-stays, one_pick, counts-pick, told-picked}
 use Rattle.rt_journal.proofs.Kept.{SameModes, IsOpenNote, same_modes, closing-stays, return_reason-agrees, IsKept}
-use Rattle.rt_journal.proofs.Kept.{plainly_stands, turns-stays, one_return, counts-return, told-returned, none≢some}
+use Rattle.rt_recorded_desk.proofs.LaneNotes.{plainly_stands}
+use Rattle.rt_journal.proofs.Kept.{turns-stays, one_return, counts-return, told-returned, none≢some}
 
 -- a name that isn't among some is none of them
 pub other_way : (name other : JobId) → same_name name other ≡ false → same_name other name ≡ false

@@ -1,6 +1,6 @@
 pub mod Names
 pub mod Sums
-pub mod NumberedOrders
+pub mod DeliveredNumbers
 pub mod Kept
 pub mod KeptDeliveries
 pub mod KeptPicks
@@ -14,14 +14,6 @@ pub mod QuietSteps
 pub mod Ahead
 pub mod SettledPolls
 pub mod Drained
-pub mod TakenCalls
-pub mod LaneNotes
-pub mod Desked
-pub mod Redeemed
-pub mod CollectedNext
-pub mod LaneEnds
-pub mod Spending
-pub mod Posting
 pub mod SentNotes
 pub mod Together
 pub mod PostingTurn

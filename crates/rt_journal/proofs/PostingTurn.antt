@@ -12,8 +12,8 @@ use Rattle.rt_core.specs.Turns.{Picks as CorePicks}
 use Rattle.rt_journal.proofs.Ahead.{picked_did}
 use Rattle.rt_journal.proofs.QuietSteps.{nobody, everyone, HasDone, view_of, quiet_invariant, quiet_now, given_settled}
 use Rattle.rt_journal.proofs.QuietSteps.{MayNote, quiet_noted}
-use Rattle.rt_journal.proofs.Posting.{posted_rest, posted_silent}
-use Rattle.rt_journal.proofs.SentNotes.{HasSaid, has_said}
+use Rattle.rt_recorded_desk.proofs.Posting.{posted_rest}
+use Rattle.rt_journal.proofs.SentNotes.{HasSaid, SaysNoMore, all_posted, has_said}
 use Rattle.rt_journal.proofs.SettledPolls.{owes_settled, its_answer, settled_did}
 
 -- ends that stay beside a core whose lanes stay
@@ -24,6 +24,11 @@ outs_kept old new stays ends outs = record {
   beside = λ core end there. (stays.outs core).each _ _ (outs.beside core end there);
   lanes = λ core end there. let had = outs.lanes core end there in record { lane = had.lane; is = ap (λ lanes. slice_get lanes core) stays.lanes ∙ had.is; lane_of = had.lane_of };
 }
+
+-- what was posted says no more of the core, of what was delivered and given, of gates and of polls
+posted_silent : {J T E : Type 0} {out : E → Outward J T} {untouched : E → List ℕ} (said now : DeskView J T) (ends later : List E) → HasPosted out untouched (record { desk = said; ends = ends }) (record { desk = now; ends = later }) →
+    SaysNoMore said.journal.notes now.journal.notes
+posted_silent said now ends later posted = subst (SaysNoMore said.journal.notes) (sym (ap (λ desk. desk.journal.notes) posted.desk)) (all_posted posted.notes said.journal.notes posted.posts)
 
 -- one step after another leaves owed what the last one leaves
 pub owes_then : {J T : Type 0} (old pick_told left new : RecordedView J T) (sender : ℕ) {owed : Option (JobId × _)} → KeepsIn sender old pick_told → KeepsIn sender pick_told left → LeavesOwed sender owed left new → LeavesOwed sender owed old new

@@ -10,7 +10,8 @@ use Rattle.rt_journal.proofs.Names.{with_notes, reverse, Envelope, DeskView, ter
 use Rattle.rt_ids.specs.declared.note.Note.TheVariants as writes
 use Rattle.rt_jobs.specs.declared.job.Step.TheVariants as steps
 use Rattle.rt_ids.specs.declared.note.OutcomeNote.TheVariants as outcomes
-use Rattle.rt_journal.proofs.EndsKept.{keeps_in, keeps_outs}
+use Rattle.rt_journal.proofs.EndsKept.{keeps_in}
+use Rattle.rt_recorded_desk.proofs.OutEnds.{keeps_outs}
 use Rattle.rt_journal.proofs.Sums.{sum_upto-same}
 
 -- nothing is sent, collected or delivered by the notes; one outcome is given more to each sender who is given one

@@ -10,8 +10,8 @@ use Rattle.rt_journal.proofs.Names.{numbered_orders, DeskView, terms_of_desk, Re
 use Rattle.rt_journal.proofs.Names.{order_taken, IsOutOf, IsInOf, name_of, named_outcomes, AreTogether, IsAssemblyOf}
 use Rattle.rt_ids.specs.declared.note.Note.TheVariants as writes
 use Rattle.rt_ids.specs.Assembly.{names_of}
-use Rattle.rt_journal.proofs.NumberedOrders.{names_from, names_from-prefix, names_of-numbered, delivered_numbered}
-use Rattle.rt_journal.proofs.NumberedOrders.{length-numbered, first_under-numbered}
+use Rattle.rt_journal.proofs.DeliveredNumbers.{names_from, names_from-prefix, names_of-numbered, delivered_numbered}
+use Rattle.rt_recorded_desk.proofs.NumberedOrders.{length-numbered, first_under-numbered}
 use Rattle.rt_journal.proofs.EndsKept.{prefix-along, slice_get-seen}
 use Rattle.rt_journal.proofs.Received.{as_sent-stays}
 

@@ -1,30 +1,17 @@
--- What an end of a link is to the journal of its actor.
-use Rattle.std.specs.Prelude.{◌≡◌, ℕ, ◌+◌, ◌<◌, ◌≤◌, Option, Some, None, List, [], ◌∷◌, ◌++◌, length, map, take, slice_get}
+-- What an end that a core receives from is to the core and its journal.
+use Rattle.std.specs.Prelude.{◌≡◌, ℕ, ◌+◌, ◌≤◌, Option, Some, None, List, [], ◌∷◌, ◌++◌, length, slice_get}
 use Rattle.rt_ids.specs.declared.names.JobId.{JobId}
 use Rattle.rt_ids.specs.declared.order.Order.{Order}
 use Rattle.rt_ids.specs.declared.order.Outcome.{Outcome}
 use Rattle.rt_ids.specs.declared.note.OutcomeNote.{OutcomeNote}
 use Rattle.rt_ids.specs.Journal.{with_last}
-use Rattle.rt_ids.specs.Filters.{Outcomes, accepted_orders, delivered_names, given_outcomes, collected_outcomes}
-use Rattle.rt_ids.specs.Outcomes.{outcome_note}
-use Rattle.rt_ids.specs.Outstanding.{outstanding_count}
+use Rattle.rt_ids.specs.Filters.{delivered_names, given_outcomes}
 use Rattle.rt_ids.specs.Closing.{final_count}
-use Rattle.rt_link.specs.declared.ends.Outward.{Outward}
 use Rattle.rt_link.specs.declared.ends.Inward.{Inward}
-use Rattle.rt_link.specs.Ends.{StartsWith}
 use Rattle.rt_link.specs.Calls.{final_of}
-pub use Rattle.rt_journal.specs.Lists.{KeepsSent, KeepsLists, GivesMore, told_under}
-use Rattle.rt_journal.specs.Orders.{numbered_orders}
-use Rattle.rt_journal.specs.Submissions.{DeskView}
+pub use Rattle.rt_journal.specs.Lists.{KeepsLists, GivesMore, told_under}
+use Rattle.rt_recorded_desk.specs.Ends.{name_of, named_outcomes}
 use Rattle.rt_journal.specs.Recorded.{RecordedView, order_taken}
-
--- the name of a number of a link
-abbrev pub name_of : ℕ → ℕ → ℕ → JobId
-name_of sender core number = record { from = sender; to = core; number = number }
-
--- outcomes under their names, as notes tell them
-abbrev pub named_outcomes : {J T : Type 0} → ℕ → ℕ → List (ℕ × Outcome J T) → Outcomes T
-named_outcomes sender core outcomes = map (λ outcome. (name_of sender core outcome.0, outcome_note outcome.1)) outcomes
 
 module _ {J T : Type 0} where
   -- the outcome that is owed wasn't given
@@ -36,18 +23,6 @@ module _ {J T : Type 0} where
   abbrev pub Gives : Inward J T → ℕ → Option (Outcome J T) → Inward J T → Type 0
   Gives old number None new = new ≡ old
   Gives old number (Some outcome) new = new ≡ record old { given = old.given ++ (number, outcome) ∷ [] }
-
-  -- the sender's end beside its journal: what was sent is what was accepted, what was got is what was collected, and as many are outstanding
-  pub record IsOutOf (core : ℕ) (desk : DeskView J T) (out : Outward J T) (credited : ℕ) : Type 0 where
-    pub known : core < desk.cores
-    pub from : out.from ≡ desk.actor
-    pub to : out.to ≡ core
-    pub base : out.base ≡ 0
-    pub capacity : out.capacity ≡ desk.cap
-    pub accepted : accepted_orders core desk.journal.notes ≡ numbered_orders desk.actor core 0 out.sent
-    pub outstanding : outstanding_count core desk.journal.notes + credited ≡ length out.sent
-    pub behind : out.got ≤ length out.seen
-    pub collected : collected_outcomes core desk.journal.notes ≡ named_outcomes desk.actor core (take out.got out.seen)
 
   -- the receiver's end beside its core and journal: what was taken was delivered, in the order sent; what is told as given was given, except this outcome, if there is one;
   -- the gate is shut where a note says so, at the number of the last order
@@ -69,11 +44,6 @@ module _ {J T : Type 0} where
   abbrev pub IsInOf : ℕ → RecordedView J T → Inward J T → Type 0
   IsInOf sender view inward = IsInOwing sender None view inward
 
-  -- the sender's end has seen as much of the other end as before, or more
-  pub record ShowsMore (old new : Outward J T) : Type 0 where
-    pub rest : new ≡ record old { seen = new.seen; closed = new.closed }
-    pub seen : StartsWith new.seen old.seen
-
   -- a step leaves this outcome owed on the end of this sender, if there is one, and else the end as it is to the core and its journal
   pub record LeavesOwed (sender : ℕ) (owed : Option (JobId × OutcomeNote T)) (old new : RecordedView J T) : Type 0 where
     pub each : (inward : Inward J T) → IsInOf sender old inward → IsInOwing sender owed new inward
@@ -81,14 +51,6 @@ module _ {J T : Type 0} where
   -- a step leaves the end of this sender as it is to the core and its journal
   abbrev pub KeepsIn : ℕ → RecordedView J T → RecordedView J T → Type 0
   KeepsIn sender old new = LeavesOwed sender None old new
-
-  -- a step leaves the end on which this actor sends to that core as it is to its journal
-  pub record KeepsOut (core : ℕ) (old new : DeskView J T) : Type 0 where
-    pub each : (out : Outward J T) (credited : ℕ) → IsOutOf core old out credited → IsOutOf core new out credited
-
-  -- a step leaves all ends on which this actor sends as they are
-  abbrev pub KeepsOuts : DeskView J T → DeskView J T → Type 0
-  KeepsOuts old new = (core : ℕ) → KeepsOut core old new
 
   -- what no step changes: the numbers of the core, of the cores and of places, and the room of the journal
   pub record IsSameSeat (old new : RecordedView J T) : Type 0 where

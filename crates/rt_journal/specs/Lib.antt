@@ -1,9 +1,7 @@
-pub mod Orders
 pub mod Polls
 pub mod Deliveries
 pub mod Figures
 pub mod Agreement
-pub mod Submissions
 pub mod Recorded
 pub mod Lists
 pub mod Ends
@@ -11,10 +9,5 @@ pub mod Steps
 pub mod Settling
 pub mod Turns
 pub mod Owed
-pub mod KnownLanes
-pub mod Tickets
-pub mod Spending
-pub mod Posts
-pub mod Calls
 pub mod Whole
 pub mod Together

@@ -3,17 +3,9 @@ use Rattle.std.specs.Prelude.{◌≡◌, ℕ, Option, Some, None}
 use Rattle.rt_ids.specs.declared.names.JobId.{JobId}
 use Rattle.rt_ids.specs.declared.note.OutcomeNote.{OutcomeNote}
 use Rattle.rt_ids.specs.Journal.{Journal, with_last}
-use Rattle.rt_ids.specs.Filters.{if_from, accepted_orders, given_outcomes, collected_outcomes}
-use Rattle.rt_ids.specs.Outstanding.{outstanding_count, is_gone, is_outstanding}
+use Rattle.rt_ids.specs.Filters.{if_from, given_outcomes}
 use Rattle.rt_ids.specs.Closing.{final_count}
-
--- what a journal tells of the links on which its actor sends stays as it was
-pub record KeepsSent {T : Type 0} (old new : Journal T) : Type 0 where
-  pub accepted : (core : ℕ) → accepted_orders core new ≡ accepted_orders core old
-  pub outstanding : (core : ℕ) → outstanding_count core new ≡ outstanding_count core old
-  pub collected : (core : ℕ) → collected_outcomes core new ≡ collected_outcomes core old
-  pub gone : (name : JobId) → is_gone name new ≡ is_gone name old
-  pub waits : (name : JobId) → is_outstanding name new ≡ is_outstanding name old
+use Rattle.rt_recorded_desk.specs.Ends.{KeepsSent}
 
 -- the lists that a journal tells of its links, except what was delivered and given, stay as they were; no gate is shut
 pub record KeepsLists {T : Type 0} (old new : Journal T) : Type 0 where

@@ -19,7 +19,7 @@ use Rattle.rt_desk.specs.Lanes.{Lane}
 use Rattle.rt_ids.specs.Orders.{without_job}
 use Rattle.rt_journal.specs.Polls.{polls_made}
 use Rattle.rt_journal.specs.Agreement.{IsKept}
-use Rattle.rt_journal.specs.Submissions.{DeskView}
+use Rattle.rt_recorded_desk.specs.Submissions.{DeskView}
 use Rattle.rt_ids.specs.Joining.{DeliversAs}
 
 -- the capacity of each link, the core, its journal, the orders that were delivered to it, the oldest first, and what is known of its own submissions to each core

@@ -15,7 +15,7 @@ use Rattle.rt_desk.specs.contracts.lane.Lane.{the_row as lane}
 use Rattle.rt_notes.proofs.journal.Journal.TheSendSync as journal
 use Rattle.rt_grid.proofs.ends.Ends.TheSendSync as ends
 use Rattle.rt_core.specs.contracts.one_core.Core.{the_row as core}
-use Rattle.rt_journal.specs.contracts.desk.RecordedDesk.{the_row as desk}
+use Rattle.rt_recorded_desk.specs.contracts.desk.RecordedDesk.{the_row as desk}
 use Rattle.rt_journal.specs.contracts.recorded.Recorded.{the_row as recorded}
 use Rattle.rt_worker.specs.contracts.linked.Linked.{the_row as linked}
 use Rattle.rt_worker.specs.contracts.ended.Ended.{the_row as ended}

@@ -13,10 +13,10 @@ use Rattle.rt_ids.specs.declared.order.SendError.{SendError}
 use Rattle.rt_ids.specs.declared.order.SendError.TheVariants.{Closed, Full, Spent, NoCore}
 use Rattle.rt_link.specs.declared.ends.Outward.{Outward}
 use Rattle.rt_link.specs.Calls.{Sends}
-use Rattle.rt_journal.specs.Submissions.{DeskView, numbered}
-use Rattle.rt_journal.specs.Ends.{IsOutOf}
-use Rattle.rt_journal.specs.Spending.{booked}
-use Rattle.rt_journal.specs.Tickets.{GetsAll, HasLane, StaysBeside}
+use Rattle.rt_recorded_desk.specs.Submissions.{DeskView, numbered}
+use Rattle.rt_recorded_desk.specs.Ends.{IsOutOf}
+use Rattle.rt_recorded_desk.specs.Spending.{booked}
+use Rattle.rt_recorded_desk.specs.Tickets.{GetsAll, HasLane, StaysBeside}
 use Rattle.rt_grid.specs.Ends.{EndsView, SameEnds, out_at, no_out}
 use Rattle.rt_grid.specs.Grid.{IsGrid, AreSameEnds, no_ends}
 use Rattle.rt_grid.proofs.Using.{out_used, ends_same}

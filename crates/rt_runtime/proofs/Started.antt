@@ -9,16 +9,16 @@ use Rattle.rt_link.specs.Whole.{fresh, out_of}
 use Rattle.rt_settings.specs.Configs.{Entry, IsGood}
 use Rattle.rt_workers.specs.Works.{Together}
 use Rattle.rt_workers.proofs.Lists.{together_length}
-use Rattle.rt_journal.specs.Submissions.{DeskView, IsWritten, opened_desk, terms_of_desk}
-use Rattle.rt_journal.specs.Ends.{IsOutOf}
+use Rattle.rt_recorded_desk.specs.Submissions.{DeskView, IsWritten, opened_desk, terms_of_desk}
+use Rattle.rt_recorded_desk.specs.Ends.{IsOutOf}
 use Rattle.rt_ids.specs.declared.order.Order.{Order}
 use Rattle.rt_ids.specs.declared.order.Outcome.{Outcome}
 use Rattle.rt_ring.specs.declared.ring_out.Sending.{Sending}
 use Rattle.rt_desk.specs.Lanes.{IsUnused, fresh_lane}
-use Rattle.rt_journal.specs.Spending.{booked, due_of}
+use Rattle.rt_recorded_desk.specs.Spending.{booked, due_of}
 use Rattle.rt_desk.proofs.Cores.{IsUnused-fresh}
-use Rattle.rt_journal.specs.Tickets.{HasLane}
-use Rattle.rt_journal.proofs.LaneEnds.{fresh_has_lane}
+use Rattle.rt_recorded_desk.specs.Tickets.{HasLane}
+use Rattle.rt_recorded_desk.proofs.LaneEnds.{fresh_has_lane}
 use Rattle.rt_grid.specs.Ends.{EndsView, AreFresh, out_at}
 use Rattle.rt_grid.specs.Grid.{IsGrid, AreAllFresh, ends_at, no_ends}
 use Rattle.rt_grid.proofs.Parts.{at_end}

@@ -6,7 +6,7 @@ use Rattle.rt_ids.specs.Journal.{EachNote}
 use Rattle.rt_ids.specs.Joining.{AreJoined}
 use Rattle.rt_ids.specs.Sound.{IsSound}
 use Rattle.rt_ids.specs.Spelled.{IsSpelled}
-use Rattle.rt_journal.specs.Submissions.{opened_desk}
+use Rattle.rt_recorded_desk.specs.Submissions.{opened_desk}
 use Rattle.rt_worker.specs.Queues.{opening_of}
 use Rattle.rt_worker.specs.Rooms.{ClosesRightly, least_free}
 use Rattle.rt_worker.specs.Together.{worker_at}

@@ -4,9 +4,9 @@ use Rattle.rt_ids.specs.declared.names.JobId.{JobId}
 use Rattle.rt_ids.specs.declared.order.Order.{Order}
 use Rattle.rt_ids.specs.declared.order.Outcome.{Outcome}
 use Rattle.rt_ids.specs.Spelled.{IsWithinLimits}
-use Rattle.rt_journal.specs.Submissions.{DeskView}
-use Rattle.rt_journal.specs.Spending.{booked}
-use Rattle.rt_journal.specs.Tickets.{HasLane}
+use Rattle.rt_recorded_desk.specs.Submissions.{DeskView}
+use Rattle.rt_recorded_desk.specs.Spending.{booked}
+use Rattle.rt_recorded_desk.specs.Tickets.{HasLane}
 use Rattle.rt_grid.specs.Ends.{EndsView, out_at}
 use Rattle.rt_grid.specs.Grid.{IsGrid}
 use Rattle.rt_worker.specs.Linked.{LinkedView}

@@ -6,10 +6,10 @@ ghost use Rattle.rt_jobs.specs.Ready.{HasReadyJob};
 ghost use Rattle.rt_ids.specs.declared.order.Order.TheVariants.{CloseCore};
 ghost use Rattle.rt_ids.specs.Outstanding.{outstanding_count};
 ghost use Rattle.rt_link.specs.Fits.{Fits};
-ghost use Rattle.rt_journal.specs.Ends.{IsOutOf};
-ghost use Rattle.rt_journal.specs.Submissions.{Submits};
-ghost use Rattle.rt_journal.specs.Tickets.{HasLane, StaysBeside};
-ghost use Rattle.rt_journal.specs.Spending.{Spends, booked};
+ghost use Rattle.rt_recorded_desk.specs.Ends.{IsOutOf};
+ghost use Rattle.rt_recorded_desk.specs.Submissions.{Submits};
+ghost use Rattle.rt_recorded_desk.specs.Tickets.{HasLane, StaysBeside};
+ghost use Rattle.rt_recorded_desk.specs.Spending.{Spends, booked};
 ghost use Rattle.rt_grid.specs.Ends.{out_at};
 ghost use Rattle.rt_runtime.specs.Sends.{Sends, SubmitsTo, accepted, is_closing, outstanding_upto, room_left, tells_closing};
 

@@ -5,7 +5,7 @@ ghost use Rattle.rt_settings.specs.Configs.{IsGood};
 ghost use Rattle.rt_workers.specs.Works.{Together};
 ghost use Rattle.rt_worker.specs.Opening.{AreEndsOf, IsOpenedOver};
 ghost use Rattle.rt_worker.specs.Queues.{creations};
-ghost use Rattle.rt_journal.specs.Submissions.{IsWritten, opened_desk, terms_of_desk};
+ghost use Rattle.rt_recorded_desk.specs.Submissions.{IsWritten, opened_desk, terms_of_desk};
 ghost use Rattle.rt_runtime.specs.Calls.{Begins, Starts};
 ghost use Rattle.rt_runtime.specs.Starting.{AreOpening, IsHouse, IsOpenedWith, IsRoomFor};
 

@@ -3,9 +3,9 @@
 ghost use Rattle.std.specs.Prelude.{◌≡◌, ◌+◌, ◌<◌, ◌≤◌, IfOk, length, slice_set};
 ghost use Rattle.rt_link.specs.Fits.{Fits};
 ghost use Rattle.rt_desk.specs.Lanes.{FitsSent, IsGot};
-ghost use Rattle.rt_journal.specs.Ends.{IsOutOf};
-ghost use Rattle.rt_journal.specs.Spending.{HoldsSome, Spends, booked};
-ghost use Rattle.rt_journal.specs.Tickets.{CollectsFrom, DetachesTicket, GetsAll, HasLane, RedeemsTicket, StaysBeside};
+ghost use Rattle.rt_recorded_desk.specs.Ends.{IsOutOf};
+ghost use Rattle.rt_recorded_desk.specs.Spending.{HoldsSome, Spends, booked};
+ghost use Rattle.rt_recorded_desk.specs.Tickets.{CollectsFrom, DetachesTicket, GetsAll, HasLane, RedeemsTicket, StaysBeside};
 ghost use Rattle.rt_grid.specs.Ends.{out_at};
 ghost use Rattle.rt_runtime.specs.Tickets.{Collects, DetachesHere, RedeemsHere};
 

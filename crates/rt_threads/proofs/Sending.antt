@@ -13,7 +13,7 @@ use Rattle.rt_ids.specs.declared.order.SendError.TheVariants.{Closed, Full, Spen
 use Rattle.rt_ids.specs.Filters.{accepted_orders}
 use Rattle.rt_ids.specs.Journal.{Journal, with_last}
 use Rattle.rt_ids.specs.Orders.{without_job}
-use Rattle.rt_journal.specs.Submissions.{DeskView, Submits}
+use Rattle.rt_recorded_desk.specs.Submissions.{DeskView, Submits}
 use Rattle.rt_notes.specs.Journals.{JournalView}
 use Rattle.rt_runtime.specs.Calls.{IsStarted}
 use Rattle.rt_script.specs.Limits.{IsSize}

@@ -1,8 +1,9 @@
 -- Steps one after another.
 use Rattle.std.proofs.Common.{ℕ, refl, ◌∙◌}
 use Rattle.rt_journal.specs.Recorded.{RecordedView}
-use Rattle.rt_journal.specs.Ends.{IsSameSeat, KeepsIn, KeepsOuts}
-use Rattle.rt_journal.specs.Submissions.{DeskView}
+use Rattle.rt_journal.specs.Ends.{IsSameSeat, KeepsIn}
+use Rattle.rt_recorded_desk.specs.Ends.{KeepsOuts}
+use Rattle.rt_recorded_desk.specs.Submissions.{DeskView}
 use Rattle.rt_grid.proofs.Using.{ends_same, ends_along}
 use Rattle.rt_worker.specs.Linked.{LinkedView, StaysLinked}
 

@@ -10,9 +10,10 @@ use Rattle.rt_desk.proofs.Cores.{changed, unchanged}
 use Rattle.rt_jobs.specs.Steps.{Owed}
 use Rattle.rt_ring.specs.declared.ring_out.Sending.{Sending}
 use Rattle.rt_journal.specs.Recorded.{RecordedView, IsRecorded, desk_of}
-use Rattle.rt_journal.specs.Ends.{IsOutOf, IsSameSeat, KeepsIn}
-use Rattle.rt_journal.specs.Posts.{AreOutsOf}
-use Rattle.rt_journal.specs.Tickets.{HasLane, StaysBeside, CollectsFrom, GetsAll}
+use Rattle.rt_recorded_desk.specs.Ends.{IsOutOf}
+use Rattle.rt_journal.specs.Ends.{IsSameSeat, KeepsIn}
+use Rattle.rt_recorded_desk.specs.Posts.{AreOutsOf}
+use Rattle.rt_recorded_desk.specs.Tickets.{HasLane, StaysBeside, CollectsFrom, GetsAll}
 use Rattle.rt_grid.specs.Ends.{EndsView, out_at, no_out, SameEnds}
 use Rattle.rt_grid.proofs.Using.{out_used}
 use Rattle.rt_worker.specs.Linked.{AreBeside, IsLinked}

@@ -7,7 +7,8 @@ use Rattle.rt_jobs.specs.Steps.{Owed}
 use Rattle.rt_link.specs.Calls.{Shuts}
 use Rattle.rt_ring.specs.declared.ring_in.Receiving.{Receiving}
 use Rattle.rt_journal.specs.Recorded.{RecordedView, IsRecorded, desk_of}
-use Rattle.rt_journal.specs.Ends.{IsInOf, IsSameSeat, KeepsIn, KeepsOuts}
+use Rattle.rt_journal.specs.Ends.{IsInOf, IsSameSeat, KeepsIn}
+use Rattle.rt_recorded_desk.specs.Ends.{KeepsOuts}
 use Rattle.rt_journal.specs.Steps.{Delivers, TellsShut}
 use Rattle.rt_grid.specs.Ends.{EndsView, in_at}
 use Rattle.rt_worker.specs.Linked.{IsLinked, StaysLinked}

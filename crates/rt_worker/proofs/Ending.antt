@@ -9,9 +9,9 @@ use Rattle.rt_ids.specs.declared.order.Outcome.{Outcome}
 use Rattle.rt_ids.specs.Assembly.{Assembly, journal_of}
 use Rattle.rt_ids.specs.Closing.{IsDrained}
 use Rattle.rt_jobs.specs.Steps.{Owed}
-use Rattle.rt_journal.specs.Submissions.{IsWritten, terms_of_desk}
+use Rattle.rt_recorded_desk.specs.Submissions.{IsWritten, terms_of_desk}
 use Rattle.rt_journal.specs.Recorded.{desk_of}
-use Rattle.rt_journal.specs.Ends.{IsOutOf}
+use Rattle.rt_recorded_desk.specs.Ends.{IsOutOf}
 use Rattle.rt_journal.specs.Together.{AreTogether, IsAssemblyOf}
 use Rattle.rt_grid.specs.Ends.{out_at, in_at, no_out}
 use Rattle.rt_grid.specs.Grid.{ends_at, no_ends}

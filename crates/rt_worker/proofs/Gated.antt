@@ -15,7 +15,8 @@ use Rattle.rt_link.specs.Ends.{SoundIn}
 use Rattle.rt_link.specs.Calls.{final_of}
 use Rattle.rt_notes.specs.Journals.{JournalView}
 use Rattle.rt_journal.specs.Recorded.{RecordedView, IsRecorded, desk_of, sum_upto, given_count}
-use Rattle.rt_journal.specs.Ends.{IsInOf, IsSameSeat, KeepsIn, KeepsOuts, name_of}
+use Rattle.rt_journal.specs.Ends.{IsInOf, IsSameSeat, KeepsIn}
+use Rattle.rt_recorded_desk.specs.Ends.{KeepsOuts, name_of}
 use Rattle.rt_grid.specs.Ends.{EndsView, in_at}
 use Rattle.rt_grid.proofs.Using.{ends_same}
 use Rattle.rt_ids.specs.Outcomes.{outcome_note}

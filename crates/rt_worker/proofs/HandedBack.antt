@@ -13,7 +13,8 @@ use Rattle.rt_core.specs.declared.turn.Turn.TheVariants.{Back}
 use Rattle.rt_core.specs.declared.turn.PickError.{PickError}
 use Rattle.rt_grid.specs.Ends.{EndsView, in_at}
 use Rattle.rt_journal.specs.Recorded.{RecordedView, desk_of, order_taken}
-use Rattle.rt_journal.specs.Ends.{KeepsOuts, IsSameSeat, LeavesOwed, IsInOwing}
+use Rattle.rt_recorded_desk.specs.Ends.{KeepsOuts}
+use Rattle.rt_journal.specs.Ends.{IsSameSeat, LeavesOwed, IsInOwing}
 use Rattle.rt_journal.specs.Owed.{owed_back, IsSentUnder}
 use Rattle.rt_journal.specs.Turns.{Picks, IsHandBack}
 use Rattle.rt_worker.specs.Linked.{AreBeside, AreOwing}

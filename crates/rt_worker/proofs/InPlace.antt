@@ -17,10 +17,10 @@ use Rattle.rt_jobs.specs.Steps.{Owed}
 use Rattle.rt_core.specs.declared.turn.Settled.{Settled}
 use Rattle.rt_core.specs.Whole.{IsAhead}
 use Rattle.rt_ring.specs.declared.ring_out.Sending.{Sending}
-use Rattle.rt_journal.specs.Calls.{Does}
+use Rattle.rt_recorded_desk.specs.Calls.{Does}
 use Rattle.rt_journal.specs.Recorded.{RecordedView, IsRecorded, HasTask, desk_of}
 use Rattle.rt_journal.specs.Ends.{IsInOwing, IsSameSeat, LeavesOwed, told_under}
-use Rattle.rt_journal.specs.Posts.{AreOutsOf}
+use Rattle.rt_recorded_desk.specs.Posts.{AreOutsOf}
 use Rattle.rt_journal.specs.Whole.{IsPostingTurn}
 use Rattle.rt_grid.specs.Ends.{EndsView, in_at}
 use Rattle.rt_worker.specs.Linked.{AreBeside, AreOwing}

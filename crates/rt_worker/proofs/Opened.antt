@@ -13,11 +13,12 @@ use Rattle.rt_desk.proofs.Cores.{IsUnused-fresh}
 use Rattle.rt_ring.specs.declared.ring_out.Sending.{Sending}
 use Rattle.rt_link.specs.Whole.{fresh, out_of, inward_of}
 use Rattle.rt_journal.specs.Recorded.{RecordedView, IsRecorded, desk_of, terms_at}
-use Rattle.rt_journal.specs.Ends.{IsInOf, IsOutOf, IsSameSeat, KeepsIn, KeepsOuts}
+use Rattle.rt_journal.specs.Ends.{IsInOf, IsSameSeat, KeepsIn}
+use Rattle.rt_recorded_desk.specs.Ends.{IsOutOf, KeepsOuts}
 use Rattle.rt_journal.specs.Steps.{opened_beside, CreatesQueue}
-use Rattle.rt_journal.specs.Submissions.{opened_desk}
-use Rattle.rt_journal.specs.Tickets.{HasLane}
-use Rattle.rt_journal.proofs.LaneEnds.{fresh_has_lane}
+use Rattle.rt_recorded_desk.specs.Submissions.{opened_desk}
+use Rattle.rt_recorded_desk.specs.Tickets.{HasLane}
+use Rattle.rt_recorded_desk.proofs.LaneEnds.{fresh_has_lane}
 use Rattle.rt_grid.specs.Ends.{EndsView, IsFreshOut, in_at, no_out}
 use Rattle.rt_settings.specs.Configs.{least_room}
 use Rattle.rt_worker.specs.Linked.{IsLinked}

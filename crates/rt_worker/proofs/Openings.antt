@@ -21,11 +21,11 @@ use Rattle.rt_notes.specs.Journals.{JournalView}
 use Rattle.rt_ring.specs.declared.ring_out.Sending.{Sending}
 use Rattle.rt_journal.specs.Deliveries.{IsDelivery, entry_note, with_effect}
 use Rattle.rt_journal.specs.Polls.{poll_note, settle_note}
-use Rattle.rt_journal.specs.Posts.{ArePosts, HasPosted}
+use Rattle.rt_recorded_desk.specs.Posts.{ArePosts, HasPosted}
 use Rattle.rt_journal.specs.Recorded.{RecordedView}
 use Rattle.rt_journal.specs.Steps.{Delivers, TellsShut}
-use Rattle.rt_journal.specs.Submissions.{DeskView}
-use Rattle.rt_journal.specs.Tickets.{AreCollected}
+use Rattle.rt_recorded_desk.specs.Submissions.{DeskView}
+use Rattle.rt_recorded_desk.specs.Tickets.{AreCollected}
 use Rattle.rt_journal.specs.Turns.{IsPick, IsHandBack, Settles}
 use Rattle.rt_journal.specs.Whole.{post_of}
 use Rattle.rt_settings.specs.Configs.{Entry}

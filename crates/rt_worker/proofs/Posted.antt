@@ -5,10 +5,10 @@ use Rattle.rt_ids.specs.declared.order.Order.{Order}
 use Rattle.rt_ids.specs.declared.order.Outcome.{Outcome}
 use Rattle.rt_jobs.specs.Steps.{Owed, OwesAt}
 use Rattle.rt_ring.specs.declared.ring_out.Sending.{Sending}
-use Rattle.rt_journal.specs.Calls.{Does}
+use Rattle.rt_recorded_desk.specs.Calls.{Does}
 use Rattle.rt_journal.specs.Recorded.{RecordedView, desk_of}
 use Rattle.rt_journal.specs.Ends.{IsSameSeat, KeepsIn}
-use Rattle.rt_journal.specs.Posts.{AreOutsOf, HasPosted}
+use Rattle.rt_recorded_desk.specs.Posts.{AreOutsOf, HasPosted}
 use Rattle.rt_journal.specs.Whole.{post_of}
 use Rattle.rt_grid.specs.Ends.{EndsView, SameEnds}
 use Rattle.rt_worker.specs.Linked.{LinkedView, AreBeside}

@@ -20,8 +20,8 @@ use Rattle.rt_journal.specs.Polls.{poll_note, settle_note}
 use Rattle.rt_journal.specs.Recorded.{RecordedView, terms_at, sum_upto, given_count}
 use Rattle.rt_journal.specs.Ends.{IsSameSeat}
 use Rattle.rt_journal.specs.Steps.{Delivers, Receives}
-use Rattle.rt_journal.specs.Posts.{ArePosts}
-use Rattle.rt_journal.specs.Tickets.{AreCollected}
+use Rattle.rt_recorded_desk.specs.Posts.{ArePosts}
+use Rattle.rt_recorded_desk.specs.Tickets.{AreCollected}
 use Rattle.rt_journal.proofs.Sums.{sum_upto-same, sum_upto-one_more}
 use Rattle.rt_grid.specs.Ends.{in_at}
 use Rattle.rt_worker.specs.Linked.{LinkedView, IsLinked}

@@ -9,7 +9,8 @@ use Rattle.rt_ids.specs.declared.order.Outcome.{Outcome}
 use Rattle.rt_ids.specs.declared.note.OutcomeNote.{OutcomeNote}
 use Rattle.rt_ring.specs.declared.ring_in.Receiving.{Receiving}
 use Rattle.rt_journal.specs.Recorded.{RecordedView, desk_of}
-use Rattle.rt_journal.specs.Ends.{IsInOf, IsInOwing, IsSameSeat, KeepsIn, KeepsOuts}
+use Rattle.rt_journal.specs.Ends.{IsInOf, IsInOwing, IsSameSeat, KeepsIn}
+use Rattle.rt_recorded_desk.specs.Ends.{KeepsOuts}
 use Rattle.rt_grid.specs.Ends.{EndsView, in_at, no_in, SameEnds}
 use Rattle.rt_grid.proofs.Using.{in_used}
 use Rattle.rt_worker.specs.Linked.{AreBeside, AreOwing, SendsOn}

@@ -7,7 +7,7 @@ use Rattle.rt_ids.specs.declared.note.OutcomeNote.{OutcomeNote}
 use Rattle.rt_jobs.specs.Steps.{Owed}
 use Rattle.rt_journal.specs.Recorded.{RecordedView, IsRecorded, desk_of}
 use Rattle.rt_journal.specs.Ends.{IsInOf, IsInOwing, IsSameSeat}
-use Rattle.rt_journal.specs.Posts.{AreOutsOf}
+use Rattle.rt_recorded_desk.specs.Posts.{AreOutsOf}
 use Rattle.rt_grid.specs.Ends.{EndsView, in_at, SameEnds}
 use Rattle.rt_worker.specs.Queues.{opening_of}
 

@@ -3,7 +3,8 @@ use Rattle.std.specs.Prelude.{◌≡◌, ℕ, ◌+◌, ◌<◌, ◌≤◌, lengt
 use Rattle.rt_ids.specs.Commands.{IsOpening}
 use Rattle.rt_jobs.specs.Steps.{Owed}
 use Rattle.rt_journal.specs.Recorded.{RecordedView, IsRecorded, desk_of, terms_at}
-use Rattle.rt_journal.specs.Ends.{IsSameSeat, KeepsIn, KeepsOuts}
+use Rattle.rt_journal.specs.Ends.{IsSameSeat, KeepsIn}
+use Rattle.rt_recorded_desk.specs.Ends.{KeepsOuts}
 use Rattle.rt_grid.specs.Ends.{EndsView, AreFresh}
 use Rattle.rt_worker.specs.Linked.{LinkedView}
 

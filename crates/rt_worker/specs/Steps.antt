@@ -11,10 +11,10 @@ use Rattle.rt_core.specs.declared.turn.Settled.{Settled}
 use Rattle.rt_link.specs.Calls.{Shuts}
 use Rattle.rt_journal.specs.Recorded.{RecordedView, desk_of}
 use Rattle.rt_journal.specs.Steps.{Delivers, TellsShut}
-use Rattle.rt_journal.specs.Posts.{HasPosted}
-use Rattle.rt_journal.specs.Calls.{Does}
+use Rattle.rt_recorded_desk.specs.Posts.{HasPosted}
+use Rattle.rt_recorded_desk.specs.Calls.{Does}
 use Rattle.rt_journal.specs.Whole.{post_of}
-use Rattle.rt_journal.specs.Tickets.{CollectsFrom, GetsAll}
+use Rattle.rt_recorded_desk.specs.Tickets.{CollectsFrom, GetsAll}
 use Rattle.rt_journal.specs.Turns.{IsPick, IsHandBack, Settles}
 use Rattle.rt_grid.specs.Ends.{in_at, out_at}
 use Rattle.rt_worker.specs.Linked.{LinkedView, StaysLinked}

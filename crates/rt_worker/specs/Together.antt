@@ -6,9 +6,9 @@ use Rattle.rt_ids.specs.Assembly.{Assembly, journal_of}
 use Rattle.rt_ids.specs.Closing.{IsDrained}
 use Rattle.rt_ids.specs.Joining.{AreJoined}
 use Rattle.rt_jobs.specs.Steps.{Owed}
-use Rattle.rt_journal.specs.Submissions.{DeskView, IsWritten, terms_of_desk}
+use Rattle.rt_recorded_desk.specs.Submissions.{DeskView, IsWritten, terms_of_desk}
 use Rattle.rt_journal.specs.Recorded.{desk_of, terms_at}
-use Rattle.rt_journal.specs.Ends.{IsOutOf}
+use Rattle.rt_recorded_desk.specs.Ends.{IsOutOf}
 use Rattle.rt_journal.specs.Steps.{opened_beside}
 use Rattle.rt_journal.specs.Together.{IsAssemblyOf}
 use Rattle.rt_grid.specs.Ends.{EndsView, out_at}

@@ -3,7 +3,7 @@ use Rattle.rt_world.proofs.Words.{◌≡◌, ℕ, cond, List, [], ◌∷◌, ◌
 use Rattle.rt_world.proofs.Words.{length-append, Note, Outcomes, collected_outcomes, Journal, collected_notes}
 use Rattle.rt_ids.specs.declared.note.Note.TheVariants as writes
 use Rattle.rt_ids.specs.Journal.{with_last}
-use Rattle.rt_journal.specs.Tickets.{AreCollected}
+use Rattle.rt_recorded_desk.specs.Tickets.{AreCollected}
 
 module _ {T : Type 0} where
   -- one outcome more is the newest note

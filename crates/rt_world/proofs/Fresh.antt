@@ -5,7 +5,7 @@ use Rattle.rt_world.proofs.Words.{desks, desk_at, world_of, IsWorld, IsAtRest, D
 use Rattle.rt_world.proofs.Words.{none-some}
 use Rattle.rt_link.specs.Whole.{fresh}
 use Rattle.rt_link.specs.Ends.{SoundOut}
-use Rattle.rt_journal.proofs.LaneEnds.{fresh_has_lane}
+use Rattle.rt_recorded_desk.proofs.LaneEnds.{fresh_has_lane}
 use Rattle.rt_journal.proofs.Opened.{recorded-opened}
 use Rattle.rt_world.specs.Links.{AreFresh}
 use Rattle.rt_world.specs.Inside.{AreOpened}

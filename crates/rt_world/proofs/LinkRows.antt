@@ -2,7 +2,7 @@
 use Rattle.rt_world.proofs.Words.{◌≡◌, ◌≢◌, ℕ, ◌<◌, List, [], length, get_or, set, map, refl, sym, ap, ◌∙◌, get_or_default, length-set, map-set}
 use Rattle.rt_world.proofs.Words.{get_or-set_same, get_or-set_other, set-get_or, Order, Whole, no_link, row_of, link_at, ChangesLink}
 use Rattle.std.proofs.lemmas.List.{get_or-map}
-use Rattle.rt_journal.proofs.NumberedOrders as by_place
+use Rattle.rt_recorded_desk.proofs.NumberedOrders as by_place
 use Rattle.rt_world.proofs.Places.{by_place}
 pub use Rattle.rt_world.specs.Links.{with_link}
 

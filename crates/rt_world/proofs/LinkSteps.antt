@@ -2,8 +2,9 @@
 use Rattle.rt_world.proofs.Words.{◌≡◌, ℕ, Bool, true, List, [], ◌++◌, refl, sym, ◌∙◌, ap, subst, get_or, append-nil, Order, Whole, out_of, inward_of, slice_get}
 use Rattle.rt_world.proofs.Words.{RecordedView, IsOutOf, IsInOf, link_at, Outcome, StartsWith, kept_by_sender, DeskView, HasLane, ChangesLink}
 use Rattle.rt_desk.specs.Lanes.{IsLaneOf}
-use Rattle.rt_journal.proofs.LaneEnds.{sees_more_lane}
-use Rattle.rt_journal.proofs.EndsKept.{sees_more_in, sees_more_out}
+use Rattle.rt_recorded_desk.proofs.LaneEnds.{sees_more_lane}
+use Rattle.rt_journal.proofs.EndsKept.{sees_more_in}
+use Rattle.rt_recorded_desk.proofs.OutEnds.{sees_more_out}
 use Rattle.rt_world.proofs.Places.{by_place}
 
 module _ {J T : Type 0} where

@@ -4,7 +4,7 @@ use Rattle.rt_world.proofs.Words.{Option, JobId, Whole, out_of, inward_of, Recor
 use Rattle.rt_world.proofs.Words.{IsSameSeat, post_of, none_owed, IsBesideAll}
 use Rattle.std.proofs.lemmas.Option.{slice_get-get_or}
 use Rattle.rt_journal.specs.Ends.{LeavesOwed}
-use Rattle.rt_journal.specs.Posts.{SendsMore, HasPosted}
+use Rattle.rt_recorded_desk.specs.Posts.{SendsMore, HasPosted}
 use Rattle.rt_world.proofs.Places.{by_place}
 use Rattle.rt_world.proofs.LinkSteps.{sender_rest, OnlySent, in_stays}
 use Rattle.rt_world.proofs.SentLinks.{one_gate}

@@ -8,7 +8,7 @@ use Rattle.rt_ids.specs.Filters.{delivered_names}
 use Rattle.rt_link.specs.Calls.{Takes}
 use Rattle.rt_journal.specs.Steps.{Delivers as DeliversTo}
 use Rattle.rt_journal.proofs.GivenEnds.{gave_rest}
-use Rattle.rt_journal.proofs.NumberedOrders.{length-numbered}
+use Rattle.rt_recorded_desk.proofs.NumberedOrders.{length-numbered}
 use Rattle.rt_ids.specs.declared.note.Note.TheVariants as writes
 use Rattle.rt_world.specs.declared.model.receipts.Receipt.{Receipt}
 use Rattle.rt_world.specs.declared.model.receipts.Receipt.TheVariants.{Take, Shut}

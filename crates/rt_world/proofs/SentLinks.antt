@@ -9,7 +9,7 @@ use Rattle.rt_ids.specs.Closing.{final_count}
 use Rattle.rt_ids.specs.Orders.{without_job}
 use Rattle.rt_link.specs.Calls.{Sends as SendsOn, final_of}
 use Rattle.rt_link.specs.Whole.{gate_number}
-use Rattle.rt_journal.specs.Submissions.{Submits, numbered}
+use Rattle.rt_recorded_desk.specs.Submissions.{Submits, numbered}
 use Rattle.rt_world.proofs.Desks.{sent_at-world}
 use Rattle.rt_world.proofs.LinkRows.{sent-with_link}
 use Rattle.rt_world.proofs.LinkSteps.{OnlySent}

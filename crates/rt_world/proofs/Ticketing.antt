@@ -11,8 +11,8 @@ use Rattle.rt_ids.specs.declared.note.Note.TheVariants as writes
 use Rattle.rt_ids.specs.Filters.{given_outcomes}
 use Rattle.rt_link.proofs.Lists.{slice_get-behind}
 use Rattle.rt_desk.specs.Lanes.{IsGot, FitsSent}
-use Rattle.rt_journal.specs.Ends.{named_outcomes}
-use Rattle.rt_journal.specs.Tickets.{CollectsFrom, GetsAll}
+use Rattle.rt_recorded_desk.specs.Ends.{named_outcomes}
+use Rattle.rt_recorded_desk.specs.Tickets.{CollectsFrom, GetsAll}
 use Rattle.rt_world.specs.declared.event.Reply.TheVariants as reply
 use Rattle.rt_world.specs.Collections.{FitsUnder}
 use Rattle.rt_world.proofs.Desks.{sent_at-world}

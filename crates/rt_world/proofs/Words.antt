@@ -35,14 +35,15 @@ pub use Rattle.rt_jobs.specs.Scripts.{Script}
 pub use Rattle.rt_jobs.specs.Steps.{Owed}
 pub use Rattle.rt_jobs.specs.declared.job.Step.{Step}
 pub use Rattle.rt_journal.proofs.DeliveredEnds.{told_elsewhere}
-pub use Rattle.rt_journal.proofs.NumberedOrders.{get_or-map}
-pub use Rattle.rt_journal.specs.Ends.{Gives, IsInOf, IsInOwing, IsOutOf, IsSameSeat, KeepsIn, told_under}
+pub use Rattle.rt_recorded_desk.proofs.NumberedOrders.{get_or-map}
+pub use Rattle.rt_journal.specs.Ends.{Gives, IsInOf, IsInOwing, IsSameSeat, KeepsIn, told_under}
+pub use Rattle.rt_recorded_desk.specs.Ends.{IsOutOf}
 pub use Rattle.rt_journal.specs.Owed.{owed_back}
 pub use Rattle.rt_journal.specs.Polls.{poll_note, polls_made}
 pub use Rattle.rt_journal.specs.Recorded.{IsRecorded, RecordedView, desk_of, order_taken}
 pub use Rattle.rt_journal.specs.Steps.{CreatesQueue, opened_beside, with_notes}
-pub use Rattle.rt_journal.specs.Submissions.{DeskView, IsWritten, opened_desk, terms_of_desk}
-pub use Rattle.rt_journal.specs.Tickets.{DetachesTicket, HasLane, RedeemsTicket, RefusesTicket, StaysBeside}
+pub use Rattle.rt_recorded_desk.specs.Submissions.{DeskView, IsWritten, opened_desk, terms_of_desk}
+pub use Rattle.rt_recorded_desk.specs.Tickets.{DetachesTicket, HasLane, RedeemsTicket, RefusesTicket, StaysBeside}
 pub use Rattle.rt_journal.specs.Whole.{post_of}
 pub use Rattle.rt_link.proofs.Lists.{StartsWith-same}
 pub use Rattle.rt_link.specs.Ends.{StartsWith}

@@ -10,8 +10,8 @@ use Rattle.rt_link.specs.Calls.{Sends as SendsOn}
 use Rattle.rt_link.specs.Fits.{Fits}
 use Rattle.rt_link.specs.Whole.{out_of, kept_by_sender}
 use Rattle.rt_desk.specs.Lanes.{IsGot, FitsSent}
-use Rattle.rt_journal.specs.Submissions.{DeskView, Submits, numbered}
-use Rattle.rt_journal.specs.Tickets.{CollectsFrom, GetsAll, RedeemsTicket, DetachesTicket, StaysBeside}
+use Rattle.rt_recorded_desk.specs.Submissions.{DeskView, Submits, numbered}
+use Rattle.rt_recorded_desk.specs.Tickets.{CollectsFrom, GetsAll, RedeemsTicket, DetachesTicket, StaysBeside}
 use Rattle.rt_world.specs.declared.event.Reply.{Reply}
 use Rattle.rt_world.specs.declared.event.Reply.TheVariants as reply
 use Rattle.rt_world.specs.declared.model.acts.Act.{Act}

@@ -8,9 +8,10 @@ use Rattle.rt_ids.specs.declared.order.Outcome.{Outcome}
 use Rattle.rt_ids.specs.Outcomes.{outcome_note}
 use Rattle.rt_jobs.specs.Steps.{Owed}
 use Rattle.rt_core.specs.declared.turn.Settled.{Settled}
-use Rattle.rt_journal.specs.Posts.{AreOutsOf}
+use Rattle.rt_recorded_desk.specs.Posts.{AreOutsOf}
 use Rattle.rt_journal.specs.Recorded.{RecordedView, IsRecorded, desk_of}
-use Rattle.rt_journal.specs.Ends.{IsInOwing, LeavesOwed, KeepsOuts, IsSameSeat, told_under}
+use Rattle.rt_journal.specs.Ends.{IsInOwing, LeavesOwed, IsSameSeat, told_under}
+use Rattle.rt_recorded_desk.specs.Ends.{KeepsOuts}
 use Rattle.rt_journal.specs.Owed.{outcome_settled}
 use Rattle.rt_link.specs.declared.plain.Whole.{Whole}
 use Rattle.rt_link.specs.Whole.{out_of, inward_of}

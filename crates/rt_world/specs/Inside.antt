@@ -7,11 +7,12 @@ use Rattle.rt_jobs.specs.Steps.{Owed}
 use Rattle.rt_link.specs.declared.plain.Whole.{Whole}
 use Rattle.rt_link.specs.Whole.{out_of, inward_of}
 use Rattle.rt_link.specs.Fits.{Fits}
-use Rattle.rt_journal.specs.Submissions.{DeskView, IsWritten, terms_of_desk, opened_desk}
+use Rattle.rt_recorded_desk.specs.Submissions.{DeskView, IsWritten, terms_of_desk, opened_desk}
 use Rattle.rt_journal.specs.Recorded.{RecordedView, IsRecorded, desk_of}
 use Rattle.rt_journal.specs.Steps.{opened_beside}
-use Rattle.rt_journal.specs.Ends.{IsOutOf, IsInOf}
-use Rattle.rt_journal.specs.Tickets.{HasLane}
+use Rattle.rt_recorded_desk.specs.Ends.{IsOutOf}
+use Rattle.rt_journal.specs.Ends.{IsInOf}
+use Rattle.rt_recorded_desk.specs.Tickets.{HasLane}
 use Rattle.rt_world.specs.State.{WorldView}
 use Rattle.rt_world.specs.Links.{row_of, link_at}
 

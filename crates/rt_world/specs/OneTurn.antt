@@ -7,7 +7,7 @@ use Rattle.rt_ids.specs.Work.{has_work}
 use Rattle.rt_ids.specs.Picks.{turns}
 use Rattle.rt_jobs.specs.Steps.{Owed}
 use Rattle.rt_core.specs.declared.turn.Settled.{Settled}
-use Rattle.rt_journal.specs.Calls.{Does}
+use Rattle.rt_recorded_desk.specs.Calls.{Does}
 use Rattle.rt_journal.specs.Recorded.{RecordedView, IsRecorded}
 use Rattle.rt_journal.specs.Turns.{IsHandBack}
 use Rattle.rt_journal.specs.Whole.{IsPostingTurn}

@@ -2,9 +2,10 @@
 
 ghost use Rattle.std.specs.Prelude.{◌≡◌, ◌≤◌, ◌<◌, ◌+◌, ℕ, length};
 ghost use Rattle.rt_jobs.specs.Ready.{HasReadyJob};
-ghost use Rattle.rt_journal.specs.Ends.{IsOutOf, IsSameSeat, KeepsIn};
+ghost use Rattle.rt_recorded_desk.specs.Ends.{IsOutOf};
+ghost use Rattle.rt_journal.specs.Ends.{IsSameSeat, KeepsIn};
 ghost use Rattle.rt_journal.specs.Recorded.{IsRecorded, desk_of};
-ghost use Rattle.rt_journal.specs.Tickets.{HasLane};
+ghost use Rattle.rt_recorded_desk.specs.Tickets.{HasLane};
 ghost use Rattle.rt_link.specs.Fits.{Fits};
 ghost use Rattle.rt_link.specs.Whole.{out_of};
 ghost use Rattle.rt_world.specs.State.{journal_at};

@@ -6,7 +6,7 @@ use Rattle.rt_journal.specs.Ends.{IsInOf, LeavesOwed}
 use Rattle.rt_journal.specs.Owed.{owed_back}
 use Rattle.rt_journal.specs.Turns.{Picks}
 use Rattle.rt_journal.specs.Recorded.{order_taken}
-use Rattle.rt_journal.proofs.Desked.{are_same}
+use Rattle.rt_recorded_desk.proofs.Desked.{are_same}
 use Rattle.journal_tests.proofs.Owing.{owes_sender, owes_nobody, hands_sent}
 use Rattle.journal_tests.proofs.actors.Receiver.turn.Goals as goal
 

@@ -1,5 +1,5 @@
 use Rattle.std.proofs.Common.{◌≡◌, ◌+◌, ◌<◌, ◌≤◌, ◌∙◌, ap, sym, subst, arith, length, length-set}
-use Rattle.rt_journal.specs.Spending.{booked}
+use Rattle.rt_recorded_desk.specs.Spending.{booked}
 use Rattle.rt_grid.specs.Ends.{out_at}
 use Rattle.rt_runtime.proofs.Booked.{books_sent}
 use Rattle.rt_runtime.proofs.Sent.{runtime_on, stored_on}

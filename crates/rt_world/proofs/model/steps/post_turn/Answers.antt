@@ -1,5 +1,5 @@
 use Rattle.rt_world.proofs.Words.{◌≤◌, sym, subst, arith, vec_items, map-set, map, Fits, out_of, desk_of, none_owed, owed_settled, IsBesideAll}
-use Rattle.rt_journal.specs.Posts.{AreOutsOf}
+use Rattle.rt_recorded_desk.specs.Posts.{AreOutsOf}
 use Rattle.rt_world.specs.OneTurn.{TurnsOn}
 use Rattle.rt_world.proofs.LentLinks.{row_within}
 use Rattle.rt_world.proofs.LinkRows.{row_of-borrowed}

@@ -1,0 +1,11 @@
+pub mod Names
+pub mod NumberedOrders
+pub mod OutEnds
+pub mod LaneNotes
+pub mod Desked
+pub mod Redeemed
+pub mod CollectedNext
+pub mod LaneEnds
+pub mod Spending
+pub mod TakenCalls
+pub mod Posting
