@@ -6,9 +6,10 @@ use Rattle.rt_journal.proofs.Names.{Busy, CoreView, runtime_of, TakesOut, TellsA
 use Rattle.rt_journal.proofs.Names.{RecordedView, IsRecorded, terms_at, IsBack, ◌+◌, ◌<◌, ◌≤◌, ◌++◌, length, add-zero}
 use Rattle.rt_journal.proofs.Names.{◌==◌, Some, All, is_some, same_Some, All-head, All-tail, most_turns, Pick, Job}
 use Rattle.rt_journal.proofs.Names.{Reason, Journal, is_told, pick_count, number_if, length-with_last_if, if_from}
-use Rattle.rt_journal.proofs.Names.{name_ended, given_outcomes, held_count, ChangesLine, inside_count, HandsBack}
-use Rattle.rt_journal.proofs.Names.{polls_made, poll_note, HasTask, note_taken, sum_upto, given_count, IsPick}
-use Rattle.rt_journal.proofs.Names.{IsHandBack, owed_back, known_of, among, same_as_itself, without_job, option_map}
+use Rattle.rt_journal.proofs.Names.{name_ended, given_outcomes, held_count, inside_count, HandsBack, polls_made}
+use Rattle.rt_journal.proofs.Names.{poll_note, HasTask, note_taken, sum_upto, given_count, IsPick, IsHandBack}
+use Rattle.rt_journal.proofs.Names.{owed_back, known_of, among, same_as_itself, without_job, option_map, Terms}
+use Rattle.rt_journal.proofs.Names.{QueuesView, none-some, JobOut}
 use Rattle.rt_core.specs.declared.turn.Ahead.TheVariants as ahead
 use Rattle.rt_core.specs.declared.turn.Turn.TheVariants.{Back}
 use Rattle.rt_core.specs.declared.turn.PickError.TheVariants.{Spent}
@@ -19,9 +20,9 @@ use Rattle.rt_ids.specs.declared.note.Note.TheVariants.{Returned}
 use Rattle.rt_core.specs.Closing as core_says
 use Rattle.rt_journal.specs.Turns.{Picks}
 use Rattle.rt_journal.proofs.Sums.{everywhere, sum_upto-at_most_one}
-use Rattle.rt_journal.proofs.KeptPicks.{kept-returned, right_return, returns_told, first_back, kept-picked, right_pick}
-use Rattle.rt_journal.proofs.KeptPicks.{first_in_line, not_returning, start_told}
-use Rattle.rt_journal.proofs.Received.{task_stays}
+use Rattle.rt_journal.proofs.KeptPicks.{LeavesFront, first_in_line, kept-picked, kept-returned, picked_view, reason_told, returned_view}
+use Rattle.rt_journal.proofs.KeptPicks.{right_pick, start_told}
+use Rattle.rt_journal.proofs.Received.{waiting_stays}
 use Rattle.rt_journal.proofs.EndsKept.{ungiven_if, not_given}
 use Rattle.rt_ids.specs.declared.note.OutcomeNote.TheVariants as outcomes
 use Rattle.rt_journal.proofs.QuietSteps.{nobody, quiet-picked, gates-picked, as_sent-picked, stepped, IsQuietStep}
@@ -69,9 +70,6 @@ module _ {J T : Type 0} {same : J → J → Type 0} {made : J → ℕ} {polls : 
   pub all_used : TellsAhead view.core (Err Spent) → (turns view.journal.notes ≡ 2 ^ 64 - 1) × ((queue : ℕ) × (has_work queue view.journal.notes ≡ true))
   all_used told = (sym recorded.kept.agrees.turns ∙ told.1, (told.2.0, works told.2.0 told.2.1))
 
-none≢some : {A : Type 0} (item : A) → None ≡ Some item → ⊥
-none≢some item same = cc
-
 pick_at_most_one : {T : Type 0} (note : Note T) → pick_count note ≤ 1
 pick_at_most_one note = grind arith
 
@@ -86,157 +84,151 @@ no_polls : {T : Type 0} (which name : JobId) (queue runtime : ℕ) (was_started 
 no_polls which name queue runtime was_started journal = grind arith
 
 module _ {J T : Type 0} {same : J → J → Type 0} {made : J → ℕ} {polls : Owed J T}
-    (old : RecordedView J T) (recorded : IsRecorded same made polls old) (left : turns old.journal.notes < most_turns) (core : CoreView J) where
-  -- the first job of a line leaves it, and no poll is settled by these notes
-  module _ (written : List (Note T)) (unpolled : (which : JobId) → polls_made which (written ++ old.journal.notes) ≡ polls_made which old.journal.notes)
-      (queue : ℕ) (first : JobId × Bool × J) (others : List (JobId × Bool × J)) (line_was : waiting_of queue old.core.queues ≡ first ∷ others)
-      (line_is : ChangesLine old.core.queues core.queues queue others) where
-    abbrev Task : ℕ → JobId × Bool × J → Type 0
-    Task other entry = HasTask same made polls old.took (written ++ old.journal.notes) other entry.0 entry.2
+    (old : RecordedView J T) (recorded : IsRecorded same made polls old) (left : turns old.journal.notes < most_turns) where
+  abbrev terms : Terms
+  terms = terms_at old
 
-    all_old : (other : ℕ) → All (Task other) (waiting_of other old.core.queues)
-    all_old other place default within = task_stays (λ order at. at) (unpolled _) (recorded.waiting other place default within)
+  abbrev notes : Journal T
+  notes = old.journal.notes
 
-    all_first : All (Task queue) (first ∷ others)
-    all_first = subst (All (Task queue)) line_was (all_old queue)
-
-    its_task : Task queue first
-    its_task = All-head (Task queue) first others all_first
-
-    still_waiting : (other : ℕ) → All (Task other) (waiting_of other core.queues)
-    still_waiting = everywhere (λ at. All (Task at) (waiting_of at core.queues)) queue
-        (subst (All (Task queue)) (sym line_is.changed) (All-tail (Task queue) first others all_first))
-        (λ other away. subst (All (Task other)) (sym (line_is.others other away)) (all_old other))
-
-    one_fewer : held_count core.queues + 1 ≡ held_count old.core.queues
-    one_fewer = let line : length (waiting_of queue old.core.queues) ≡ length others + 1 = ap length line_was ∙ omega arith in omega (arith, line, line_is.held)
-
-  inside_was : old.core.out ≡ None → inside_count old.core ≡ held_count old.core.queues + 0
-  inside_was free = ap (λ out. held_count old.core.queues + number_if (is_some out)) free
-
-  module _ (name : JobId) (queue : ℕ) (was_started : Bool) (job : J) (takes : TakesOut old.core name queue was_started job core) (keeps : core_says.return_reason queue old.core ≡ None) where
+  -- the first job of a line leaves it
+  module _ (name : JobId) (queue : ℕ) (was_started : Bool) (job : J) (queues : QueuesView J) (front : LeavesFront old.core name queue was_started job queues) where
     abbrev runtime : ℕ
     runtime = runtime_of queue old.core
+
+    one_fewer : held_count queues + 1 ≡ inside_count old.core
+    one_fewer =
+        let line : length (waiting_of queue old.core.queues) ≡ length front.others + 1 = ap length front.first ∙ omega arith in
+        let inside : inside_count old.core ≡ held_count old.core.queues + 0 = ap (λ out. held_count old.core.queues + number_if (is_some out)) front.next.free in
+        omega (arith, line, inside, front.line.held)
+
+    -- and no poll is settled by these notes
+    module _ (written : List (Note T)) (unpolled : (which : JobId) → polls_made which (written ++ notes) ≡ polls_made which notes) where
+      abbrev Task : ℕ → JobId × Bool × J → Type 0
+      Task other entry = HasTask same made polls old.took (written ++ notes) other entry.0 entry.2
+
+      all_first : All (Task queue) ((name, was_started, job) ∷ front.others)
+      all_first = subst (All (Task queue)) front.first (waiting_stays old recorded written unpolled queue)
+
+      its_task : Task queue (name, was_started, job)
+      its_task = All-head (Task queue) (name, was_started, job) front.others all_first
+
+      still_waiting : (other : ℕ) → All (Task other) (waiting_of other queues)
+      still_waiting = everywhere (λ at. All (Task at) (waiting_of at queues)) queue
+          (subst (All (Task queue)) (sym front.line.changed) (All-tail (Task queue) (name, was_started, job) front.others all_first))
+          (λ other away. subst (All (Task other)) (sym (front.line.others other away)) (waiting_stays old recorded written unpolled other))
 
     abbrev written : List (Note T)
     written = poll_note name was_started ∷ Pick queue runtime ∷ []
 
-    unpolled : (which : JobId) → polls_made which (written ++ old.journal.notes) ≡ polls_made which old.journal.notes
-    unpolled which = no_polls which name queue runtime was_started old.journal.notes
-
-    same_inside : inside_count core ≡ inside_count old.core
-    same_inside =
-        let now : inside_count core ≡ held_count core.queues + 1 = ap (λ out. held_count core.queues + number_if (is_some out)) (ap (λ core. core.out) takes.rest) in
-        omega (arith, now, inside_was takes.next.free, one_fewer written unpolled queue (name, was_started, job) takes.others takes.first takes.line)
-
-    picked : IsQuietStep old core written same made polls everyone nobody
-    picked = record {
-      kept = kept-picked (terms_at old) old.core core name queue was_started job old.journal.notes recorded.kept takes keeps left;
-      number = ap (λ core. core.core) takes.rest;
-      cores = ap (λ core. core.cores) takes.rest;
-      room = takes.line.same_room;
-      quiet = quiet-picked old.journal.notes name queue runtime was_started;
-      ungiven = λ sender inward is. tt;
-      gates = λ sender kept. gates-picked old.journal.notes name queue runtime was_started sender;
-      fewer = fewer was_started;
-      as_sent = as_sent-picked old.journal.notes _ name queue runtime was_started recorded.as_sent;
-      waiting = still_waiting written unpolled queue (name, was_started, job) takes.others takes.first takes.line;
-      out = λ job_out at.
-          let one : record { name = name; queue = queue; job = job } ≡ job_out = same_Some _ job_out (sym (ap (λ core. core.out) takes.rest) ∙ at) in
-          subst (λ job_out. HasTask same made polls old.took (written ++ old.journal.notes) job_out.queue job_out.name job_out.job) one
-          (its_task written unpolled queue (name, was_started, job) takes.others takes.first takes.line);
-    }
+    picked : core_says.return_reason queue old.core ≡ None → IsQuietStep old (picked_view old.core name queue job queues) written same made polls everyone nobody
+    picked keeps =
+        let unpolled = λ (which : JobId). no_polls which name queue runtime was_started notes in
+        let task = its_task written unpolled in
+        assumption (
+          kept-picked terms old.core name queue was_started job queues notes recorded.kept front keeps left refl,
+          front.line.same_room,
+          quiet-picked notes name queue runtime was_started,
+          λ (sender : ℕ) (kept : everyone sender). gates-picked notes name queue runtime was_started sender,
+          fewer was_started,
+          as_sent-picked notes _ name queue runtime was_started recorded.as_sent,
+          still_waiting written unpolled,
+          λ (out : JobOut J) (at : Some (record { name = name; queue = queue; job = job }) ≡ Some out). subst (λ out. HasTask same made polls old.took (written ++ notes) out.queue out.name out.job) (same_Some _ out at) task,
+        )
       where
-        fewer : (before : Bool) → inside_count core + sum_upto (given_count (poll_note name before ∷ Pick queue runtime ∷ old.journal.notes)) old.core.cores
-            ≤ inside_count old.core + sum_upto (given_count old.journal.notes) old.core.cores
-        fewer false = omega (arith, same_inside)
-        fewer true = omega (arith, same_inside)
+        fewer : (before : Bool) → held_count queues + 1 + sum_upto (given_count (poll_note name before ∷ Pick queue runtime ∷ notes)) old.core.cores ≤ inside_count old.core + sum_upto (given_count notes) old.core.cores
+        fewer false = omega (arith, one_fewer)
+        fewer true = omega (arith, one_fewer)
 
-    pick_is : IsPick old name queue was_started job (stepped old core written)
-    pick_is = record {
-      nobody_out = takes.next.free;
+    pick_is : core_says.return_reason queue old.core ≡ None → IsPick old name queue was_started job (stepped old (picked_view old.core name queue job queues) written)
+    pick_is keeps = record {
+      nobody_out = front.next.free;
       turn_left = left;
       runtime = runtime;
-      right = right_pick (terms_at old) old.core core name queue was_started job old.journal.notes recorded.kept takes;
-      others = names_of takes.others;
-      first = first_in_line (terms_at old) old.core core name queue was_started job old.journal.notes recorded.kept takes;
-      kept = not_returning (terms_at old) old.core core name queue was_started job old.journal.notes recorded.kept takes keeps;
-      started = start_told (terms_at old) old.core core name queue was_started job old.journal.notes recorded.kept takes;
+      right = right_pick terms old.core name queue was_started job queues notes recorded.kept front;
+      others = names_of front.others;
+      first = first_in_line terms old.core name queue was_started job queues notes recorded.kept front;
+      kept = reason_told terms old.core name queue was_started job queues notes recorded.kept front ∙ keeps;
+      started = start_told terms old.core name queue was_started job queues notes recorded.kept front;
       journal = refl;
-      out = ap (λ core. core.out) takes.rest;
+      out = refl;
       took = refl;
     }
 
-  module _ (name : JobId) (queue : ℕ) (job : J) (reason : Reason) (hands : HandsBack old.core name queue job core) (returns : core_says.return_reason queue old.core ≡ Some reason) where
-    abbrev back : List (Note T)
-    back = Returned name reason ∷ Pick queue (runtime_of queue old.core) ∷ []
+    abbrev back : Reason → List (Note T)
+    back reason = Returned name reason ∷ Pick queue runtime ∷ []
 
-    unpolled_back : (which : JobId) → polls_made which (back ++ old.journal.notes) ≡ polls_made which old.journal.notes
-    unpolled_back which = add-zero (polls_made which old.journal.notes + 0) ∙ add-zero (polls_made which old.journal.notes)
+    unpolled_back : (reason : Reason) (which : JobId) → polls_made which (back reason ++ notes) ≡ polls_made which notes
+    unpolled_back reason which = add-zero (polls_made which notes + 0) ∙ add-zero (polls_made which notes)
 
-    nobody_now : core.out ≡ None
-    nobody_now = ap (λ core. core.out) hands.rest ∙ hands.next.free
+    going_on : is_told name_ended name notes ≡ false
+    going_on = ((known_of terms notes recorded.kept.notes).line_inside queue name
+        (ap (among name) (first_in_line terms old.core name queue was_started job queues notes recorded.kept front) ∙ rw (same_as_itself name) refl)).going_on
 
-    recorded_task : HasTask same made polls old.took old.journal.notes queue name job
-    recorded_task = All-head (λ entry. HasTask same made polls old.took old.journal.notes queue entry.0 entry.2) (name, hands.was_started, job) hands.others
-        (subst (All (λ entry. HasTask same made polls old.took old.journal.notes queue entry.0 entry.2)) hands.first (recorded.waiting queue))
-
-    going_on : is_told name_ended name old.journal.notes ≡ false
-    going_on = ((known_of (terms_at old) old.journal.notes recorded.kept.notes).line_inside queue name
-        (ap (among name) (first_back (terms_at old) old.core core name queue job reason old.journal.notes recorded.kept hands returns) ∙ rw (same_as_itself name) refl)).going_on
-
-    handed : IsQuietStep old core back same made polls everyone (λ sender. if_from sender name (name, outcomes.Returned reason))
-    handed = record {
-      kept = kept-returned (terms_at old) old.core core name queue job reason old.journal.notes recorded.kept hands returns left;
-      number = ap (λ core. core.core) hands.rest;
-      cores = ap (λ core. core.cores) hands.rest;
-      room = hands.line.same_room;
+    handed : (reason : Reason) → core_says.return_reason queue old.core ≡ Some reason →
+        IsQuietStep old (returned_view old.core queue queues) (back reason) same made polls everyone (λ sender. if_from sender name (name, outcomes.Returned reason))
+    handed reason returns = record {
+      kept = kept-returned terms old.core name queue was_started job queues notes recorded.kept front reason returns left refl;
+      number = refl;
+      cores = refl;
+      room = front.line.same_room;
       quiet = assumption;
       ungiven = λ sender inward is.
-          let task = recorded_task in
+          let task = its_task (back reason) (unpolled_back reason) in
           ungiven_if old sender inward is name (Job queue task.sent) task.task
-          (not_given (note_taken old.took) name queue (ap (option_map without_job) task.task) sender old.journal.notes recorded.as_sent going_on) (outcomes.Returned reason);
+          (not_given (note_taken old.took) name queue (ap (option_map without_job) task.task) sender notes recorded.as_sent going_on) (outcomes.Returned reason);
       gates = λ sender kept. refl;
       fewer =
-          let given_more : sum_upto (given_count (back ++ old.journal.notes)) old.core.cores ≤ sum_upto (given_count old.journal.notes) old.core.cores + 1 =
-          sum_upto-at_most_one (given_count old.journal.notes) (given_count (back ++ old.journal.notes)) name.from
-          (λ from. length-with_last_if (given_outcomes from old.journal.notes) _ (name.from == from)) old.core.cores in
-          let now : inside_count core ≡ held_count core.queues + 0 = ap (λ out. held_count core.queues + number_if (is_some out)) nobody_now in
-          omega (arith, given_more, now, inside_was hands.next.free, one_fewer back unpolled_back queue (name, hands.was_started, job) hands.others hands.first hands.line);
+          let given_more : sum_upto (given_count (back reason ++ notes)) old.core.cores ≤ sum_upto (given_count notes) old.core.cores + 1 =
+          sum_upto-at_most_one (given_count notes) (given_count (back reason ++ notes)) name.from (λ from. length-with_last_if (given_outcomes from notes) _ (name.from == from)) old.core.cores in
+          let now : inside_count (returned_view old.core queue queues) ≡ held_count queues + 0 = ap (λ out. held_count queues + number_if (is_some out)) front.next.free in
+          omega (arith, given_more, now, one_fewer);
       as_sent = (tt, (tt, recorded.as_sent));
-      waiting = still_waiting back unpolled_back queue (name, hands.was_started, job) hands.others hands.first hands.line;
-      out = λ job_out at. absurd (none≢some job_out (sym nobody_now ∙ at));
+      waiting = still_waiting (back reason) (unpolled_back reason);
+      out = λ out at. absurd (none-some out (sym front.next.free ∙ at));
     }
 
-    handed_is : IsHandBack same old name reason (Job queue job) (stepped old core back)
-    handed_is =
-        let task = its_task back unpolled_back queue (name, hands.was_started, job) hands.others hands.first hands.line in
+    handed_is : (reason : Reason) → core_says.return_reason queue old.core ≡ Some reason → IsHandBack same old name reason (Job queue job) (stepped old (returned_view old.core queue queues) (back reason))
+    handed_is reason returns =
+        let task = its_task (back reason) (unpolled_back reason) in
         record {
-          nobody_out = hands.next.free;
+          nobody_out = front.next.free;
           turn_left = left;
           queue = queue;
-          runtime = runtime_of queue old.core;
-          right = right_return (terms_at old) old.core core name queue job reason old.journal.notes recorded.kept hands returns;
-          others = names_of hands.others;
-          first = first_back (terms_at old) old.core core name queue job reason old.journal.notes recorded.kept hands returns;
-          returns = returns_told (terms_at old) old.core core name queue job reason old.journal.notes recorded.kept hands returns;
+          runtime = runtime;
+          right = right_pick terms old.core name queue was_started job queues notes recorded.kept front;
+          others = names_of front.others;
+          first = first_in_line terms old.core name queue was_started job queues notes recorded.kept front;
+          returns = reason_told terms old.core name queue was_started job queues notes recorded.kept front ∙ returns;
           sent = task.sent;
           task = task.task;
           job = job;
           back = refl;
           same_task = task.same_task;
           journal = refl;
-          out = nobody_now;
+          out = front.next.free;
           took = refl;
         }
 
-  -- whatever the pick answers
-  pub picked_did : (answer : Result (Turn J) PickError) (notes : List (Note T)) → CorePicks old.core answer core notes →
-      HasDone same made polls old core everyone (owed_back answer) 2 (λ old new. Picks same old answer new) notes
-  picked_did (Ok (Start name queue job)) notes does = done_so does.2 (picked name queue false job does.0 does.1) (omega arith) (pick_is name queue false job does.0 does.1)
-  picked_did (Ok (Resume name queue job)) notes does = done_so does.2 (picked name queue true job does.0 does.1) (omega arith) (pick_is name queue true job does.0 does.1)
-  picked_did (Ok (Back name reason (Job queue job))) notes does = done_so does.2 (handed name queue job reason does.0 does.1) (omega arith) (handed_is name queue job reason does.0 does.1)
-  picked_did (Ok (Back name reason _)) notes does = absurd does
-  picked_did (Ok Idle) notes does = nothing_did recorded does.2 does.3 (idle old recorded does.0 does.1, refl)
-  picked_did (Err Busy) notes does = nothing_did recorded does.1 does.2 (does.0, refl)
-  picked_did (Err Spent) notes does = nothing_did recorded does.3 does.4 (sym recorded.kept.agrees.turns ∙ does.1, (does.2.0, works old recorded does.2.0 does.2.1), refl)
+  module _ (core : CoreView J) where
+    abbrev Did : Result (Turn J) PickError → List (Note T) → CoreView J → Type 0
+    Did answer told core = HasDone same made polls old core everyone (owed_back answer) 2 (λ old new. Picks same old answer new) told
+
+    taken : {name : JobId} {queue : ℕ} {was_started : Bool} {job : J} → TakesOut old.core name queue was_started job core → LeavesFront old.core name queue was_started job core.queues
+    taken takes = record { next = takes.next; others = takes.others; first = takes.first; line = takes.line }
+
+    given_back : {name : JobId} {queue : ℕ} {job : J} (hands : HandsBack old.core name queue job core) → LeavesFront old.core name queue hands.was_started job core.queues
+    given_back hands = record { next = hands.next; others = hands.others; first = hands.first; line = hands.line }
+
+    -- whatever the pick answers
+    pub picked_did : (answer : Result (Turn J) PickError) (told : List (Note T)) → CorePicks old.core answer core told → Did answer told core
+    picked_did (Ok (Start name queue job)) told does = subst (Did (Ok (Start name queue job)) told) (sym does.0.rest)
+        (done_so does.2 (picked name queue false job core.queues (taken does.0) does.1) (omega arith) (pick_is name queue false job core.queues (taken does.0) does.1))
+    picked_did (Ok (Resume name queue job)) told does = subst (Did (Ok (Resume name queue job)) told) (sym does.0.rest)
+        (done_so does.2 (picked name queue true job core.queues (taken does.0) does.1) (omega arith) (pick_is name queue true job core.queues (taken does.0) does.1))
+    picked_did (Ok (Back name reason (Job queue job))) told does = subst (Did (Ok (Back name reason (Job queue job))) told) (sym does.0.rest)
+        (done_so does.2 (handed name queue does.0.was_started job core.queues (given_back does.0) reason does.1) (omega arith) (handed_is name queue does.0.was_started job core.queues (given_back does.0) reason does.1))
+    picked_did (Ok (Back name reason _)) told does = absurd does
+    picked_did (Ok Idle) told does = nothing_did recorded does.2 does.3 (idle old recorded does.0 does.1, refl)
+    picked_did (Err Busy) told does = nothing_did recorded does.1 does.2 (does.0, refl)
+    picked_did (Err Spent) told does = nothing_did recorded does.3 does.4 (sym recorded.kept.agrees.turns ∙ does.1, (does.2.0, works old recorded does.2.0 does.2.1), refl)

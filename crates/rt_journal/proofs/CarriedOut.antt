@@ -81,7 +81,7 @@ module _ {J T : Type 0} (old : RecordedView J T) (name : JobId)
       let entered : HasEntered old.core name (Job queue job) core =
       record { more = λ other. cond (other == queue) ((name, false, job) ∷ []) []; lines = λ other. line_now other (other == queue) refl; came = λ other. came_now other (other == queue) refl } in
       assumption (
-        kept-took (terms_at old) old.core core name queue job journal kept next sender enters accepted,
+        kept-took (terms_at old) old.core name queue job journal kept next sender accepted enters.exists core.queues enters.line enters.rest,
         ap (λ core. core.core) enters.rest,
         ap (λ core. core.cores) enters.rest,
         enters.line.same_room,
@@ -127,14 +127,15 @@ module _ {J T : Type 0} (old : RecordedView J T) (name : JobId)
         )
 
     answers_alone : (order : Order J) (answer : Answer) → IsAnswer (without_job order) answer journal → has_effect answer ≡ false →
-        IsDelivery name order journal (writes.Answered name answer ∷ []) → IsCarriedOut old name order (Some (outcome.Answered answer)) core (writes.Answered name answer ∷ [])
-    answers_alone order answer right plain delivery =
+        (IsAnswer (without_job order) answer journal → IsDelivery name order journal (writes.Answered name answer ∷ [])) → IsCarriedOut old name order (Some (outcome.Answered answer)) core (writes.Answered name answer ∷ [])
+    answers_alone order answer right plain tells =
         let held : Held (writes.Answered name answer ∷ []) = omega (arith, ap inside_count counts, one_given (writes.Answered name answer ∷ journal) (outcome.Answered answer) (λ from. refl)) in
         let few : 1 ≤ 2 = omega arith in
         let as_sent : (under : JobId → Option (Order (Unit {0}))) → under name ≡ Some (without_job order) → EachNote (DeliversAs under) journal → EachNote (DeliversAs under) (writes.Answered name answer ∷ journal) =
         λ under at before. ((without_job order, at, right), before) in
         assumption (
           kept-answered (terms_at old) old.core core name journal kept next sender counts (without_job order) answer right plain,
+          tells right,
           ap (λ core. core.core) counts,
           ap (λ core. core.cores) counts,
           ap (λ core. core.queues.room) counts,
@@ -250,39 +251,32 @@ module _ {J T : Type 0} (old : RecordedView J T) (name : JobId)
   carries_out (Create weight) spelled (Answered (answers.Created queue)) written does =
       subst (Done (Create weight) (Answered (answers.Created queue))) (sym does.3) (creates_queue queue weight spelled does.0 does.1 does.2)
   carries_out (Create weight) spelled (Answered answers.CoreClosing) written does =
-      let right = closed_answer does.0 weight in
-      subst (Done (Create weight) (Answered answers.CoreClosing)) (sym does.2) (answers_alone does.1 (Create weight) answers.CoreClosing right refl (answers.CoreClosing, right, refl))
+      subst (Done (Create weight) (Answered answers.CoreClosing)) (sym does.2) (answers_alone does.1 (Create weight) answers.CoreClosing (closed_answer does.0 weight) refl (λ right. (answers.CoreClosing, right, refl)))
   carries_out (Create weight) spelled (Answered answers.TooMany) written does =
-      let right = full_answer does.0 does.1 weight in
-      subst (Done (Create weight) (Answered answers.TooMany)) (sym does.3) (answers_alone does.2 (Create weight) answers.TooMany right refl (answers.TooMany, right, refl))
+      subst (Done (Create weight) (Answered answers.TooMany)) (sym does.3) (answers_alone does.2 (Create weight) answers.TooMany (full_answer does.0 does.1 weight) refl (λ right. (answers.TooMany, right, refl)))
   carries_out (Create weight) spelled (Answered answers.NoMemory) written does =
-      let right = memory_answer does.0 does.1 weight in
-      subst (Done (Create weight) (Answered answers.NoMemory)) (sym does.3) (answers_alone does.2 (Create weight) answers.NoMemory right refl (answers.NoMemory, right, refl))
+      subst (Done (Create weight) (Answered answers.NoMemory)) (sym does.3) (answers_alone does.2 (Create weight) answers.NoMemory (memory_answer does.0 does.1 weight) refl (λ right. (answers.NoMemory, right, refl)))
   carries_out (Create weight) spelled _ written does = absurd does
   carries_out (SetShares queue weight) spelled (Answered answers.SharesSet) written does =
       subst (Done (SetShares queue weight) (Answered answers.SharesSet)) (sym does.2) (sets_shares queue weight spelled.1 does.0 does.1)
   carries_out (SetShares queue weight) spelled (Answered answers.NoQueue) written does =
-      let right = missing_answer queue weight does.0 in
-      subst (Done (SetShares queue weight) (Answered answers.NoQueue)) (sym does.2) (answers_alone does.1 (SetShares queue weight) answers.NoQueue right refl (answers.NoQueue, right, refl))
+      subst (Done (SetShares queue weight) (Answered answers.NoQueue)) (sym does.2) (answers_alone does.1 (SetShares queue weight) answers.NoQueue (missing_answer queue weight does.0) refl (λ right. (answers.NoQueue, right, refl)))
   carries_out (SetShares queue weight) spelled _ written does = absurd does
   carries_out (Close queue mode) spelled (Answered answers.Closed) written does =
       subst (Done (Close queue mode) (Answered answers.Closed)) (sym (does.2 ∙ ap (λ effect. writes.Answered name answers.Closed ∷ effect) does.1.2)) (closes_queue queue mode does.1.0 does.1.1)
   carries_out (Close queue mode) spelled (Answered answers.AlreadyClosed) written does =
-      let right = closed_before queue mode does.1.0 does.1.1 in
       subst (Done (Close queue mode) (Answered answers.AlreadyClosed)) (sym (does.2 ∙ ap (λ effect. writes.Answered name answers.AlreadyClosed ∷ effect) does.1.3))
-      (answers_alone does.1.2 (Close queue mode) answers.AlreadyClosed right refl (answers.AlreadyClosed, right, refl))
+      (answers_alone does.1.2 (Close queue mode) answers.AlreadyClosed (closed_before queue mode does.1.0 does.1.1) refl (λ right. (answers.AlreadyClosed, right, refl)))
   carries_out (Close queue mode) spelled (Answered answers.NoQueue) written does =
-      let right = no_such_queue queue mode does.1.0 in
       subst (Done (Close queue mode) (Answered answers.NoQueue)) (sym (does.2 ∙ ap (λ effect. writes.Answered name answers.NoQueue ∷ effect) does.1.2))
-      (answers_alone does.1.1 (Close queue mode) answers.NoQueue right refl (answers.NoQueue, right, refl))
+      (answers_alone does.1.1 (Close queue mode) answers.NoQueue (no_such_queue queue mode does.1.0) refl (λ right. (answers.NoQueue, right, refl)))
   carries_out (Close queue mode) spelled (Answered _) written does = absurd does.1
   carries_out (Close queue mode) spelled _ written does = absurd does
   carries_out (CloseCore mode) spelled (Answered answers.Closed) written does =
       subst (Done (CloseCore mode) (Answered answers.Closed)) (sym (does.2 ∙ ap (λ effect. writes.Answered name answers.Closed ∷ effect) does.1.2)) (closes_core mode does.1.0 does.1.1)
   carries_out (CloseCore mode) spelled (Answered answers.AlreadyClosed) written does =
-      let right = core_closed_before mode does.1.0 in
       subst (Done (CloseCore mode) (Answered answers.AlreadyClosed)) (sym (does.2 ∙ ap (λ effect. writes.Answered name answers.AlreadyClosed ∷ effect) does.1.2))
-      (answers_alone does.1.1 (CloseCore mode) answers.AlreadyClosed right refl (answers.AlreadyClosed, right, refl))
+      (answers_alone does.1.1 (CloseCore mode) answers.AlreadyClosed (core_closed_before mode does.1.0) refl (λ right. (answers.AlreadyClosed, right, refl)))
   carries_out (CloseCore mode) spelled _ written does = absurd does
 
 -- the outcome of a delivery fits its order

@@ -5,16 +5,40 @@ use Rattle.rt_journal.proofs.Names.{number_if, Owed, queue_count, held_count, Cr
 use Rattle.rt_journal.proofs.Names.{inside_count, Creates, polls_made, RecordedView, terms_at, IsRecorded, HasTask}
 use Rattle.rt_journal.proofs.Names.{CreatesQueue, Bool, true, false, cond, Option, Some, None, Answer, Mode, Order}
 use Rattle.rt_journal.proofs.Names.{closes, core_mode, effect_awaited, has_effect, CarriesOut, waiting_of, ClosesCore}
-use Rattle.rt_journal.proofs.Names.{ClosesItself, ◌≤◌, ◌++◌, length, reverse, ◌≢◌, IsSome, slice_set, eq-eqb, ne_eqb}
+use Rattle.rt_journal.proofs.Names.{ClosesItself, ◌≤◌, length, reverse, ◌≢◌, IsSome, slice_set, eq-eqb, ne_eqb}
 use Rattle.rt_journal.proofs.Names.{true≢false, length-append, IsNextShut, final_count, or_else, gate_of, ShutsGate}
-use Rattle.rt_journal.proofs.Names.{Inward, SoundIn, Shuts, IsInOf, TellsShut}
+use Rattle.rt_journal.proofs.Names.{Inward, SoundIn, Shuts, IsInOf, TellsShut, DeliversAs, note_taken, given_count}
+use Rattle.rt_journal.proofs.Names.{sum_upto, JobOut}
 use Rattle.rt_ids.specs.declared.note.Note.TheVariants as writes
 use Rattle.rt_core.specs.Deliveries.{CreatesQueue as CoreCreates}
 use Rattle.rt_journal.proofs.Kept.{IsKept, kept_after}
 use Rattle.rt_journal.proofs.KeptDeliveries.{agrees-created, agrees-core_closed, agrees-shut}
-use Rattle.rt_journal.proofs.Received.{carries_out-opening, task_stays}
-use Rattle.rt_journal.proofs.QuietSteps.{nobody, IsQuietStep, everyone, HasDone, nothing_did, done_so, stepped}
+use Rattle.rt_journal.proofs.Received.{carries_out-opening, out_stays, waiting_stays}
+use Rattle.rt_journal.proofs.QuietSteps.{nobody, IsQuiet, IsQuietStep, everyone, HasDone, nothing_did, done_so, stepped}
+use Rattle.rt_journal.proofs.Sums.{sum_upto-same}
 use Rattle.rt_journal.proofs.EndsKept.{sees_more_in}
+
+-- the same core holds the same jobs
+record HoldsSame {J : Type 0} (old core : CoreView J) : Type 0 where
+  pub number : core.core ≡ old.core
+  pub cores : core.cores ≡ old.cores
+  pub room : core.queues.room ≡ old.queues.room
+  pub same_held : held_count core.queues ≡ held_count old.queues
+  pub same_lines : (queue : ℕ) → waiting_of queue core.queues ≡ waiting_of queue old.queues
+  pub out : core.out ≡ old.out
+
+-- so one note by which nothing is sent, delivered or given, and no poll settled, is a quiet step
+module _ {J T : Type 0} {same : J → J → Type 0} {made : J → ℕ} {polls : Owed J T} (old : RecordedView J T) (recorded : IsRecorded same made polls old) (core : CoreView J) (holds : HoldsSame old.core core) (note : Note T) where
+  unmoved_step : {keeps : ℕ → Type 0} → IsKept (terms_at old) core (note ∷ old.journal.notes) → IsQuiet nobody old.journal.notes (note ∷ old.journal.notes) →
+      ((sender : ℕ) → keeps sender → final_count sender (note ∷ old.journal.notes) ≡ final_count sender old.journal.notes) → DeliversAs (note_taken old.took) note old.journal.notes →
+      ((which : JobId) → polls_made which (note ∷ old.journal.notes) ≡ polls_made which old.journal.notes) → IsQuietStep old core (note ∷ []) same made polls keeps nobody
+  unmoved_step kept quiet gates delivers unpolled =
+      let inside : inside_count core ≡ inside_count old.core = λ i. holds.same_held i + number_if (is_some (holds.out i)) in
+      let given = sum_upto-same (given_count (note ∷ old.journal.notes)) (given_count old.journal.notes) old.core.cores (λ sender. ap length (quiet.given sender)) in
+      let fewer : inside_count core + sum_upto (given_count (note ∷ old.journal.notes)) old.core.cores ≤ inside_count old.core + sum_upto (given_count old.journal.notes) old.core.cores = omega (arith, inside, given) in
+      let waiting = λ (queue : ℕ). subst (All (λ entry. HasTask same made polls old.took (note ∷ old.journal.notes) queue entry.0 entry.2)) (sym (holds.same_lines queue)) (waiting_stays old recorded (note ∷ []) unpolled queue) in
+      let out = λ (job : JobOut J) (at : core.out ≡ Some job). out_stays old recorded (note ∷ []) unpolled job (sym holds.out ∙ at) in
+      assumption (delivers, recorded.as_sent)
 
 module _ {J T : Type 0} {same : J → J → Type 0} {made : J → ℕ} {polls : Owed J T}
     (old : RecordedView J T) (recorded : IsRecorded same made polls old) (opening : IsOpening old.journal.notes) (weight : ℕ) (in_range : InRange weight) (core : CoreView J) where
@@ -30,29 +54,11 @@ module _ {J T : Type 0} {same : J → J → Type 0} {made : J → ℕ} {polls : 
         kept_after (terms_at old) (writes.Created queue weight) recorded.kept (agrees-created old.core core queue weight old.journal.notes recorded.kept.agrees next creates delivered)
         recorded.kept.is_core (record { next = number_is; in_range = omega (arith, next, creates.few); shares = in_range }) refl opening refl refl
 
-    same_inside : inside_count core ≡ inside_count old.core
-    same_inside =
-        ap (λ out. held_count core.queues + number_if (is_some out)) (ap (λ core. core.out) creates.rest)
-        ∙ ap (λ held. held + number_if (is_some old.core.out)) creates.added.same_held
-
-    task : (other : ℕ) (name : JobId) (job : J) → HasTask same made polls old.took old.journal.notes other name job → HasTask same made polls old.took longer other name job
-    task other name job = task_stays (λ order at. at) (add-zero (polls_made name old.journal.notes))
-
     created : IsQuietStep old core (writes.Created queue weight ∷ []) same made polls everyone nobody
-    created = record {
-      kept = kept;
-      number = ap (λ core. core.core) creates.rest;
-      cores = ap (λ core. core.cores) creates.rest;
-      room = creates.added.same_room;
-      quiet = assumption;
-      ungiven = λ sender inward is. tt;
-      gates = λ sender kept. refl;
-      fewer = omega (arith, same_inside);
-      as_sent = (carries_out-opening _ (writes.Created queue weight) old.journal.notes opening, recorded.as_sent);
-      waiting = λ other. subst (All (λ entry. HasTask same made polls old.took longer other entry.0 entry.2)) (sym (creates.added.same_lines other))
-          (λ place default within. task other _ _ (recorded.waiting other place default within));
-      out = λ job at. task job.queue job.name job.job (recorded.out job (sym (ap (λ core. core.out) creates.rest) ∙ at));
-    }
+    created =
+        let holds : HoldsSame old.core core = assumption (ap (λ core. core.core) creates.rest, ap (λ core. core.cores) creates.rest, creates.added.same_room, ap (λ core. core.out) creates.rest) in
+        unmoved_step old recorded core holds (writes.Created queue weight) kept (assumption) (λ sender kept. refl) (carries_out-opening _ (writes.Created queue weight) old.journal.notes opening)
+        (λ which. add-zero (polls_made which old.journal.notes))
 
   -- whatever the core answers
   pub created_did : (answer : Result ℕ CreateError) (notes : List (Note T)) → CoreCreates old.core weight answer core notes →
@@ -79,22 +85,11 @@ module _ {J T : Type 0} {same : J → J → Type 0} {made : J → ℕ} {polls : 
 
   close_step : (core : CoreView J) → closes old.core.mode mode ≡ true → core ≡ record old.core { mode = Some mode } →
       IsQuietStep old core (writes.CoreClosed mode ∷ []) same made polls everyone nobody
-  close_step core changes is = record {
-    kept =
-        kept_after (terms_at old) (writes.CoreClosed mode) recorded.kept (agrees-core_closed old.core core old.journal.notes recorded.kept.agrees mode is) recorded.kept.is_core
-        (closes_told true changes) refl tt refl refl;
-    number = ap (λ core. core.core) is;
-    cores = ap (λ core. core.cores) is;
-    room = ap (λ core. core.queues.room) is;
-    quiet = assumption;
-    ungiven = λ sender inward is. tt;
-    gates = λ sender there. refl;
-    fewer = omega (arith, ap inside_count is);
-    as_sent = (carries_none _ (writes.CoreClosed mode) old.journal.notes recorded.kept.no_answer, recorded.as_sent);
-    waiting = λ queue. subst (All (λ entry. HasTask same made polls old.took (writes.CoreClosed mode ∷ old.journal.notes) queue entry.0 entry.2)) (sym (ap (λ core. waiting_of queue core.queues) is))
-        (λ place default within. task_stays (λ order at. at) (add-zero (polls_made _ old.journal.notes)) (recorded.waiting queue place default within));
-    out = λ job at. task_stays (λ order at. at) (add-zero (polls_made job.name old.journal.notes)) (recorded.out job (sym (ap (λ core. core.out) is) ∙ at));
-  }
+  close_step core changes is =
+      let kept = kept_after (terms_at old) (writes.CoreClosed mode) recorded.kept (agrees-core_closed old.core core old.journal.notes recorded.kept.agrees mode is) recorded.kept.is_core
+      (closes_told true changes) refl tt refl refl in
+      unmoved_step old recorded core (subst (HoldsSame old.core) (sym is) assumption) (writes.CoreClosed mode) kept (assumption) (λ sender kept. refl)
+      (carries_none _ (writes.CoreClosed mode) old.journal.notes recorded.kept.no_answer) (λ which. add-zero (polls_made which old.journal.notes))
 
   -- whether or not that changes anything
   pub closed_did : (closed : Bool) (core : CoreView J) (notes : List (Note T)) → ClosesCore old.core mode closed core notes →
@@ -114,22 +109,11 @@ module _ {J T : Type 0} (old : RecordedView J T) (from count : ℕ) (core : Core
   -- the gate of no other sender is shut
   pub shut_step : {same : J → J → Type 0} {made : J → ℕ} {polls : Owed J T} → IsRecorded same made polls old → IsNextShut old.core.cores from count old.journal.notes →
       IsQuietStep old core written same made polls (λ sender. sender ≡ from → ⊥) nobody
-  shut_step {same} {made} {polls} recorded next = record {
-    kept =
-        kept_after (terms_at old) (writes.Shut from count) recorded.kept (agrees-shut old.core core old.journal.notes recorded.kept.agrees from count next.known is) recorded.kept.is_core next
-        refl tt refl refl;
-    number = ap (λ core. core.core) is;
-    cores = ap (λ core. core.cores) is;
-    room = ap (λ core. core.queues.room) is;
-    quiet = assumption;
-    ungiven = λ sender inward is. tt;
-    gates = λ sender away. ap (λ test. or_else (cond test (Some count) None) (final_count sender old.journal.notes)) (ne_eqb sender from away);
-    fewer = omega (arith, ap inside_count is);
-    as_sent = (tt, recorded.as_sent);
-    waiting = λ queue. subst (All (λ entry. HasTask same made polls old.took (written ++ old.journal.notes) queue entry.0 entry.2)) (sym (ap (λ core. waiting_of queue core.queues) is))
-        (λ place default within. task_stays (λ order at. at) (add-zero (polls_made _ old.journal.notes)) (recorded.waiting queue place default within));
-    out = λ job at. task_stays (λ order at. at) (add-zero (polls_made job.name old.journal.notes)) (recorded.out job (sym (ap (λ core. core.out) is) ∙ at));
-  }
+  shut_step recorded next =
+      let kept = kept_after (terms_at old) (writes.Shut from count) recorded.kept (agrees-shut old.core core old.journal.notes recorded.kept.agrees from count next.known is) recorded.kept.is_core next
+      refl tt refl refl in
+      unmoved_step old recorded core (subst (HoldsSame old.core) (sym is) assumption) (writes.Shut from count) kept (assumption)
+      (λ sender away. ap (λ test. or_else (cond test (Some count) None) (final_count sender old.journal.notes)) (ne_eqb sender from away)) tt (λ which. add-zero (polls_made which old.journal.notes))
 
   -- the end of this sender is shut where the journal says so
   pub shut_beside : (before after : Inward J T) → IsInOf from old before → Shuts before after count → IsInOf from (stepped old core written) after

@@ -7,7 +7,7 @@ use Rattle.rt_journal.proofs.Names.{LeavesOwed, IsUngiven, IsSameSeat, named_out
 use Rattle.rt_journal.proofs.Names.{cond, ◌==◌, None, or_parts, eqb-true, true≢false, option_map, none-some, same_Some}
 use Rattle.rt_journal.proofs.Names.{slice_get-map, Note, Job, IsAnswer, if_from, name_ended, outcome_given, DeliversAs}
 use Rattle.rt_journal.proofs.Names.{Journal, EachNote, is_told, same_name, is_name, outcome_note, same_as_itself}
-use Rattle.rt_journal.proofs.Names.{name_of}
+use Rattle.rt_journal.proofs.Names.{name_of, ◌≤◌}
 use Rattle.rt_ids.specs.declared.note.Note.TheVariants as writes
 
 pub prefix-along : {A : Type 0} (a b c : List A) → IsPrefix a b → IsPrefix b c → IsPrefix a c
@@ -54,20 +54,12 @@ final_of-more old new base shut same = grind arith
 -- seeing more changes nothing for the receiver's end
 pub sees_more_in : {J T : Type 0} (sender : ℕ) (view : RecordedView J T) (old new : Inward J T) → new ≡ record old { seen = new.seen } → SeesMore old new →
     IsInOf sender view old → IsInOf sender view new
-sees_more_in sender view old new rest more is = record {
-  known = is.known;
-  from = ap (λ end. end.from) rest ∙ is.from;
-  to = ap (λ end. end.to) rest ∙ is.to;
-  base = ap (λ end. end.base) rest ∙ is.base;
-  capacity = ap (λ end. end.capacity) rest ∙ is.capacity;
-  gate = is.gate ∙ final_of-more old new (ap (λ end. end.base) rest) (ap (λ end. end.shut) rest) more.1;
-  taken = is.taken ∙ sym (ap (λ end. end.taken) rest);
-  behind = omega (arith, is.behind, ap (λ end. end.taken) rest, ap length more.0.1, length-append old.seen more.0.0);
-  given = is.given ∙ ap (named_outcomes sender view.core.core) (sym (ap (λ end. end.given) rest));
-  ungiven = tt;
-  orders = λ name order from at.
-      let found = is.orders name order from at in (found.0, found.1, slice_get-seen new.seen old.seen more.0 found.0 order found.2);
-}
+sees_more_in {J} sender view old new rest more is =
+    let gate = is.gate ∙ final_of-more old (record old { seen = new.seen }) refl refl more.1 in
+    let behind : old.taken ≤ length new.seen = omega (arith, is.behind, ap length more.0.1, length-append old.seen more.0.0) in
+    let orders : (name : JobId) (order : Order J) → name.from ≡ sender → order_taken view.took name ≡ Some order → (place : ℕ) × (name ≡ name_of sender view.core.core (place + 1)) × (slice_get new.seen place ≡ Some order) =
+    λ name order from at. let found = is.orders name order from at in (found.0, found.1, slice_get-seen new.seen old.seen more.0 found.0 order found.2) in
+    subst (IsInOf sender view) (sym rest) (assumption (gate, behind, orders))
 
 -- what stands in a list with one more at its end stood there, or is the last
 last_or_before : {A : Type 0} (items : List A) (more : Option A) (place : ℕ) (item : A) → slice_get (with_last items more) place ≡ Some item →

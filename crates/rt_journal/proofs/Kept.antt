@@ -17,7 +17,8 @@ use Rattle.rt_journal.proofs.Names.{reason_if_returning, mode_of, ◌++◌, map-
 use Rattle.rt_journal.proofs.Names.{charge, is_told, jobs_out, jobs_out-yield, jobs_out-done, line-yield}
 use Rattle.rt_journal.proofs.Names.{line-yield_elsewhere, line-done, is_told-alone, virtual_runtime-yield}
 use Rattle.rt_journal.proofs.Names.{virtual_runtime-yield_elsewhere, virtual_runtime-done}
-use Rattle.rt_journal.proofs.Names.{virtual_runtime-done_elsewhere, ChangesLine, tally_of, settled_view}
+use Rattle.rt_journal.proofs.Names.{virtual_runtime-done_elsewhere, ChangesLine, tally_of, settled_view, poll_note}
+use Rattle.rt_journal.proofs.Names.{none-some}
 use Rattle.rt_ids.specs.declared.note.Note.TheVariants as writes
 use Rattle.rt_core.specs.State as state
 pub use Rattle.rt_journal.specs.Agreement.{IsKept}
@@ -71,8 +72,8 @@ module _ {T : Type 0} (other queue : ℕ) (journal : Journal T) where
   abbrev added : Figures → Figures
   added adds = plus (figures_told other journal) (cond (other == queue) adds no_figures)
 
-  pub told-picked : (runtime : ℕ) → figures_told other (writes.Pick queue runtime ∷ journal) ≡ added one_pick
-  told-picked runtime = grind arith
+  pub told-polled : (name : JobId) (runtime : ℕ) (was_started : Bool) → figures_told other (poll_note name was_started ∷ writes.Pick queue runtime ∷ journal) ≡ added one_pick
+  told-polled name runtime was_started = grind arith
 
   module _ (name : JobId) (its : queue_of name journal ≡ Some queue) where
     pub told-yield : (time : ℕ) → figures_told other (writes.Yield name time ∷ journal) ≡ added (one_yield time)
@@ -275,9 +276,6 @@ module _ {T : Type 0} where
   opening_is_open (Created queue weight ∷ before) opening = opening_is_open before opening
   opening_is_open (_ ∷ before) opening = absurd opening
 
-pub none≢some : {A : Type 0} (item : A) → None ≡ Some item → ⊥
-none≢some item same = cc
-
 module _ {J T : Type 0} (terms : Terms) (old : CoreView J) (job : JobOut J) (time done : ℕ) (queues : QueuesView J) (journal : Journal T)
     (kept : IsKept terms old journal) (at : old.out ≡ Some job) where
   abbrev new : CoreView J
@@ -322,7 +320,7 @@ module _ {J T : Type 0} (terms : Terms) (old : CoreView J) (job : JobOut J) (tim
       let floor_now = kept.agrees.the_floor ∙ sym (floor-stays (writes.Yield job.name time) journal refl) in
       let turns_now = kept.agrees.turns ∙ sym (turns-stays (writes.Yield job.name time) journal refl) in
       let modes = λ (other : ℕ). changes.same_modes other ∙ kept.agrees.closing.modes other in
-      let nobody : (out : JobOut J) → None ≡ Some out → out.queue < queue_count queues = λ out none. absurd (none≢some out none) in
+      let nobody : (out : JobOut J) → None ≡ Some out → out.queue < queue_count queues = λ out none. absurd (none-some out none) in
       let agrees : Agrees new yielded = assumption (tallied_now changes.same_count, lines, marks, runtimes, jobs_out-yield job.name time journal is_out.0, figures_now) in
       kept_after terms (writes.Yield job.name time) kept agrees kept.is_core is_out.0 refl tt refl refl
     where
@@ -357,7 +355,7 @@ module _ {J T : Type 0} (terms : Terms) (old : CoreView J) (job : JobOut J) (tim
       let lines = λ (other : ℕ). kept.agrees.lines other ∙ sym (line-done terms journal kept.notes other time value job.name is_out.0) in
       let floor_now = kept.agrees.the_floor ∙ sym (floor-stays (writes.Done job.name time value) journal refl) in
       let turns_now = kept.agrees.turns ∙ sym (turns-stays (writes.Done job.name time value) journal refl) in
-      let nobody : (out : JobOut J) → None ≡ Some out → out.queue < queue_count old.queues = λ out none. absurd (none≢some out none) in
+      let nobody : (out : JobOut J) → None ≡ Some out → out.queue < queue_count old.queues = λ out none. absurd (none-some out none) in
       let tallied = tallied_now (ap queue_count same) ∙ ap queue_count same in
       let agrees : Agrees (settled_view old job time done old.queues) (finished value) = assumption (runtimes, jobs_out-done job.name time value journal is_out.0, figures_now) in
       subst (λ queues. IsKept terms (settled_view old job time done queues) (finished value)) (sym same)

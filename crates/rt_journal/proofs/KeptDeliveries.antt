@@ -7,14 +7,14 @@ use Rattle.rt_journal.proofs.Names.{delivered_names, name_started, if_from, has_
 use Rattle.rt_journal.proofs.Names.{refusal, MayStand, IsNextDelivered, known_of, not_old, started_of, line-took}
 use Rattle.rt_journal.proofs.Names.{line-took_elsewhere, false_from_ne_true, same_as_itself, virtual_runtime-took_idle}
 use Rattle.rt_journal.proofs.Names.{virtual_runtime-took_busy, virtual_runtime-took_elsewhere, floor-stays, waiting_of}
-use Rattle.rt_journal.proofs.Names.{CoreView, JobOut, no_tally, tally_of, runtime_of, delivered_of, is_working}
-use Rattle.rt_journal.proofs.Names.{entry_runtime, Enters, counted, Agrees, IsJobOut, AreMarked, figures_of}
-use Rattle.rt_journal.proofs.Names.{figures_told, Note, Order, Reason, Answer, shares, created_count, IsAnswer}
-use Rattle.rt_journal.proofs.Names.{has_effect, CountsAlone, queue_just_picked, effect_awaited, inr, List, nat_le}
-use Rattle.rt_journal.proofs.Names.{le-leb, lt-leb, length-append, InRange, list_told, core_mode, IsCreationAnswer}
-use Rattle.rt_journal.proofs.Names.{queue_created, shares-created, shares-created_elsewhere, shares-set}
-use Rattle.rt_journal.proofs.Names.{shares-set_elsewhere, queue_count, shares_of, Creates, Weighs, slice_set, Mode}
-use Rattle.rt_journal.proofs.Names.{or_else, queue_mode, final_count, mode_of, HasClosed}
+use Rattle.rt_journal.proofs.Names.{CoreView, JobOut, no_tally, tally_of, runtime_of, is_working, entry_runtime}
+use Rattle.rt_journal.proofs.Names.{counted, Agrees, IsJobOut, AreMarked, Note, Order, Reason, Answer, shares}
+use Rattle.rt_journal.proofs.Names.{created_count, IsAnswer, has_effect, CountsAlone, queue_just_picked}
+use Rattle.rt_journal.proofs.Names.{effect_awaited, inr, List, nat_le, le-leb, lt-leb, length-append, InRange}
+use Rattle.rt_journal.proofs.Names.{list_told, core_mode, IsCreationAnswer, queue_created, shares-created}
+use Rattle.rt_journal.proofs.Names.{shares-created_elsewhere, shares-set, shares-set_elsewhere, queue_count, shares_of}
+use Rattle.rt_journal.proofs.Names.{Creates, Weighs, slice_set, Mode, or_else, queue_mode, final_count, mode_of}
+use Rattle.rt_journal.proofs.Names.{HasClosed, ChangesLine, QueuesView, Tally, slice_index_or}
 use Rattle.std.proofs.Common.{length-set}
 use Rattle.rt_ids.specs.declared.note.Note.TheVariants as writes
 use Rattle.rt_journal.specs.Agreement.{names_of}
@@ -26,19 +26,13 @@ use Rattle.rt_ids.specs.declared.order.Order.TheVariants as orders
 use Rattle.rt_ids.specs.declared.order.Answer.TheVariants as answers
 
 -- the next name from its sender is counted
-pub record IsCounted {J T : Type 0} (terms : Terms) (old new : CoreView J) (name : JobId) (journal : Journal T) : Type 0 where
-  pub known : name.from ≤ old.cores
-  pub next : IsNextDelivered terms name journal
-  pub now : new.delivered ≡ counted name old
-  pub cores : new.cores ≡ old.cores
-
-module _ {J T : Type 0} (terms : Terms) (old new : CoreView J) (name : JobId) (journal : Journal T) (is_counted : IsCounted terms old new name journal) (agrees : Agrees old journal) where
-  pub senders_counted : length new.delivered ≡ new.cores + 1
-  senders_counted = ap length is_counted.now ∙ (length-set old.delivered name.from name.number ∙ (agrees.senders ∙ ap (λ cores. cores + 1) (sym is_counted.cores)))
+module _ {J T : Type 0} (terms : Terms) (old : CoreView J) (name : JobId) (journal : Journal T) (known : name.from ≤ old.cores) (next : IsNextDelivered terms name journal) (agrees : Agrees old journal) where
+  senders_counted : length (counted name old) ≡ old.cores + 1
+  senders_counted = length-set old.delivered name.from name.number ∙ agrees.senders
 
   -- the count of each sender is that of the names delivered from it
-  pub delivered_counted : (sender : ℕ) → sender ≤ new.cores → delivered_of sender new ≡ length (with_last (delivered_names sender journal) (if_from sender name name))
-  delivered_counted sender known =
+  delivered_counted : (sender : ℕ) → sender ≤ old.cores → slice_index_or (counted name old) sender 0 ≡ length (with_last (delivered_names sender journal) (if_from sender name name))
+  delivered_counted sender there =
       grind (arith, get_or-set_same old.delivered name.from name.number 0, get_or-set_other old.delivered name.from sender name.number 0, agrees.delivered sender, length-append (delivered_names sender journal) (name ∷ []))
 
 module _ {T : Type 0} (terms : Terms) (journal : Journal T) (notes : EachNote (MayStand terms) journal) where
@@ -56,33 +50,30 @@ module _ {T : Type 0} (terms : Terms) (journal : Journal T) (notes : EachNote (M
       )
 
 -- a job that isn't refused enters its queue
-module _ {J T : Type 0} (terms : Terms) (old new : CoreView J) (name : JobId) (queue : ℕ) (job : J) (journal : Journal T) (kept : IsKept terms old journal)
-    (next : IsNextDelivered terms name journal) (sender : name.from ≤ old.cores) (enters : Enters old name queue job new) (accepted : refusal queue journal ≡ None) where
-  took_counted : IsCounted terms old new name journal
-  took_counted = record { known = sender; next = next; now = ap (λ core. core.delivered) enters.rest; cores = ap (λ core. core.cores) enters.rest }
+module _ {J T : Type 0} (terms : Terms) (old : CoreView J) (name : JobId) (queue : ℕ) (job : J) (journal : Journal T) (kept : IsKept terms old journal) (next : IsNextDelivered terms name journal) (sender : name.from ≤ old.cores)
+    (accepted : refusal queue journal ≡ None) (exists : queue < queue_count old.queues) (queues : QueuesView J) (changes : ChangesLine old.queues queues queue (waiting_of queue old.queues ++ (name, false, job) ∷ [])) where
+  abbrev its_tally : Tally
+  its_tally = record (tally_of queue old) { runtime = entry_runtime queue old }
 
-  modes_stay : SameModes old new
-  modes_stay = grind (arith, enters.line.same_modes, enters.rest)
+  abbrev entered : CoreView J
+  entered = record old { queues = queues; tallies = set old.tallies queue its_tally; delivered = counted name old }
 
-  took_lines : (other : ℕ) → names_of (waiting_of other new.queues) ≡ line other (writes.Took name queue ∷ journal)
+  took_lines : (other : ℕ) → names_of (waiting_of other queues) ≡ line other (writes.Took name queue ∷ journal)
   took_lines other =
-      grind (arith, line-took queue name journal, line-took_elsewhere other queue name journal, enters.line.others other, kept.agrees.lines other, map-append (λ (entry : JobId × Bool × J). entry.0) (waiting_of queue old.queues) ((name, false, job) ∷ []))
+      grind (arith, line-took queue name journal, line-took_elsewhere other queue name journal, changes.others other, kept.agrees.lines other, map-append (λ (entry : JobId × Bool × J). entry.0) (waiting_of queue old.queues) ((name, false, job) ∷ []))
 
   abbrev is_marked : JobId × Bool × J → Type 0
   is_marked entry = entry.1 ≡ is_told name_started entry.0 journal
 
-  took_marks : (other : ℕ) → AreMarked (writes.Took name queue ∷ journal) (waiting_of other new.queues)
-  took_marks = everywhere (λ at. AreMarked (writes.Took name queue ∷ journal) (waiting_of at new.queues)) queue
-      (subst (AreMarked (writes.Took name queue ∷ journal)) (sym enters.line.changed)
+  took_marks : (other : ℕ) → AreMarked (writes.Took name queue ∷ journal) (waiting_of other queues)
+  took_marks = everywhere (λ at. AreMarked (writes.Took name queue ∷ journal) (waiting_of at queues)) queue
+      (subst (AreMarked (writes.Took name queue ∷ journal)) (sym changes.changed)
       (All-append is_marked (waiting_of queue old.queues) ((name, false, job) ∷ []) (kept.agrees.marks queue)
       (All-cons is_marked (name, false, job) [] (sym (not_started terms journal kept.notes name next)) (All-nil is_marked))))
-      (λ other away. subst (AreMarked (writes.Took name queue ∷ journal)) (sym (enters.line.others other away)) (kept.agrees.marks other))
+      (λ other away. subst (AreMarked (writes.Took name queue ∷ journal)) (sym (changes.others other away)) (kept.agrees.marks other))
 
-  tallies_set : (other : ℕ) → tally_of other new ≡ get_or (set old.tallies queue (record (tally_of queue old) { runtime = entry_runtime queue old })) other no_tally
-  tallies_set other = ap (λ core. get_or core.tallies other no_tally) enters.rest
-
-  tallied : queue < length old.tallies
-  tallied = omega (arith, enters.exists, kept.agrees.tallied)
+  there : queue < length old.tallies
+  there = omega (arith, exists, kept.agrees.tallied)
 
   entry_is : entry_runtime queue old ≡ virtual_runtime queue (writes.Took name queue ∷ journal)
   entry_is = by_work (has_work queue journal) refl
@@ -99,57 +90,46 @@ module _ {J T : Type 0} (terms : Terms) (old new : CoreView J) (name : JobId) (q
           ∙ (ap (λ runtime. max runtime old.floor) (kept.agrees.runtimes queue)
           ∙ (ap (λ at. max (virtual_runtime queue journal) at) kept.agrees.the_floor ∙ sym (virtual_runtime-took_idle queue journal name idle)))
 
-  took_runtimes : (other : ℕ) → runtime_of other new ≡ virtual_runtime other (writes.Took name queue ∷ journal)
+  took_runtimes : (other : ℕ) → runtime_of other entered ≡ virtual_runtime other (writes.Took name queue ∷ journal)
   took_runtimes other =
-      grind (arith, tallies_set other, get_or-set_same old.tallies queue, get_or-set_other old.tallies queue other, kept.agrees.runtimes other, virtual_runtime-took_elsewhere other journal name queue, entry_is, tallied)
+      grind (arith, get_or-set_same old.tallies queue, get_or-set_other old.tallies queue other, kept.agrees.runtimes other, virtual_runtime-took_elsewhere other journal name queue, entry_is, there)
 
   took_out : (out : Option (JobOut J)) → IsJobOut out journal → IsJobOut out (writes.Took name queue ∷ journal)
   took_out None nobody = nobody
   took_out (Some job) alone = (alone.0, rw (not_entered terms journal kept.notes name job.name next (rw alone.1 refl)) alone.1)
 
-  took_figures : (other : ℕ) → figures_of other new ≡ figures_told other (writes.Took name queue ∷ journal)
-  took_figures other =
-      figures-same old new queue (record (tally_of queue old) { runtime = entry_runtime queue old }) tallied (ap (λ core. core.tallies) enters.rest) refl other
-      ∙ (kept.agrees.figures other ∙ sym (figures-stays other (writes.Took name queue) journal refl))
-
-  pub kept-took : IsKept terms new (writes.Took name queue ∷ journal)
-  kept-took =
-      let agrees : Agrees new (writes.Took name queue ∷ journal) = record {
-        tallied = ap (λ core. length core.tallies) enters.rest ∙ (length-set old.tallies queue _ ∙ (kept.agrees.tallied ∙ sym enters.line.same_count));
-        senders = senders_counted terms old new name journal took_counted kept.agrees;
-        last = enters.line.same_count ∙ kept.agrees.last;
-        lines = took_lines;
-        marks = took_marks;
-        runtimes = took_runtimes;
-        weights = λ other there. enters.line.same_shares other ∙ kept.agrees.weights other (rw (← enters.line.same_count) there);
-        the_floor = ap (λ core. core.floor) enters.rest ∙ (kept.agrees.the_floor ∙ sym (floor-stays (writes.Took name queue) journal refl));
-        turns = ap (λ core. core.turns) enters.rest ∙ (kept.agrees.turns ∙ sym (turns-stays (writes.Took name queue) journal refl));
-        out = subst (λ out. IsJobOut out (writes.Took name queue ∷ journal)) (sym (ap (λ core. core.out) enters.rest)) (took_out old.out kept.agrees.out);
-        out_exists = λ out at. rw enters.line.same_count (kept.agrees.out_exists out (sym (ap (λ core. core.out) enters.rest) ∙ at));
-        delivered = delivered_counted terms old new name journal took_counted kept.agrees;
-        figures = took_figures;
-        closing = closing-stays old new (writes.Took name queue) journal modes_stay (assumption) kept.agrees.closing;
-      } in
-      kept_after terms (writes.Took name queue) kept agrees kept.is_core (next, accepted) refl tt refl refl
+  pub kept-took : {new : CoreView J} → new ≡ entered → IsKept terms new (writes.Took name queue ∷ journal)
+  kept-took is =
+      let tallied = length-set old.tallies queue its_tally ∙ (kept.agrees.tallied ∙ sym changes.same_count) in
+      let last = changes.same_count ∙ kept.agrees.last in
+      let weights = λ (other : ℕ) (there : other < queue_count queues). changes.same_shares other ∙ kept.agrees.weights other (subst (λ count. other < count) changes.same_count there) in
+      let floor_now = kept.agrees.the_floor ∙ sym (floor-stays (writes.Took name queue) journal refl) in
+      let turns_now = kept.agrees.turns ∙ sym (turns-stays (writes.Took name queue) journal refl) in
+      let out_exists : (out : JobOut J) → old.out ≡ Some out → out.queue < queue_count queues = λ out at. rw changes.same_count (kept.agrees.out_exists out at) in
+      let figures = λ (other : ℕ). figures-same old entered queue its_tally there refl refl other ∙ (kept.agrees.figures other ∙ sym (figures-stays other (writes.Took name queue) journal refl)) in
+      let modes = λ (other : ℕ). changes.same_modes other ∙ kept.agrees.closing.modes other in
+      let agrees : Agrees entered (writes.Took name queue ∷ journal) = assumption (
+        senders_counted terms old name journal sender next kept.agrees,
+        took_lines,
+        took_marks,
+        took_runtimes,
+        took_out old.out kept.agrees.out,
+        delivered_counted terms old name journal sender next kept.agrees,
+      ) in
+      subst (λ core. IsKept terms core (writes.Took name queue ∷ journal)) (sym is) (kept_after terms (writes.Took name queue) kept agrees kept.is_core (next, accepted) refl tt refl refl)
 
 -- a delivery that changes nothing but its count
 module _ {J T : Type 0} (terms : Terms) (old new : CoreView J) (name : JobId) (journal : Journal T) (kept : IsKept terms old journal)
     (next : IsNextDelivered terms name journal) (sender : name.from ≤ old.cores) (counts : CountsAlone old name new) where
-  modes_counted : SameModes old (record old { delivered = counted name old })
-  modes_counted = record { modes = λ queue. refl; mode = refl; gates = refl; cores = refl }
-
-  was_counted : IsCounted terms old (record old { delivered = counted name old }) name journal
-  was_counted = record { known = sender; next = next; now = refl; cores = refl }
-
   -- a calm note by which the next name is delivered, and nothing is created, weighed or closed
   agrees-counted : (note : Note T) → IsCalm note journal → created_count (note ∷ journal) ≡ created_count journal → ((queue : ℕ) → shares queue (note ∷ journal) ≡ shares queue journal) → IsOpenNote note →
       ((sender : ℕ) → delivered_names sender (note ∷ journal) ≡ with_last (delivered_names sender journal) (if_from sender name name)) → Agrees new (note ∷ journal)
   agrees-counted note calm creates weighs opens delivers =
       subst (λ core. Agrees core (note ∷ journal)) (sym counts)
       (agrees_unmoved old journal note kept.agrees calm creates weighs (counted name old)
-      (senders_counted terms old (record old { delivered = counted name old }) name journal was_counted kept.agrees)
-      (λ sender known. delivered_counted terms old (record old { delivered = counted name old }) name journal was_counted kept.agrees sender known ∙ ap length (sym (delivers sender))) old.gates old.mode
-      (closing-stays old (record old { delivered = counted name old }) note journal modes_counted opens kept.agrees.closing))
+      (senders_counted terms old name journal sender next kept.agrees)
+      (λ from known. delivered_counted terms old name journal sender next kept.agrees from known ∙ ap length (sym (delivers from))) old.gates old.mode
+      (closing-stays old (record old { delivered = counted name old }) note journal (assumption) opens kept.agrees.closing))
 
   pub agrees-back : (reason : Reason) → Agrees new (writes.Back name reason ∷ journal)
   agrees-back reason = agrees-counted (writes.Back name reason) refl refl (λ queue. refl) (record { queues = λ queue. refl; core = refl; gates = λ sender. refl }) (λ sender. refl)

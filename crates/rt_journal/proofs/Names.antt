@@ -31,7 +31,6 @@ pub use Rattle.rt_core.specs.declared.turn.Settled.{Settled}
 pub use Rattle.rt_core.specs.declared.turn.Settled.TheVariants.{Yielded}
 pub use Rattle.rt_core.specs.declared.turn.Turn.{Turn}
 pub use Rattle.rt_core.specs.declared.turn.Turn.TheVariants.{Idle, Resume, Start}
-pub use Rattle.rt_desk.specs.Held.{at}
 pub use Rattle.rt_desk.specs.Lanes.{Lane}
 pub use Rattle.rt_ids.proofs.Counts.{queue_out-alone, queue_out-nobody}
 pub use Rattle.rt_ids.proofs.JobsOut.{alone_out, jobs_out-done, jobs_out-resume, jobs_out-start, jobs_out-yield}
@@ -117,6 +116,7 @@ pub use Rattle.rt_recorded_desk.specs.Posts.{AreOutsOf, ArePosts, HasPosted, Pos
 pub use Rattle.rt_recorded_desk.specs.Spending.{HoldsSome, booked}
 pub use Rattle.rt_recorded_desk.specs.Submissions.{DeskView, IsWritten, Submits, desk_with, opened_desk, terms_of_desk}
 pub use Rattle.rt_recorded_desk.specs.Tickets.{AreCollected, CollectsFrom, DetachesTicket, HasLane, RedeemsTicket}
+pub use Rattle.rt_recorded_desk.specs.Tickets.{StaysBeside}
 pub use Rattle.rt_shares.specs.Charge.{InRange, charge, clamped}
 pub use Rattle.rt_taskqueue.specs.Queues.{ChangesLine, QueuesView, held_count, mode_of, no_queue, queue_count}
 pub use Rattle.rt_taskqueue.specs.Queues.{shares_of, waiting_of}

@@ -1,13 +1,10 @@
 -- A core that was just opened, beside a journal without a note.
-use Rattle.rt_journal.proofs.Names.{◌≡◌, ℕ, zero, suc, ◌+◌, ◌*◌, ◌<◌, [], refl, sym, ap, subst, arith, Option, Some}
-use Rattle.rt_journal.proofs.Names.{None, All, replicate, slice_index_or, length-replicate, get_or-replicate, All-nil}
-use Rattle.rt_journal.proofs.Names.{Owed, waiting_of, shares_of, mode_of, CoreView, runtime_of, opened, Agrees}
-use Rattle.rt_journal.proofs.Names.{AreMarked, no_figures, figures_of, IsRecorded, HasTask, sum_upto, given_count}
-use Rattle.rt_journal.proofs.Names.{opened_beside}
+use Rattle.rt_journal.proofs.Names.{◌≡◌, ℕ, zero, suc, ◌+◌, ◌*◌, ◌<◌, [], refl, sym, ap, subst, arith, Option, None}
+use Rattle.rt_journal.proofs.Names.{All, replicate, slice_index_or, length-replicate, get_or-replicate, All-nil, Owed}
+use Rattle.rt_journal.proofs.Names.{waiting_of, shares_of, mode_of, CoreView, runtime_of, opened, Agrees, AreMarked}
+use Rattle.rt_journal.proofs.Names.{no_figures, figures_of, IsRecorded, HasTask, sum_upto, given_count, opened_beside}
+use Rattle.rt_journal.proofs.Names.{none-some}
 use Rattle.rt_journal.specs.Agreement.{names_of}
-
-none≢some : {A : Type 0} (item : A) → None ≡ Some item → ⊥
-none≢some item same = cc
 
 none_at : (count place : ℕ) → slice_index_or {A = Option ℕ} (replicate count None) place None ≡ None
 none_at zero place = refl
@@ -40,7 +37,7 @@ module _ (J : Type 0) (core cores cap : ℕ) where
     the_floor = refl;
     turns = refl;
     out = refl;
-    out_exists = λ out none. absurd (none≢some out none);
+    out_exists = λ out none. absurd (none-some out none);
     delivered = λ sender known. get_or-replicate (cores + 1) sender 0 0 (omega (arith, known));
     figures = λ queue. (at_first queue).3;
     closing = record { modes = λ queue. (at_first queue).2; mode = refl; gate_places = length-replicate (cores + 1) None; gates = λ sender. none_at (cores + 1) sender };
@@ -57,8 +54,8 @@ recorded-opened {J} {T} same made polls core cores cap room there = record {
   kept = record { is_core = there; agrees = agrees-opened J core cores cap T; notes = tt; no_pick = refl; no_answer = refl };
   room = refl;
   held = record { each = λ sender known. omega arith; inside = omega (arith, no_sum T cores) };
-  taken = λ name order at. absurd (none≢some order at);
+  taken = λ name order at. absurd (none-some order at);
   as_sent = tt;
   waiting = λ queue. subst (All (λ entry. HasTask same made polls [] [] queue entry.0 entry.2)) (sym (at_first J core cores cap queue).0) (All-nil _);
-  out = λ job at. absurd (none≢some job at);
+  out = λ job at. absurd (none-some job at);
 }

@@ -4,14 +4,14 @@ use Rattle.rt_journal.proofs.Names.{length, reverse, sym, ◌∙◌, ap, subst, 
 use Rattle.rt_journal.proofs.Names.{Order, Outcome, turns, Step, Owed, Start, Resume, CoreView, IsAhead, goes_out}
 use Rattle.rt_journal.proofs.Names.{pick_notes, settle_notes, ahead_picks, Outward, DeskView, IsWritten, terms_of_desk}
 use Rattle.rt_journal.proofs.Names.{desk_with, RecordedView, IsRecorded, desk_of, KeepsIn, LeavesOwed, AreOutsOf}
-use Rattle.rt_journal.proofs.Names.{IsPick, StaysPut, None, option_map, ◌*◌, ◌≤◌, same_Some, outcome_note, Call, Doing}
+use Rattle.rt_journal.proofs.Names.{IsPick, StaysPut, option_map, ◌*◌, ◌≤◌, same_Some, outcome_note, Call, Doing}
 use Rattle.rt_journal.proofs.Names.{Makes, IsSameTask, JobOut, TurnsWhole, settled_of, IsSameSeat, told_under}
 use Rattle.rt_journal.proofs.Names.{OwesSettled, outcome_settled, PostView, HasPosted, lends, Does, IsPolled, Settles}
-use Rattle.rt_journal.proofs.Names.{post_of, IsPostingTurn, MayAnswer, TurnsNoted}
+use Rattle.rt_journal.proofs.Names.{post_of, IsPostingTurn, MayAnswer, TurnsNoted, OutcomeNote}
 use Rattle.rt_core.specs.Turns.{Picks as CorePicks}
 use Rattle.rt_journal.proofs.Ahead.{picked_did}
 use Rattle.rt_journal.proofs.QuietSteps.{nobody, everyone, HasDone, view_of, quiet_invariant, quiet_now, given_settled}
-use Rattle.rt_journal.proofs.QuietSteps.{MayNote, quiet_noted}
+use Rattle.rt_journal.proofs.QuietSteps.{HasStepped, MayNote, quiet_noted}
 use Rattle.rt_recorded_desk.proofs.Posting.{posted_rest}
 use Rattle.rt_journal.proofs.SentNotes.{HasSaid, SaysNoMore, all_posted, has_said}
 use Rattle.rt_journal.proofs.SettledPolls.{owes_settled, its_answer, settled_did}
@@ -29,6 +29,11 @@ outs_kept old new stays ends outs = record {
 posted_silent : {J T E : Type 0} {out : E → Outward J T} {untouched : E → List ℕ} (said now : DeskView J T) (ends later : List E) → HasPosted out untouched (record { desk = said; ends = ends }) (record { desk = now; ends = later }) →
     SaysNoMore said.journal.notes now.journal.notes
 posted_silent said now ends later posted = subst (SaysNoMore said.journal.notes) (sym (ap (λ desk. desk.journal.notes) posted.desk)) (all_posted posted.notes said.journal.notes posted.posts)
+
+-- a quiet step leaves the seat, the ends on which this actor sends, and its lanes
+stays_put : {J T : Type 0} {same : J → J → Type 0} {made : J → ℕ} {polls : Owed J T} {keeps : ℕ → Type 0} {gives : ℕ → Option (JobId × OutcomeNote T)} {does : RecordedView J T → RecordedView J T → Type 0} {old new : RecordedView J T} →
+    HasStepped same made polls keeps gives does old new → StaysPut old new
+stays_put now = record { seat = now.seat; outs = now.outs; lanes = now.lanes }
 
 -- one step after another leaves owed what the last one leaves
 pub owes_then : {J T : Type 0} (old pick_told left new : RecordedView J T) (sender : ℕ) {owed : Option (JobId × _)} → KeepsIn sender old pick_told → KeepsIn sender pick_told left → LeavesOwed sender owed left new → LeavesOwed sender owed old new
@@ -59,19 +64,13 @@ module _ {J T : Type 0} {same : J → J → Type 0} {made : J → ℕ} {polls : 
       pub is_picked : IsRecorded same made polls (view_of mid took noted) × (noted ≡ desk_of (view_of mid took noted))
       is_picked = quiet_invariant core took said invariant slice_is (did started pick_told picks) wrote
 
-      pub picks_it : IsPick (view_of core took said) name queue started job (view_of mid took noted)
-      picks_it = (quiet_now core took said invariant slice_is (did started pick_told picks) wrote refl).does_so
-
-      pub keeps_in : (sender : ℕ) → KeepsIn sender (view_of core took said) (view_of mid took noted)
-      keeps_in sender = (quiet_now core took said invariant slice_is (did started pick_told picks) wrote refl).ins sender tt
-
-      pub stays_picked : StaysPut (view_of core took said) (view_of mid took noted)
-      stays_picked = let now = quiet_now core took said invariant slice_is (did started pick_told picks) wrote refl in record { seat = now.seat; outs = now.outs; lanes = now.lanes }
+      pub has_picked : HasStepped same made polls everyone nobody (λ old new. IsPick old name queue started job new) (view_of core took said) (view_of mid took noted)
+      has_picked = quiet_now core took said invariant slice_is (did started pick_told picks) wrote refl
 
       outs_picked : {E : Type 0} {fits : Order J → Outcome J T → Type 0} {out : E → Outward J T} {credited : E → ℕ} (ends : List E) → AreOutsOf fits out credited (desk_of (view_of core took said)) ends → AreOutsOf fits out credited noted ends
       outs_picked {E} {fits} {out} {credited} ends outs =
           subst (λ desk. AreOutsOf fits out credited desk ends) (sym is_picked.1)
-          (outs_kept (view_of core took said) (view_of mid took noted) stays_picked ends outs)
+          (outs_kept (view_of core took said) (view_of mid took noted) (stays_put has_picked) ends outs)
 
 -- the same, told before the pick
 module _ {J T : Type 0} {same : J → J → Type 0} {made : J → ℕ} {polls : Owed J T}
@@ -164,21 +163,17 @@ module _ {J T E : Type 0} {same : J → J → Type 0} {done : J → Bool} {can_p
       pub turned_invariant : IsRecorded same made polls new × (said_now ≡ desk_of new)
       turned_invariant = quiet_invariant whole.mid took left at_poll last_is last_step wrote_it
 
+      has_settled : HasStepped same made polls everyone (given_settled whole.settles.0.name whole.ran.step) (λ old new. Settles made polls answers old whole.ran spent (settled_of step) new) polled_view new
+      has_settled = quiet_now whole.mid took left at_poll last_is last_step wrote_it refl
+
       settles_it : Settles made polls answers polled_view whole.ran spent (settled_of step) new
-      settles_it = (quiet_now whole.mid took left at_poll last_is last_step wrote_it refl).does_so
+      settles_it = has_settled.does_so
 
       owes_it : OwesSettled polled_view (settled_of step) new
-      owes_it = owes_settled polled_view _ whole.settles.0 whole.settles.1 whole.ran.step (settled_of step) settles_it.tells
-          (λ sender. (quiet_now whole.mid took left at_poll last_is last_step wrote_it refl).ins sender tt)
+      owes_it = owes_settled polled_view _ whole.settles.0 whole.settles.1 whole.ran.step (settled_of step) settles_it.tells (λ sender. has_settled.ins sender tt)
 
-      keeps_picked : (sender : ℕ) → KeepsIn sender old picked
-      keeps_picked = keeps_in core took said invariant few_turns queue vr name started whole.ran.before whole.mid whole.picks slice slice_is noted wrote
-
-      stays_picked_it : StaysPut old picked
-      stays_picked_it = stays_picked core took said invariant few_turns queue vr name started whole.ran.before whole.mid whole.picks slice slice_is noted wrote
-
-      stays_it : StaysPut polled_view new
-      stays_it = let now = quiet_now whole.mid took left at_poll last_is last_step wrote_it refl in record { seat = now.seat; outs = now.outs; lanes = now.lanes }
+      picks_it : HasStepped same made polls everyone nobody (λ old new. IsPick old name queue started whole.ran.before new) old picked
+      picks_it = has_picked core took said invariant few_turns queue vr name started whole.ran.before whole.mid whole.picks slice slice_is noted wrote
 
       turned : {does : Doing (PostView J T E) J T} {tells : ℕ → Type 0} → tells spent → Makes does calls (record { desk = noted; ends = ends }) (record { desk = left; ends = later }) →
           IsPostingTurn same made polls answers does out untouched tells old ends name queue started (settled_of step) new later
@@ -188,24 +183,24 @@ module _ {J T E : Type 0} {same : J → J → Type 0} {done : J → Bool} {can_p
         ran = whole.ran;
         spent = spent;
         told = told_it;
-        picks = picks_it core took said invariant few_turns queue vr name started whole.ran.before whole.mid whole.picks slice slice_is noted wrote;
+        picks = picks_it.does_so;
         sound = at_pick.0;
-        stays = stays_picked_it;
-        keeps = keeps_picked;
+        stays = stays_put picks_it;
+        keeps = λ sender. picks_it.ins sender tt;
         owed = record { calls = calls; owed = whole.polled.owed; makes = posts_of (Makes does calls) makes };
         posted = posts_of (HasPosted out untouched) posted;
         rest = λ i. record { cap = ap (λ desk. desk.cap) rest i; core = whole.mid; journal = left.journal; took = took; lanes = left.lanes };
         silent = said_left.ins;
         polled = polled;
         settles = settles_it;
-        stays_settled = stays_it;
+        stays_settled = stays_put has_settled;
         owes = owes_it;
       }
 
       turned_owes : (sender : ℕ) → LeavesOwed sender (told_under name (option_map outcome_note (outcome_settled {J = J} (settled_of step))) sender) old new
       turned_owes sender =
           subst (λ name. LeavesOwed sender (told_under name (option_map outcome_note (outcome_settled {J = J} (settled_of step))) sender) old new) its_name
-          (owes_then old picked polled_view new sender (keeps_picked sender) (said_left.ins sender) (owes_it whole.settles.0 whole.settles.1 sender))
+          (owes_then old picked polled_view new sender (picks_it.ins sender tt) (said_left.ins sender) (owes_it whole.settles.0 whole.settles.1 sender))
 
       turned_answer : MayAnswer answers took name (settled_of step)
       turned_answer =
@@ -214,18 +209,15 @@ module _ {J T E : Type 0} {same : J → J → Type 0} {done : J → Bool} {can_p
           (its_answer answers took settles_it.out.name settles_it.out.queue settles_it.sent settles_it.task whole.ran.step (settled_of step) settles_it.tells settles_it.answered)
 
       turned_outs : {fits : Order J → Outcome J T → Type 0} {credited : E → ℕ} → AreOutsOf fits out credited left later → AreOutsOf fits out credited (desk_of new) later
-      turned_outs {fits} {credited} outs = outs_kept polled_view new stays_it later (subst (λ desk. AreOutsOf fits out credited desk later) at_poll.1 outs)
-
-      turned_rest : core_now.out ≡ None
-      turned_rest = settles_it.out_now
+      turned_outs {fits} {credited} outs = outs_kept polled_view new (stays_put has_settled) later (subst (λ desk. AreOutsOf fits out credited desk later) at_poll.1 outs)
 
       turned_seat : IsSameSeat old new
       turned_seat =
-          let one = stays_picked_it.seat in
-          let other = stays_it.seat in
+          let one = picks_it.seat in
+          let other = has_settled.seat in
           assumption (other.number ∙ one.number, other.cores ∙ one.cores, other.cap ∙ (ap (λ desk. desk.cap) rest ∙ one.cap), other.room ∙ (ap (λ desk. desk.journal.room) rest ∙ one.room))
 
       pub turned_noted : {fits : Order J → Outcome J T → Type 0} {credited : E → ℕ} {tells : ℕ → Type 0} → tells spent → Makes (Does fits out credited untouched) calls (lends noted ends) (lends left later) →
           AreOutsOf fits out credited left later → length said_now.journal.notes ≤ length said.journal.notes + core.cores * (3 * said.cap) + 3 →
           TurnsNoted same made polls answers fits out credited untouched tells old ends name queue started (settled_of step) new later
-      turned_noted {tells = tells} told_it makes outs few = assumption (turned {tells = tells} told_it makes, turned_owes, turned_answer, turned_outs outs, turned_rest, turned_seat, turned_invariant)
+      turned_noted {tells = tells} told_it makes outs few = assumption (turned {tells = tells} told_it makes, turned_owes, turned_answer, turned_outs outs, settles_it.out_now, turned_seat, turned_invariant)

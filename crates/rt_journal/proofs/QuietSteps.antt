@@ -178,22 +178,21 @@ module _ {J T : Type 0} where
   pub desk_is : (said : DeskView J T) (core : CoreView J) (took : List (Envelope J)) → said.actor ≡ core.core → said.cores ≡ core.cores → said ≡ desk_of (view_of core took said)
   desk_is said core took actor cores = λ i. record { actor = actor i; cores = cores i; cap = said.cap; journal = said.journal; lanes = said.lanes }
 
-  -- the notes that may stand behind the journal may be written by its desk
-  pub may_write : (core : CoreView J) (took : List (Envelope J)) (said : DeskView J T) → said ≡ desk_of (view_of core took said) → (notes slice : List (Note T)) → slice ≡ notes →
-      IsWritten (terms_at (view_of core took said)) (reverse notes ++ said.journal.notes) → IsWritten (terms_of_desk said) (reverse slice ++ said.journal.notes)
-  may_write core took said is notes slice slice_is written =
-      subst (λ terms. IsWritten terms (reverse slice ++ said.journal.notes)) (sym (ap terms_of_desk is))
-      (subst (λ notes. IsWritten (terms_at (view_of core took said)) (reverse notes ++ said.journal.notes)) (sym slice_is) written)
-
--- what notes say of submissions, the same notes say
-pub may_send : {T : Type 0} (before : Journal T) (notes slice : List (Note T)) → slice ≡ notes → KeepsSent before (reverse notes ++ before) → KeepsSent before (reverse slice ++ before)
-may_send before notes slice slice_is = subst (λ notes. KeepsSent before (reverse notes ++ before)) (sym slice_is)
-
 -- what a desk asks of the notes that it writes
 pub record MayNote {J T : Type 0} (said : DeskView J T) (slice : List (Note T)) : Type 0 where
   pub room : length said.journal.notes + length slice ≤ said.journal.room
   pub written : IsWritten (terms_of_desk said) (reverse slice ++ said.journal.notes)
   pub sent : KeepsSent said.journal.notes (reverse slice ++ said.journal.notes)
+
+-- few notes that may stand behind the journal may be written by its desk
+pub may_note : {J T : Type 0} (core : CoreView J) (took : List (Envelope J)) (said : DeskView J T) → said ≡ desk_of (view_of core took said) → {notes slice : List (Note T)} → slice ≡ notes →
+    IsWritten (terms_at (view_of core took said)) (reverse notes ++ said.journal.notes) → KeepsSent said.journal.notes (reverse notes ++ said.journal.notes) → {most : ℕ} → length notes ≤ most →
+    {before : RecordedView J T} → view_of core took said ≡ before → length before.journal.notes + most ≤ before.journal.room → MayNote said slice
+may_note core took said desk {notes} slice_is written sent few view_is room = subst (MayNote said) (sym slice_is) (record {
+  room = omega (arith, few, room, ap (λ view. view.journal.room) view_is, ap (λ view. length view.journal.notes) view_is);
+  written = subst (λ terms. IsWritten terms (reverse notes ++ said.journal.notes)) (sym (ap terms_of_desk desk)) written;
+  sent = sent;
+})
 
 module _ {J T : Type 0} (same : J → J → Type 0) (made : J → ℕ) (polls : Owed J T) (keeps : ℕ → Type 0) (gives : ℕ → Option (JobId × OutcomeNote T)) (does : RecordedView J T → RecordedView J T → Type 0) where
   -- what a quiet step leaves: it did so, the core is recorded, and the seat, the lanes and the ends of all links are as they were, except what it gives and whose gate it shuts
@@ -213,17 +212,8 @@ module _ {J T : Type 0} {same : J → J → Type 0} {made : J → ℕ} {polls : 
   abbrev old : RecordedView J T
   old = view_of core took said
 
-  pub quiet_written : IsWritten (terms_of_desk said) (reverse slice ++ said.journal.notes)
-  quiet_written = may_write core took said invariant.1 notes slice slice_is (written_step old invariant.0 after (reverse notes) did.step)
-
-  pub quiet_sent : KeepsSent said.journal.notes (reverse slice ++ said.journal.notes)
-  quiet_sent = may_send said.journal.notes notes slice slice_is did.step.quiet.sent
-
   pub quiet_noted : {before : RecordedView J T} → old ≡ before → length before.journal.notes + most ≤ before.journal.room → MayNote said slice
-  quiet_noted view_is room =
-      let fits : length said.journal.notes + length slice ≤ said.journal.room =
-      omega (arith, did.few, room, ap (λ view. view.journal.room) view_is, ap (λ view. length view.journal.notes) view_is, ap length slice_is) in
-      assumption (quiet_written, quiet_sent)
+  quiet_noted = may_note core took said invariant.1 slice_is (written_step old invariant.0 after (reverse notes) did.step) did.step.quiet.sent did.few
 
   module _ {said_now : DeskView J T} (wrote : said_now ≡ desk_with (reverse slice) said) where
     now_written : said_now ≡ desk_with (reverse notes) said

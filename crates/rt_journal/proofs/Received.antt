@@ -11,6 +11,7 @@ use Rattle.rt_journal.proofs.Names.{inside_count, delivered_of, Delivered, IsNex
 use Rattle.rt_journal.proofs.Names.{IsWritten, RecordedView, terms_at, IsRecorded, IsHeld, IsTaken, HasTask, OwesAfter}
 use Rattle.rt_journal.proofs.Names.{sum_upto, delivered_count, given_count, IsSameSeat, KeepsSent, GivesMore}
 use Rattle.rt_journal.proofs.Names.{told_under, outcome_delivered, OutcomeNote, outcome_note, IsNextIn, Receives}
+use Rattle.rt_journal.proofs.Names.{JobOut}
 use Rattle.rt_ids.specs.declared.note.Note.TheVariants as writes
 use Rattle.rt_core.specs.Deliveries.{Delivers as CoreDelivers}
 use Rattle.rt_journal.proofs.Sums.{sum_upto-one_more, sum_upto-room}
@@ -100,6 +101,15 @@ module _ {J T : Type 0} {same : J → J → Type 0} {made : J → ℕ} {polls : 
     same_task = task.same_task;
     owes = subst (λ count. OwesAfter same made polls task.sent count job) (sym as_before) task.owes;
   }
+
+module _ {J T : Type 0} {same : J → J → Type 0} {made : J → ℕ} {polls : Owed J T} (old : RecordedView J T) (recorded : IsRecorded same made polls old)
+    (written : List (Note T)) (unpolled : (which : JobId) → polls_made which (written ++ old.journal.notes) ≡ polls_made which old.journal.notes) where
+  -- all jobs keep their tasks behind notes by which no poll is settled
+  pub waiting_stays : (queue : ℕ) → All (λ entry. HasTask same made polls old.took (written ++ old.journal.notes) queue entry.0 entry.2) (waiting_of queue old.core.queues)
+  waiting_stays queue place default within = task_stays (λ order at. at) (unpolled _) (recorded.waiting queue place default within)
+
+  pub out_stays : (job : JobOut J) → old.core.out ≡ Some job → HasTask same made polls old.took (written ++ old.journal.notes) job.queue job.name job.job
+  out_stays job at = task_stays (λ order at. at) (unpolled job.name) (recorded.out job at)
 
 module _ {J T : Type 0} {same : J → J → Type 0} {made : J → ℕ} {polls : Owed J T} (is_same : IsSameTask same)
     (old : RecordedView J T) (recorded : IsRecorded same made polls old) (envelope : Envelope J) (told : Option (OutcomeNote T)) (core : CoreView J) (written : List (Note T))
@@ -232,14 +242,9 @@ module _ {J T : Type 0} {same : J → J → Type 0} {made : J → ℕ} {polls : 
   pub done : IsCarriedOut old envelope.name envelope.order told core (reverse written)
   done = carries_out old envelope.name recorded.kept (next_delivered old envelope.name recorded next) next.sender core envelope.order spelled delivered written does
 
-  pub few : length written ≤ 2
-  few = omega (arith, done.few, length-reverse written)
-
-  pub written_now : IsWritten (terms_at old) (reverse written ++ old.journal.notes)
-  written_now = record { notes = done.kept.notes; no_pick = done.kept.no_pick; no_answer = done.kept.no_answer }
-
-  pub sent_now : KeepsSent old.journal.notes (reverse written ++ old.journal.notes)
-  sent_now = done.lists.sent
+  -- what the desk asks of the notes
+  pub notes_fit : IsWritten (terms_at old) (reverse written ++ old.journal.notes) × KeepsSent old.journal.notes (reverse written ++ old.journal.notes) × (length written ≤ 2)
+  notes_fit = (record { notes = done.kept.notes; no_pick = done.kept.no_pick; no_answer = done.kept.no_answer }, done.lists.sent, omega (arith, done.few, length-reverse written))
 
   module _ (new : RecordedView J T) (is : new ≡ record { cap = old.cap; core = core; journal = record old.journal { notes = reverse written ++ old.journal.notes }; took = old.took ++ envelope ∷ []; lanes = old.lanes }) where
     pub received_now : HasReceived same made polls envelope told old new

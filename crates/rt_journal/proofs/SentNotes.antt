@@ -6,7 +6,7 @@ use Rattle.rt_journal.proofs.Names.{shares, delivered_names, given_outcomes, Del
 use Rattle.rt_journal.proofs.Names.{without_job, outcome_note, Owed, CoreView, Lane, Agrees, polls_made, DeskView}
 use Rattle.rt_journal.proofs.Names.{IsWritten, Submits, terms_of_desk, RecordedView, IsRecorded, desk_of, terms_at}
 use Rattle.rt_journal.proofs.Names.{delivered_count, given_count, KeepsIn, ArePosts, AreCollected, CollectsFrom}
-use Rattle.rt_journal.proofs.Names.{RedeemsTicket, DetachesTicket}
+use Rattle.rt_journal.proofs.Names.{RedeemsTicket, DetachesTicket, StaysBeside, Outward}
 use Rattle.rt_ids.specs.declared.names.TicketError.TheVariants.{Pending}
 use Rattle.rt_ids.specs.declared.note.Note.TheVariants as writes
 use Rattle.rt_ids.specs.declared.order.SendError.TheVariants.{Spent}
@@ -109,32 +109,6 @@ module _ {J T : Type 0} (old : RecordedView J T) (longer : Journal T) (lanes : L
     ins_silent sender =
         keeps_in old new (record { number = refl; cores = refl; cap = refl; room = refl }) sender None (silent.given sender) (silent.gates sender) (λ inward is. tt) (ap length (silent.delivered sender)) (λ which order from at. at)
 
--- what a call of its desk leaves of a core: it is recorded, the desk is its own, and the ends that it receives from are as they were
-pub record HasSaid {J T : Type 0} (same : J → J → Type 0) (made : J → ℕ) (polls : Owed J T) (desk : DeskView J T) (old new : RecordedView J T) : Type 0 where
-  pub sound : IsRecorded same made polls new
-  pub is_its : desk ≡ desk_of new
-  pub ins : (sender : ℕ) → KeepsIn sender old new
-
--- whatever its desk did
-module _ {J T : Type 0} {same : J → J → Type 0} {made : J → ℕ} {polls : Owed J T}
-    (inside : CoreView J) (took : List (Envelope J)) (said : DeskView J T)
-    (invariant : IsRecorded same made polls (view_of inside took said) × (said ≡ desk_of (view_of inside took said))) {before : RecordedView J T} (view_is : view_of inside took said ≡ before) where
-  -- what the caller says of the desk holds of this one
-  pub of_desk : (P : DeskView J T → Type 0) → P (desk_of before) → P said
-  of_desk P = subst P (sym (invariant.1 ∙ ap desk_of view_is))
-
-  pub has_said : {now : DeskView J T} → now ≡ record said { journal = record said.journal { notes = now.journal.notes }; lanes = now.lanes } →
-      IsWritten (terms_of_desk now) now.journal.notes → SaysNoMore said.journal.notes now.journal.notes → HasSaid same made polls now before (view_of inside took now)
-  has_said {now} rest written silent =
-      let old : RecordedView J T = view_of inside took said in
-      let now_is : view_of inside took now ≡ record old { journal = record old.journal { notes = now.journal.notes }; lanes = now.lanes } = ap (view_of inside took) rest in
-      record {
-        sound = subst (IsRecorded same made polls) (sym now_is)
-            (recorded_silent old now.journal.notes now.lanes silent invariant.0 (subst (λ terms. IsWritten terms now.journal.notes) (ap terms_of_desk rest ∙ ap terms_of_desk invariant.1) written));
-        is_its = desk_is now inside took (ap (λ desk. desk.actor) rest ∙ ap (λ desk. desk.actor) invariant.1) (ap (λ desk. desk.cores) rest ∙ ap (λ desk. desk.cores) invariant.1);
-        ins = λ sender. subst (λ before. KeepsIn sender before (view_of inside took now)) view_is (subst (KeepsIn sender old) (sym now_is) (ins_silent old now.journal.notes now.lanes silent sender));
-      }
-
 -- what each call of the desk writes
 module _ {J T : Type 0} (said now : DeskView J T) where
   along : (notes : List (Note T)) → now.journal ≡ record said.journal { notes = notes ++ said.journal.notes } → SaysNoMore said.journal.notes (notes ++ said.journal.notes) → SaysNoMore said.journal.notes now.journal.notes
@@ -162,3 +136,46 @@ module _ {J T : Type 0} (said now : DeskView J T) where
   detached_silent name (Err Pending) detaches = absurd detaches
   detached_silent name (Err Unknown) detaches = nothing detaches.1
   detached_silent name (Err Gone) detaches = nothing detaches.1
+
+-- what a call of its desk leaves of a core: it is recorded, the desk is its own, and the ends that it receives from are as they were
+pub record HasSaid {J T : Type 0} (same : J → J → Type 0) (made : J → ℕ) (polls : Owed J T) (desk : DeskView J T) (old new : RecordedView J T) : Type 0 where
+  pub sound : IsRecorded same made polls new
+  pub is_its : desk ≡ desk_of new
+  pub ins : (sender : ℕ) → KeepsIn sender old new
+
+-- whatever its desk did
+module _ {J T : Type 0} {same : J → J → Type 0} {made : J → ℕ} {polls : Owed J T}
+    (inside : CoreView J) (took : List (Envelope J)) (said : DeskView J T)
+    (invariant : IsRecorded same made polls (view_of inside took said) × (said ≡ desk_of (view_of inside took said))) {before : RecordedView J T} (view_is : view_of inside took said ≡ before) where
+  -- what the caller says of the desk holds of this one
+  pub of_desk : (P : DeskView J T → Type 0) → P (desk_of before) → P said
+  of_desk P = subst P (sym (invariant.1 ∙ ap desk_of view_is))
+
+  pub has_said : {now : DeskView J T} → now ≡ record said { journal = record said.journal { notes = now.journal.notes }; lanes = now.lanes } →
+      IsWritten (terms_of_desk now) now.journal.notes → SaysNoMore said.journal.notes now.journal.notes → HasSaid same made polls now before (view_of inside took now)
+  has_said {now} rest written silent =
+      let old : RecordedView J T = view_of inside took said in
+      let now_is : view_of inside took now ≡ record old { journal = record old.journal { notes = now.journal.notes }; lanes = now.lanes } = ap (view_of inside took) rest in
+      record {
+        sound = subst (IsRecorded same made polls) (sym now_is)
+            (recorded_silent old now.journal.notes now.lanes silent invariant.0 (subst (λ terms. IsWritten terms now.journal.notes) (ap terms_of_desk rest ∙ ap terms_of_desk invariant.1) written));
+        is_its = desk_is now inside took (ap (λ desk. desk.actor) rest ∙ ap (λ desk. desk.actor) invariant.1) (ap (λ desk. desk.cores) rest ∙ ap (λ desk. desk.cores) invariant.1);
+        ins = λ sender. subst (λ before. KeepsIn sender before (view_of inside took now)) view_is (subst (KeepsIn sender old) (sym now_is) (ins_silent old now.journal.notes now.lanes silent sender));
+      }
+
+  -- what each call of the desk leaves
+  module _ {now : DeskView J T} {fits : Order J → Outcome J T → Type 0} {to : ℕ} {end : Outward J T} {credited : ℕ} (stays : StaysBeside fits to said now end credited) where
+    abbrev Said : Type 0
+    Said = HasSaid same made polls now before (view_of inside took now)
+
+    pub submitted_said : (core : ℕ) (order : Order J) (answer : Result JobId (SendError J)) → Submits core order said answer now → Said
+    submitted_said core order answer submits = has_said stays.rest stays.written (submitted_silent said now core order answer submits)
+
+    pub collected_said : (core count : ℕ) → CollectsFrom core said count now → Said
+    collected_said core count collects = has_said stays.rest stays.written (collected_silent said now core count collects)
+
+    pub redeemed_said : (name : JobId) (answer : Result (Outcome J T) TicketError) → RedeemsTicket name said answer now → Said
+    redeemed_said name answer redeems = has_said stays.rest stays.written (redeemed_silent said now name answer redeems)
+
+    pub detached_said : (name : JobId) (answer : Result (Unit {0}) TicketError) → DetachesTicket name said answer now → Said
+    detached_said name answer detaches = has_said stays.rest stays.written (detached_silent said now name answer detaches)

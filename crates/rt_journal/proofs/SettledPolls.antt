@@ -11,14 +11,15 @@ use Rattle.rt_journal.proofs.Names.{OwesAfter, sum_upto, given_count, IsOut, IsP
 use Rattle.rt_journal.proofs.Names.{name_ended, without_job, known_of, option_map, Inward, IsInOf, IsUngiven}
 use Rattle.rt_journal.proofs.Names.{told_under, outcome_note, outcome_settled, length-with_last_if, given_outcomes}
 use Rattle.rt_journal.proofs.Names.{IfSome, same_Some, Envelope, Outcome, MayGive, Fits, order_taken, IsInOwing}
-use Rattle.rt_journal.proofs.Names.{KeepsIn, LeavesOwed, Gives, IsOutUnder, OwesSettled, MayAnswer}
+use Rattle.rt_journal.proofs.Names.{KeepsIn, LeavesOwed, Gives, IsOutUnder, OwesSettled, MayAnswer, QueuesView}
+use Rattle.rt_journal.proofs.Names.{none-some}
 use Rattle.rt_ids.specs.declared.note.Note.TheVariants as writes
 use Rattle.rt_jobs.specs.declared.job.Step.TheVariants as steps
 use Rattle.rt_core.specs.declared.turn.Settled.TheVariants.{Finished}
 use Rattle.rt_core.specs.Turns.{Settles as CoreSettles}
 use Rattle.rt_journal.specs.Agreement.{names_of}
 use Rattle.rt_journal.proofs.Sums.{everywhere, sum_upto-at_most_one}
-use Rattle.rt_journal.proofs.Kept.{IsKept, none≢some, kept-yield, kept-done}
+use Rattle.rt_journal.proofs.Kept.{IsKept, kept-yield, kept-done}
 use Rattle.rt_journal.proofs.KeptPicks.{other_way}
 use Rattle.rt_ids.specs.declared.note.OutcomeNote.TheVariants as outcomes
 use Rattle.rt_journal.proofs.EndsKept.{ungiven_if, not_given}
@@ -26,7 +27,7 @@ use Rattle.rt_journal.proofs.Received.{task_stays}
 use Rattle.rt_journal.proofs.QuietSteps.{given_settled, quiet-settled, gates-settled, as_sent-settled, IsQuietStep}
 use Rattle.rt_journal.proofs.QuietSteps.{everyone, HasDone, done_so}
 use Rattle.rt_journal.proofs.DeliveredEnds.{told_elsewhere}
-use Rattle.rt_journal.proofs.GivenEnds.{may_give, gave}
+use Rattle.rt_journal.proofs.GivenEnds.{may_give_done, gave_done}
 
 -- whoever waits is another than one who isn't among them
 among-place : {J : Type 0} (name : JobId) (waiting : List (JobId × Bool × J)) → among name (names_of waiting) ≡ false →
@@ -122,6 +123,17 @@ module _ {J T : Type 0} {same : J → J → Type 0} {made : J → ℕ} {polls : 
   inside_old : inside_count old.core ≡ held_count old.core.queues + 1
   inside_old = ap (λ job. held_count old.core.queues + number_if (is_some job)) was_out
 
+  -- the core that settled the poll: no job is out, and so many more of this queue are done
+  settled_step : (done : ℕ) (queues : QueuesView J) → IsKept (terms_at old) (settled_view old.core out time done queues) longer → queues.room ≡ old.core.queues.room →
+      held_count queues + 0 + sum_upto (given_count longer) old.core.cores ≤ inside_count old.core + sum_upto (given_count old.journal.notes) old.core.cores →
+      ((queue : ℕ) → All (λ entry. HasTask same made polls old.took longer queue entry.0 entry.2) (waiting_of queue queues)) →
+      IsQuietStep old (settled_view old.core out time done queues) written same made polls everyone (given_settled out.name ran.step)
+  settled_step done queues kept room fewer waiting =
+      let ungiven = λ (sender : ℕ) (inward : Inward J T) (is : IsInOf sender old inward). ungiven_settled sender inward is ran.step in
+      let gates = λ (sender : ℕ) (there : everyone sender). gates-settled old.journal.notes out.name time ran.step sender in
+      let nobody : (job : JobOut J) → None ≡ Some job → HasTask same made polls old.took longer job.queue job.name job.job = λ job none. absurd (none-some job none) in
+      assumption (quiet-settled old.journal.notes out.name time ran.step, as_sent-settled old.journal.notes _ out.name time ran.step recorded.as_sent)
+
   -- the job yields
   module _ (yields : ran.step ≡ steps.Yield) (changes : ChangesLine old.core.queues core.queues out.queue (waiting_of out.queue old.core.queues ++ (out.name, true, ran.job) ∷ []))
       (is : core ≡ settled_view old.core out time 0 core.queues) where
@@ -135,55 +147,32 @@ module _ {J T : Type 0} {same : J → J → Type 0} {made : J → ℕ} {polls : 
         (All-cons (TaskNow out.queue) (out.name, true, ran.job) [] (task_now yields) (All-nil (TaskNow out.queue)))))
         (λ queue away. subst (All (TaskNow queue)) (sym (changes.others queue away)) (still_waiting queue))
 
-    same_inside : inside_count core ≡ inside_count old.core
-    same_inside =
-        let now : inside_count core ≡ held_count core.queues + 0 = ap (λ job. held_count core.queues + number_if (is_some job)) (ap (λ core. core.out) is) in
-        omega (arith, now, inside_old, changes.held, length-append (waiting_of out.queue old.core.queues) ((out.name, true, ran.job) ∷ []))
-
     pub yielded : IsQuietStep old core written same made polls everyone (given_settled out.name ran.step)
-    yielded = record {
-      kept = subst (λ step. IsKept (terms_at old) core (settle_note out.name time step ∷ old.journal.notes)) (sym yields)
-          (subst (λ core_now. IsKept (terms_at old) core_now (writes.Yield out.name time ∷ old.journal.notes)) (sym is)
-          (kept-yield (terms_at old) old.core out time 0 core.queues old.journal.notes recorded.kept was_out refl ran.job changes));
-      number = ap (λ core. core.core) is;
-      cores = ap (λ core. core.cores) is;
-      room = changes.same_room;
-      quiet = quiet-settled old.journal.notes out.name time ran.step;
-      ungiven = λ sender inward is. ungiven_settled sender inward is ran.step;
-      gates = λ sender kept. gates-settled old.journal.notes out.name time ran.step sender;
-      fewer = subst (λ step. inside_count core + sum_upto (given_count (settle_note out.name time step ∷ old.journal.notes)) old.core.cores
-          ≤ inside_count old.core + sum_upto (given_count old.journal.notes) old.core.cores) (sym yields) (omega (arith, same_inside));
-      as_sent = as_sent-settled old.journal.notes _ out.name time ran.step recorded.as_sent;
-      waiting = waiting_now;
-      out = λ job at. absurd (none≢some job (sym (ap (λ core. core.out) is) ∙ at));
-    }
+    yielded = subst (λ core. IsQuietStep old core written same made polls everyone (given_settled out.name ran.step)) (sym is)
+        (settled_step 0 core.queues
+        (subst (λ step. IsKept (terms_at old) (settled_view old.core out time 0 core.queues) (settle_note out.name time step ∷ old.journal.notes)) (sym yields)
+        (kept-yield (terms_at old) old.core out time 0 core.queues old.journal.notes recorded.kept was_out refl ran.job changes))
+        changes.same_room
+        (subst (λ step. held_count core.queues + 0 + sum_upto (given_count (settle_note out.name time step ∷ old.journal.notes)) old.core.cores
+        ≤ inside_count old.core + sum_upto (given_count old.journal.notes) old.core.cores) (sym yields)
+        (omega (arith, inside_old, changes.held, length-append (waiting_of out.queue old.core.queues) ((out.name, true, ran.job) ∷ []))))
+        waiting_now)
 
   -- the job is done
   module _ (answer : T) (ends : ran.step ≡ steps.Done answer) (is : core ≡ settled_view old.core out time 1 old.core.queues) where
-    one_fewer : inside_count core + 1 ≡ inside_count old.core
-    one_fewer = let now : inside_count core ≡ held_count old.core.queues + 0 = ap inside_count is in omega (arith, now, inside_old)
-
     given_more : sum_upto (given_count (writes.Done out.name time answer ∷ old.journal.notes)) old.core.cores ≤ sum_upto (given_count old.journal.notes) old.core.cores + 1
     given_more = sum_upto-at_most_one (given_count old.journal.notes) (given_count (writes.Done out.name time answer ∷ old.journal.notes)) out.name.from
         (λ from. length-with_last_if (given_outcomes from old.journal.notes) _ (out.name.from == from)) old.core.cores
 
     pub ended : IsQuietStep old core written same made polls everyone (given_settled out.name ran.step)
-    ended = record {
-      kept = subst (λ step. IsKept (terms_at old) core (settle_note out.name time step ∷ old.journal.notes)) (sym ends)
-          (subst (λ core_now. IsKept (terms_at old) core_now (writes.Done out.name time answer ∷ old.journal.notes)) (sym is)
-          (kept-done (terms_at old) old.core out time 1 old.core.queues old.journal.notes recorded.kept was_out refl answer refl));
-      number = ap (λ core. core.core) is;
-      cores = ap (λ core. core.cores) is;
-      room = ap (λ core. core.queues.room) is;
-      quiet = quiet-settled old.journal.notes out.name time ran.step;
-      ungiven = λ sender inward is. ungiven_settled sender inward is ran.step;
-      gates = λ sender kept. gates-settled old.journal.notes out.name time ran.step sender;
-      fewer = subst (λ step. inside_count core + sum_upto (given_count (settle_note out.name time step ∷ old.journal.notes)) old.core.cores
-          ≤ inside_count old.core + sum_upto (given_count old.journal.notes) old.core.cores) (sym ends) (omega (arith, one_fewer, given_more));
-      as_sent = as_sent-settled old.journal.notes _ out.name time ran.step recorded.as_sent;
-      waiting = λ queue. subst (λ queues. All (λ entry. HasTask same made polls old.took longer queue entry.0 entry.2) (waiting_of queue queues)) (sym (ap (λ core. core.queues) is)) (still_waiting queue);
-      out = λ job at. absurd (none≢some job (sym (ap (λ core. core.out) is) ∙ at));
-    }
+    ended = subst (λ core. IsQuietStep old core written same made polls everyone (given_settled out.name ran.step)) (sym is)
+        (settled_step 1 old.core.queues
+        (subst (λ step. IsKept (terms_at old) (settled_view old.core out time 1 old.core.queues) (settle_note out.name time step ∷ old.journal.notes)) (sym ends)
+        (kept-done (terms_at old) old.core out time 1 old.core.queues old.journal.notes recorded.kept was_out refl answer refl))
+        refl
+        (subst (λ step. held_count old.core.queues + 0 + sum_upto (given_count (settle_note out.name time step ∷ old.journal.notes)) old.core.cores
+        ≤ inside_count old.core + sum_upto (given_count old.journal.notes) old.core.cores) (sym ends) (omega (arith, inside_old, given_more)))
+        still_waiting)
 
   -- whatever the step
   module _ (settled : Settled T) (notes : List (Note T)) (settles : CoreSettles old.core out ran spent ran.step settled core notes) where
@@ -229,11 +218,6 @@ owes_settled {J} old new out was_out step settled tells owes other at sender =
 its_name : {J : Type 0} (who : Option (JobOut J)) (out : JobOut J) → who ≡ Some out → (name : JobId) → IsOutUnder who name → out.name ≡ name
 its_name who out at name is = subst (λ who. IsOutUnder who name) at is
 
--- the outcome that the caller is told fits the order that was sent
-fits_settled : {J T : Type 0} (same : J → J → Type 0) (answers : J → T → Type 0) (queue : ℕ) (sent : J) (step : Step T) (settled : Settled T) → TellsStep step settled → IfDone step (answers sent) →
-    IfSome (outcome_settled {J = J} settled) (Fits same answers (Job queue sent))
-fits_settled same answers queue sent step settled tells right = grind arith
-
 -- what the caller is told may be answered by the job that was sent
 pub its_answer : {J T : Type 0} (answers : J → T → Type 0) (took : List (Envelope J)) (name : JobId) (queue : ℕ) (sent : J) → order_taken took name ≡ Some (Job queue sent) →
     (step : Step T) (settled : Settled T) → TellsStep step settled → IfDone step (answers sent) → MayAnswer answers took name settled
@@ -258,13 +242,14 @@ module _ {J T : Type 0} {same : J → J → Type 0} {made : J → ℕ} {polls : 
     owing : IsInOwing name.from (told_under name (option_map outcome_note outcome) name.from) new before
     owing = (owes_it name.from).each before beside
 
+    answer : MayAnswer answers new.took name settled
+    answer = its_answer answers new.took name settles.out.queue settles.sent took_now ran.step settled settles.tells settles.answered
+
     pub may_give_settled : IfSome outcome (λ outcome. MayGive (Fits same answers) before name.number outcome)
-    may_give_settled =
-        may_give new name (Job settles.out.queue settles.sent) took_now before (recorded.taken name _ took_now) (Fits same answers) outcome
-        (fits_settled same answers settles.out.queue settles.sent ran.step settled settles.tells settles.answered) owing
+    may_give_settled = may_give_done answers new recorded name before settled answer owing
 
     pub gave_settled : (after : Inward J T) → Gives before name.number outcome after → IsInOf name.from new after
-    gave_settled = gave new name (Job settles.out.queue settles.sent) took_now before outcome owing
+    gave_settled = gave_done answers new recorded name before settled answer owing
 
   pub others_settled : (sender : ℕ) → (sender ≡ name.from → ⊥) → KeepsIn sender old new
   others_settled sender away = subst (λ owed. LeavesOwed sender owed old new) (told_elsewhere name (option_map outcome_note outcome) sender away) (owes_it sender)

@@ -1,4 +1,4 @@
-//! What one actor of an executor is made of: its journal, which tells each of its steps, and a core beside it.
+//! A core beside its journal, which tells each of its steps, over any ends of links.
 #![tactic(auto)]
 
 mod given;

@@ -1,5 +1,5 @@
 use Rattle.rt_journal.proofs.Names.{◌<◌, length, Fits, IsOutOf, HoldsSome, HasLane}
-use Rattle.rt_journal.proofs.SentNotes.{of_desk, has_said, detached_silent}
+use Rattle.rt_journal.proofs.SentNotes.{of_desk, detached_said}
 use Rattle.rt_journal.proofs.recorded.Recorded.detach.Goals as goal
 
 pub detach-requires-clause-beside : goal.detach-requires-clause-beside
@@ -12,19 +12,10 @@ pub detach-requires-clause-room : goal.detach-requires-clause-room
 detach-requires-clause-room g c = of_desk c.self.inside.core c.self.inside.took.items c.self.inside.said c.self.invariant c.self.view_is (λ desk. HoldsSome c.args.ticket desk → length desk.journal.notes < desk.journal.room) c.requires.room
 
 pub invariant_of-self : goal.invariant_of-self
-invariant_of-self g c =
-    let silent = detached_silent c.self.inside.said c.detach.new.self c.args.ticket c.detach.result c.detach.ensures.detaches in
-    let now = has_said c.self.inside.core c.self.inside.took.items c.self.inside.said c.self.invariant c.self.view_is c.detach.ensures.stays.rest c.detach.ensures.stays.written silent in
-    (now.sound, now.is_its)
+invariant_of-self g c = let now = detached_said c.self.inside.core c.self.inside.took.items c.self.inside.said c.self.invariant c.self.view_is c.detach.ensures.stays c.args.ticket c.detach.result c.detach.ensures.detaches in (now.sound, now.is_its)
 
 pub returns-clause-ins : goal.returns-clause-ins
-returns-clause-ins g c =
-    let silent = detached_silent c.self.inside.said c.detach.new.self c.args.ticket c.detach.result c.detach.ensures.detaches in
-    let now = has_said c.self.inside.core c.self.inside.took.items c.self.inside.said c.self.invariant c.self.view_is c.detach.ensures.stays.rest c.detach.ensures.stays.written silent in
-    now.ins
+returns-clause-ins g c = (detached_said c.self.inside.core c.self.inside.took.items c.self.inside.said c.self.invariant c.self.view_is c.detach.ensures.stays c.args.ticket c.detach.result c.detach.ensures.detaches).ins
 
 pub returns-clause-sound : goal.returns-clause-sound
-returns-clause-sound g c =
-    let silent = detached_silent c.self.inside.said c.detach.new.self c.args.ticket c.detach.result c.detach.ensures.detaches in
-    let now = has_said c.self.inside.core c.self.inside.took.items c.self.inside.said c.self.invariant c.self.view_is c.detach.ensures.stays.rest c.detach.ensures.stays.written silent in
-    now.sound
+returns-clause-sound g c = (detached_said c.self.inside.core c.self.inside.took.items c.self.inside.said c.self.invariant c.self.view_is c.detach.ensures.stays c.args.ticket c.detach.result c.detach.ensures.detaches).sound

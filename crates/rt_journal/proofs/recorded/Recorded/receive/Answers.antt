@@ -1,7 +1,7 @@
-use Rattle.rt_journal.proofs.Names.{length, sym, ◌∙◌, ap, subst, reverse, arith, IsSpelledOrder, IsNextIn, desk_with}
-use Rattle.rt_journal.proofs.Received.{next_for_core, room_in, few, written_now, sent_now, received_now}
+use Rattle.rt_journal.proofs.Names.{sym, ◌∙◌, ap, subst, reverse, arith, IsSpelledOrder, IsNextIn, desk_with}
+use Rattle.rt_journal.proofs.Received.{next_for_core, notes_fit, room_in, received_now}
 use Rattle.rt_journal.proofs.CarriedOut.{fits_delivered}
-use Rattle.rt_journal.proofs.QuietSteps.{view_of, may_write, may_send, desk_is}
+use Rattle.rt_journal.proofs.QuietSteps.{view_of, may_note, desk_is}
 use Rattle.rt_journal.proofs.recorded.Recorded.receive.Goals as goal
 
 pub deliver-delivered-requires : goal.deliver-delivered-requires
@@ -13,12 +13,9 @@ pub write-requires : goal.write-requires
 write-requires g c =
     let next = subst (λ view. IsNextIn view c.args.envelope.name) (sym c.self.view_is) c.requires.next in
     let spelled = subst IsSpelledOrder c.without_job-within_ranges.ensures.same c.without_job-within_ranges.ensures.spelled in
-    let written = few g.met.J.Task.same_task (view_of c.self.inside.core c.self.inside.took.items c.self.inside.said) c.self.invariant.0 c.args.envelope next spelled c.deliver-delivered.new.self c.deliver-delivered.result.0 c.deliver-delivered.result.1.items c.deliver-delivered.ensures.delivers in
-    record {
-      room = omega (arith, written, c.requires.room, ap (λ view. view.journal.room) c.self.view_is, ap (λ view. length view.journal.notes) c.self.view_is, ap length c.as_slice.ensures.value);
-      written = may_write c.self.inside.core c.self.inside.took.items c.self.inside.said c.self.invariant.1 c.deliver-delivered.result.1.items c.as_slice.result.now c.as_slice.ensures.value (written_now g.met.J.Task.same_task (view_of c.self.inside.core c.self.inside.took.items c.self.inside.said) c.self.invariant.0 c.args.envelope next spelled c.deliver-delivered.new.self c.deliver-delivered.result.0 c.deliver-delivered.result.1.items c.deliver-delivered.ensures.delivers);
-      sent = may_send c.self.inside.said.journal.notes c.deliver-delivered.result.1.items c.as_slice.result.now c.as_slice.ensures.value (sent_now g.met.J.Task.same_task (view_of c.self.inside.core c.self.inside.took.items c.self.inside.said) c.self.invariant.0 c.args.envelope next spelled c.deliver-delivered.new.self c.deliver-delivered.result.0 c.deliver-delivered.result.1.items c.deliver-delivered.ensures.delivers);
-    }
+    let fit = notes_fit g.met.J.Task.same_task (view_of c.self.inside.core c.self.inside.took.items c.self.inside.said) c.self.invariant.0 c.args.envelope next spelled c.deliver-delivered.new.self c.deliver-delivered.result.0 c.deliver-delivered.result.1.items c.deliver-delivered.ensures.delivers in
+    let may = may_note c.self.inside.core c.self.inside.took.items c.self.inside.said c.self.invariant.1 c.as_slice.ensures.value fit.0 fit.1 fit.2 c.self.view_is (omega (arith, c.requires.room)) in
+    assumption
 
 pub invariant_of-self : goal.invariant_of-self
 invariant_of-self g c =
