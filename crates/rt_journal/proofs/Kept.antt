@@ -5,8 +5,8 @@ use Rattle.rt_journal.proofs.Names.{clamped, JobId, Note, Reason, Journal, is_nu
 use Rattle.rt_journal.proofs.Names.{CoreView, no_tally, Figures, no_figures, plus, figures_in, figures_of}
 use Rattle.rt_journal.proofs.Names.{figures_told, figures_noted, ◌≤◌, [], arith, Option, None, nat_lt, slice_index_or}
 use Rattle.rt_journal.proofs.Names.{◌||◌, Terms, Mode, EachNote, name_started, delivered_names, virtual_runtime}
-use Rattle.rt_journal.proofs.Names.{shares, floor, charge_noted, runtime_picked, has_work, queue_entered, queue_joined}
-use Rattle.rt_journal.proofs.Names.{line, queue_out, name_joining, name_leaving, name_polled, name_settled}
+use Rattle.rt_journal.proofs.Names.{shares, charge_noted, runtime_picked, has_work, queue_entered, queue_joined, line}
+use Rattle.rt_journal.proofs.Names.{queue_out, name_joining, name_leaving, name_polled, name_settled}
 use Rattle.rt_journal.proofs.Names.{queue_just_picked, created_count, effect_awaited, pick_count, turns, MayFollow}
 use Rattle.rt_journal.proofs.Names.{MayWrite, MayStand, takes_turn, IsEffectDue, has_work-line, virtual_runtime-stays}
 use Rattle.rt_journal.proofs.Names.{floor-stays, line-stays, queue_out-alone, queue_out-nobody, waiting_of, JobOut}
@@ -156,25 +156,6 @@ jobs_told note before = record {
 abbrev pub IsCalm : {T : Type 0} → Note T → Journal T → Type 0
 IsCalm {T} note before = jobs_told note before ≡ jobs_told {T = T} (writes.Shut 0 0) []
 
--- what a calm note leaves as it was
-pub record StaysCalm {J T : Type 0} (core : CoreView J) (journal : Journal T) : Type 0 where
-  pub lines : (queue : ℕ) → names_of (waiting_of queue core.queues) ≡ line queue journal
-  pub marks : (queue : ℕ) → AreMarked journal (waiting_of queue core.queues)
-  pub runtimes : (queue : ℕ) → runtime_of queue core ≡ virtual_runtime queue journal
-  pub the_floor : core.floor ≡ floor journal
-  pub turns_made : core.turns ≡ turns journal
-  pub out : IsJobOut core.out journal
-  pub figures : (queue : ℕ) → figures_of queue core ≡ figures_told queue journal
-
--- the core tells the same of its jobs as before
-pub record SameJobs {J : Type 0} (old new : CoreView J) : Type 0 where
-  pub lines : (queue : ℕ) → waiting_of queue new.queues ≡ waiting_of queue old.queues
-  pub runtimes : (queue : ℕ) → runtime_of queue new ≡ runtime_of queue old
-  pub the_floor : new.floor ≡ old.floor
-  pub turns_made : new.turns ≡ old.turns
-  pub out : new.out ≡ old.out
-  pub figures : (queue : ℕ) → figures_of queue new ≡ figures_of queue old
-
 -- what is no pick makes no turn
 pub turns-stays : {T : Type 0} (note : Note T) (before : Journal T) → pick_count note ≡ 0 → turns (note ∷ before) ≡ turns before
 turns-stays note before none = ap (λ count. turns before + count) none ∙ add-zero (turns before)
@@ -187,44 +168,45 @@ module _ {J T : Type 0} (note : Note T) (before : Journal T) (calm : IsCalm note
   out-calm None nobody = rw (ap (λ told. told.settles) calm, ap (λ told. told.polls) calm) nobody
   out-calm (Some job) alone = (rw (ap (λ told. told.settles) calm, ap (λ told. told.polls) calm) alone.0, rw (ap (λ told. told.takes job.name) calm) alone.1)
 
-  pub stays_calm : (old new : CoreView J) → SameJobs old new → Agrees old before → StaysCalm new (note ∷ before)
-  stays_calm old new same agrees = record {
-    lines = λ queue.
-        ap names_of (same.lines queue) ∙ (agrees.lines queue ∙ sym (line-stays queue note before (ap (λ told. told.leaves) calm) (ap (λ told. told.joins queue) calm)));
-    marks = λ queue.
-        subst (AreMarked (note ∷ before)) (sym (same.lines queue)) (marks-calm (waiting_of queue old.queues) (agrees.marks queue));
-    runtimes = λ queue. same.runtimes queue ∙ agrees.runtimes queue ∙ sym (virtual_runtime-stays queue before note (ap (λ told. told.enters) calm) (ap (λ told. told.costs queue) calm));
-    the_floor = same.the_floor ∙ agrees.the_floor ∙ sym (floor-stays note before (ap (λ told. told.picks) calm));
-    turns_made = same.turns_made ∙ (agrees.turns ∙ sym (turns-stays note before (ap (λ told. told.turns) calm)));
-    out = subst (λ out. IsJobOut out (note ∷ before)) (sym same.out) (out-calm old.out agrees.out);
-    figures = λ queue. same.figures queue ∙ (agrees.figures queue ∙ sym (figures-stays queue note before (ap (λ told. told.counts queue) calm)));
-  }
+  -- a core whose queues hold the same jobs and count the same of them agrees with a calm note
+  agrees_calm : (old : CoreView J) → Agrees old before → (queues : QueuesView J) (tallies : List Tally) (delivered : List ℕ) (gates : List (Option ℕ)) (mode : Option Mode) →
+      ((queue : ℕ) → waiting_of queue queues ≡ waiting_of queue old.queues) → ((queue : ℕ) → tally_of queue (record old { tallies = tallies }) ≡ tally_of queue old) →
+      length tallies ≡ queue_count queues → queue_count queues ≡ created_count (note ∷ before) + 1 → queue_count old.queues ≤ queue_count queues →
+      ((queue : ℕ) → queue < queue_count queues → shares_of queue queues ≡ shares queue (note ∷ before)) → length delivered ≡ old.cores + 1 →
+      ((sender : ℕ) → sender ≤ old.cores → slice_index_or delivered sender 0 ≡ length (delivered_names sender (note ∷ before))) →
+      AgreesOnClosing (record old { queues = queues; tallies = tallies; delivered = delivered; gates = gates; mode = mode }) (note ∷ before) →
+      Agrees (record old { queues = queues; tallies = tallies; delivered = delivered; gates = gates; mode = mode }) (note ∷ before)
+  agrees_calm old agrees queues tallies delivered gates mode same_lines same tallied last more weights senders counted closing =
+      let lines = λ (queue : ℕ). ap names_of (same_lines queue) ∙ (agrees.lines queue ∙ sym (line-stays queue note before (ap (λ told. told.leaves) calm) (ap (λ told. told.joins queue) calm))) in
+      let marks = λ (queue : ℕ). subst (AreMarked (note ∷ before)) (sym (same_lines queue)) (marks-calm (waiting_of queue old.queues) (agrees.marks queue)) in
+      let runtimes = λ (queue : ℕ). ap (λ tally. tally.runtime) (same queue) ∙ (agrees.runtimes queue ∙ sym (virtual_runtime-stays queue before note (ap (λ told. told.enters) calm) (ap (λ told. told.costs queue) calm))) in
+      let floor_now = agrees.the_floor ∙ sym (floor-stays note before (ap (λ told. told.picks) calm)) in
+      let turns_now = agrees.turns ∙ sym (turns-stays note before (ap (λ told. told.turns) calm)) in
+      let figures = λ (queue : ℕ). ap figures_in (same queue) ∙ (agrees.figures queue ∙ sym (figures-stays queue note before (ap (λ told. told.counts queue) calm))) in
+      let out_exists : (job : JobOut J) → old.out ≡ Some job → job.queue < queue_count queues = λ job at. omega (arith, more, agrees.out_exists job at) in
+      assumption (out-calm old.out agrees.out)
 
--- a core that has only counted a delivery, shut a gate or closed agrees with a calm note that creates nothing and sets no shares
+-- so does one that has only counted a delivery, shut a gate or closed, with a note that creates nothing and sets no shares
 pub agrees_unmoved : {J T : Type 0} (old : CoreView J) (journal : Journal T) (note : Note T) → Agrees old journal → IsCalm note journal →
     created_count (note ∷ journal) ≡ created_count journal → ((queue : ℕ) → shares queue (note ∷ journal) ≡ shares queue journal) →
     (delivered : List ℕ) → length delivered ≡ old.cores + 1 → ((sender : ℕ) → sender ≤ old.cores → slice_index_or delivered sender 0 ≡ length (delivered_names sender (note ∷ journal))) →
     (gates : List (Option ℕ)) (mode : Option Mode) → AgreesOnClosing (record old { delivered = delivered; gates = gates; mode = mode }) (note ∷ journal) →
     Agrees (record old { delivered = delivered; gates = gates; mode = mode }) (note ∷ journal)
-agrees_unmoved {J} old journal note agrees is_calm creates weighs delivered senders counted gates mode closing =
-    let calm = stays_calm note journal is_calm old (record old { delivered = delivered; gates = gates; mode = mode })
-    (record { lines = λ queue. refl; runtimes = λ queue. refl; the_floor = refl; turns_made = refl; out = refl; figures = λ queue. refl }) agrees in
-    let weights = λ (queue : ℕ) (there : queue < queue_count old.queues). agrees.weights queue there ∙ sym (weighs queue) in
-    assumption (agrees.last ∙ ap (λ count. count + 1) (sym creates), weights)
+agrees_unmoved old journal note agrees calm creates weighs delivered senders counted gates mode closing =
+    agrees_calm note journal calm old agrees old.queues old.tallies delivered gates mode (λ queue. refl) (λ queue. refl) agrees.tallied (agrees.last ∙ ap (λ count. count + 1) (sym creates)) (omega arith)
+    (λ queue there. agrees.weights queue there ∙ sym (weighs queue)) senders counted closing
 
--- so does one whose queues hold the same jobs and count the same of them
+-- and one that has delivered nothing
 pub agrees_steady : {J T : Type 0} (old new : CoreView J) (journal : Journal T) (note : Note T) → Agrees old journal → IsCalm note journal → (queues : QueuesView J) (tallies : List Tally) →
     new ≡ record old { queues = queues; tallies = tallies } → ((queue : ℕ) → waiting_of queue queues ≡ waiting_of queue old.queues) →
     ((queue : ℕ) → tally_of queue (record old { tallies = tallies }) ≡ tally_of queue old) → length tallies ≡ queue_count queues →
     queue_count queues ≡ created_count (note ∷ journal) + 1 → queue_count old.queues ≤ queue_count queues →
     ((queue : ℕ) → queue < queue_count queues → shares_of queue queues ≡ shares queue (note ∷ journal)) → ((sender : ℕ) → delivered_names sender (note ∷ journal) ≡ delivered_names sender journal) →
     AgreesOnClosing (record old { queues = queues; tallies = tallies }) (note ∷ journal) → Agrees new (note ∷ journal)
-agrees_steady {J} old new journal note agrees is_calm queues tallies is lines same tallied last more weights delivers closing =
-    let calm = stays_calm note journal is_calm old (record old { queues = queues; tallies = tallies })
-    (record { lines = lines; runtimes = λ queue. ap (λ tally. tally.runtime) (same queue); the_floor = refl; turns_made = refl; out = refl; figures = λ queue. ap figures_in (same queue) }) agrees in
-    let delivered = λ (sender : ℕ) (known : sender ≤ old.cores). agrees.delivered sender known ∙ ap length (sym (delivers sender)) in
-    let out_exists : (job : JobOut J) → old.out ≡ Some job → job.queue < queue_count queues = λ job at. omega (arith, more, agrees.out_exists job at) in
-    subst (λ core. Agrees core (note ∷ journal)) (sym is) (assumption (delivered, out_exists))
+agrees_steady old new journal note agrees calm queues tallies is lines same tallied last more weights delivers closing =
+    subst (λ core. Agrees core (note ∷ journal)) (sym is)
+    (agrees_calm note journal calm old agrees queues tallies old.delivered old.gates old.mode lines same tallied last more weights agrees.senders
+    (λ sender known. agrees.delivered sender known ∙ ap length (sym (delivers sender))) closing)
 
 -- a note that takes no turn and is no effect follows, and the core agrees with it
 pub kept_after : {J T : Type 0} (terms : Terms) (note : Note T) {old new : CoreView J} {before : Journal T} → IsKept terms old before → Agrees new (note ∷ before) → MayWrite terms note →

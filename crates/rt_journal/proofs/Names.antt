@@ -67,7 +67,7 @@ pub use Rattle.rt_ids.specs.Orders.{IsSpelledOrder, without_job}
 pub use Rattle.rt_ids.specs.Outcomes.{outcome_note}
 pub use Rattle.rt_ids.specs.Outstanding.{outstanding_count}
 pub use Rattle.rt_ids.specs.Picks.{IsRightPick, pick_count, turns}
-pub use Rattle.rt_ids.specs.Runtimes.{charge_noted, floor, runtime_picked, shares, virtual_runtime}
+pub use Rattle.rt_ids.specs.Runtimes.{charge_noted, runtime_picked, shares, virtual_runtime}
 pub use Rattle.rt_ids.specs.Terms.{Terms, terms_of}
 pub use Rattle.rt_ids.specs.Work.{has_work, number_if, queue_entered, queue_joined, queue_of}
 pub use Rattle.rt_ids.specs.declared.names.JobId.{JobId}
