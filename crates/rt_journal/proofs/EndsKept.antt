@@ -1,25 +1,22 @@
 -- The ends of links beside a journal that grows; and a job that is inside was given no outcome, neither by its journal nor on its end.
-use Rattle.rt_journal.proofs.Names.{◌≡◌, ℕ, zero, suc, ◌+◌, List, [], ◌∷◌, ◌++◌, length, append_assoc, refl, sym, ◌∙◌}
-use Rattle.rt_journal.proofs.Names.{ap, arith, Option, Some, slice_get, Bool, true, false, length-append, JobId}
-use Rattle.rt_journal.proofs.Names.{OutcomeNote, with_last, Order, IsPrefix, given_outcomes, Inward, final_count}
-use Rattle.rt_journal.proofs.Names.{StartsWith, SeesMore, final_of, RecordedView, order_taken, delivered_count, IsInOf}
-use Rattle.rt_journal.proofs.Names.{LeavesOwed, IsUngiven, IsSameSeat, named_outcomes, subst, ◌⊎◌, ⊎_elim, inl, inr}
-use Rattle.rt_journal.proofs.Names.{cond, ◌==◌, None, or_parts, eqb-true, true≢false, option_map, none-some, same_Some}
+use Rattle.rt_journal.proofs.Names.{◌≡◌, ℕ, ◌+◌, List, [], ◌∷◌, ◌++◌, length, append_assoc, refl, sym, ◌∙◌, ap, arith}
+use Rattle.rt_journal.proofs.Names.{Option, Some, slice_get, Bool, true, false, length-append, JobId, OutcomeNote}
+use Rattle.rt_journal.proofs.Names.{with_last, Order, IsPrefix, given_outcomes, Inward, final_count, StartsWith}
+use Rattle.rt_journal.proofs.Names.{SeesMore, final_of, RecordedView, order_taken, delivered_count, IsInOf, LeavesOwed}
+use Rattle.rt_journal.proofs.Names.{IsUngiven, IsSameSeat, named_outcomes, subst, ◌⊎◌, ⊎_elim, inl, inr, cond, ◌==◌}
+use Rattle.rt_journal.proofs.Names.{None, or_parts, eqb-true, true≢false, option_map, none-some, same_Some}
 use Rattle.rt_journal.proofs.Names.{slice_get-map, Note, Job, IsAnswer, if_from, name_ended, outcome_given, DeliversAs}
 use Rattle.rt_journal.proofs.Names.{Journal, EachNote, is_told, same_name, is_name, outcome_note, same_as_itself}
-use Rattle.rt_journal.proofs.Names.{name_of, ◌≤◌}
+use Rattle.rt_journal.proofs.Names.{name_of, ◌≤◌, slice_get_within, ◌<◌}
+use Rattle.rt_link.proofs.Lists.{slice_get-starts, slice_get-with_last}
 use Rattle.rt_ids.specs.declared.note.Note.TheVariants as writes
 
 pub prefix-along : {A : Type 0} (a b c : List A) → IsPrefix a b → IsPrefix b c → IsPrefix a c
 prefix-along a b c one two = (one.0 ++ two.0, sym (append_assoc a one.0 two.0) ∙ (ap (λ front. front ++ two.0) one.1 ∙ two.1))
 
-pub slice_get-prefix : {A : Type 0} (front rest : List A) (place : ℕ) (item : A) → slice_get front place ≡ Some item → slice_get (front ++ rest) place ≡ Some item
-slice_get-prefix [] rest place item at = cc
-slice_get-prefix (first ∷ front) rest place item at = grind (arith, slice_get-prefix front rest)
-
 -- an item stays at its place in a list that sees more
 pub slice_get-seen : {A : Type 0} (whole front : List A) → StartsWith whole front → (place : ℕ) (item : A) → slice_get front place ≡ Some item → slice_get whole place ≡ Some item
-slice_get-seen whole front starts place item at = ap (λ list. slice_get list place) starts.1 ∙ slice_get-prefix front starts.0 place item at
+slice_get-seen whole front starts place item at = slice_get-starts whole front place starts (slice_get_within front place item at) ∙ at
 
 module _ {J T : Type 0} (old new : RecordedView J T) (seat : IsSameSeat old new) (sender : ℕ)
     (owed : Option (JobId × OutcomeNote T)) (given : given_outcomes sender new.journal.notes ≡ with_last (given_outcomes sender old.journal.notes) owed)
@@ -65,13 +62,7 @@ sees_more_in {J} sender view old new rest more is =
 last_or_before : {A : Type 0} (items : List A) (more : Option A) (place : ℕ) (item : A) → slice_get (with_last items more) place ≡ Some item →
     (slice_get items place ≡ Some item) ⊎ (more ≡ Some item)
 last_or_before items None place item at = inl at
-last_or_before [] (Some more) zero item at = inr at
-last_or_before [] (Some more) (suc place) item at = inl at
-last_or_before (first ∷ items) (Some more) zero item at = inl at
-last_or_before (first ∷ items) (Some more) (suc place) item at = last_or_before items (Some more) place item at
-
-nothing_at : {A : Type 0} (place : ℕ) (item : A) → slice_get [] place ≡ Some item → ⊥
-nothing_at place item at = grind arith
+last_or_before items (Some more) place item at = elim (slice_get-with_last items more item place at) [ inl was ↦ inl was | inr last ↦ inr (ap Some last.1) ]
 
 another : (name other : JobId) → same_name name other ≡ false → other ≡ name → ⊥
 another name other apart one = true≢false (sym (same_as_itself name) ∙ subst (λ other. same_name name other ≡ false) one apart)
@@ -85,7 +76,7 @@ module _ {T : Type 0} (under : JobId → Option (Order (Unit {0}))) (name : JobI
   -- under the name of a job nothing is given before the job ends
   pub not_given : (journal : Journal T) → EachNote (DeliversAs under) journal → is_told name_ended name journal ≡ false →
       (place : ℕ) (entry : JobId × OutcomeNote T) → slice_get (given_outcomes sender journal) place ≡ Some entry → entry.0 ≡ name → ⊥
-  not_given [] as_sent going place entry at one = nothing_at place entry at
+  not_given [] as_sent going place entry at one = absurd (let none : place < 0 = slice_get_within [] place entry at in omega (arith, none))
   not_given (note ∷ before) as_sent going place entry at one =
       let parts = or_parts (is_name name (name_ended note)) (is_told name_ended name before) going in
       ⊎_elim (λ was. not_given before as_sent.1 parts.1 place entry was one) (not_now note as_sent.0 parts.0) (last_or_before (given_outcomes sender before) (outcome_given sender note) place entry at)

@@ -9,10 +9,10 @@ pub use Rattle.std.proofs.lemmas.Bool.Decides.{eqb_tells}
 pub use Rattle.std.proofs.lemmas.List.{append-nil, get_or-replicate, get_or_past, length-append, length-replicate}
 pub use Rattle.std.proofs.lemmas.List.{length-reverse, map-append, take-append-drop}
 pub use Rattle.std.proofs.lemmas.List.Elements.{All-append, All-cons, All-head, All-nil, All-tail}
-pub use Rattle.std.proofs.lemmas.Option.{none-some, same_Some, slice_get-map}
+pub use Rattle.std.proofs.lemmas.Option.{none-some, same_Some, slice_get-map, slice_get_within}
 pub use Rattle.std.specs.Option.{option_map}
 pub use Rattle.std.specs.Prelude.{All, Err, IfSome, IsSome, Ok, Option, Result, drop, is_some, max, nat_le, nat_lt}
-pub use Rattle.std.specs.Prelude.{replicate, slice_get, slice_index_or, slice_set, unwrap_or, ◌==◌, ◌||◌}
+pub use Rattle.std.specs.Prelude.{slice_get, slice_index_or, slice_set, unwrap_or, ◌==◌, ◌||◌}
 pub use Rattle.rt_core.proofs.AheadTaken.{ahead_picks}
 pub use Rattle.rt_core.proofs.Turned.{some_front}
 pub use Rattle.rt_core.specs.Answers.{IsTaskOut}

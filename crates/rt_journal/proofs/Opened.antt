@@ -1,15 +1,10 @@
 -- A core that was just opened, beside a journal without a note.
-use Rattle.rt_journal.proofs.Names.{◌≡◌, ℕ, zero, suc, ◌+◌, ◌*◌, ◌<◌, [], refl, sym, ap, subst, arith, Option, None}
-use Rattle.rt_journal.proofs.Names.{All, replicate, slice_index_or, length-replicate, get_or-replicate, All-nil, Owed}
-use Rattle.rt_journal.proofs.Names.{waiting_of, shares_of, mode_of, CoreView, runtime_of, opened, Agrees, AreMarked}
-use Rattle.rt_journal.proofs.Names.{no_figures, figures_of, IsRecorded, HasTask, sum_upto, given_count, opened_beside}
-use Rattle.rt_journal.proofs.Names.{none-some}
+use Rattle.rt_journal.proofs.Names.{◌≡◌, ℕ, zero, suc, ◌+◌, ◌*◌, ◌<◌, [], refl, sym, ap, subst, arith, None, All}
+use Rattle.rt_journal.proofs.Names.{length-replicate, get_or-replicate, All-nil, Owed, waiting_of, shares_of, mode_of}
+use Rattle.rt_journal.proofs.Names.{CoreView, runtime_of, opened, Agrees, AreMarked, no_figures, figures_of}
+use Rattle.rt_journal.proofs.Names.{IsRecorded, HasTask, sum_upto, given_count, opened_beside, none-some}
+use Rattle.rt_stats.proofs.Tables.{all_alike}
 use Rattle.rt_journal.specs.Agreement.{names_of}
-
-none_at : (count place : ℕ) → slice_index_or {A = Option ℕ} (replicate count None) place None ≡ None
-none_at zero place = refl
-none_at (suc count) zero = refl
-none_at (suc count) (suc place) = none_at count place
 
 module _ (J : Type 0) (core cores cap : ℕ) where
   abbrev new_core : CoreView J
@@ -40,7 +35,7 @@ module _ (J : Type 0) (core cores cap : ℕ) where
     out_exists = λ out none. absurd (none-some out none);
     delivered = λ sender known. get_or-replicate (cores + 1) sender 0 0 (omega (arith, known));
     figures = λ queue. (at_first queue).3;
-    closing = record { modes = λ queue. (at_first queue).2; mode = refl; gate_places = length-replicate (cores + 1) None; gates = λ sender. none_at (cores + 1) sender };
+    closing = record { modes = λ queue. (at_first queue).2; mode = refl; gate_places = length-replicate (cores + 1) None; gates = λ sender. all_alike (cores + 1) sender None None refl };
   }
 
 no_sum : (T : Type 0) (last : ℕ) → sum_upto (given_count {T = T} []) last ≡ 0
