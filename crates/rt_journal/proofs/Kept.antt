@@ -242,6 +242,15 @@ module _ {J T : Type 0} (old new : CoreView J) (note : Note T) (before : Journal
         ∙ (agrees.gates sender ∙ sym (ap (λ told. or_else told (final_count sender before)) (plain.gates sender)));
   }
 
+-- a note that makes no turn, and by which nothing is created, weighed, delivered or closed
+pub record IsPlain {T : Type 0} (note : Note T) (before : Journal T) : Type 0 where
+  pub picks : runtime_picked note ≡ 0
+  pub turns_made : pick_count note ≡ 0
+  pub created : created_count (note ∷ before) ≡ created_count before
+  pub weighs : (queue : ℕ) → shares queue (note ∷ before) ≡ shares queue before
+  pub delivered : (sender : ℕ) → delivered_names sender (note ∷ before) ≡ delivered_names sender before
+  pub opens : IsOpenNote note
+
 module _ {J T : Type 0} (view : CoreView J) (journal : Journal T) (agrees : AgreesOnClosing view journal) where
   -- a job is refused for the reason that the journal gives
   pub refusal-agrees : queue_count view.queues ≡ created_count journal + 1 → (queue : ℕ) → core_says.refusal queue view ≡ refusal queue journal
@@ -286,69 +295,57 @@ module _ {J T : Type 0} (terms : Terms) (old : CoreView J) (job : JobOut J) (tim
   runtime_same : (other : ℕ) → (other ≡ job.queue → ⊥) → runtime_of other new ≡ virtual_runtime other journal
   runtime_same other away = grind (arith, get_or-set_other old.tallies job.queue other, kept.agrees.runtimes other)
 
-  tallied_now : queue_count queues ≡ queue_count old.queues → length new.tallies ≡ queue_count queues
-  tallied_now same = length-set old.tallies job.queue _ ∙ (kept.agrees.tallied ∙ sym same)
-
-  abbrev yielded : Journal T
-  yielded = writes.Yield job.name time ∷ journal
+  -- the core with its poll settled agrees with the note of that, which adds so much to the figures of the queue
+  agrees_settled : (note : Note T) (plain : IsPlain note journal) (adds : Figures) → figures_in settled_tally ≡ plus (figures_of job.queue old) adds →
+      ((other : ℕ) → figures_told other (note ∷ journal) ≡ plus (figures_told other journal) (cond (other == job.queue) adds no_figures)) →
+      queue_count queues ≡ queue_count old.queues → ((other : ℕ) → shares_of other queues ≡ shares_of other old.queues) → ((other : ℕ) → mode_of other queues ≡ mode_of other old.queues) →
+      ((other : ℕ) → names_of (waiting_of other queues) ≡ line other (note ∷ journal)) → ((other : ℕ) → AreMarked (note ∷ journal) (waiting_of other queues)) →
+      virtual_runtime job.queue (note ∷ journal) ≡ virtual_runtime job.queue journal + charge time (shares job.queue journal) →
+      ((other : ℕ) → (other ≡ job.queue → ⊥) → virtual_runtime other (note ∷ journal) ≡ virtual_runtime other journal) → jobs_out (note ∷ journal) ≡ [] → Agrees new (note ∷ journal)
+  agrees_settled note plain adds counts told same_count same_shares same_modes lines marks charged elsewhere nobody =
+      let tallied = length-set old.tallies job.queue settled_tally ∙ (kept.agrees.tallied ∙ sym same_count) in
+      let last = same_count ∙ (kept.agrees.last ∙ ap (λ count. count + 1) (sym plain.created)) in
+      let weights = λ (other : ℕ) (there : other < queue_count queues).
+          same_shares other ∙ (kept.agrees.weights other (subst (λ count. other < count) same_count there) ∙ sym (plain.weighs other)) in
+      let runtimes = everywhere (λ at. runtime_of at new ≡ virtual_runtime at (note ∷ journal)) job.queue (runtime_charged ∙ sym charged) (λ other away. runtime_same other away ∙ sym (elsewhere other away)) in
+      let floor_now = kept.agrees.the_floor ∙ sym (floor-stays note journal plain.picks) in
+      let turns_now = kept.agrees.turns ∙ sym (turns-stays note journal plain.turns_made) in
+      let none : (out : JobOut J) → None ≡ Some out → out.queue < queue_count queues = λ out none. absurd (none-some out none) in
+      let delivered = λ (sender : ℕ) (known : sender ≤ old.cores). kept.agrees.delivered sender known ∙ ap length (sym (plain.delivered sender)) in
+      let closing = closing-stays old new note journal (record { modes = same_modes; mode = refl; gates = refl; cores = refl }) plain.opens kept.agrees.closing in
+      assumption (figures-grow old new job.queue settled_tally within refl journal (note ∷ journal) adds counts kept.agrees.figures told, nobody)
 
   abbrev is_marked : JobId × Bool × J → Type 0
   is_marked entry = entry.1 ≡ is_told name_started entry.0 journal
 
-  pub kept-yield : done ≡ 0 → (back : J) → ChangesLine old.queues queues job.queue (waiting_of job.queue old.queues ++ (job.name, true, back) ∷ []) → IsKept terms new yielded
+  -- the job goes to the end of its line
+  pub kept-yield : done ≡ 0 → (back : J) → ChangesLine old.queues queues job.queue (waiting_of job.queue old.queues ++ (job.name, true, back) ∷ []) → IsKept terms new (writes.Yield job.name time ∷ journal)
   kept-yield none back changes =
-      let last = changes.same_count ∙ kept.agrees.last in
-      let weights = λ (other : ℕ) (there : other < queue_count queues). changes.same_shares other ∙ kept.agrees.weights other (subst (λ count. other < count) changes.same_count there) in
-      let floor_now = kept.agrees.the_floor ∙ sym (floor-stays (writes.Yield job.name time) journal refl) in
-      let turns_now = kept.agrees.turns ∙ sym (turns-stays (writes.Yield job.name time) journal refl) in
-      let modes = λ (other : ℕ). changes.same_modes other ∙ kept.agrees.closing.modes other in
-      let nobody : (out : JobOut J) → None ≡ Some out → out.queue < queue_count queues = λ out none. absurd (none-some out none) in
-      let agrees : Agrees new yielded = assumption (tallied_now changes.same_count, lines, marks, runtimes, jobs_out-yield job.name time journal is_out.0, figures_now) in
-      kept_after terms (writes.Yield job.name time) kept agrees kept.is_core is_out.0 refl tt refl refl
+      kept_after terms (writes.Yield job.name time) kept
+      (agrees_settled (writes.Yield job.name time) (assumption) (one_yield time) (counts-yield (tally_of job.queue old) settled_tally.runtime time done none) (λ other. told-yield other job.queue journal job.name is_out.1 time)
+      changes.same_count changes.same_shares changes.same_modes lines marks (virtual_runtime-yield job.queue journal job.name time is_out.1)
+      (λ other away. virtual_runtime-yield_elsewhere other journal job.name time job.queue is_out.1 away) (jobs_out-yield job.name time journal is_out.0)) kept.is_core is_out.0 refl tt refl refl
     where
-      figures_now : (other : ℕ) → figures_of other new ≡ figures_told other yielded
-      figures_now =
-          figures-grow old new job.queue settled_tally within refl journal yielded (one_yield time) (counts-yield (tally_of job.queue old) settled_tally.runtime time done none) kept.agrees.figures
-          (λ other. told-yield other job.queue journal job.name is_out.1 time)
-
-      lines : (other : ℕ) → names_of (waiting_of other queues) ≡ line other yielded
+      lines : (other : ℕ) → names_of (waiting_of other queues) ≡ line other (writes.Yield job.name time ∷ journal)
       lines other =
           let longer = map-append (λ (entry : JobId × Bool × J). entry.0) (waiting_of job.queue old.queues) ((job.name, true, back) ∷ []) in
           let here = line-yield job.queue time job.name journal is_out.1 in
           grind (arith, longer, here, kept.agrees.lines other, changes.others other, line-yield_elsewhere other job.queue time job.name journal is_out.1)
 
-      marks : (other : ℕ) → AreMarked yielded (waiting_of other queues)
-      marks = everywhere (λ at. AreMarked yielded (waiting_of at queues)) job.queue
-          (subst (AreMarked yielded) (sym changes.changed)
+      marks : (other : ℕ) → AreMarked (writes.Yield job.name time ∷ journal) (waiting_of other queues)
+      marks = everywhere (λ at. AreMarked (writes.Yield job.name time ∷ journal) (waiting_of at queues)) job.queue
+          (subst (AreMarked (writes.Yield job.name time ∷ journal)) (sym changes.changed)
           (All-append is_marked (waiting_of job.queue old.queues) ((job.name, true, back) ∷ []) (kept.agrees.marks job.queue)
           (All-cons is_marked (job.name, true, back) [] (sym (is_told-alone terms job.name journal kept.notes is_out.0)) (All-nil is_marked))))
-          (λ other away. subst (AreMarked yielded) (sym (changes.others other away)) (kept.agrees.marks other))
+          (λ other away. subst (AreMarked (writes.Yield job.name time ∷ journal)) (sym (changes.others other away)) (kept.agrees.marks other))
 
-      runtimes : (other : ℕ) → runtime_of other new ≡ virtual_runtime other yielded
-      runtimes = everywhere (λ at. runtime_of at new ≡ virtual_runtime at yielded) job.queue
-          (runtime_charged ∙ sym (virtual_runtime-yield job.queue journal job.name time is_out.1))
-          (λ other away. runtime_same other away ∙ sym (virtual_runtime-yield_elsewhere other journal job.name time job.queue is_out.1 away))
-
-  abbrev finished : T → Journal T
-  finished value = writes.Done job.name time value ∷ journal
-
-  pub kept-done : done ≡ 1 → (value : T) → queues ≡ old.queues → IsKept terms new (finished value)
+  -- the job is gone
+  pub kept-done : done ≡ 1 → (value : T) → queues ≡ old.queues → IsKept terms new (writes.Done job.name time value ∷ journal)
   kept-done one value same =
-      let lines = λ (other : ℕ). kept.agrees.lines other ∙ sym (line-done terms journal kept.notes other time value job.name is_out.0) in
-      let floor_now = kept.agrees.the_floor ∙ sym (floor-stays (writes.Done job.name time value) journal refl) in
-      let turns_now = kept.agrees.turns ∙ sym (turns-stays (writes.Done job.name time value) journal refl) in
-      let nobody : (out : JobOut J) → None ≡ Some out → out.queue < queue_count old.queues = λ out none. absurd (none-some out none) in
-      let tallied = tallied_now (ap queue_count same) ∙ ap queue_count same in
-      let agrees : Agrees (settled_view old job time done old.queues) (finished value) = assumption (runtimes, jobs_out-done job.name time value journal is_out.0, figures_now) in
-      subst (λ queues. IsKept terms (settled_view old job time done queues) (finished value)) (sym same)
-      (kept_after terms (writes.Done job.name time value) kept agrees kept.is_core is_out.0 refl tt refl refl)
-    where
-      figures_now : (other : ℕ) → figures_of other new ≡ figures_told other (finished value)
-      figures_now =
-          figures-grow old new job.queue settled_tally within refl journal (finished value) (one_done time) (counts-done (tally_of job.queue old) settled_tally.runtime time done one) kept.agrees.figures
-          (λ other. told-done other job.queue journal job.name is_out.1 time value)
-
-      runtimes : (other : ℕ) → runtime_of other new ≡ virtual_runtime other (finished value)
-      runtimes = everywhere (λ at. runtime_of at new ≡ virtual_runtime at (finished value)) job.queue
-          (runtime_charged ∙ sym (virtual_runtime-done job.queue journal job.name time value is_out.1))
-          (λ other away. runtime_same other away ∙ sym (virtual_runtime-done_elsewhere other journal job.name time value job.queue is_out.1 away))
+      kept_after terms (writes.Done job.name time value) kept
+      (agrees_settled (writes.Done job.name time value) (assumption) (one_done time) (counts-done (tally_of job.queue old) settled_tally.runtime time done one) (λ other. told-done other job.queue journal job.name is_out.1 time value)
+      (ap queue_count same) (λ other. ap (shares_of other) same) (λ other. ap (mode_of other) same)
+      (λ other. ap (λ queues. names_of (waiting_of other queues)) same ∙ (kept.agrees.lines other ∙ sym (line-done terms journal kept.notes other time value job.name is_out.0)))
+      (λ other. subst (λ queues. AreMarked (writes.Done job.name time value ∷ journal) (waiting_of other queues)) (sym same) (kept.agrees.marks other))
+      (virtual_runtime-done job.queue journal job.name time value is_out.1) (λ other away. virtual_runtime-done_elsewhere other journal job.name time value job.queue is_out.1 away)
+      (jobs_out-done job.name time value journal is_out.0)) kept.is_core is_out.0 refl tt refl refl

@@ -2,11 +2,10 @@
 use Rattle.rt_journal.proofs.Names.{◌≡◌, Bool, true, false, List, [], ◌∷◌, sym, ◌∙◌, subst, false_from_ne_true}
 use Rattle.rt_journal.proofs.Names.{true≢false, or_parts, All-cons, All-nil, All-head, All-tail, JobId, same_name}
 use Rattle.rt_journal.proofs.Names.{Journal, is_told, name_started, among, one_name, same_as_itself}
-use Rattle.rt_journal.proofs.Names.{is_told-start_elsewhere, AreMarked, Note, queue_joined, charge_noted}
-use Rattle.rt_journal.proofs.Names.{runtime_picked, pick_count, no_figures, ℕ, ◌+◌, ◌<◌, ◌≤◌, length, refl, ap, arith}
-use Rattle.rt_journal.proofs.Names.{get_or_past, Some, None, max, same_Some, Terms, most_turns, KeyAtMost}
-use Rattle.rt_journal.proofs.Names.{delivered_names, queue_of, virtual_runtime, shares, line, jobs_out, IsRightPick}
-use Rattle.rt_journal.proofs.Names.{turns, queue_just_picked, created_count, effect_awaited, MayStand, IsTurnOf}
+use Rattle.rt_journal.proofs.Names.{is_told-start_elsewhere, AreMarked, Note, queue_joined, charge_noted, no_figures}
+use Rattle.rt_journal.proofs.Names.{ℕ, ◌+◌, ◌<◌, ◌≤◌, length, refl, ap, arith, get_or_past, Some, None, max, same_Some}
+use Rattle.rt_journal.proofs.Names.{Terms, most_turns, KeyAtMost, queue_of, virtual_runtime, line, jobs_out}
+use Rattle.rt_journal.proofs.Names.{IsRightPick, turns, queue_just_picked, effect_awaited, MayStand, IsTurnOf}
 use Rattle.rt_journal.proofs.Names.{jobs_out-start, jobs_out-resume, known_of, Distinct, apart_of, line-turn}
 use Rattle.rt_journal.proofs.Names.{line-turn_elsewhere, virtual_runtime-stays, floor-stays, right_pick_of_lines}
 use Rattle.rt_journal.proofs.Names.{queue_count, waiting_of, no_queue, CoreView, JobOut, tally_of, runtime_of}
@@ -21,7 +20,7 @@ use Rattle.rt_ids.specs.Lines.{names_but_for}
 use Rattle.rt_core.specs.Closing as core
 use Rattle.rt_core.specs.Turns.{IsNext}
 use Rattle.rt_journal.proofs.Sums.{everywhere}
-use Rattle.rt_journal.proofs.Kept.{set_runtime, figures-grow, one_pick, counts-pick, told-polled, IsOpenNote}
+use Rattle.rt_journal.proofs.Kept.{set_runtime, figures-grow, one_pick, counts-pick, told-polled, IsPlain}
 use Rattle.rt_journal.proofs.Kept.{same_modes, closing-stays, return_reason-agrees, IsKept}
 use Rattle.rt_recorded_desk.proofs.LaneNotes.{plainly_stands}
 use Rattle.rt_journal.proofs.Kept.{turns-stays, one_return, counts-return, told-returned}
@@ -45,18 +44,13 @@ module _ {J T : Type 0} (name : JobId) (before : Journal T) where
       (All-head (is_marked before) entry rest marked ∙ sym (is_told-start_elsewhere name entry.0 before (other_way name entry.0 parts.0)))
       (marks-start rest parts.1 (All-tail (is_marked before) entry rest marked))
 
--- the note behind a pick takes the picked job out of its line; it costs nothing, and nothing is created, weighed, delivered or closed by it
+-- the note behind a pick takes the picked job out of its line, and costs nothing
 pub record FollowsPick {T : Type 0} (name : JobId) (note : Note T) (before : Journal T) : Type 0 where
   pub leaves : name_leaving note ≡ Some name
   pub joins : (queue : ℕ) → name_joining queue note before ≡ None
   pub joined : queue_joined note ≡ None
   pub costs : (queue : ℕ) → charge_noted queue note before ≡ 0
-  pub picks : runtime_picked note ≡ 0
-  pub turns_made : pick_count note ≡ 0
-  pub created : created_count (note ∷ before) ≡ created_count before
-  pub weighs : (queue : ℕ) → shares queue (note ∷ before) ≡ shares queue before
-  pub delivered : (sender : ℕ) → delivered_names sender (note ∷ before) ≡ delivered_names sender before
-  pub opens : IsOpenNote note
+  pub plain : IsPlain note before
   pub no_pick : queue_just_picked (note ∷ before) ≡ None
   pub no_answer : effect_awaited (note ∷ before) ≡ None
 
@@ -163,7 +157,7 @@ module _ {J T : Type 0} (terms : Terms) (old : CoreView J) (name : JobId) (queue
     turned = record old { queues = queues; tallies = set old.tallies queue tally; floor = max old.floor runtime; turns = old.turns + 1; out = out }
 
     closing_now : AgreesOnClosing turned (note ∷ picked)
-    closing_now = closing-stays turned turned note picked (same_modes turned) follows.opens
+    closing_now = closing-stays turned turned note picked (same_modes turned) follows.plain.opens
         (closing-stays old turned (writes.Pick queue runtime) journal (record { modes = front.line.same_modes; mode = refl; gates = refl; cores = refl }) (assumption) kept.agrees.closing)
 
     kept-turned : tally.runtime ≡ runtime → figures_in tally ≡ plus (figures_of queue old) adds →
@@ -174,19 +168,19 @@ module _ {J T : Type 0} (terms : Terms) (old : CoreView J) (name : JobId) (queue
         let agrees : Agrees turned (note ∷ picked) = record {
           tallied = length-set old.tallies queue tally ∙ (kept.agrees.tallied ∙ sym front.line.same_count);
           senders = kept.agrees.senders;
-          last = front.line.same_count ∙ (kept.agrees.last ∙ ap (λ count. count + 1) (sym follows.created));
+          last = front.line.same_count ∙ (kept.agrees.last ∙ ap (λ count. count + 1) (sym follows.plain.created));
           lines = λ other. lines_now other ∙ (λ i. with_last (names_but_for (sym follows.leaves i) (line other journal)) (sym (follows.joins other) i));
           marks = marks;
           runtimes = λ other.
               set_runtime old.tallies queue tally within same other
               ∙ (kept.agrees.runtimes other
               ∙ (sym (virtual_runtime-stays other journal (writes.Pick queue runtime) refl refl) ∙ sym (virtual_runtime-stays other picked note follows.joined (follows.costs other))));
-          weights = λ other there. front.line.same_shares other ∙ (kept.agrees.weights other (rw (← front.line.same_count) there) ∙ sym (follows.weighs other));
-          the_floor = ap (λ at. max at runtime) kept.agrees.the_floor ∙ sym (floor-stays note picked follows.picks);
-          turns = ap (λ count. count + 1) kept.agrees.turns ∙ sym (turns-stays note picked follows.turns_made);
+          weights = λ other there. front.line.same_shares other ∙ (kept.agrees.weights other (rw (← front.line.same_count) there) ∙ sym (follows.plain.weighs other));
+          the_floor = ap (λ at. max at runtime) kept.agrees.the_floor ∙ sym (floor-stays note picked follows.plain.picks);
+          turns = ap (λ count. count + 1) kept.agrees.turns ∙ sym (turns-stays note picked follows.plain.turns_made);
           out = out_is;
           out_exists = out_exists;
-          delivered = λ sender known. kept.agrees.delivered sender known ∙ ap length (sym (follows.delivered sender));
+          delivered = λ sender known. kept.agrees.delivered sender known ∙ ap length (sym (follows.plain.delivered sender));
           figures = figures-grow old turned queue tally within refl journal (note ∷ picked) adds counts kept.agrees.figures told;
           closing = closing_now;
         } in
