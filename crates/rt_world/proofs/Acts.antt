@@ -1,20 +1,25 @@
--- What an actor did on its link, as its world sees it: whatever it was, the link's sender did it, and it is the step of its event.
-use Rattle.rt_world.proofs.Words.{◌≡◌, ℕ, ◌+◌, ◌≤◌, List, length, sym, ◌∙◌, ap, subst, set, map, Journal, Owed, Whole, Fits, Parts, Reply, WorldView}
+-- What an actor did on its link, as its world sees it: whatever it was, the link's sender did it, it is the step of its event, and the world stays one.
+use Rattle.rt_world.proofs.Words.{◌≡◌, ℕ, ◌+◌, ◌<◌, ◌≤◌, List, length, sym, ◌∙◌, ap, subst, arith, set, map, Journal, Owed, Whole, Fits, Parts, Reply, WorldView}
 use Rattle.rt_world.proofs.Words.{journal_at, desks, world_of, IsWorld, DeskView, Act, IsActOf, IsActAt, Acts, HasActed, Collects, Redeems, Detaches, Sends}
+use Rattle.rt_world.proofs.Words.{RecordedView, desk_of, core_at, link_at, IsAtRest}
 use Rattle.rt_world.specs.declared.model.acts.Act.TheVariants.{Send, Collect, Redeem, Detach}
-use Rattle.rt_world.specs.Acts.{notes_for}
-use Rattle.rt_world.proofs.LinkSteps.{OnlySent}
-use Rattle.rt_world.proofs.Sending.{IsDoneOn, IsActing, its_cap, its_room, later}
+use Rattle.rt_world.specs.Acts.{notes_for, HasCoreActed}
+use Rattle.rt_world.proofs.Desks.{desks-core}
+use Rattle.rt_world.proofs.LinkRows.{with_link}
+use Rattle.rt_world.proofs.LinkSteps.{OnlySent, in_stays}
+use Rattle.rt_world.proofs.WorldAfter.{rest_after}
+use Rattle.rt_world.proofs.CoreSteps.{desk_is, parts_now, rests}
+use Rattle.rt_world.proofs.Sending.{IsDoneOn, IsActing, its_cap, its_room, later, changes, all_sent, others_received, senders_sent}
 use Rattle.rt_world.proofs.SentLinks.{IsSubmitted, only_sent, sends_now}
 use Rattle.rt_world.proofs.Ticketing.{got_more, got_same, same_given, collects_now, redeems_now, detaches_now}
 
 -- notes that have room in the world have room there
-pub its_notes_fit : {J : Type 0} {same : J → J → Type 0} {made : J → ℕ} {polls : Owed J ℕ} {answers : J → ℕ → Type 0} {old : Parts J ℕ} {sender core from : ℕ} {desk : DeskView J ℕ} {link : Whole J ℕ}
-    {seen : WorldView J ℕ} (world : IsWorld same made polls answers old) → IsActing old sender core desk link → sender ≡ from → world_of old ≡ seen → (act : Act J) →
-    length (journal_at from seen) + notes_for seen.cap act ≤ seen.room → length desk.journal.notes + notes_for desk.cap act ≤ desk.journal.room
-its_notes_fit {desk = desk} {seen = seen} world acting sender_is world_is act room =
+pub its_notes_fit : {J : Type 0} {same : J → J → Type 0} {made : J → ℕ} {polls : Owed J ℕ} {answers : J → ℕ → Type 0} {old : Parts J ℕ} {sender core : ℕ} {desk : DeskView J ℕ} {link : Whole J ℕ}
+    {seen : WorldView J ℕ} (world : IsWorld same made polls answers old) → IsActing old sender core desk link → world_of old ≡ seen → (act : Act J) →
+    length (journal_at sender seen) + notes_for seen.cap act ≤ seen.room → length desk.journal.notes + notes_for desk.cap act ≤ desk.journal.room
+its_notes_fit {desk = desk} {seen = seen} world acting world_is act room =
     subst (λ cap. length desk.journal.notes + notes_for cap act ≤ desk.journal.room) (sym (its_cap world acting ∙ ap (λ world. world.cap) world_is))
-    (its_room world acting sender_is world_is (notes_for seen.cap act) room)
+    (its_room world acting world_is (notes_for seen.cap act) room)
 
 module _ {J : Type 0} {same : J → J → Type 0} {answers : J → ℕ → Type 0} {core : ℕ} {desk now : DeskView J ℕ} {link after : Whole J ℕ} {answer : Reply J} where
   -- what an order's sending says
@@ -48,3 +53,49 @@ module _ {J : Type 0} {same : J → J → Type 0} {answers : J → ℕ → Type 
         subst (λ to. (acting : IsActing old sender to desk link) → Detaches sender name (world_of old) (later world acting now after journals_are) answer) at
         (λ acting. subst (Detaches sender name (world_of old) (later world acting now after journals_are)) (sym acted.acts.1)
         (detaches_now world name acting now after journals_are (ap (λ out. out.sent) acted.acts.3) acted.acts.0 acted.acts.2)) acting
+
+-- a core and its link to another, as their world has them
+pub record IsCoreActing {J T : Type 0} (old : Parts J T) (sender to : ℕ) (actor : RecordedView J T) (link : Whole J T) : Type 0 where
+  pub core : sender < old.cores
+  pub actor_is : actor ≡ core_at sender old
+  pub acting : IsActing old sender to (desk_of actor) link
+
+-- a core acts on a link that it was lent
+pub core_acting : {J T : Type 0} {same : J → J → Type 0} {made : J → ℕ} {polls : Owed J T} {answers : J → T → Type 0} {old : Parts J T} {sender to : ℕ} {link : Whole J T} {actor : RecordedView J T}
+    (world : IsWorld same made polls answers old) → sender < old.cores → to < old.cores → actor ≡ core_at sender old → link ≡ link_at sender to old.links → IsCoreActing old sender to actor link
+core_acting {sender = sender} world core to_there is link_is =
+    record { core = core; actor_is = is; acting = record { there = omega (arith, core); to_there = to_there; desk_is = ap desk_of is ∙ sym (desk_is world sender core); link_is = link_is } }
+
+-- a world at rest stays one as a core does something on its link to another
+module _ {J : Type 0} {same : J → J → Type 0} {made : J → ℕ} {polls : Owed J ℕ} {answers : J → ℕ → Type 0} {old : Parts J ℕ} {sender to : ℕ}
+    {act : Act J} {actor now : RecordedView J ℕ} {link after : Whole J ℕ} {answer : Reply J} (world : IsWorld same made polls answers old)
+    (by : IsCoreActing old sender to actor link) (did : HasCoreActed same answers made polls to act actor link answer now after) where
+  core_did : HasCoreActed same answers made polls to act (core_at sender old) link answer now after
+  core_did = subst (λ at. HasCoreActed same answers made polls to act at link answer now after) by.actor_is did
+
+  done : IsDoneOn (Fits same answers) to (desk_of actor) link (desk_of now) after
+  done = acted_on act did.acted
+
+  abbrev pub core_sent : Parts J ℕ
+  core_sent = parts_now world sender by.core now (with_link old.links sender to after)
+
+  pub core_journals : map (λ desk. desk.journal.notes) (desks core_sent) ≡ map (λ desk. desk.journal.notes) (set (desks old) sender (desk_of now))
+  core_journals = ap (map (λ desk. desk.journal.notes)) (desks-core old sender now (omega (arith, by.core, world.all_there.cores_are)))
+
+  pub core_at_rest : IsAtRest old → IsAtRest core_sent
+  core_at_rest rest = rest_after old sender now (with_link old.links sender to after) rest (ap (λ view. view.core.out) core_did.rest ∙ rest sender by.core)
+
+  pub core_rests : IsWorld same made polls answers core_sent
+  core_rests =
+      rests world sender by.core now (with_link old.links sender to after) (record {
+        recorded = core_did.sound;
+        seat = core_did.seat;
+        rows_are = (changes world by.acting done).same_rows;
+        links_are = (changes world by.acting done).same_cores;
+        received = others_received world by.acting done;
+        sent = λ from core away. all_sent world by.acting done from core;
+        senders = senders_sent world by.acting done;
+        ins = λ from known.
+            in_stays from now _ _ (all_sent world by.acting done from sender)
+            ((core_did.ins from).each _ (world.beside.ins from sender known by.core));
+      })

@@ -2,7 +2,7 @@
 use Rattle.rt_world.proofs.Words.{◌≡◌, ◌≢◌, ℕ, ◌+◌, ◌<◌, ◌≤◌, List, [], ◌++◌, length, sym, ◌∙◌, ap, subst, arith, get_or, set, get_or-set_same}
 use Rattle.rt_world.proofs.Words.{get_or-set_other, length-set, get_or_default, set-get_or, noted, map, Note, Owed, Whole, inward_of, RecordedView, IsRecorded}
 use Rattle.rt_world.proofs.Words.{desk_of, Fits, IsInOf, journal_at, link_at, Parts, core_at, desk_at, world_of, IsWorld, opened_beside, with_notes, IsSameSeat}
-use Rattle.rt_world.proofs.Words.{ChangesLink, notes_at, seat_of}
+use Rattle.rt_world.proofs.Words.{ChangesLink, notes_at, seat_of, WorldView}
 use Rattle.rt_recorded_desk.specs.Ends.{KeepsOuts}
 use Rattle.rt_world.proofs.Desks.{desk_at-core, desks-core, journal_at-world, journals-noted}
 use Rattle.rt_world.proofs.LinkSteps.{OnlyReceived, OnlySent, IsSenderOn, sender_stays, received-same, sent-same, each_link, other_link}
@@ -36,12 +36,23 @@ module _ {J T : Type 0} {same : J → J → Type 0} {made : J → ℕ} {polls : 
   number_is = ap (λ desk. desk.actor) (sym desk_is ∙ world.all_there.seats_are core (omega (arith, there)))
 
   -- the core that a call borrows is the one of this number
-  pub viewed : (view : RecordedView J T) → view ≡ get_or old.inside core view → view ≡ core_at core old
-  viewed view read = read ∙ get_or_default old.inside core view (opened_beside 0 0 0 0) within
+  pub viewed : {place : ℕ} (view : RecordedView J T) → place ≡ core → view ≡ get_or old.inside place view → view ≡ core_at core old
+  viewed view is read = read ∙ (ap (λ at. get_or old.inside at view) is ∙ get_or_default old.inside core view (opened_beside 0 0 0 0) within)
 
   -- notes that have room in the world have room there
-  pub free : (more : ℕ) → length (journal_at core (world_of old)) + more ≤ old.room → length (core_at core old).journal.notes + more ≤ (core_at core old).journal.room
-  free more room = omega (arith, room, ap length journal_is, room_is)
+  pub free : {seen : WorldView J T} {view : RecordedView J T} → world_of old ≡ seen → view ≡ core_at core old → (more : ℕ) →
+      length (journal_at core seen) + more ≤ seen.room → length view.journal.notes + more ≤ view.journal.room
+  free world_is view_is more room =
+      omega (
+        arith,
+        room,
+        ap (λ world. length (journal_at core world)) world_is,
+        ap (λ world. world.room) world_is,
+        ap length journal_is,
+        room_is,
+        ap (λ view. length view.journal.notes) view_is,
+        ap (λ view. view.journal.room) view_is,
+      )
 
   -- the ends on which the core sends are beside what it says
   pub core_sender : (to : ℕ) → to < old.cores → IsSenderOn (Fits same answers) to (desk_of (core_at core old)) (link_at core to old.links)

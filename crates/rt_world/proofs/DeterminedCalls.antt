@@ -1,42 +1,38 @@
 -- Calls of a post have one result, where they ask the same as long as they are answered alike.
-use Rattle.rt_world.proofs.Words.{◌≡◌, ℕ, List, [], ◌∷◌, refl, sym, ◌∙◌, subst, inl, inr, arith, Result, Ok, Err, JobId, Order, WorldView, TicketError, Outcome}
-use Rattle.rt_world.proofs.Words.{SendError, outcome_note, Call, Makes, Submit, Redeem, Detach, CallsAt, AskAlike, redeemed_reply, detached_reply, AreAlike}
-use Rattle.rt_world.proofs.Words.{sent_reply}
+use Rattle.rt_world.proofs.Words.{◌≡◌, ℕ, List, [], ◌∷◌, refl, sym, ◌∙◌, ap, subst, inl, inr, ⊎_elim, arith, Result, Ok, Err, JobId, Order, Reply, WorldView}
+use Rattle.rt_world.proofs.Words.{TicketError, Unknown, Outcome, OutcomeNote, SendError, outcome_note, Call, Makes, Submit, Redeem, Detach, CallsAt, AskAlike}
+use Rattle.rt_world.proofs.Words.{redeemed_reply, detached_reply, AreAlike, sent_reply}
 use Rattle.rt_world.specs.declared.event.Reply.TheVariants as reply
 use Rattle.rt_world.specs.Calls.{AsksSame, AnsweredAlike, told_of}
-use Rattle.rt_world.proofs.DeterminedSends.{sends_once}
-use Rattle.rt_world.proofs.DeterminedTickets.{redeems_once, detaches_once}
+use Rattle.rt_world.proofs.DeterminedSteps.{comes_once, sends_to, detaches_to, redeems_once}
 
 module _ {J : Type 0} where
   -- a reply says what was answered
   sent_same : (answer other : Result JobId (SendError J)) → sent_reply answer ≡ sent_reply other → answer ≡ other
   sent_same (Ok name) (Ok other) same = cc
-  sent_same (Ok name) (Err error) same = cc
-  sent_same (Err error) (Ok name) same = cc
   sent_same (Err error) (Err other) same = cc
-
-  no_error : (error : TicketError) (back : Outcome J ℕ) → reply.Redeemed back ≡ reply.NoTicket error → ⊥
-  no_error error back is = cc
+  sent_same _ _ same = cc
 
   detached_same : (answer other : Result (Unit {0}) TicketError) → detached_reply {J = J} answer ≡ detached_reply other → answer ≡ other
   detached_same (Ok done) (Ok other) same = refl
-  detached_same (Ok done) (Err error) same = cc
-  detached_same (Err error) (Ok done) same = cc
   detached_same (Err error) (Err other) same = cc
+  detached_same _ _ same = cc
+
+  -- what a reply tells of a ticket
+  abbrev tells : Reply J → Result (OutcomeNote ℕ) TicketError
+  tells (reply.Redeemed outcome) = Ok (outcome_note outcome)
+  tells (reply.NoTicket error) = Err error
+  tells _ = Err Unknown
+
+  told_is : (answer : Result (Outcome J ℕ) TicketError) → told_of answer ≡ tells (redeemed_reply answer)
+  told_is (Ok outcome) = refl
+  told_is (Err error) = refl
 
 module _ {J : Type 0} (same : J → J → Type 0) (answers : J → ℕ → Type 0) where
   -- replies that are alike tell the same
   told_same : (answer other : Result (Outcome J ℕ) TicketError) → AreAlike same answers (redeemed_reply answer) (redeemed_reply other) → told_of answer ≡ told_of other
-  told_same (Ok outcome) (Ok back) (inl is) = cc
-  told_same (Ok outcome) (Err error) (inl is) = cc
-  told_same (Err error) (Ok outcome) (inl is) = cc
-  told_same (Err error) (Err other) (inl is) = cc
-  told_same (Ok outcome) (Ok back) (inr both) = by_both outcome back both.outcome both.back both.redeemed both.other_redeemed both.tells
-    where
-      by_both : (outcome back first second : Outcome J ℕ) → reply.Redeemed outcome ≡ reply.Redeemed first → reply.Redeemed back ≡ reply.Redeemed second → outcome_note first ≡ outcome_note second → told_of (Ok outcome) ≡ told_of (Ok back)
-      by_both outcome back first second is other tells = cc
-  told_same (Ok outcome) (Err error) (inr both) = absurd (no_error error both.back (sym both.other_redeemed))
-  told_same (Err error) other (inr both) = absurd (no_error error both.outcome (sym both.redeemed))
+  told_same answer other alike =
+      told_is answer ∙ (⊎_elim (λ is. ap tells is) (λ both. ap tells both.redeemed ∙ (ap Ok both.tells ∙ sym (ap tells both.other_redeemed))) alike ∙ sym (told_is other))
 
   module _ (core : ℕ) where
     submits_once : (to : ℕ) (order : Order J) (answer other : Result JobId (SendError J)) (old new then : WorldView J ℕ) →
@@ -45,7 +41,7 @@ module _ {J : Type 0} (same : J → J → Type 0) (answers : J → ℕ → Type 
     submits_once to order answer other old new then (inl first) (inr second) = absurd (omega (arith, first.0, second.0))
     submits_once to order answer other old new then (inr first) (inl second) = absurd (omega (arith, first.0, second.0))
     submits_once to order answer other old new then (inr first) (inr second) =
-        let one = sends_once core to order old new then (sent_reply answer) (sent_reply other) first.1 second.1 in
+        let one = comes_once (sends_to core to order old (sent_reply answer) first.1) (sends_to core to order old (sent_reply other) second.1) in
         (one.0, sent_same answer other one.1)
 
     -- calls that ask the same of one world leave one world, and are answered alike
@@ -58,14 +54,10 @@ module _ {J : Type 0} (same : J → J → Type 0) (answers : J → ℕ → Type 
         let one = redeems_once same answers core old new then name (redeemed_reply answer) (redeemed_reply told) first (subst (λ name. CallsAt same answers core old (Redeem name told) then) (sym asks) second) in
         (one.0, told_same answer told one.1)
     call_once (Detach name answer) (Detach back told) asks old new then first second =
-        let one = detaches_once core old new then name (detached_reply answer) (detached_reply told) first (subst (λ name. CallsAt same answers core old (Detach name told) then) (sym asks) second) in
+        let again = subst (λ name. CallsAt same answers core old (Detach name told) then) (sym asks) second in
+        let one = comes_once (detaches_to core name old (detached_reply answer) first) (detaches_to core name old (detached_reply told) again) in
         (one.0, detached_same answer told one.1)
-    call_once (Submit to order answer) (Redeem name told) asks old new then first second = absurd asks
-    call_once (Submit to order answer) (Detach name told) asks old new then first second = absurd asks
-    call_once (Redeem name answer) (Submit to order told) asks old new then first second = absurd asks
-    call_once (Redeem name answer) (Detach back told) asks old new then first second = absurd asks
-    call_once (Detach name answer) (Submit to order told) asks old new then first second = absurd asks
-    call_once (Detach name answer) (Redeem back told) asks old new then first second = absurd asks
+    call_once _ _ asks old new then first second = absurd asks
 
     pub calls_once : (calls others : List (Call J ℕ)) → AskAlike calls others → (old new then : WorldView J ℕ) → Makes (CallsAt same answers core) calls old new → Makes (CallsAt same answers core) others old then → new ≡ then
     calls_once [] others alike old new then first second = first ∙ sym (subst (λ others. Makes (CallsAt same answers core) others old then) alike second)

@@ -7,42 +7,26 @@ use Rattle.rt_world.specs.declared.event.Reply.TheVariants as reply
 use Rattle.rt_world.specs.Determined.{RunIsDetermined, AssemblyIsDetermined}
 use Rattle.rt_world.proofs.KeptLists.{Extends, is_later, happens_keep}
 use Rattle.rt_world.proofs.DeterminedRefusals.{refused-earlier, refused-later, extends-run}
-use Rattle.rt_world.proofs.DeterminedSends.{sends_once}
-use Rattle.rt_world.proofs.DeterminedDeliveries.{delivers_once}
+use Rattle.rt_world.proofs.DeterminedSteps.{Comes, comes_once, sends_to, delivers_once, shuts_to, collects_to, detaches_to, redeems_once}
 use Rattle.rt_world.proofs.DeterminedTurns.{turns_once}
-use Rattle.rt_world.proofs.DeterminedTickets.{collects_once, redeems_once, detaches_once, shuts_once}
 
 module _ {J : Type 0} (same : J → J → Type 0) (made : J → ℕ) (polls : Owed J ℕ) (answers : J → ℕ → Type 0) where
-  module _ (event : Event J) (old new : WorldView J ℕ) (answer : Reply J) where
-    -- an actor of the event doesn't exist
-    record IsNoActor : Type 0 where
-      not_there : AreThere old.cores event → ⊥
-      told : answer ≡ reply.NoActor event
-      unchanged : new ≡ old
-
-    -- the journal has too little room
-    record IsNoRoom : Type 0 where
-      there : AreThere old.cores event
-      full : IsNearlyFull (actor_of event) old
-      told : answer ≡ reply.NoRoom event
-      unchanged : new ≡ old
-
-    -- the step is made
-    record IsStep : Type 0 where
-      there : AreThere old.cores event
-      room : IsNearlyFull (actor_of event) old → ⊥
-      step : Steps same made polls answers event old new answer
-
   module _ (event : Event J) (old : WorldView J ℕ) where
-    sorted : (new : WorldView J ℕ) (answer : Reply J) → Happens same made polls answers event old new answer →
-        IsNoActor event old new answer ⊎ (IsNoRoom event old new answer ⊎ IsStep event old new answer)
-    sorted new (reply.NoActor back) happens = inl (record { not_there = happens.1; told = ap reply.NoActor happens.0; unchanged = happens.2 })
-    sorted new (reply.NoRoom back) happens = inr (inl (record { there = happens.1; full = happens.2; told = ap reply.NoRoom happens.0; unchanged = happens.3 }))
-    sorted new answer happens = inr (inr (record { there = happens.0; room = happens.1; step = happens.2 }))
+    -- an actor of the event doesn't exist, or the journal has too little room, and nothing changes; or the step is made
+    abbrev IsSorted : WorldView J ℕ → Reply J → Type 0
+    IsSorted new answer =
+        ((AreThere old.cores event → ⊥) × Comes (old, reply.NoActor event) new answer) ⊎
+        ((AreThere old.cores event × IsNearlyFull (actor_of event) old × Comes (old, reply.NoRoom event) new answer) ⊎
+        (AreThere old.cores event × (IsNearlyFull (actor_of event) old → ⊥) × Steps same made polls answers event old new answer))
+
+    sorted : (new : WorldView J ℕ) (answer : Reply J) → Happens same made polls answers event old new answer → IsSorted new answer
+    sorted new (reply.NoActor back) happens = inl (happens.1, record { world = happens.2; told = ap reply.NoActor happens.0 })
+    sorted new (reply.NoRoom back) happens = inr (inl (happens.1, happens.2, record { world = happens.3; told = ap reply.NoRoom happens.0 }))
+    sorted new answer happens = inr (inr happens)
 
   -- equal replies are alike
-  plainly : {new other : WorldView J ℕ} {answer other_answer : Reply J} → (new ≡ other) × (answer ≡ other_answer) → (new ≡ other) × AreAlike same answers answer other_answer
-  plainly found = (found.0, inl found.1)
+  plainly : {result : WorldView J ℕ × Reply J} {new other : WorldView J ℕ} {answer also : Reply J} → Comes result new answer → Comes result other also → (new ≡ other) × AreAlike same answers answer also
+  plainly first second = let one = comes_once first second in (one.0, inl one.1)
 
   -- all alike, where the lists of replies are what these are
   alike_as : (replies same_replies others same_others : List (Reply J)) → replies ≡ same_replies → others ≡ same_others → AreAllAlike same answers same_replies same_others → AreAllAlike same answers replies others
@@ -53,28 +37,29 @@ module _ {J : Type 0} (same : J → J → Type 0) (made : J → ℕ) (polls : Ow
     steps_once : (event : Event J) (old new other : WorldView J ℕ) (answer other_answer : Reply J) → HasAllLists old → AreThere old.cores event →
         Steps same made polls answers event old new answer → Steps same made polls answers event old other other_answer →
         ((new ≡ other) × AreAlike same answers answer other_answer) ⊎ (WasRefusedSince old.journals new.journals ⊎ WasRefusedSince old.journals other.journals)
-    steps_once (Send sender core order) old new other answer other_answer lists there first second = inl (plainly (sends_once sender core order old new other answer other_answer first second))
+    steps_once (Send sender core order) old new other answer other_answer lists there first second = inl (plainly (sends_to sender core order old answer first) (sends_to sender core order old other_answer second))
     steps_once (Deliver core sender) old new other answer other_answer lists there first second =
-        ⊎_elim (λ one. inl (plainly one)) inr (delivers_once core sender old (omega (arith, there.0, lists.journals_are)) new other answer other_answer first second)
-    steps_once (Turn core spent) old new other answer other_answer lists there first second = inl (plainly (turns_once same made polls answers owes core spent old new other answer other_answer first second))
-    steps_once (Shut core sender) old new other answer other_answer lists there first second = inl (plainly (shuts_once core sender old new other answer other_answer first second))
-    steps_once (Collect sender core) old new other answer other_answer lists there first second = inl (plainly (collects_once sender old new other core answer other_answer first second))
+        ⊎_elim (λ one. inl (one.0, inl one.1)) inr (delivers_once core sender old (omega (arith, there.0, lists.journals_are)) new other answer other_answer first second)
+    steps_once (Turn core spent) old new other answer other_answer lists there first second =
+        let one = turns_once same made polls answers owes core spent old new other answer other_answer first second in
+        inl (one.0, inl one.1)
+    steps_once (Shut core sender) old new other answer other_answer lists there first second = inl (plainly (shuts_to core sender old answer first) (shuts_to core sender old other_answer second))
+    steps_once (Collect sender core) old new other answer other_answer lists there first second = inl (plainly (collects_to core sender old answer first) (collects_to core sender old other_answer second))
     steps_once (Redeem sender name) old new other answer other_answer lists there first second = inl (redeems_once same answers sender old new other name answer other_answer first second)
-    steps_once (Detach sender name) old new other answer other_answer lists there first second = inl (plainly (detaches_once sender old new other name answer other_answer first second))
+    steps_once (Detach sender name) old new other answer other_answer lists there first second = inl (plainly (detaches_to sender name old answer first) (detaches_to sender name old other_answer second))
 
     module _ (event : Event J) (old new other : WorldView J ℕ) (answer other_answer : Reply J) (lists : HasAllLists old) where
-      one : IsNoActor event old new answer ⊎ (IsNoRoom event old new answer ⊎ IsStep event old new answer) →
-          IsNoActor event old other other_answer ⊎ (IsNoRoom event old other other_answer ⊎ IsStep event old other other_answer) →
+      one : IsSorted event old new answer → IsSorted event old other other_answer →
           ((new ≡ other) × AreAlike same answers answer other_answer) ⊎ (WasRefusedSince old.journals new.journals ⊎ WasRefusedSince old.journals other.journals)
-      one (inl a) (inl b) = inl (a.unchanged ∙ sym b.unchanged, inl (a.told ∙ sym b.told))
-      one (inl a) (inr (inl b)) = absurd (a.not_there b.there)
-      one (inl a) (inr (inr b)) = absurd (a.not_there b.there)
-      one (inr (inl a)) (inl b) = absurd (b.not_there a.there)
-      one (inr (inl a)) (inr (inl b)) = inl (a.unchanged ∙ sym b.unchanged, inl (a.told ∙ sym b.told))
-      one (inr (inl a)) (inr (inr b)) = absurd (b.room a.full)
-      one (inr (inr a)) (inl b) = absurd (b.not_there a.there)
-      one (inr (inr a)) (inr (inl b)) = absurd (a.room b.full)
-      one (inr (inr a)) (inr (inr b)) = steps_once event old new other answer other_answer lists a.there a.step b.step
+      one (inl a) (inl b) = inl (plainly a.1 b.1)
+      one (inl a) (inr (inl b)) = absurd (a.0 b.0)
+      one (inl a) (inr (inr b)) = absurd (a.0 b.0)
+      one (inr (inl a)) (inl b) = absurd (b.0 a.0)
+      one (inr (inl a)) (inr (inl b)) = inl (plainly a.2 b.2)
+      one (inr (inl a)) (inr (inr b)) = absurd (b.1 a.1)
+      one (inr (inr a)) (inl b) = absurd (b.0 a.0)
+      one (inr (inr a)) (inr (inl b)) = absurd (a.1 b.1)
+      one (inr (inr a)) (inr (inr b)) = steps_once event old new other answer other_answer lists a.0 a.2 b.2
 
       pub happens_once : Happens same made polls answers event old new answer → Happens same made polls answers event old other other_answer →
           ((new ≡ other) × AreAlike same answers answer other_answer) ⊎ (WasRefusedSince old.journals new.journals ⊎ WasRefusedSince old.journals other.journals)

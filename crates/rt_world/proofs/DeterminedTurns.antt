@@ -1,7 +1,7 @@
 -- A turn has one result, if each poll owes one step and one time.
-use Rattle.rt_world.proofs.Words.{◌≡◌, ℕ, ◌+◌, ◌-◌, ◌^◌, ◌<◌, ◌⊎◌, inl, inr, false, List, [], ◌∷◌, refl, sym, ◌∙◌, ap, subst, ⊎_elim, arith, unwrap_or}
+use Rattle.rt_world.proofs.Words.{◌≡◌, ℕ, ◌+◌, ◌-◌, ◌^◌, ◌⊎◌, inl, inr, false, List, [], ◌∷◌, refl, sym, ◌∙◌, ap, subst, arith, unwrap_or}
 use Rattle.rt_world.proofs.Words.{true≢false, none-some, same_Some, Option, Some, JobId, Order, Journal, IsRightPick, Owed, Reply, WorldView, journal_at, noted}
-use Rattle.rt_world.proofs.Words.{Job, Reason, return_reason, KeyAtMost, line, turns, virtual_runtime, has_work, Makes, Step, order_under, CallsAt, pick_notes}
+use Rattle.rt_world.proofs.Words.{Job, return_reason, KeyAtMost, line, turns, virtual_runtime, has_work, Makes, order_under, CallsAt, pick_notes}
 use Rattle.rt_world.proofs.Words.{settle_note, IsPoll, IsHandBack, Turns, OwesOne}
 use Rattle.rt_journal.proofs.Ahead.{one_key}
 use Rattle.rt_world.specs.declared.event.Reply.TheVariants as reply
@@ -22,32 +22,21 @@ same_head names name other rest others first second = cc
 same_job : {J : Type 0} (found : Option (Order J)) (queue other_queue : ℕ) (job other : J) → found ≡ Some (Job queue job) → found ≡ Some (Job other_queue other) → job ≡ other
 same_job found queue other_queue job other first second = cc
 
--- a turn that is made: a turn is left, and the right pick takes the first job of its line
-record IsMade {T : Type 0} (journal : Journal T) : Type 0 where
-  left : turns journal < 2 ^ 64 - 1
-  queue : ℕ
-  runtime : ℕ
+-- a turn of this queue, this runtime and this job: the right pick takes the first job of its line
+record IsMade {T : Type 0} (journal : Journal T) (queue runtime : ℕ) (name : JobId) : Type 0 where
   right : IsRightPick queue runtime journal
-  name : JobId
   others : List JobId
   first : line queue journal ≡ name ∷ others
 
--- two turns of one queue, runtime and job
-record SameMade {T : Type 0} {journal : Journal T} (first second : IsMade journal) : Type 0 where
-  queue : first.queue ≡ second.queue
-  runtime : first.runtime ≡ second.runtime
-  name : first.name ≡ second.name
-
-module _ {T : Type 0} {journal : Journal T} (first second : IsMade journal) where
-  same_queue : first.queue ≡ second.queue
-  same_queue = one_pick journal first.queue first.runtime second.queue second.runtime first.right second.right
-
-  same_made : SameMade first second
-  same_made = record {
-    queue = same_queue;
-    runtime = first.right.at ∙ (ap (λ queue. virtual_runtime queue journal) same_queue ∙ sym second.right.at);
-    name = same_head (line first.queue journal) first.name second.name first.others second.others first.first (ap (λ queue. line queue journal) same_queue ∙ second.first);
-  }
+-- a journal has one such turn
+made_once : {T : Type 0} {journal : Journal T} {queue runtime other after : ℕ} {name also : JobId} → IsMade journal queue runtime name → IsMade journal other after also →
+    (queue ≡ other) × (runtime ≡ after) × (name ≡ also)
+made_once {journal = journal} {queue = queue} {runtime = runtime} {other = other} {after = after} {name = name} {also = also} first second =
+    let one = one_pick journal queue runtime other after first.right second.right in (
+      one,
+      first.right.at ∙ (ap (λ queue. virtual_runtime queue journal) one ∙ sym second.right.at),
+      same_head (line queue journal) name also first.others second.others first.first (ap (λ queue. line queue journal) one ∙ second.first),
+    )
 
 module _ {J : Type 0} (same : J → J → Type 0) (made : J → ℕ) (polls : Owed J ℕ) (answers : J → ℕ → Type 0) (owes : OwesOne polls)
     (core spent : ℕ) (old : WorldView J ℕ) where
@@ -60,67 +49,52 @@ module _ {J : Type 0} (same : J → J → Type 0) (made : J → ℕ) (polls : Ow
   abbrev HandsBack : WorldView J ℕ → Type 0
   HandsBack new = IsHandBack core old new
 
-  abbrev made_by_poll : (new : WorldView J ℕ) → Polls new → IsMade journal
-  made_by_poll new poll = record { left = poll.turn_left; queue = poll.queue; runtime = poll.runtime; right = poll.right; name = poll.name; others = poll.others; first = poll.first }
+  by_poll : {new : WorldView J ℕ} (poll : Polls new) → IsMade journal poll.queue poll.runtime poll.name
+  by_poll poll = record { right = poll.right; others = poll.others; first = poll.first }
 
-  abbrev made_by_back : (new : WorldView J ℕ) → HandsBack new → IsMade journal
-  made_by_back new back = record { left = back.turn_left; queue = back.queue; runtime = back.runtime; right = back.right; name = back.name; others = back.others; first = back.first }
+  by_back : {new : WorldView J ℕ} (back : HandsBack new) → IsMade journal back.queue back.runtime back.name
+  by_back back = record { right = back.right; others = back.others; first = back.first }
 
-  made_by : (new : WorldView J ℕ) → Polls new ⊎ HandsBack new → IsMade journal
-  made_by new turn = ⊎_elim (made_by_poll new) (made_by_back new) turn
-
-  -- the world after a pick, and after a poll is settled
+  -- the world after a pick
   abbrev picked : JobId → ℕ → ℕ → WorldView J ℕ
   picked name queue runtime = noted core (pick_notes name queue runtime journal) old
 
-  abbrev settled : JobId → ℕ → Step ℕ → WorldView J ℕ → WorldView J ℕ
-  settled name time step posted = noted core (settle_note name time step ∷ []) posted
-
-  abbrev after_back : JobId → Reason → ℕ → ℕ → WorldView J ℕ
-  after_back name reason queue runtime = noted core (back_notes name reason queue runtime) old
-
   module _ (new other : WorldView J ℕ) where
     one_poll : Polls new → Polls other → new ≡ other
-    one_poll first second = first.notes ∙ ((λ i. settled (its.name i) (unwrap_or (its_told i) spent) (its_step i) (its_posted i)) ∙ sym second.notes)
+    one_poll first second = first.notes ∙ ((λ i. noted core (settle_note (its.2 i) (unwrap_or (its_told i) spent) (its_step i) ∷ []) (its_posted i)) ∙ sym second.notes)
       where
-        its : SameMade (made_by_poll new first) (made_by_poll other second)
-        its = same_made (made_by_poll new first) (made_by_poll other second)
+        its : (first.queue ≡ second.queue) × (first.runtime ≡ second.runtime) × (first.name ≡ second.name)
+        its = made_once (by_poll first) (by_poll second)
 
         its_job : first.job ≡ second.job
-        its_job = same_job (order_under first.name old) first.queue second.queue first.job second.job first.task (ap (λ name. order_under name old) its.name ∙ second.task)
+        its_job = same_job (order_under first.name old) first.queue second.queue first.job second.job first.task (ap (λ name. order_under name old) its.2 ∙ second.task)
 
-        other_owed : polls first.job (made first.job + polls_made first.name journal) second.calls second.step second.told
-        other_owed =
+        owed : polls first.job (made first.job + polls_made first.name journal) second.calls second.step second.told
+        owed =
             subst (λ job. polls job (made job + polls_made first.name journal) second.calls second.step second.told) (sym its_job)
-            (subst (λ name. polls second.job (made second.job + polls_made name journal) second.calls second.step second.told) (sym its.name) second.owed)
+            (subst (λ name. polls second.job (made second.job + polls_made name journal) second.calls second.step second.told) (sym its.2) second.owed)
 
         its_step : first.step ≡ second.step
-        its_step = owes.step first.job (made first.job + polls_made first.name journal) first.calls second.calls first.step second.step first.told second.told first.owed other_owed
+        its_step = owes.step _ _ _ _ _ _ _ _ first.owed owed
 
         its_told : first.told ≡ second.told
-        its_told = owes.told first.job (made first.job + polls_made first.name journal) first.calls second.calls first.step second.step first.told second.told first.owed other_owed
+        its_told = owes.told _ _ _ _ _ _ _ _ first.owed owed
 
         its_posted : first.posted ≡ second.posted
         its_posted =
-            calls_once same answers core first.calls second.calls
-            (owes.asks first.job (made first.job + polls_made first.name journal) first.calls second.calls first.step second.step first.told second.told first.owed other_owed)
-            (picked first.name first.queue first.runtime) first.posted second.posted first.posts
-            (subst (λ start. Makes (CallsAt same answers core) second.calls start second.posted) (λ i. picked (sym its.name i) (sym its.queue i) (sym its.runtime i)) second.posts)
+            calls_once same answers core first.calls second.calls (owes.asks _ _ _ _ _ _ _ _ first.owed owed) (picked first.name first.queue first.runtime) first.posted second.posted first.posts
+            (subst (λ start. Makes (CallsAt same answers core) second.calls start second.posted) (λ i. picked (sym its.2 i) (sym its.0 i) (sym its.1 i)) second.posts)
 
     one_back : HandsBack new → HandsBack other → new ≡ other
-    one_back first second = first.notes ∙ ((λ i. after_back (its.name i) (its_reason i) (its.queue i) (its.runtime i)) ∙ sym second.notes)
-      where
-        its : SameMade (made_by_back new first) (made_by_back other second)
-        its = same_made (made_by_back new first) (made_by_back other second)
-
-        its_reason : first.reason ≡ second.reason
-        its_reason = same_Some first.reason second.reason (sym first.returns ∙ (ap (λ queue. return_reason queue journal) its.queue ∙ second.returns))
+    one_back first second =
+        let its = made_once (by_back first) (by_back second) in
+        let reason = same_Some first.reason second.reason (sym first.returns ∙ (ap (λ queue. return_reason queue journal) its.0 ∙ second.returns)) in
+        first.notes ∙ ((λ i. noted core (back_notes (its.2 i) (reason i) (its.0 i) (its.1 i)) old) ∙ sym second.notes)
 
     -- a queue hands its jobs back, or it doesn't
     one_kind : Polls new → HandsBack other → ⊥
     one_kind poll back =
-        none-some back.reason
-        (sym poll.kept ∙ (ap (λ queue. return_reason queue journal) (same_queue (made_by_poll new poll) (made_by_back other back)) ∙ back.returns))
+        none-some back.reason (sym poll.kept ∙ (ap (λ queue. return_reason queue journal) (made_once (by_poll poll) (by_back back)).0 ∙ back.returns))
 
   one_turn : (new other : WorldView J ℕ) → Polls new ⊎ HandsBack new → Polls other ⊎ HandsBack other → new ≡ other
   one_turn new other (inl first) (inl second) = one_poll new other first second
@@ -128,22 +102,24 @@ module _ {J : Type 0} (same : J → J → Type 0) (made : J → ℕ) (polls : Ow
   one_turn new other (inr first) (inl second) = absurd (one_kind other new second first)
   one_turn new other (inr first) (inr second) = one_back new other first second
 
-  -- where a turn is made, some queue has work, and a turn was left
-  no_idle : IsMade journal → ((queue : ℕ) → has_work queue journal ≡ false) → ⊥
-  no_idle made idle = true≢false (sym made.right.eligible.work ∙ idle made.queue)
+  -- where a turn is made, a turn was left, and some queue has work
+  no_spent : {new : WorldView J ℕ} → Polls new ⊎ HandsBack new → turns journal ≡ 2 ^ 64 - 1 → ⊥
+  no_spent (inl poll) used = omega (arith, poll.turn_left, used)
+  no_spent (inr back) used = omega (arith, back.turn_left, used)
 
-  no_spent : IsMade journal → turns journal ≡ 2 ^ 64 - 1 → ⊥
-  no_spent made used = omega (arith, made.left, used)
+  no_idle : {new : WorldView J ℕ} → Polls new ⊎ HandsBack new → ((queue : ℕ) → has_work queue journal ≡ false) → ⊥
+  no_idle (inl poll) idle = true≢false (sym poll.right.eligible.work ∙ idle poll.queue)
+  no_idle (inr back) idle = true≢false (sym back.right.eligible.work ∙ idle back.queue)
 
   pub turns_once : (new other : WorldView J ℕ) (answer other_answer : Reply J) → Turns same made polls answers core spent old new answer → Turns same made polls answers core spent old other other_answer →
       (new ≡ other) × (answer ≡ other_answer)
   turns_once new other reply.Noted reply.Noted first second = (one_turn new other first second, refl)
-  turns_once new other reply.Noted reply.Idle first second = absurd (no_idle (made_by new first) second.0)
-  turns_once new other reply.Noted reply.Spent first second = absurd (no_spent (made_by new first) second.0)
-  turns_once new other reply.Idle reply.Noted first second = absurd (no_idle (made_by other second) first.0)
+  turns_once new other reply.Noted reply.Idle first second = absurd (no_idle first second.0)
+  turns_once new other reply.Noted reply.Spent first second = absurd (no_spent first second.0)
+  turns_once new other reply.Idle reply.Noted first second = absurd (no_idle second first.0)
   turns_once new other reply.Idle reply.Idle first second = (first.1 ∙ sym second.1, refl)
   turns_once new other reply.Idle reply.Spent first second = absurd (true≢false (sym second.1.1 ∙ first.0 second.1.0))
-  turns_once new other reply.Spent reply.Noted first second = absurd (no_spent (made_by other second) first.0)
+  turns_once new other reply.Spent reply.Noted first second = absurd (no_spent second first.0)
   turns_once new other reply.Spent reply.Idle first second = absurd (true≢false (sym first.1.1 ∙ second.0 first.1.0))
   turns_once new other reply.Spent reply.Spent first second = (first.2 ∙ sym second.2, refl)
   turns_once new other reply.Noted _ first second = absurd second

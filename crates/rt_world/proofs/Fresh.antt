@@ -1,7 +1,7 @@
 -- A world as it opens: nothing was noted, and it is at rest.
-use Rattle.rt_world.proofs.Words.{◌≡◌, ℕ, ◌+◌, ◌<◌, ◌≤◌, List, [], refl, sym, ◌∙◌, ap, subst, ⊎_elim, arith, get_or, cases_lt, get_or_past, Owed, Whole, out_of}
-use Rattle.rt_world.proofs.Words.{inward_of, RecordedView, IsRecorded, desk_of, Fits, IsOutOf, IsInOf, journal_at, row_of, link_at, no_link, Parts, core_at}
-use Rattle.rt_world.proofs.Words.{desks, desk_at, world_of, IsWorld, IsAtRest, DeskView, IsWritten, opened_desk, terms_of_desk, opened_beside, sent_at, IsFresh}
+use Rattle.rt_world.proofs.Words.{◌≡◌, ℕ, ◌<◌, ◌≤◌, List, [], refl, sym, ◌∙◌, ap, subst, ⊎_elim, arith, cases_lt, Owed, Whole, out_of}
+use Rattle.rt_world.proofs.Words.{inward_of, RecordedView, IsRecorded, desk_of, Fits, IsOutOf, IsInOf, journal_at, link_at, Parts, core_at}
+use Rattle.rt_world.proofs.Words.{desk_at, world_of, HasAllLists, IsWorld, IsAtRest, DeskView, IsWritten, opened_desk, terms_of_desk, opened_beside, sent_at, IsFresh}
 use Rattle.rt_world.proofs.Words.{none-some}
 use Rattle.rt_link.specs.Whole.{fresh}
 use Rattle.rt_link.specs.Ends.{SoundOut}
@@ -9,9 +9,10 @@ use Rattle.rt_recorded_desk.proofs.LaneEnds.{fresh_has_lane}
 use Rattle.rt_journal.proofs.Opened.{recorded-opened}
 use Rattle.rt_world.specs.Links.{AreFresh}
 use Rattle.rt_world.specs.Inside.{AreOpened}
-use Rattle.rt_world.proofs.Desks.{desk_count, desk_at-core, desk_at-outside, journal_at-world, sent_at-world}
+use Rattle.rt_world.proofs.Desks.{desk_at-core, desk_at-outside, journal_at-world, sent_at-world}
 use Rattle.rt_world.proofs.LinkSteps.{IsSenderOn}
 use Rattle.rt_world.proofs.Hollow.{world_lists}
+use Rattle.rt_world.proofs.Places.{none_anywhere, none_in_table}
 
 -- the ends of a link that was just opened, beside actors that have noted nothing
 module _ {J T : Type 0} (sender core cores cap room : ℕ) where
@@ -84,27 +85,17 @@ module _ {J T : Type 0} (same : J → J → Type 0) (made : J → ℕ) (polls : 
   pub rest_at_opening : IsAtRest parts
   rest_at_opening core known = ap (λ view. view.core.out) (cores_open.each_opened core known)
 
+  lists : HasAllLists (world_of parts)
+  lists = world_lists parts world_at_opening
+
   no_note : (actor : ℕ) → journal_at actor (world_of parts) ≡ []
-  no_note actor =
-      journal_at-world parts actor
-      ∙ ⊎_elim (λ known. ap (λ desk. desk.journal.notes) (desk_is actor (omega (arith, known))))
-      (λ past. ap (λ desk. desk.journal.notes) (get_or_past (desks parts) actor (opened_desk 0 0 0 0) (omega (arith, past, desk_count parts, cores_open.cores_are))))
-      (cases_lt actor (cores + 1))
+  no_note = none_anywhere (world_of parts).journals (λ actor there. journal_at-world parts actor ∙ ap (λ desk. desk.journal.notes) (desk_is actor (omega (arith, there, lists.journals_are))))
 
   no_order : (sender core : ℕ) → sent_at sender core (world_of parts) ≡ []
-  no_order sender core = sent_at-world parts sender core ∙ ⊎_elim by_sender other_sender (cases_lt sender (cores + 1))
-    where
-      by_sender : sender < cores + 1 → (link_at sender core links).sent ≡ []
-      by_sender known =
-          ⊎_elim (λ core_known. ap (λ link. link.sent) (links_open.each_fresh sender core (omega (arith, known)) core_known))
-          (λ past. ap (λ link. link.sent) (get_or_past (row_of sender links) core (no_link sender core) (omega (arith, past, links_open.cores_are sender (omega (arith, known))))))
-          (cases_lt core cores)
-
-      other_sender : cores + 1 ≤ sender → (link_at sender core links).sent ≡ []
-      other_sender past =
-          ap (λ row. (get_or row core (no_link {J = J} {T = T} sender core)).sent) (get_or_past links sender [] (omega (arith, past, links_open.rows_are)))
-          ∙ ap (λ link. link.sent) (get_or_past [] core (no_link {J = J} {T = T} sender core) (omega arith))
+  no_order = none_in_table (world_of parts).sent (λ sender core there core_there.
+      let known : sender ≤ cores = omega (arith, there, lists.senders_are) in
+      sent_at-world parts sender core ∙ ap (λ link. link.sent) (links_open.each_fresh sender core known (omega (arith, core_there, lists.links_are sender known))))
 
   -- nothing has happened in it
   pub fresh_at_opening : IsFresh cores cap room (world_of parts)
-  fresh_at_opening = record { cores_are = refl; cap_is = refl; room_is = refl; lists = world_lists parts world_at_opening; no_note = no_note; no_order = no_order }
+  fresh_at_opening = record { cores_are = refl; cap_is = refl; room_is = refl; lists = lists; no_note = no_note; no_order = no_order }

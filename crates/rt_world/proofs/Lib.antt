@@ -3,7 +3,6 @@ pub mod Places
 pub mod Desks
 pub mod LinkRows
 pub mod LinkSteps
-pub mod Borrowed
 pub mod LentLinks
 pub mod Opening
 pub mod Hollow
@@ -12,13 +11,9 @@ pub mod WorldAfter
 pub mod CoreSteps
 pub mod SentLinks
 pub mod Sending
-pub mod CoreSending
-pub mod JobsHeld
 pub mod StatsTold
-pub mod Collecting
 pub mod Ticketing
 pub mod Acts
-pub mod Receiving
 pub mod Received
 pub mod OneTurn
 pub mod Turning
@@ -27,9 +22,7 @@ pub mod WorldSound
 pub mod PlainNotes
 pub mod KeptLists
 pub mod DeterminedRefusals
-pub mod DeterminedSends
-pub mod DeterminedDeliveries
-pub mod DeterminedTickets
+pub mod DeterminedSteps
 pub mod DeterminedCalls
 pub mod DeterminedTurns
 pub mod DeterminedRuns
@@ -37,7 +30,6 @@ pub mod DeterminedOpenings
 pub mod DeterminedScripts
 pub mod NoRefusals
 pub mod UnbegunCreations
-pub mod RowPicks
 pub mod RowRuns
 pub mod WorkedRows
 pub mod Posted

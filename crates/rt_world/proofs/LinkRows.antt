@@ -1,5 +1,5 @@
 -- Rows of links, of which one link changes.
-use Rattle.rt_world.proofs.Words.{◌≡◌, ◌≢◌, ℕ, ◌<◌, List, [], length, get_or, set, map, refl, sym, ap, ◌∙◌, get_or_default, length-set, map-set}
+use Rattle.rt_world.proofs.Words.{◌≡◌, ◌≢◌, ℕ, ◌<◌, List, [], length, get_or, set, map, refl, sym, ap, ◌∙◌, arith, length-map, length-set, map-set}
 use Rattle.rt_world.proofs.Words.{get_or-set_same, get_or-set_other, set-get_or, Order, Whole, no_link, row_of, link_at, ChangesLink}
 use Rattle.std.proofs.lemmas.List.{get_or-map}
 use Rattle.rt_recorded_desk.proofs.NumberedOrders as by_place
@@ -64,17 +64,10 @@ module _ {J T : Type 0} (links : List (List (Whole J T))) (s d : ℕ) (link : Wh
       ∙ set-get_or (sent_lists links) s []
       )
 
--- a row that a call borrows, and a link of that row
-module _ {J T V : Type 0} (items : V → List (Whole J T)) (rows : List V) (s : ℕ) (in_rows : s < length rows) (row : V) (row_is : row ≡ get_or rows s row) where
-  pub row_of-borrowed : row_of s (map items rows) ≡ items row
-  row_of-borrowed = get_or-map items rows s row [] in_rows ∙ ap items (sym row_is)
+-- the rows that a value holds, and one that a call borrows
+module _ {J T V : Type 0} (items : V → List (Whole J T)) (rows : List V) (links : List (List (Whole J T))) (are : map items rows ≡ links) (s : ℕ) (in_rows : s < length links) where
+  pub row_there : s < length rows
+  row_there = omega (arith, ap length are, length-map rows items, in_rows)
 
-  -- the link is the one of these two
-  pub link_at-borrowed : (d : ℕ) (before : Whole J T) → d < length (items row) → before ≡ get_or (items row) d before → before ≡ link_at s d (map items rows)
-  link_at-borrowed d before in_row link_is =
-      sym (ap (λ links. get_or links d (no_link s d)) row_of-borrowed ∙ get_or_default (items row) d (no_link s d) before in_row ∙ sym link_is)
-
-  -- and what is left there stands in its place
-  pub rows-with_link : (d : ℕ) (after_row : V) (after : Whole J T) → items after_row ≡ set (items row) d after → map items (set rows s after_row) ≡ with_link (map items rows) s d after
-  rows-with_link d after_row after written =
-      map-set items rows s after_row ∙ ap (set (map items rows) s) (written ∙ ap (λ links. set links d after) (sym row_of-borrowed))
+  pub row_lent : (row : V) → row ≡ get_or rows s row → items row ≡ row_of s links
+  row_lent row row_is = ap items row_is ∙ (sym (get_or-map items rows s row [] row_there) ∙ ap (row_of s) are)

@@ -1,11 +1,22 @@
 -- A list of which one place was set, read at any place.
-use Rattle.rt_world.proofs.Words.{◌≡◌, ◌≢◌, ℕ, List, length, sym, ◌∙◌, ap, subst, ◌⊎◌, inl, inr, ⊎_elim, get_or, set, get_or-set_same, get_or-set_other}
+use Rattle.rt_world.proofs.Words.{◌≡◌, ◌≢◌, ℕ, ◌<◌, List, [], length, arith, get_or_past, sym, ◌∙◌, ap, subst, ◌⊎◌, inl, inr, ⊎_elim, get_or, set, get_or-set_same, get_or-set_other}
 use Rattle.rt_world.proofs.Words.{cases_eq, cases_lt}
 use Rattle.std.proofs.lemmas.List.{set_past}
 
 -- what is so of one place, and of each other, is so of each
 pub by_place : (Holds : ℕ → Type 0) (at : ℕ) → Holds at → ((place : ℕ) → place ≢ at → Holds place) → (place : ℕ) → Holds place
 by_place Holds at here away place = ⊎_elim (λ one. subst Holds (sym one) here) (away place) (cases_eq place at)
+
+-- where each list of some has no item, there is none at any place
+pub none_anywhere : {A : Type 0} (rows : List (List A)) → ((place : ℕ) → place < length rows → get_or rows place [] ≡ []) → (place : ℕ) → get_or rows place [] ≡ []
+none_anywhere rows each place = ⊎_elim (each place) (get_or_past rows place []) (cases_lt place (length rows))
+
+-- and so in a table of lists
+pub none_in_table : {A : Type 0} (table : List (List (List A))) →
+    ((row place : ℕ) → row < length table → place < length (get_or table row []) → get_or (get_or table row []) place [] ≡ []) → (row place : ℕ) → get_or (get_or table row []) place [] ≡ []
+none_in_table table each row place =
+    ⊎_elim (λ known. none_anywhere (get_or table row []) (λ place there. each row place known there) place)
+    (λ past. ap (λ row. get_or row place []) (get_or_past table row [] past) ∙ get_or_past [] place [] (omega arith)) (cases_lt row (length table))
 
 module _ {A : Type 0} (items : List A) (place : ℕ) (item : A) (at : ℕ) (default : A) where
   -- the place that was set has the new item, and each other place what it had

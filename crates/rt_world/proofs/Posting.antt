@@ -9,10 +9,9 @@ use Rattle.rt_recorded_desk.specs.Posts.{PostView}
 use Rattle.rt_journal.proofs.SentNotes.{SaysNoMore, recorded_silent, ins_silent, submitted_silent, redeemed_silent, detached_silent}
 use Rattle.rt_world.specs.declared.model.acts.Act.TheVariants as acts
 use Rattle.rt_world.specs.declared.model.acts.Act.TheVariants.{Send}
-use Rattle.rt_world.specs.Acts.{ActsOn}
+use Rattle.rt_world.specs.Acts.{ActsOn, HasCoreActed}
 use Rattle.rt_world.proofs.CoreSteps.{cores_are, desk_is, journal_is}
-use Rattle.rt_world.proofs.CoreSending.{IsDoneBy, IsCoreActing, core_sent, core_journals, core_rests}
-use Rattle.rt_world.proofs.Acts.{acted_on, acts_now}
+use Rattle.rt_world.proofs.Acts.{IsCoreActing, core_sent, core_journals, core_rests, acts_now}
 
 -- a core's desk and the links on which it sends
 abbrev pub Post : Type 0 → Type 0
@@ -98,11 +97,11 @@ module _ {J : Type 0} (same : J → J → Type 0) (made : J → ℕ) (polls : Ow
         acted = subst (λ desk. HasActed same answers to act desk lent.end answer (desk_of (view next)) lent.later) at.desk
             (subst (λ desk. HasActed same answers to act post.desk lent.end answer desk lent.later) next_desk (record { acts = acts; stays = lent.stays; untouched = lent.untouched }))
 
-        did : IsDoneBy same made polls answers to (view post) lent.end (view next) lent.later
+        did : HasCoreActed same answers made polls to act (view post) lent.end answer (view next) lent.later
         did =
             let recorded = subst (IsRecorded same made polls) core_is (at.world.recorded number there) in
             record {
-              done = acted_on act acted;
+              acted = acted;
               rest = refl;
               seat = record { number = refl; cores = refl; cap = refl; room = ap (λ desk. desk.journal.room) rest_is };
               ins = λ from. subst (KeepsIn from (view post)) (sym view_is) (ins_silent (view post) next.desk.journal.notes next.desk.lanes silent from);

@@ -1,9 +1,11 @@
--- A run that is written down is the only one of its events.
-use Rattle.rt_world.proofs.Words.{◌≡◌, ℕ, ◌+◌, ◌<◌, ◌≤◌, Bool, true, false, List, [], ◌∷◌, length, inl, inr, refl, sym, ◌∙◌, ap, subst, true≢false, None, Some}
-use Rattle.rt_world.proofs.Words.{JobId, Journal, IsRightPick, Order, Event, Reply, WorldView, Happens, journal_at, noted, Job, return_reason, accepted_orders}
-use Rattle.rt_world.proofs.Words.{IsNextSent, line, outstanding_count, turns, Step, Script, Send, Turn, AreThere, without_job, terms_at, order_under, with_sent}
-use Rattle.rt_world.proofs.Words.{IsNearlyFull, pick_notes, settle_note, OrderNoQueues, with_creations, ScriptSame, script_made, ScriptPolls, ScriptAnswers}
-use Rattle.rt_world.proofs.Words.{AreAlike, AreAllAlike, name}
+-- A run that is written down, with its right picks, is the only one of its events.
+use Rattle.rt_world.proofs.Words.{◌≡◌, ℕ, ◌-◌, ◌^◌, ◌<◌, ◌≤◌, Bool, true, false, [], refl, sym, ◌∙◌, subst, arith, ◌==◌, true≢false, Journal, KeyAtMost}
+use Rattle.rt_world.proofs.Words.{IsRightPick, virtual_runtime, has_work, ◌+◌, List, ◌∷◌, length, inl, inr, ap, None, Some, JobId, Order, Event, Reply}
+use Rattle.rt_world.proofs.Words.{WorldView, Happens, journal_at, noted, Job, return_reason, accepted_orders, IsNextSent, line, outstanding_count, turns, Step}
+use Rattle.rt_world.proofs.Words.{Script, Send, Turn, AreThere, without_job, terms_at, order_under, with_sent, IsNearlyFull, pick_notes, settle_note}
+use Rattle.rt_world.proofs.Words.{OrderNoQueues, with_creations, ScriptSame, script_made, ScriptPolls, ScriptAnswers, AreAlike, AreAllAlike, name}
+use Rattle.std.proofs.Common.{eqb-true}
+use Rattle.rt_ids.specs.Lines.{jobs_out}
 use Rattle.std.specs.Prelude.{◌&&◌}
 use Rattle.std.proofs.lemmas.Bool.{and_parts}
 use Rattle.rt_ids.specs.declared.note.Note.TheVariants.{Sent}
@@ -17,8 +19,37 @@ use Rattle.rt_world.specs.Rows.{RunsJust}
 use Rattle.rt_world.proofs.DeterminedOpenings.{fresh_once}
 use Rattle.rt_world.proofs.DeterminedScripts.{scripts_owe_one, scripts_order_none}
 use Rattle.rt_world.proofs.NoRefusals.{jobs_once}
-use Rattle.rt_world.proofs.RowPicks.{few_turns, few_names}
 use Rattle.rt_world.proofs.UnbegunCreations.{unbegun_fresh, unbegun_creations, first_world, fresh_first}
+
+module _ (journal : Journal ℕ) (queue runtime : ℕ) (at : runtime ≡ virtual_runtime queue journal) (work : has_work queue journal ≡ true) (nobody : jobs_out journal ≡ []) where
+  -- a queue is at most what it is itself
+  abbrev IsLeast : ℕ → Type 0
+  IsLeast other = has_work other journal ≡ true → KeyAtMost runtime queue (virtual_runtime other journal) other
+
+  -- queue 0 and queue 1 alone may have work
+  pub right_of_two : IsLeast 0 → IsLeast 1 → ((other : ℕ) → (other == 0) ≡ false → (other == 1) ≡ false → has_work other journal ≡ false) → IsRightPick queue runtime journal
+  right_of_two zero one none = record {
+    at = at;
+    eligible = record { work = work; nobody_out = nobody };
+    least = λ other ready. by_test other (other == 0) refl (other == 1) refl ready.work;
+  }
+    where
+      by_test : (other : ℕ) (is_zero : Bool) → (other == 0) ≡ is_zero → (is_one : Bool) → (other == 1) ≡ is_one → has_work other journal ≡ true → KeyAtMost runtime queue (virtual_runtime other journal) other
+      by_test other true same is_one test work = subst IsLeast (sym (eqb-true other 0 same)) zero work
+      by_test other false same true test work = subst IsLeast (sym (eqb-true other 1 test)) one work
+      by_test other false same false test work = absurd (true≢false (sym work ∙ none other same test))
+
+  -- queue 0 alone may have work
+  pub right_of_one : IsLeast 0 → ((other : ℕ) → (other == 0) ≡ false → has_work other journal ≡ false) → IsRightPick queue runtime journal
+  right_of_one zero none = right_of_two zero (λ work. absurd (true≢false (sym work ∙ none 1 refl))) (λ other same differs. none other same)
+
+-- a turn is left after a few
+pub few_turns : (count : ℕ) → count ≤ 50 → count < 2 ^ 64 - 1
+few_turns count few = omega arith
+
+-- a number is left after a few
+pub few_names : (number : ℕ) → number ≤ 50 → number < 2 ^ 63
+few_names number few = omega arith
 
 -- whether a reply is no redeemed outcome
 abbrev pub is_plain_reply : {J : Type 0} → Reply J → Bool

@@ -1,10 +1,9 @@
 -- A world at rest stays one as the outside actor does something on the link to a core.
-use Rattle.rt_world.proofs.Words.{◌≡◌, ◌≢◌, ℕ, ◌+◌, ◌<◌, ◌≤◌, List, ◌++◌, length, refl, sym, ◌∙◌, ap, subst, arith, get_or, set, map, set-get_or, Note, Order}
+use Rattle.rt_world.proofs.Words.{◌≡◌, ◌≢◌, ℕ, ◌+◌, ◌<◌, ◌≤◌, List, ◌++◌, length, refl, sym, ◌∙◌, ap, subst, arith, set, map, set-get_or, Note, Order}
 use Rattle.rt_world.proofs.Words.{Journal, Owed, Whole, Fits, out_of, WorldView, journal_at, noted, link_at, Parts, desks, desk_at, world_of, IsWorld, Outcome}
 use Rattle.rt_world.proofs.Words.{DeskView, opened_desk, StaysBeside, ChangesLink, seat_of}
 use Rattle.rt_world.proofs.Desks.{desk_at-outside, desks-outside, journal_at-world, journals-noted}
 use Rattle.rt_world.proofs.Places.{by_place}
-use Rattle.rt_world.proofs.Borrowed.{IsLent, lent_link}
 use Rattle.rt_world.proofs.LinkRows.{with_link, same_sent, ChangesLink-with_link}
 use Rattle.rt_world.proofs.LinkSteps.{OnlyReceived, OnlySent, IsSenderOn, received-same, sent-same, each_link, other_link}
 use Rattle.rt_world.proofs.WorldAfter.{world_after, world_sender}
@@ -39,11 +38,9 @@ module _ {J T : Type 0} {same : J → J → Type 0} {made : J → ℕ} {polls : 
   its_notes = journal_at-world old sender ∙ ap (λ desk. desk.journal.notes) (sym acting.desk_is)
 
   -- notes that have room in the world have room there
-  pub its_room : {from : ℕ} {seen : WorldView J T} → sender ≡ from → world_of old ≡ seen → (more : ℕ) →
-      length (journal_at from seen) + more ≤ seen.room → length desk.journal.notes + more ≤ desk.journal.room
-  its_room {from = from} {seen = seen} sender_is world_is more room =
-      let notes : desk.journal.notes ≡ journal_at from seen = sym its_notes ∙ (λ i. journal_at (sender_is i) (world_is i)) in
-      omega (arith, room, ap length notes, ap (λ world. world.room) world_is, ap (λ desk. desk.journal.room) its_seat)
+  pub its_room : {seen : WorldView J T} → world_of old ≡ seen → (more : ℕ) → length (journal_at sender seen) + more ≤ seen.room → length desk.journal.notes + more ≤ desk.journal.room
+  its_room world_is more room =
+      omega (arith, room, ap length its_notes, ap (λ world. length (journal_at sender world)) world_is, ap (λ world. world.room) world_is, ap (λ desk. desk.journal.room) its_seat)
 
   -- what its world sees where the sender's desk became `now` and its link `after`
   module _ (now : DeskView J T) (after : Whole J T) {journals : List (Journal T)}
@@ -60,20 +57,14 @@ module _ {J T : Type 0} {same : J → J → Type 0} {made : J → ℕ} {polls : 
 
     -- the sender's journal is longer by these notes
     pub noted_now : (notes : List (Note T)) → now.journal.notes ≡ notes ++ desk.journal.notes → after.sent ≡ link.sent → later ≡ noted sender notes (world_of old)
-    noted_now notes longer same_orders = λ i. record {
-      cores = old.cores;
-      cap = old.cap;
-      room = old.room;
-      journals = journals_noted notes longer i;
-      sent = same_lists same_orders i;
-    }
+    noted_now notes longer same_orders = λ i. record (world_of old) { journals = journals_noted notes longer i; sent = same_lists same_orders i }
 
     -- nothing changed
     pub same_now : now ≡ desk → after.sent ≡ link.sent → later ≡ world_of old
     same_now is same_orders =
         let same_desks = ap (set (desks old) sender) (is ∙ acting.desk_is) ∙ set-get_or (desks old) sender (opened_desk 0 0 0 0) in
         let same_journals = journals_are ∙ ap (map (λ desk. desk.journal.notes)) same_desks in
-        λ i. record { cores = old.cores; cap = old.cap; room = old.room; journals = same_journals i; sent = same_lists same_orders i }
+        λ i. record (world_of old) { journals = same_journals i; sent = same_lists same_orders i }
 
   module _ {now : DeskView J T} {after : Whole J T} (did : IsDoneOn (Fits same answers) to desk link now after) where
     pub done_there : IsDoneOn (Fits same answers) to (desk_at sender old) (link_at sender to old.links) now after
@@ -118,12 +109,11 @@ module _ {J T : Type 0} {same : J → J → Type 0} {made : J → ℕ} {polls : 
   pub outside_room : old.outside.journal.room ≡ old.room
   outside_room = sym (ap (λ desk. desk.journal.room) outside_desk) ∙ ap (λ desk. desk.journal.room) (world.all_there.seats_are sender (omega (arith, is_last)))
 
--- the outside actor acts on a link of the row that it was lent
-pub outside_acting : {J T V : Type 0} {same : J → J → Type 0} {made : J → ℕ} {polls : Owed J T} {answers : J → T → Type 0} {old : Parts J T}
-    {items : V → List (Whole J T)} {rows : List V} {sender to place : ℕ} {row : V} {link : Whole J T} (world : IsWorld same made polls answers old) →
-    IsLent old.cores old.links items rows sender to place row → link ≡ get_or (items row) place link → sender ≡ old.cores → IsActing old sender to old.outside link
-outside_acting {sender = sender} world lent read is_last =
-    record { there = lent.there; to_there = lent.to_there; desk_is = sym (outside_desk world sender is_last); link_is = lent_link world lent read }
+-- the outside actor acts on a link that it was lent
+pub outside_acting : {J T : Type 0} {same : J → J → Type 0} {made : J → ℕ} {polls : Owed J T} {answers : J → T → Type 0} {old : Parts J T} {sender to : ℕ} {link : Whole J T}
+    (world : IsWorld same made polls answers old) → sender ≡ old.cores → to < old.cores → link ≡ link_at sender to old.links → IsActing old sender to old.outside link
+outside_acting {sender = sender} world is_last to_there link_is =
+    record { there = omega (arith, is_last); to_there = to_there; desk_is = sym (outside_desk world sender is_last); link_is = link_is }
 
 module _ {J T : Type 0} {same : J → J → Type 0} {made : J → ℕ} {polls : Owed J T} {answers : J → T → Type 0} {old : Parts J T}
     {sender to : ℕ} {link : Whole J T} {now : DeskView J T} {after : Whole J T} (world : IsWorld same made polls answers old) (is_last : sender ≡ old.cores)

@@ -88,10 +88,7 @@ module _ {J T : Type 0} {same : J → J → Type 0} {made : J → ℕ} {polls : 
         subst (λ terms. IsNextSent terms name (without_job order) (journal_at sender (world_of old))) (ap terms_of_desk (its_seat world acting))
             (subst (IsNextSent (terms_of_desk desk) name (without_job order)) (sym (its_notes world acting)) submits.0),
         submits.1,
-        λ i. record {
-          cores = old.cores;
-          cap = old.cap;
-          room = old.room;
+        λ i. record (world_of old) {
           journals = journals_noted world acting now after journals_are (writes.Sent name (without_job order) ∷ []) (ap (λ journal. journal.notes) submits.2) i;
           sent = (
               sent-with_link old.links sender core after

@@ -1,26 +1,56 @@
 -- What a sender does with its outcomes, as its world sees it.
-use Rattle.rt_world.proofs.Words.{◌≡◌, ℕ, ◌+◌, ◌-◌, ◌<◌, ◌≤◌, List, [], ◌∷◌, ◌++◌, length, refl, sym, ◌∙◌, ap, subst, arith, get_or, set, map, Result, Ok, Err}
-use Rattle.rt_world.proofs.Words.{append-nil, Option, Some, None, slice_get, JobId, Note, Order, Journal, Owed, Whole, Fits, out_of, WorldView, journal_at}
-use Rattle.rt_world.proofs.Words.{noted, link_at, Parts, desks, world_of, IsWorld, TicketError, Unknown, Gone, Pending, Outcome, IsRedeemable, IsDetachable}
-use Rattle.rt_world.proofs.Words.{collected_outcomes, outcome_note, StartsWith, kept_by_sender, DeskView, RefusesTicket, RedeemsTicket, DetachesTicket}
-use Rattle.rt_world.proofs.Words.{WasAccepted, collected_notes, uncollected, Collects, Redeems, Detaches, redeemed_reply, detached_reply, StartsWith-same}
+use Rattle.rt_world.proofs.Words.{◌≡◌, ℕ, cond, List, [], ◌∷◌, ◌++◌, length, refl, sym, ◌∙◌, ap, arith, append_assoc, Some, None, eq-eqb, append-nil}
+use Rattle.rt_world.proofs.Words.{length-append, Note, Outcomes, collected_outcomes, Journal, collected_notes, ◌+◌, ◌-◌, ◌<◌, ◌≤◌, subst, get_or, set, map}
+use Rattle.rt_world.proofs.Words.{Result, Ok, Err, Option, slice_get, JobId, Order, Owed, Whole, Fits, out_of, WorldView, journal_at, noted, link_at, Parts}
+use Rattle.rt_world.proofs.Words.{desks, world_of, IsWorld, TicketError, Unknown, Gone, Pending, Outcome, IsRedeemable, IsDetachable, outcome_note, StartsWith}
+use Rattle.rt_world.proofs.Words.{kept_by_sender, DeskView, RefusesTicket, RedeemsTicket, DetachesTicket, WasAccepted, uncollected, Collects, Redeems, Detaches}
+use Rattle.rt_world.proofs.Words.{redeemed_reply, detached_reply, StartsWith-same}
+use Rattle.rt_ids.specs.declared.note.Note.TheVariants as writes
+use Rattle.rt_ids.specs.Journal.{with_last}
+use Rattle.rt_recorded_desk.specs.Tickets.{AreCollected, CollectsFrom, GetsAll}
 use Rattle.std.proofs.Common.{take, drop}
 use Rattle.std.specs.Prelude.{IfOk, IfSome}
 use Rattle.std.proofs.Math.Seq.{drop-append_seam, take-length}
-use Rattle.rt_ids.specs.declared.note.Note.TheVariants as writes
 use Rattle.rt_ids.specs.Filters.{given_outcomes}
 use Rattle.rt_link.proofs.Lists.{slice_get-behind}
 use Rattle.rt_desk.specs.Lanes.{IsGot, FitsSent}
 use Rattle.rt_recorded_desk.specs.Ends.{named_outcomes}
-use Rattle.rt_recorded_desk.specs.Tickets.{CollectsFrom, GetsAll}
 use Rattle.rt_world.specs.declared.event.Reply.TheVariants as reply
 use Rattle.rt_world.specs.Collections.{FitsUnder}
 use Rattle.rt_world.proofs.Desks.{sent_at-world}
 use Rattle.rt_world.proofs.LinkSteps.{sender_rest, OnlySent}
 use Rattle.rt_world.proofs.CoreSteps.{journal_is, number_is}
 use Rattle.rt_world.proofs.Sending.{IsDoneOn, IsActing, its_sender, its_seat, its_notes, later, noted_now, same_now}
-use Rattle.rt_world.proofs.Collecting.{are_of}
 use Rattle.rt_desk.proofs.Taken.{taken-get}
+
+module _ {T : Type 0} where
+  -- one outcome more is the newest note
+  collected_notes-last : (outcomes last : Outcomes T) → collected_notes (outcomes ++ last) ≡ collected_notes last ++ collected_notes outcomes
+  collected_notes-last [] last = sym (append-nil (collected_notes last))
+  collected_notes-last (outcome ∷ outcomes) last =
+      ap (λ notes. notes ++ writes.Collected outcome.0 outcome.1 ∷ []) (collected_notes-last outcomes last)
+      ∙ append_assoc (collected_notes last) (collected_notes outcomes) (writes.Collected outcome.0 outcome.1 ∷ [])
+
+  -- notes that collect outcomes of one core are a note for each of these
+  pub record AreOf (core : ℕ) (notes : List (Note T)) (before : Journal T) : Type 0 where
+    pub outcomes : Outcomes T
+    pub are : notes ≡ collected_notes outcomes
+    pub count : length outcomes ≡ length notes
+    pub longer : collected_outcomes core (notes ++ before) ≡ collected_outcomes core before ++ outcomes
+
+  pub are_of : (core : ℕ) (notes : List (Note T)) (before : Journal T) → AreCollected core notes → AreOf core notes before
+  are_of core [] before collected = record { outcomes = []; are = refl; count = refl; longer = sym (append-nil (collected_outcomes core before)) }
+  are_of core (writes.Collected name what ∷ notes) before collected =
+      let rest = are_of core notes before collected.1 in
+      record {
+        outcomes = rest.outcomes ++ (name, what) ∷ [];
+        are = ap (λ notes. writes.Collected name what ∷ notes) rest.are ∙ sym (collected_notes-last rest.outcomes ((name, what) ∷ []));
+        count = length-append rest.outcomes ((name, what) ∷ []) ∙ omega (arith, rest.count);
+        longer =
+            ap (λ told. with_last (collected_outcomes core (notes ++ before)) told) (ap (λ test. cond test (Some (name, what)) None) (eq-eqb name.to core collected.0))
+            ∙ (ap (λ list. list ++ (name, what) ∷ []) rest.longer ∙ append_assoc (collected_outcomes core before) rest.outcomes ((name, what) ∷ []));
+      }
+  are_of core (_ ∷ notes) before collected = absurd collected
 
 -- a sender that got outcomes, or gave a credit back, sees what it saw
 module _ {J T : Type 0} (link after : Whole J T) (untouched : kept_by_sender after ≡ kept_by_sender link) where

@@ -1,11 +1,11 @@
 -- A fresh world has begun nothing, nor has it with the queues that were made in it.
-use Rattle.rt_world.proofs.Words.{◌≡◌, ℕ, ◌+◌, List, [], ◌∷◌, length, refl, sym, ◌∙◌, ap, subst, ⊎_elim, arith, get_or, cases_lt, get_or_past, Order}
+use Rattle.rt_world.proofs.Words.{◌≡◌, ℕ, ◌+◌, ◌<◌, List, [], ◌∷◌, refl, sym, ◌∙◌, ap, subst, arith, get_or, length, Order}
 use Rattle.rt_world.proofs.Words.{created_count, IsOpening, WorldView, journal_at, noted, IsUnbegun, IsFresh, with_creations}
 use Rattle.std.proofs.Common.{replicate}
 use Rattle.std.proofs.lemmas.List.{length-replicate, get_or-replicate}
 use Rattle.rt_ids.specs.declared.note.Note.TheVariants as writes
 use Rattle.rt_world.proofs.KeptLists.{later_noted}
-use Rattle.rt_world.proofs.Places.{set_each}
+use Rattle.rt_world.proofs.Places.{none_anywhere, none_in_table, set_each}
 
 module _ {J T : Type 0} where
   pub unbegun_fresh : (cores cap room : ℕ) (world : WorldView J T) → IsFresh cores cap room world → IsUnbegun world
@@ -32,17 +32,12 @@ module _ (J T : Type 0) where
       record { cores = cores; cap = cap; room = room; journals = replicate (cores + 1) []; sent = replicate (cores + 1) (replicate cores []) }
 
   none_of : {A : Type 0} (count place : ℕ) → get_or {A = List A} (replicate count []) place [] ≡ []
-  none_of {A} count place =
-      ⊎_elim (λ within. get_or-replicate count place [] [] within) (λ past. get_or_past (replicate count []) place [] (omega (arith, past, length-replicate {A = List A} count []))) (cases_lt place count)
+  none_of {A} count = none_anywhere (replicate count []) (λ place there. get_or-replicate count place [] [] (omega (arith, there, length-replicate {A = List A} count [])))
 
   no_order : (cores sender core : ℕ) → get_or (get_or {A = List (List (Order J))} (replicate (cores + 1) (replicate cores [])) sender []) core [] ≡ []
-  no_order cores sender core =
-      ⊎_elim (λ within. ap (λ row. get_or row core []) (get_or-replicate (cores + 1) sender (replicate cores []) [] within) ∙ none_of cores core)
-      (
-      λ past.
-      ap (λ row. get_or row core []) (get_or_past (replicate (cores + 1) (replicate cores [])) sender [] (omega (arith, past, length-replicate {A = List (List (Order J))} (cores + 1) (replicate cores []))))
-      ∙ get_or_past [] core [] (omega arith)
-      ) (cases_lt sender (cores + 1))
+  no_order cores = none_in_table (replicate (cores + 1) (replicate cores [])) (λ sender core known there.
+      let within : sender < cores + 1 = omega (arith, known, length-replicate {A = List (List (Order J))} (cores + 1) (replicate cores [])) in
+      ap (λ row. get_or row core []) (get_or-replicate (cores + 1) sender (replicate cores []) [] within) ∙ none_of cores core)
 
   pub fresh_first : (cores cap room : ℕ) → IsFresh cores cap room (first_world cores cap room)
   fresh_first cores cap room = record {

@@ -9,8 +9,7 @@ use Rattle.rt_jobs.specs.declared.poll.Poll.TheVariants as poll
 use Rattle.rt_world.specs.Rows.{job_of}
 use Rattle.rt_world.specs.WorkedRows.{OneJob, three_polls, TwoQueues, short_job, TwoSenders}
 use Rattle.rt_world.specs.ClosedRow.{CoreCloses}
-use Rattle.rt_world.proofs.RowPicks.{right_of_one, right_of_two, few_turns}
-use Rattle.rt_world.proofs.RowRuns.{runs_just, no_more, telling, noting, sending, polling}
+use Rattle.rt_world.proofs.RowRuns.{right_of_one, right_of_two, few_turns, runs_just, no_more, telling, noting, sending, polling}
 
 -- one job, from its submission to its answer
 pub one_job : OneJob

@@ -10,6 +10,9 @@ use Rattle.rt_link.specs.Calls.{Sends as SendsOn}
 use Rattle.rt_link.specs.Fits.{Fits}
 use Rattle.rt_link.specs.Whole.{out_of, kept_by_sender}
 use Rattle.rt_desk.specs.Lanes.{IsGot, FitsSent}
+use Rattle.rt_jobs.specs.Steps.{Owed}
+use Rattle.rt_journal.specs.Ends.{IsSameSeat, KeepsIn}
+use Rattle.rt_journal.specs.Recorded.{RecordedView, IsRecorded, desk_of}
 use Rattle.rt_recorded_desk.specs.Submissions.{DeskView, Submits, numbered}
 use Rattle.rt_recorded_desk.specs.Tickets.{CollectsFrom, GetsAll, RedeemsTicket, DetachesTicket, StaysBeside}
 use Rattle.rt_world.specs.declared.event.Reply.{Reply}
@@ -69,3 +72,11 @@ module _ {J : Type 0} (same : J → J → Type 0) (answers : J → ℕ → Type 
     pub acts : ActsOn core act desk link answer now after
     pub stays : StaysBeside (Fits same answers) core desk now (out_of after) after.credited
     pub untouched : kept_by_sender after ≡ kept_by_sender link
+
+  -- the act of a core, which changes nothing but its journal and its lanes
+  pub record HasCoreActed (made : J → ℕ) (polls : Owed J ℕ) (core : ℕ) (act : Act J) (view : RecordedView J ℕ) (link : Whole J ℕ) (answer : Reply J) (now : RecordedView J ℕ) (after : Whole J ℕ) : Type 0 where
+    pub acted : HasActed core act (desk_of view) link answer (desk_of now) after
+    pub rest : now ≡ record view { journal = now.journal; lanes = now.lanes }
+    pub ins : (sender : ℕ) → KeepsIn sender view now
+    pub seat : IsSameSeat view now
+    pub sound : IsRecorded same made polls now

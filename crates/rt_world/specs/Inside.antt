@@ -10,8 +10,8 @@ use Rattle.rt_link.specs.Fits.{Fits}
 use Rattle.rt_recorded_desk.specs.Submissions.{DeskView, IsWritten, terms_of_desk, opened_desk}
 use Rattle.rt_journal.specs.Recorded.{RecordedView, IsRecorded, desk_of}
 use Rattle.rt_journal.specs.Steps.{opened_beside}
-use Rattle.rt_recorded_desk.specs.Ends.{IsOutOf}
 use Rattle.rt_journal.specs.Ends.{IsInOf}
+use Rattle.rt_recorded_desk.specs.Ends.{IsOutOf}
 use Rattle.rt_recorded_desk.specs.Tickets.{HasLane}
 use Rattle.rt_world.specs.State.{WorldView}
 use Rattle.rt_world.specs.Links.{row_of, link_at}

@@ -12,6 +12,7 @@ pub mod OneTurn
 pub mod Turns
 pub mod Runs
 pub mod Links
+pub mod Lending
 pub mod Inside
 pub mod Opening
 pub mod Determined

@@ -6,10 +6,10 @@ ghost use Rattle.rt_ids.specs.Sound.{IsSound};
 ghost use Rattle.rt_journal.specs.Recorded.{IsRecorded};
 ghost use Rattle.rt_world.specs.State.{journal_at, assembly_of};
 
+use self::links::Links;
 use rt_ids::{ActorNo, CoreNo};
 use rt_jobs::Task;
 use rt_journal::{Recorded, RecordedDesk};
-use rt_link::PlainLink;
 use rt_notes::{Assembly, Journal};
 use std::alloc::{AllocError, Allocator, Global};
 use std::marker::Model;
@@ -17,6 +17,7 @@ use std::marker::Model;
 mod acts;
 mod closings;
 mod events;
+mod links;
 mod opening;
 mod receipts;
 mod sound;
@@ -35,8 +36,7 @@ pub struct World<J: Task<Out = u64>, A: Allocator + Clone = Global> {
     /// The cores by number, each beside its journal.
     inside: Vec<Recorded<J, A>>,
     outside: RecordedDesk<J>,
-    /// A row of links for each sender, with a link for each core.
-    links: Vec<Vec<PlainLink<J>>>,
+    links: Links<J>,
     /// Without a journal. It has the memory for those that a run ends with.
     gathered: Vec<Journal<u64>>,
 }
@@ -47,18 +47,18 @@ impl<J: Task<Out = u64>, A: Allocator + Clone> Model for World<J, A> {
 
     ghost Value = { WorldView J ℕ };
 
-    ghost use Rattle.std.specs.Prelude.{◌+◌, map, vec_items, vec_capacity};
+    ghost use Rattle.std.specs.Prelude.{◌+◌, vec_capacity};
     ghost use Rattle.rt_world.specs.Inside.{world_of, IsWorld, IsAtRest, HasRoomFor};
     ghost use Rattle.rt_world.specs.Opening.{IsConfig};
 
-    ghost view = { λ w. world_of (record { cores = w.cores; cap = w.cap; room = w.room; inside = w.inside.items; outside = w.outside; links = map vec_items w.links.items }) };
+    ghost view = { λ w. world_of (record { cores = w.cores; cap = w.cap; room = w.room; inside = w.inside.items; outside = w.outside; links = w.links }) };
 
     ghost invariant = { λ w.
         IsConfig w.cores w.cap w.room
         × IsWorld J.SameTask J.made J.Polls J.Answers
-        (record { cores = w.cores; cap = w.cap; room = w.room; inside = w.inside.items; outside = w.outside; links = map vec_items w.links.items })
+        (record { cores = w.cores; cap = w.cap; room = w.room; inside = w.inside.items; outside = w.outside; links = w.links })
         × HasRoomFor (w.cores + 1) w.gathered.items (vec_capacity w.gathered)
-        × IsAtRest (record { cores = w.cores; cap = w.cap; room = w.room; inside = w.inside.items; outside = w.outside; links = map vec_items w.links.items }) };
+        × IsAtRest (record { cores = w.cores; cap = w.cap; room = w.room; inside = w.inside.items; outside = w.outside; links = w.links }) };
 }
 
 /// Why a world can't be opened.

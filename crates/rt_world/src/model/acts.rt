@@ -1,15 +1,14 @@
 //! What an actor does on its link to a core: it sends an order, collects outcomes, redeems one, or lets go of one.
 
-ghost use Rattle.std.specs.Prelude.{◌≡◌, ◌≤◌, ◌<◌, ◌+◌, ℕ, length};
+ghost use Rattle.std.specs.Prelude.{◌≡◌, ◌≤◌, ◌<◌, ◌+◌, length};
 ghost use Rattle.rt_jobs.specs.Ready.{HasReadyJob};
 ghost use Rattle.rt_recorded_desk.specs.Ends.{IsOutOf};
-ghost use Rattle.rt_journal.specs.Ends.{IsSameSeat, KeepsIn};
-ghost use Rattle.rt_journal.specs.Recorded.{IsRecorded, desk_of};
+ghost use Rattle.rt_journal.specs.Recorded.{desk_of};
 ghost use Rattle.rt_recorded_desk.specs.Tickets.{HasLane};
 ghost use Rattle.rt_link.specs.Fits.{Fits};
 ghost use Rattle.rt_link.specs.Whole.{out_of};
 ghost use Rattle.rt_world.specs.State.{journal_at};
-ghost use Rattle.rt_world.specs.Acts.{Acts, HasActed, HasReadyAct, IsActAt, IsActOf, notes_for};
+ghost use Rattle.rt_world.specs.Acts.{Acts, HasActed, HasCoreActed, HasReadyAct, IsActAt, IsActOf, notes_for};
 ghost use Rattle.rt_world.specs.Sends.{sent_reply};
 ghost use Rattle.rt_world.specs.Collections.{redeemed_reply, detached_reply};
 
@@ -45,8 +44,7 @@ impl<J: Task<Out = u64>, A: Allocator + Clone> World<J, A> {
         requires ready { HasReadyAct (HasReadyJob J.done J.CanPoll) act }
         ensures { Acts J.SameTask J.Answers from to act self.old self.new result }
     {
-        let row = &mut self.links[from.0 as usize];
-        let link = &mut row[to.0 as usize];
+        let link = self.links.link_mut(from, to);
         if from.0 < self.cores {
             let actor = &mut self.inside[from.0 as usize];
             return core_acts(actor, link, to, act);
@@ -67,11 +65,7 @@ fn core_acts<J: Task<Out = u64>, A: Allocator + Clone>(
     requires at { IsActAt to act }
     requires room { length core.old.journal.notes + notes_for core.old.cap act ≤ core.old.journal.room }
     requires ready { HasReadyAct (HasReadyJob J.done J.CanPoll) act }
-    ensures acted { HasActed J.SameTask J.Answers to act (desk_of core.old) link.old result (desk_of core.new) link.new }
-    ensures rest { core.new ≡ record core.old { journal = core.new.journal; lanes = core.new.lanes } }
-    ensures ins { (sender : ℕ) → KeepsIn sender core.old core.new }
-    ensures seat { IsSameSeat core.old core.new }
-    ensures sound { IsRecorded J.SameTask J.made J.Polls core.new }
+    ensures { HasCoreActed J.SameTask J.Answers J.made J.Polls to act core.old link.old result core.new link.new }
 {
     match act {
         Act::Send(order) => reply_to(core.submit(link, to, order)),

@@ -1,11 +1,12 @@
 //! How a world opens, and the queues that it opens with.
 
-ghost use Rattle.std.specs.Prelude.{◌≡◌, ◌↔◌, ◌+◌, ◌*◌, ◌<◌, length, map, vec_items, IsTrue, IfOk};
+ghost use Rattle.std.specs.Prelude.{◌≡◌, ◌↔◌, ◌+◌, ◌*◌, ◌<◌, length, IsTrue, IfOk};
 ghost use Rattle.rt_world.specs.State.{journal_at};
 ghost use Rattle.rt_world.specs.Opening.{IsConfig, IsUnbegun, Opens, CreatesAtOpening};
 ghost use Rattle.rt_world.specs.Inside.{AreOpened};
 ghost use Rattle.rt_world.specs.Links.{IsFreshRow, AreFresh};
 
+use super::links::Links;
 use super::{World, WorldError};
 use rt_ids::{ActorNo, CoreNo, QueueNo};
 use rt_jobs::Task;
@@ -40,12 +41,12 @@ fn open_cores<J: Task<Out = u64>, A: Allocator + Clone>(
 }
 
 // A link from each core, and from the outside actor, to each core.
-fn open_links<J: Task>(
+fn open_links<J: Task<Out = u64>>(
     alloc: Global,
     cores: u8,
     cap: u16,
-) -> Result<Vec<Vec<PlainLink<J>>>, AllocError>
-    ensures { IfOk result (λ links. AreFresh cores cap (map vec_items links.items)) }
+) -> Result<Links<J>, AllocError>
+    ensures { IfOk result (λ links. AreFresh cores cap links) }
 {
     let count = cores as usize + 1;
     let mut rows = Vec::with_capacity(alloc, count)?;
@@ -53,7 +54,7 @@ fn open_links<J: Task>(
         let row = open_row(alloc, ActorNo(sender as u8), cores, cap)?;
         rows.push_reserved(row);
     }
-    Ok(rows)
+    Ok(Links { rows })
 }
 
 // The links of one sender to the first cores.

@@ -33,8 +33,7 @@ impl<J: Task<Out = u64>, A: Allocator + Clone> World<J, A> {
         requires may { MayReceive from what (journal_at core self.old) }
         ensures { Receives core from what self.old self.new result }
     {
-        let row = &mut self.links[from.0 as usize];
-        let link = &mut row[core.0 as usize];
+        let link = self.links.link_mut(from, core);
         core_receives(&mut self.inside[core.0 as usize], link, from, what)
     }
 }

@@ -1,4 +1,4 @@
-use Rattle.rt_world.proofs.Words.{◌≡◌, ◌+◌, [], ◌∷◌, ◌++◌, length, sym, ◌∙◌, ap, subst, arith, ℕ, vec_items, map, YieldsList-from_vec, YieldsList-turn}
+use Rattle.rt_world.proofs.Words.{◌≡◌, ◌+◌, [], ◌∷◌, ◌++◌, length, sym, ◌∙◌, ap, subst, arith, ℕ, map, YieldsList-from_vec, YieldsList-turn}
 use Rattle.rt_world.proofs.Words.{YieldsList-end, map-id, map-append, length-map, AreJoined, IsSound, assembly_of, Parts, world_of}
 use Rattle.rt_world.proofs.Gathered.{journals_of, gathered_count, gathered_are}
 use Rattle.rt_world.proofs.WorldSound.{world_joined, world_sound}
@@ -45,7 +45,7 @@ all_gathered g c yielded_are =
     ∙ ap (λ last. journals_of c.self.inside.inside.items ++ last ∷ []) c.into_journal-2.ensures)
 
 abbrev parts : (g : Over) (c : After-of g) → Parts g.row.J.Denot ℕ
-parts g c = record { cores = c.self.inside.cores; cap = c.self.inside.cap; room = c.self.inside.room; inside = c.self.inside.inside.items; outside = c.self.inside.outside; links = map vec_items c.self.inside.links.items }
+parts g c = record { cores = c.self.inside.cores; cap = c.self.inside.cap; room = c.self.inside.room; inside = c.self.inside.inside.items; outside = c.self.inside.outside; links = c.self.inside.links }
 
 -- the assembly is the world's
 value : (g : Over) (c : After-of g) → c.push_reserved-2.new.self.items ≡ journals_of c.self.inside.inside.items ++ c.self.inside.outside.journal ∷ [] →
@@ -70,7 +70,7 @@ pub of-requires : goal.of-requires
 of-requires g c =
     let at = goal.at.of-requires g c in
     let items_are = all_gathered g at.After-push_reserved-2 (all_yielded g at.In-None) in
-    ap length items_are ∙ (gathered_count (record { cores = c.self.inside.cores; cap = c.self.inside.cap; room = c.self.inside.room; inside = c.self.inside.inside.items; outside = c.self.inside.outside; links = map vec_items c.self.inside.links.items }) ∙ ap (λ count. count + 1) c.self.invariant.1.all_there.cores_are)
+    ap length items_are ∙ (gathered_count (record { cores = c.self.inside.cores; cap = c.self.inside.cap; room = c.self.inside.room; inside = c.self.inside.inside.items; outside = c.self.inside.outside; links = c.self.inside.links }) ∙ ap (λ count. count + 1) c.self.invariant.1.all_there.cores_are)
 
 pub returns : goal.returns
 returns g c =
