@@ -9,6 +9,7 @@ use Rattle.rt_ids.specs.Work.{number_if}
 use Rattle.rt_ids.specs.Closing.{IsCounted, closes, core_mode, final_count}
 use Rattle.rt_ids.specs.declared.order.Mode.{Mode}
 use Rattle.rt_ids.specs.Commands.{created_count}
+use Rattle.rt_ids.specs.Limits.{most_queues}
 use Rattle.rt_taskqueue.specs.declared.queues.CreateError.{CreateError}
 use Rattle.rt_taskqueue.specs.declared.queues.CreateError.TheVariants.{TooMany, Memory}
 use Rattle.rt_core.specs.State.{opened}
@@ -66,10 +67,10 @@ module _ {J T : Type 0} where
   -- a queue is made under the next number; a core that has 256 queues says so, else there was no memory
   abbrev pub CreatesQueue : ℕ → RecordedView J T → Result ℕ CreateError → RecordedView J T → Type 0
   CreatesQueue weight old (Ok queue) new =
-      (queue ≡ created_count old.journal.notes + 1) × (queue < 256) × (new.journal ≡ with_notes (writes.Created queue weight ∷ []) old.journal)
+      (queue ≡ created_count old.journal.notes + 1) × (queue < most_queues) × (new.journal ≡ with_notes (writes.Created queue weight ∷ []) old.journal)
       × (new.core.out ≡ old.core.out) × (new.took ≡ old.took)
-  CreatesQueue weight old (Err TooMany) new = (created_count old.journal.notes + 1 ≡ 256) × (new ≡ old)
-  CreatesQueue weight old (Err Memory) new = (created_count old.journal.notes + 1 < 256) × (new ≡ old)
+  CreatesQueue weight old (Err TooMany) new = (created_count old.journal.notes + 1 ≡ most_queues) × (new ≡ old)
+  CreatesQueue weight old (Err Memory) new = (created_count old.journal.notes + 1 < most_queues) × (new ≡ old)
 
   -- the gate of this sender is shut, and its count is told
   pub record TellsShut (old : RecordedView J T) (sender count : ℕ) (new : RecordedView J T) : Type 0 where
