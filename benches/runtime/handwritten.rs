@@ -2,7 +2,8 @@
 // proofs. The two threads are joined by a link of two words (as benches/ring has it, sequentially consistent), or by two of std's
 // bounded channels. The worker takes what there is, puts it into a queue, makes one turn, gives the answer, and parks after so many
 // rounds in which nothing was done. Its turns are bare: the first of one queue is polled. Or they are those of the runtime's worker:
-// it picks the queue of least virtual runtime, reads the clock before the poll and after it, charges the queue, and writes notes.
+// it picks the queue of least virtual runtime, reads the clock before the poll and after it, charges the queue, and writes notes. And
+// the caller has nothing beside its end of the link, or it writes notes and keeps tickets, as the runtime's caller does.
 use std::cell::UnsafeCell;
 use std::collections::{BTreeSet, VecDeque};
 use std::hint::{black_box, spin_loop};
@@ -50,6 +51,12 @@ enum Taken {
 trait Sending {
     fn send(&mut self, job: Job);
     fn collect(&mut self) -> Option<(u64, u64)>;
+    // All that there is.
+    fn collect_all(&mut self, mut each: impl FnMut(u64, u64)) {
+        while let Some((number, answer)) = self.collect() {
+            each(number, answer);
+        }
+    }
     fn shut(&mut self);
 }
 
@@ -111,6 +118,16 @@ impl Sending for Out {
         let place = self.got as usize % PLACES;
         self.got += 1;
         Some(unsafe { (*self.board.outcomes[place].get()).assume_init_read() })
+    }
+
+    fn collect_all(&mut self, mut each: impl FnMut(u64, u64)) {
+        let given = self.board.given.load(SeqCst);
+        while self.got != given {
+            let place = self.got as usize % PLACES;
+            let (number, answer) = unsafe { (*self.board.outcomes[place].get()).assume_init_read() };
+            each(number, answer);
+            self.got += 1;
+        }
     }
 
     fn shut(&mut self) {
@@ -228,6 +245,55 @@ enum Turn {
     Done(u64, u64),
 }
 
+// A caller that keeps a journal and tickets, as the runtime's does: a note for each job that was sent, each outcome that came, and each
+// that was asked for. An outcome waits in its ticket's place until it is asked for.
+struct Booked<S> {
+    out: S,
+    journal: Vec<Note>,
+    sent: u64,
+    redeemed: u64,
+    outcomes: [Option<u64>; PLACES],
+}
+
+impl<S: Sending> Booked<S> {
+    fn new(out: S, notes: u64) -> Self {
+        Booked { out, journal: touched(notes), sent: 0, redeemed: 0, outcomes: [None; PLACES] }
+    }
+
+    // The outcome of the oldest ticket, if it came.
+    fn redeem(&mut self) -> Option<(u64, u64)> {
+        let number = self.redeemed + 1;
+        let answer = self.outcomes[number as usize % PLACES].take()?;
+        self.journal.push([7, number, answer, 0, 0, 0]);
+        self.redeemed = number;
+        Some((number, answer))
+    }
+}
+
+impl<S: Sending> Sending for Booked<S> {
+    fn send(&mut self, job: Job) {
+        self.out.send(job);
+        self.sent += 1;
+        self.journal.push([5, self.sent, 0, 0, 0, 0]);
+    }
+
+    fn collect(&mut self) -> Option<(u64, u64)> {
+        if let Some(found) = self.redeem() {
+            return Some(found);
+        }
+        let (journal, outcomes) = (&mut self.journal, &mut self.outcomes);
+        self.out.collect_all(|number, answer| {
+            journal.push([6, number, answer, 0, 0, 0]);
+            outcomes[number as usize % PLACES] = Some(answer);
+        });
+        self.redeem()
+    }
+
+    fn shut(&mut self) {
+        self.out.shut();
+    }
+}
+
 // One queue, and its first is polled.
 struct Bare {
     jobs: VecDeque<(u64, Job)>,
@@ -259,6 +325,13 @@ impl Turns for Bare {
 // A note takes as many bytes as the runtime's.
 type Note = [u64; 6];
 
+// A journal whose pages are written to before the measure begins, as the runtime's are.
+fn touched(notes: u64) -> Vec<Note> {
+    let mut journal = vec![[7; 6]; notes as usize];
+    black_box(&mut journal).clear();
+    journal
+}
+
 struct Queue {
     jobs: VecDeque<(u64, Job)>,
     shares: u64,
@@ -276,12 +349,9 @@ struct Fair {
 }
 
 impl Fair {
-    // The pages of the journal are written to before the measure begins, as the runtime's are.
     fn new(notes: u64) -> Self {
-        let mut journal = vec![[7; 6]; notes as usize];
-        black_box(&mut journal).clear();
         let queue = Queue { jobs: VecDeque::with_capacity(PLACES), shares: 1000, runtime: 0 };
-        Fair { queues: vec![queue], active: BTreeSet::new(), floor: 0, journal, base: Instant::now() }
+        Fair { queues: vec![queue], active: BTreeSet::new(), floor: 0, journal: touched(notes), base: Instant::now() }
     }
 
     fn now(&self) -> u64 {
@@ -472,24 +542,63 @@ fn table(rounds: usize) {
     }
 }
 
+// What is measured over a link: the nanoseconds of each of so many jobs.
+trait Measure {
+    fn jobs(&self) -> u64;
+    fn take(&self, out: impl Sending, worker: JoinHandle<()>) -> f64;
+}
+
+// So many jobs, with so many outstanding.
+struct Trips(u64, u64);
+
+impl Measure for Trips {
+    fn jobs(&self) -> u64 {
+        self.0
+    }
+
+    fn take(&self, out: impl Sending, worker: JoinHandle<()>) -> f64 {
+        trips(out, worker, self.0, self.1)
+    }
+}
+
+// So many jobs, submitted one by one with a pause before each.
+struct Paused(u64, Duration);
+
+impl Measure for Paused {
+    fn jobs(&self) -> u64 {
+        self.0
+    }
+
+    fn take(&self, out: impl Sending, worker: JoinHandle<()>) -> f64 {
+        paused(out, worker, self.0, self.1)
+    }
+}
+
 // One measure over each kind of link and turn: a line with its name and the nanoseconds of a job.
-fn each(name: &str, jobs: u64, over: impl Fn((Out, JoinHandle<()>)) -> f64, beside: impl Fn((Front, JoinHandle<()>)) -> f64) {
-    println!("turns {name} {:.1}", over(over_words(Fair::new(4 * (jobs + 1)), PATIENCE)));
-    println!("words {name} {:.1}", over(over_words(Bare::new(), PATIENCE)));
-    println!("turned {name} {:.1}", beside(over_channels(Fair::new(4 * (jobs + 1)), PATIENCE)));
-    println!("channels {name} {:.1}", beside(over_channels(Bare::new(), PATIENCE)));
+fn each(name: &str, measure: impl Measure) {
+    let jobs = measure.jobs() + 1;
+    let fair = || Fair::new(4 * jobs);
+    let (out, worker) = over_words(fair(), PATIENCE);
+    println!("turns {name} {:.1}", measure.take(out, worker));
+    let (out, worker) = over_words(fair(), PATIENCE);
+    println!("booked {name} {:.1}", measure.take(Booked::new(out, 3 * jobs), worker));
+    let (out, worker) = over_words(Bare::new(), PATIENCE);
+    println!("words {name} {:.1}", measure.take(out, worker));
+    let (out, worker) = over_channels(fair(), PATIENCE);
+    println!("turned {name} {:.1}", measure.take(out, worker));
+    let (out, worker) = over_channels(fair(), PATIENCE);
+    println!("entered {name} {:.1}", measure.take(Booked::new(out, 3 * jobs), worker));
+    let (out, worker) = over_channels(Bare::new(), PATIENCE);
+    println!("channels {name} {:.1}", measure.take(out, worker));
 }
 
 fn main() {
     let words: Vec<String> = std::env::args().skip(1).collect();
     let number = |place: usize, or: u64| words.get(place).map_or(or, |word| word.parse().unwrap());
     match words.first().map(String::as_str) {
-        Some("single") => each("single", 20_000, |(out, worker)| trips(out, worker, 20_000, 1), |(out, worker)| trips(out, worker, 20_000, 1)),
-        Some("trip_64") => each("trip_64", 200_000, |(out, worker)| trips(out, worker, 200_000, 64), |(out, worker)| trips(out, worker, 200_000, 64)),
-        Some("idle") => {
-            let pause = Duration::from_micros(number(1, 0));
-            each("idle", 1000, |(out, worker)| paused(out, worker, 1000, pause), |(out, worker)| paused(out, worker, 1000, pause))
-        }
+        Some("single") => each("single", Trips(20_000, 1)),
+        Some("trip_64") => each("trip_64", Trips(200_000, 64)),
+        Some("idle") => each("idle", Paused(1000, Duration::from_micros(number(1, 0)))),
         Some("polls") => println!("turns polls {:.1}", polls(1_000_000)),
         _ => table(number(0, 9) as usize),
     }

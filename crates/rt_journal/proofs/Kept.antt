@@ -306,7 +306,7 @@ module _ {J T : Type 0} (terms : Terms) (old : CoreView J) (job : JobOut J) (tim
       let tallied = length-set old.tallies job.queue settled_tally ∙ (kept.agrees.tallied ∙ sym same_count) in
       let last = same_count ∙ (kept.agrees.last ∙ ap (λ count. count + 1) (sym plain.created)) in
       let weights = λ (other : ℕ) (there : other < queue_count queues).
-          same_shares other ∙ (kept.agrees.weights other (subst (λ count. other < count) same_count there) ∙ sym (plain.weighs other)) in
+      same_shares other ∙ (kept.agrees.weights other (subst (λ count. other < count) same_count there) ∙ sym (plain.weighs other)) in
       let runtimes = everywhere (λ at. runtime_of at new ≡ virtual_runtime at (note ∷ journal)) job.queue (runtime_charged ∙ sym charged) (λ other away. runtime_same other away ∙ sym (elsewhere other away)) in
       let floor_now = kept.agrees.the_floor ∙ sym (floor-stays note journal plain.picks) in
       let turns_now = kept.agrees.turns ∙ sym (turns-stays note journal plain.turns_made) in
