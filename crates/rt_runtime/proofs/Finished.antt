@@ -27,6 +27,7 @@ use Rattle.rt_worker.proofs.Ending.{before_last, at_last}
 use Rattle.rt_runtime.specs.State.{RuntimeView, IsRuntime, outside_of, closing_at}
 use Rattle.rt_runtime.specs.Calls.{HasFinished, IsFirstOpen}
 use Rattle.rt_runtime.specs.Finishing.{IsFirstOpenOf, Parts}
+use Rattle.rt_runtime.proofs.Fitting.{all_fit}
 
 -- two lists that belong together, at each place
 pub together_at : {A B : Type 0} (related : A → B → Type 0) (xs : List A) (ys : List B) (x : A) (y : B) (i : ℕ) → Together related xs ys → i < length xs → related (get_or xs i x) (get_or ys i y)
@@ -136,9 +137,10 @@ module _ {J : Type 0} {fits : Order J → Outcome J ℕ → Type 0} (view : Runt
       reunited = reunited;
     }
 
-    pub finished : AreReunited fits view.desk.cores (all_ends ended (outside_of view)) → EndedAreJoined same made polls fits → JoiningIsSound → JoinedAreSpelled → ((core : ℕ) → core < length view.closing → closing_at core view ≡ true) → HasFinished view assembly
+    pub finished : AreReunited fits view.desk.cores (all_ends ended (outside_of view)) → EndedAreJoined same made polls fits → JoiningIsSound → JoinedAreSpelled → ((core : ℕ) → core < length view.closing → closing_at core view ≡ true) → HasFinished fits view assembly
     finished reunited joined_law sound_law spelled_law closed =
-        let law = joined_law view.desk.cores view.desk.cap ended (outside_of view) assembly (have_ended reunited) is_assembly in
+        let have = have_ended reunited in
+        let law = joined_law view.desk.cores view.desk.cap ended (outside_of view) assembly have is_assembly in
         record {
           closed = λ core low. closed core (omega (arith, low, is.closings));
           cores = refl;
@@ -150,17 +152,18 @@ module _ {J : Type 0} {fits : Order J → Outcome J ℕ → Type 0} (view : Runt
           drained = law.1;
           closes = closes_here;
           openings = λ core low. ap opening_of (here core low) ∙ (stays core low).opening;
+          fitting = all_fit view ended have assembly is_assembly;
         }
 
     -- the same of the assembly as the code has it
     pub finished_as : (cores cap : ℕ) (ends : List (EndsView J ℕ)) (journals : List (JournalView ℕ)) → cores ≡ view.desk.cores → cap ≡ view.desk.cap →
         ends ≡ all_ends ended (outside_of view) → journals ≡ map (λ worker. worker.recorded.journal) ended ++ view.desk.journal ∷ [] → AreReunited fits cores ends → EndedAreJoined same made polls fits →
         JoiningIsSound → JoinedAreSpelled → ((core : ℕ) → core < length view.closing → closing_at core view ≡ true) →
-        HasFinished view (record { cores = cores; cap = cap; journals = map (λ journal. journal.notes) journals })
+        HasFinished fits view (record { cores = cores; cap = cap; journals = map (λ journal. journal.notes) journals })
     finished_as cores cap ends journals same_cores same_cap ends_are journals_are reunited joined_law sound_law spelled_law closed =
-        subst (λ cores. HasFinished view (record { cores = cores; cap = cap; journals = map (λ (journal : JournalView ℕ). journal.notes) journals })) (sym same_cores)
-        (subst (λ cap. HasFinished view (record { cores = view.desk.cores; cap = cap; journals = map (λ (journal : JournalView ℕ). journal.notes) journals })) (sym same_cap)
-        (subst (λ journals. HasFinished view (record { cores = view.desk.cores; cap = view.desk.cap; journals = map (λ (journal : JournalView ℕ). journal.notes) journals })) (sym journals_are)
+        subst (λ cores. HasFinished fits view (record { cores = cores; cap = cap; journals = map (λ (journal : JournalView ℕ). journal.notes) journals })) (sym same_cores)
+        (subst (λ cap. HasFinished fits view (record { cores = view.desk.cores; cap = cap; journals = map (λ (journal : JournalView ℕ). journal.notes) journals })) (sym same_cap)
+        (subst (λ journals. HasFinished fits view (record { cores = view.desk.cores; cap = view.desk.cap; journals = map (λ (journal : JournalView ℕ). journal.notes) journals })) (sym journals_are)
         (finished (subst (λ cores. AreReunited fits cores (all_ends ended (outside_of view))) same_cores (subst (AreReunited fits cores) ends_are reunited)) joined_law sound_law spelled_law closed)))
 
 -- how many ends and journals there are

@@ -1,7 +1,9 @@
 pub mod Parted
+pub mod Fitting
 pub mod Finished
 pub mod Booked
 pub mod Started
 pub mod Sent
 pub mod Redeemed
 pub mod Crosses
+pub mod WrongAnswers

@@ -6,6 +6,8 @@ use Rattle.rt_ids.specs.Journal.{EachNote}
 use Rattle.rt_ids.specs.Joining.{AreJoined}
 use Rattle.rt_ids.specs.Sound.{IsSound}
 use Rattle.rt_ids.specs.Spelled.{IsSpelled}
+use Rattle.rt_ids.specs.declared.order.Order.{Order}
+use Rattle.rt_ids.specs.declared.order.Outcome.{Outcome}
 use Rattle.rt_recorded_desk.specs.Submissions.{opened_desk}
 use Rattle.rt_worker.specs.Queues.{opening_of}
 use Rattle.rt_worker.specs.Rooms.{ClosesRightly, least_free}
@@ -15,6 +17,7 @@ use Rattle.rt_runtime.specs.declared.error.FinishError.TheVariants.{NotClosed}
 use Rattle.rt_runtime.specs.declared.error.StartError.{StartError}
 use Rattle.rt_runtime.specs.declared.error.StartError.TheVariants.{BadConfig, Memory, Thread}
 use Rattle.rt_settings.specs.Configs.{Entry, IsGood}
+use Rattle.rt_runtime.specs.Outcomes.{AllFitTheirOrders}
 use Rattle.rt_runtime.specs.Starting.{HaveQueues}
 use Rattle.rt_runtime.specs.State.{RuntimeView, closing_at, submitted}
 
@@ -46,9 +49,10 @@ module _ {J T : Type 0} where
   Starts cores cap room queues clocks gates (Err Memory) = IsGood cores cap room queues clocks gates
   Starts cores cap room queues clocks gates (Err Thread) = IsGood cores cap room queues clocks gates
 
-module _ {J : Type 0} where
+module _ {J : Type 0} (fits : Order J → Outcome J ℕ → Type 0) where
   -- The journals are joined, so they are sound, and they have a text. The outside journal is that of the caller's calls. Each core is drained,
-  -- and closed by itself only where its journal was short. Its journal begins with what its worker began with.
+  -- and closed by itself only where its journal was short. Its journal begins with what its worker began with. What it tells of an order is what the
+  -- order asks.
   pub record HasFinished (view : RuntimeView J ℕ) (assembly : Assembly ℕ) : Type 0 where
     pub closed : (core : ℕ) → core < view.desk.cores → closing_at core view ≡ true
     pub cores : assembly.cores ≡ view.desk.cores
@@ -60,6 +64,7 @@ module _ {J : Type 0} where
     pub drained : (core : ℕ) → core < view.desk.cores → IsDrained view.desk.cores (journal_of core assembly)
     pub closes : (core : ℕ) → core < view.desk.cores → EachNote (ClosesRightly (least_free view.desk.cores view.desk.cap) view.room) (journal_of core assembly)
     pub openings : (core : ℕ) → core < view.desk.cores → opening_of (journal_of core assembly) ≡ opening_of (worker_at core view.workers).recorded.journal.notes
+    pub fitting : AllFitTheirOrders fits view assembly
 
   -- a finish: a core is still open and the runtime comes back, or all workers have ended
   abbrev pub Finishes : RuntimeView J ℕ → Result (Assembly ℕ) (FinishError (RuntimeView J ℕ)) → Type 0

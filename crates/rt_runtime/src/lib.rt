@@ -4,6 +4,7 @@
 mod calls;
 pub mod error;
 mod finishing;
+pub mod laws;
 pub mod runtime;
 mod starting;
 mod tickets;

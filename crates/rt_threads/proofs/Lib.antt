@@ -5,3 +5,4 @@ pub mod Walking
 pub mod Running
 pub mod Ready
 pub mod Opened
+pub mod Answered

@@ -11,10 +11,11 @@ use Rattle.rt_worker.specs.Linked.{LinkedView}
 use Rattle.rt_worker.specs.Queues.{creations, opening_of}
 use Rattle.rt_worker.specs.Together.{worker_at}
 use Rattle.rt_threads.specs.Offers.{OffersAll}
+use Rattle.rt_threads.specs.Outcomes.{FitsScript}
 use Rattle.rt_threads.specs.Rooms.{room_of}
 use Rattle.rt_threads.proofs.Sending.{grows}
 
-pub opened : (cores cap : ℕ) (queues : List Entry) (orders : List Told) (started ended : RuntimeView Script ℕ) (assembly : Assembly ℕ) → IsStarted cores cap (room_of cores cap) queues started → OffersAll orders started ended → HasFinished ended assembly →
+pub opened : (cores cap : ℕ) (queues : List Entry) (orders : List Told) (started ended : RuntimeView Script ℕ) (assembly : Assembly ℕ) → IsStarted cores cap (room_of cores cap) queues started → OffersAll orders started ended → HasFinished FitsScript ended assembly →
     (core : ℕ) → core < cores → opening_of (journal_of core assembly) ≡ creations core queues
 opened cores cap queues orders started ended assembly starts offers finishes core there =
     let more = grows orders started ended offers in

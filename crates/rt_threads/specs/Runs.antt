@@ -12,18 +12,20 @@ use Rattle.rt_threads_script.specs.declared.fault.ThreadsFault.TheVariants.{Writ
 use Rattle.rt_threads_script.specs.Drafts.{Drafted, Told}
 use Rattle.rt_threads_script.specs.Scripts.{threads_script_of}
 use Rattle.rt_threads.specs.Offers.{OffersAll, closings}
+use Rattle.rt_threads.specs.Outcomes.{AreAnswered, FitsScript}
 use Rattle.rt_threads.specs.Rooms.{room_of}
 use Rattle.rt_worker.specs.Queues.{creations, opening_of}
 
 -- A runtime of these numbers and queues is started, the orders are sent, each core is closed from 0 upwards, and the runtime is finished. The
--- journal of each core begins with the creation of its queues.
+-- journal of each core begins with the creation of its queues, and what the journals tell of an order is what it asks.
 pub record RunsOrders (cores cap : ℕ) (queues : List Entry) (orders : List Told) (assembly : Assembly ℕ) : Type 0 where
   pub started : RuntimeView Script ℕ
   pub ended : RuntimeView Script ℕ
   pub starts : IsStarted cores cap (room_of cores cap) queues started
   pub offers : OffersAll (orders ++ closings cores) started ended
-  pub finishes : HasFinished ended assembly
+  pub finishes : HasFinished FitsScript ended assembly
   pub opened : (core : ℕ) → core < cores → opening_of (journal_of core assembly) ≡ creations core queues
+  pub answered : AreAnswered (orders ++ closings cores) started ended offers assembly
 
 -- the same of a script that told its size
 abbrev pub RunsScript : Drafted → Assembly ℕ → Type 0

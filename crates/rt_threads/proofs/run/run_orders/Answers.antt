@@ -1,6 +1,7 @@
 use Rattle.std.proofs.Common.{◌∙◌, ap, Some}
 use Rattle.rt_script.specs.Limits.{IsSize}
 use Rattle.rt_threads_script.specs.Limits.{AreTold, HasSpare}
+use Rattle.rt_threads.proofs.Answered.{answered}
 use Rattle.rt_threads.proofs.Opened.{opened}
 use Rattle.rt_threads.proofs.Running.{own}
 use Rattle.rt_threads.proofs.Sending.{offers_both, grows, started_of}
@@ -37,4 +38,5 @@ returns-clause-ok g c =
       offers = offers;
       finishes = c.in-Ok.ensures;
       opened = opened script.cores script.cap script.queues.items _ c.in_ok-house.house c.close_all.new.house _ c.in_ok-house.ensures.ok offers c.in-Ok.ensures;
+      answered = answered script.cores script.cap script.queues.items _ c.in_ok-house.house c.close_all.new.house _ c.in_ok-house.ensures.ok offers c.in-Ok.ensures;
     }

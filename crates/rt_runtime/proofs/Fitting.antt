@@ -1,0 +1,124 @@
+-- What the journals of workers that have ended tell of a submission fits its order.
+use Rattle.std.proofs.Common.{◌≡◌, ℕ, suc, ◌+◌, ◌-◌, ◌<◌, ◌≤◌, Bool, true, false, cond, List, [], ◌∷◌, length, take, drop, refl, sym, ◌∙◌, ap, subst, arith}
+use Rattle.std.specs.Prelude.{Option, Some, None, IfSome, slice_get}
+use Rattle.std.proofs.lemmas.List.{take-append-drop}
+use Rattle.rt_ids.specs.declared.names.JobId.{JobId}
+use Rattle.rt_ids.specs.declared.note.OutcomeNote.{OutcomeNote}
+use Rattle.rt_ids.specs.declared.order.Order.{Order}
+use Rattle.rt_ids.specs.declared.order.Outcome.{Outcome}
+use Rattle.rt_ids.specs.Assembly.{Assembly, first_under, journal_of, order_of, outcome_of}
+use Rattle.rt_ids.specs.Filters.{accepted_orders, given_outcomes}
+use Rattle.rt_ids.specs.Names.{same_name}
+use Rattle.rt_ids.specs.Orders.{without_job}
+use Rattle.rt_ids.specs.Outcomes.{outcome_note}
+use Rattle.rt_ids.proofs.NameLemmas.{one_name}
+use Rattle.rt_jobs.specs.Steps.{Owed}
+use Rattle.rt_link.specs.Ends.{AreOf}
+use Rattle.rt_ring.proofs.Fronts.{slice_get-there}
+use Rattle.rt_recorded_desk.specs.Ends.{name_of, named_outcomes}
+use Rattle.rt_recorded_desk.specs.Orders.{numbered_orders}
+use Rattle.rt_recorded_desk.proofs.NumberedOrders.{first_under-numbered}
+use Rattle.rt_journal.specs.Together.{AreTogether, IsAssemblyOf}
+use Rattle.rt_journal.proofs.EndsKept.{slice_get-seen}
+use Rattle.rt_ring.specs.declared.ring_out.Sending.{Sending}
+use Rattle.rt_ring.specs.declared.ring_in.Receiving.{Receiving}
+use Rattle.rt_grid.specs.Ends.{in_at, out_at}
+use Rattle.rt_grid.specs.Grid.{ends_at, no_ends}
+use Rattle.rt_worker.specs.Linked.{LinkedView}
+use Rattle.rt_worker.specs.Together.{HaveEnded, all_ends, desk_among, no_linked, worker_at}
+use Rattle.rt_worker.proofs.Ending.{at_last, ended_together}
+use Rattle.rt_runtime.specs.Outcomes.{AllFitTheirOrders, FitsItsOrder}
+use Rattle.rt_runtime.specs.State.{RuntimeView, outside_of, submitted_under}
+
+-- the outcome that stands first under a name, among outcomes of one link
+record IsFirst {J T : Type 0} (sender core : ℕ) (name : JobId) (given : List (ℕ × Outcome J T)) (told : OutcomeNote T) : Type 0 where
+  place : ℕ
+  outcome : ℕ × Outcome J T
+  at : slice_get given place ≡ Some outcome
+  named : name ≡ name_of sender core outcome.0
+  as_told : outcome_note outcome.1 ≡ told
+
+first_named : {J T : Type 0} (sender core : ℕ) (name : JobId) (given : List (ℕ × Outcome J T)) (told : OutcomeNote T) → first_under name (named_outcomes sender core given) ≡ Some told → IsFirst sender core name given told
+first_named sender core name [] told found = cc
+first_named {J} {T} sender core name (first ∷ given) told found = by_test (same_name name (name_of sender core first.0)) refl found (first_named sender core name given told)
+  where
+    by_test : (test : Bool) → same_name name (name_of sender core first.0) ≡ test → cond test (Some (outcome_note first.1)) (first_under name (named_outcomes sender core given)) ≡ Some told →
+        (first_under name (named_outcomes sender core given) ≡ Some told → IsFirst sender core name given told) → IsFirst sender core name (first ∷ given) told
+    by_test true same found later = record { place = 0; outcome = first; at = refl; named = one_name name (name_of sender core first.0) same; as_told = cc }
+    by_test false apart found later =
+        let rest = later found in record { place = suc rest.place; outcome = rest.outcome; at = rest.at; named = rest.named; as_told = rest.as_told }
+
+-- the order of an outcome: it stands at the place of its number, and the outcome fits it
+record HasOrder {J T : Type 0} (fits : Order J → Outcome J T → Type 0) (sent : List (Order J)) (outcome : ℕ × Outcome J T) : Type 0 where
+  order : Order J
+  at : slice_get sent (outcome.0 - 1) ≡ Some order
+  fit : fits order outcome.1
+  above : 0 < outcome.0
+
+has_order : {J T : Type 0} {fits : Order J → Outcome J T → Type 0} (base taken : ℕ) (sent : List (Order J)) (given : List (ℕ × Outcome J T)) → base ≡ 0 → AreOf fits base (take taken sent) given →
+    (place : ℕ) (outcome : ℕ × Outcome J T) → slice_get given place ≡ Some outcome → HasOrder fits sent outcome
+has_order {fits = fits} base taken sent given none are place outcome at =
+    let of = are.0 place outcome at in
+    let order = slice_get-there (take taken sent) (outcome.0 - 1) (omega (arith, of.0, of.2, none)) in
+    let same : outcome.0 - base - 1 ≡ outcome.0 - 1 = omega (arith, none) in
+    let here : slice_get (take taken sent) (outcome.0 - base - 1) ≡ Some order.0 = rw same order.1 in
+    record {
+      order = order.0;
+      at = slice_get-seen sent (take taken sent) (drop taken sent, sym (take-append-drop taken sent)) (outcome.0 - 1) order.0 order.1;
+      fit = subst (λ found. IfSome found (λ order. fits order outcome.1)) here of.1;
+      above = omega (arith, of.0, none);
+    }
+
+module _ {J : Type 0} {same : J → J → Type 0} {made : J → ℕ} {polls : Owed J ℕ} {fits : Order J → Outcome J ℕ → Type 0} (view : RuntimeView J ℕ) (ended : List (LinkedView J ℕ))
+    (have : HaveEnded same made polls fits view.desk.cores view.desk.cap ended (outside_of view)) (assembly : Assembly ℕ)
+    (is : IsAssemblyOf view.desk.cores view.desk.cap (desk_among ended (outside_of view)) assembly) where
+  module _ (name : JobId) (from : name.from ≤ view.desk.cores) (to : name.to < view.desk.cores) where
+    abbrev out : Sending J ℕ
+    out = out_at name.to (ends_at name.from (all_ends ended (outside_of view)))
+
+    abbrev inward : Receiving J ℕ
+    inward = in_at name.from (ends_at name.to (all_ends ended (outside_of view)))
+
+    given_are : given_outcomes name.from (journal_of name.to assembly) ≡ named_outcomes name.from name.to inward.inward.given
+    given_are =
+        let are = ended_together have in
+        ap (given_outcomes name.from) (is.each name.to (omega (arith, to)) ∙ ap (λ desk. desk.journal.notes) (are.desks name.to to))
+        ∙ ((are.ins name.from name.to from to).given ∙ ap (λ core. named_outcomes name.from core inward.inward.given) (ap (λ terms. terms.actor) (have.seats name.to to)))
+
+    sent_are : accepted_orders name.to (journal_of name.from assembly) ≡ numbered_orders name.from name.to 0 out.out.sent
+    sent_are =
+        let are = ended_together have in
+        ap (accepted_orders name.to) (is.each name.from from)
+        ∙ ((are.outs name.from name.to from to).accepted ∙ ap (λ actor. numbered_orders actor name.to 0 out.out.sent) (ap (λ terms. terms.actor) (are.actors name.from from)))
+
+    outside_ends : name.from ≡ view.desk.cores → ends_at name.from (all_ends ended (outside_of view)) ≡ view.ends
+    outside_ends is_outside =
+        ap (λ actor. ends_at actor (all_ends ended (outside_of view))) is_outside
+        ∙ at_last (λ (worker : LinkedView J ℕ). worker.ends) ended view.ends no_ends no_linked view.desk.cores have.count
+
+    fits_its_order : (told : OutcomeNote ℕ) → outcome_of name assembly ≡ Some told → FitsItsOrder fits view assembly name told
+    fits_its_order told found =
+        let first = first_named name.from name.to name inward.inward.given told (ap (first_under name) (sym given_are) ∙ found) in
+        let has = has_order out.out.base inward.inward.taken out.out.sent inward.inward.given ((ended_together have).outs name.from name.to from to).base
+        (have.reunited name.from name.to from to).outcomes first.place first.outcome first.at in
+        let number : first.outcome.0 ≡ 0 + (first.outcome.0 - 1) + 1 = omega (arith, has.above) in
+        let named : name ≡ name_of name.from name.to (0 + (first.outcome.0 - 1) + 1) = first.named ∙ ap (name_of name.from name.to) number in
+        record {
+          order = has.order;
+          sent = ap (first_under name) sent_are
+              ∙ (ap (λ named. first_under named (numbered_orders name.from name.to 0 out.out.sent)) named
+              ∙ first_under-numbered name.from name.to 0 out.out.sent (first.outcome.0 - 1) has.order has.at);
+          by_caller = λ is_outside.
+              ap (λ ends. slice_get (out_at name.to ends).out.sent (name.number - 1)) (sym (outside_ends is_outside))
+              ∙ (ap (λ named. slice_get out.out.sent (named.number - 1)) first.named ∙ has.at);
+          outcome = first.outcome.1;
+          as_told = first.as_told;
+          fit = has.fit;
+        }
+
+    by_told : (found : Option (OutcomeNote ℕ)) → outcome_of name assembly ≡ found → IfSome found (FitsItsOrder fits view assembly name)
+    by_told None at = tt
+    by_told (Some told) at = fits_its_order told at
+
+  pub all_fit : AllFitTheirOrders fits view assembly
+  all_fit name from to = by_told name from to (outcome_of name assembly) refl

@@ -1,0 +1,37 @@
+-- A finish tells no answer of a job that isn't one of its task.
+use Rattle.std.proofs.Common.{◌≡◌, ℕ, ◌≤◌, sym, ◌∙◌, subst, arith}
+use Rattle.std.specs.Prelude.{Some, IfSome}
+use Rattle.rt_ids.specs.declared.names.JobId.{JobId}
+use Rattle.rt_ids.specs.declared.note.OutcomeNote.TheVariants as notes
+use Rattle.rt_ids.specs.declared.order.Order.{Order}
+use Rattle.rt_ids.specs.declared.order.Order.TheVariants.{Job}
+use Rattle.rt_ids.specs.declared.order.Outcome.{Outcome}
+use Rattle.rt_ids.specs.declared.order.Outcome.TheVariants as outcomes
+use Rattle.rt_ids.specs.Assembly.{Assembly, outcome_of}
+use Rattle.rt_ids.specs.Outcomes.{outcome_note}
+use Rattle.rt_link.specs.Fits.{Fits}
+use Rattle.rt_runtime.specs.Calls.{HasFinished}
+use Rattle.rt_runtime.specs.Laws.{TellsAnswer, WrongAnswersAreRefused}
+use Rattle.rt_runtime.specs.Outcomes.{FitsItsOrder}
+use Rattle.rt_runtime.specs.State.{RuntimeView}
+
+one_order : {J : Type 0} (a b : Order J) → Some a ≡ Some b → a ≡ b
+one_order a b same = cc
+
+module _ {J : Type 0} (same : J → J → Type 0) (answers : J → ℕ → Type 0) where
+  -- the only outcome that is told as finished with this answer is that
+  answer_of : (queue : ℕ) (job : J) (outcome : Outcome J ℕ) (answer : ℕ) → outcome_note outcome ≡ notes.Finished answer → Fits same answers (Job queue job) outcome → answers job answer
+  answer_of queue job (outcomes.Finished value) answer told fit = let is : value ≡ answer = cc in subst (answers job) is fit
+  answer_of queue job (outcomes.Returned reason order) answer told fit = absurd cc
+  answer_of queue job (outcomes.Answered what) answer told fit = absurd cc
+
+  -- what a finish tells of a job that was submitted is an answer of its task
+  pub right_answer : (view : RuntimeView J ℕ) (assembly : Assembly ℕ) (name : JobId) (job : J) (answer : ℕ) → TellsAnswer view assembly name job answer → HasFinished (Fits same answers) view assembly → answers job answer
+  right_answer view assembly name job answer tells finished =
+      let known : name.from ≤ view.desk.cores = omega (arith, tells.caller) in
+      let fits = subst (λ found. IfSome found (FitsItsOrder (Fits same answers) view assembly name)) tells.told (finished.fitting name known tells.there) in
+      let is : fits.order ≡ Job tells.queue job = one_order fits.order (Job tells.queue job) (sym (fits.by_caller tells.caller) ∙ tells.submitted) in
+      answer_of tells.queue job fits.outcome answer fits.as_told (subst (λ order. Fits same answers order fits.outcome) is fits.fit)
+
+  pub wrong_answers_refused : WrongAnswersAreRefused same answers
+  wrong_answers_refused view assembly name job answer tells wrong finished = wrong (right_answer view assembly name job answer tells finished)
