@@ -21,7 +21,7 @@ use Rattle.rt_workers.proofs.Lists.{together_length}
 use Rattle.rt_worker.specs.Linked.{LinkedView, StaysLinked}
 use Rattle.rt_worker.specs.Ended.{HasEnded}
 use Rattle.rt_worker.specs.Queues.{opening_of}
-use Rattle.rt_worker.specs.Rooms.{ClosesRightly, least_free}
+use Rattle.rt_worker.specs.Rooms.{MayAct, least_free}
 use Rattle.rt_worker.specs.Together.{HaveEnded, EndedAreJoined, no_linked, worker_at, desk_among, all_ends}
 use Rattle.rt_worker.proofs.Ending.{before_last, at_last}
 use Rattle.rt_runtime.specs.State.{RuntimeView, IsRuntime, outside_of, closing_at}
@@ -116,16 +116,16 @@ module _ {J : Type 0} {fits : Order J → Outcome J ℕ → Type 0} (view : Runt
   finished_grid law = law view.desk.cores (all_ends view.workers (outside_of view)) (all_ends ended (outside_of view)) same_ends is.grid
 
   module _ {same : J → J → Type 0} {made : J → ℕ} {polls : Owed J ℕ} (each : All (HasEnded same made polls fits) ended) where
-    closes_here : (core : ℕ) → core < view.desk.cores → EachNote (ClosesRightly (least_free view.desk.cores view.desk.cap) view.room) (journal_of core assembly)
-    closes_here core low =
+    acts_here : (core : ℕ) → core < view.desk.cores → EachNote (MayAct (least_free view.desk.cores view.desk.cap) view.room) (journal_of core assembly)
+    acts_here core low =
         let end = each core no_linked (omega (arith, low, count)) in
         let cores : (worker_at core ended).recorded.core.cores ≡ view.desk.cores = ap (λ terms. terms.cores) (terms_now core low) in
         let cap : (worker_at core ended).recorded.cap ≡ view.desk.cap = ap (λ terms. terms.cap) (terms_now core low) in
         let room : (worker_at core ended).recorded.journal.room ≡ view.room = (stays core low).seat.room ∙ (is.each core low).room_is in
-        subst (EachNote (ClosesRightly (least_free view.desk.cores view.desk.cap) view.room)) (sym (here core low))
-        (subst (λ room. EachNote (ClosesRightly (least_free view.desk.cores view.desk.cap) room) (worker_at core ended).recorded.journal.notes) room
-        (subst (λ least. EachNote (ClosesRightly least (worker_at core ended).recorded.journal.room) (worker_at core ended).recorded.journal.notes)
-        (ap (λ cores. least_free cores (worker_at core ended).recorded.cap) cores ∙ ap (λ cap. least_free view.desk.cores cap) cap) end.closes))
+        subst (EachNote (MayAct (least_free view.desk.cores view.desk.cap) view.room)) (sym (here core low))
+        (subst (λ room. EachNote (MayAct (least_free view.desk.cores view.desk.cap) room) (worker_at core ended).recorded.journal.notes) room
+        (subst (λ least. EachNote (MayAct least (worker_at core ended).recorded.journal.room) (worker_at core ended).recorded.journal.notes)
+        (ap (λ cores. least_free cores (worker_at core ended).recorded.cap) cores ∙ ap (λ cap. least_free view.desk.cores cap) cap) end.acts))
 
     have_ended : AreReunited fits view.desk.cores (all_ends ended (outside_of view)) → HaveEnded same made polls fits view.desk.cores view.desk.cap ended (outside_of view)
     have_ended reunited = record {
@@ -150,7 +150,7 @@ module _ {J : Type 0} {fits : Order J → Outcome J ℕ → Type 0} (view : Runt
           spelled = spelled_law assembly law.0 is.limits;
           outside = outside_here;
           drained = law.1;
-          closes = closes_here;
+          acts = acts_here;
           openings = λ core low. ap opening_of (here core low) ∙ (stays core low).opening;
           fitting = all_fit view ended have assembly is_assembly;
         }

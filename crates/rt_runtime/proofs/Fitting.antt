@@ -1,15 +1,14 @@
 -- What the journals of workers that have ended tell of a submission fits its order.
-use Rattle.std.proofs.Common.{◌≡◌, ℕ, suc, ◌+◌, ◌-◌, ◌<◌, ◌≤◌, Bool, true, false, cond, List, [], ◌∷◌, length, take, drop, refl, sym, ◌∙◌, ap, subst, arith}
+use Rattle.std.proofs.Common.{◌≡◌, ℕ, suc, ◌+◌, ◌-◌, ◌<◌, ◌≤◌, Bool, true, false, cond, List, [], ◌∷◌, take, drop, refl, sym, ◌∙◌, ap, subst, arith}
 use Rattle.std.specs.Prelude.{Option, Some, None, IfSome, slice_get}
 use Rattle.std.proofs.lemmas.List.{take-append-drop}
 use Rattle.rt_ids.specs.declared.names.JobId.{JobId}
 use Rattle.rt_ids.specs.declared.note.OutcomeNote.{OutcomeNote}
 use Rattle.rt_ids.specs.declared.order.Order.{Order}
 use Rattle.rt_ids.specs.declared.order.Outcome.{Outcome}
-use Rattle.rt_ids.specs.Assembly.{Assembly, first_under, journal_of, order_of, outcome_of}
+use Rattle.rt_ids.specs.Assembly.{Assembly, first_under, journal_of, outcome_of}
 use Rattle.rt_ids.specs.Filters.{accepted_orders, given_outcomes}
 use Rattle.rt_ids.specs.Names.{same_name}
-use Rattle.rt_ids.specs.Orders.{without_job}
 use Rattle.rt_ids.specs.Outcomes.{outcome_note}
 use Rattle.rt_ids.proofs.NameLemmas.{one_name}
 use Rattle.rt_jobs.specs.Steps.{Owed}
@@ -18,17 +17,17 @@ use Rattle.rt_ring.proofs.Fronts.{slice_get-there}
 use Rattle.rt_recorded_desk.specs.Ends.{name_of, named_outcomes}
 use Rattle.rt_recorded_desk.specs.Orders.{numbered_orders}
 use Rattle.rt_recorded_desk.proofs.NumberedOrders.{first_under-numbered}
-use Rattle.rt_journal.specs.Together.{AreTogether, IsAssemblyOf}
+use Rattle.rt_journal.specs.Together.{IsAssemblyOf}
 use Rattle.rt_journal.proofs.EndsKept.{slice_get-seen}
 use Rattle.rt_ring.specs.declared.ring_out.Sending.{Sending}
 use Rattle.rt_ring.specs.declared.ring_in.Receiving.{Receiving}
 use Rattle.rt_grid.specs.Ends.{in_at, out_at}
 use Rattle.rt_grid.specs.Grid.{ends_at, no_ends}
 use Rattle.rt_worker.specs.Linked.{LinkedView}
-use Rattle.rt_worker.specs.Together.{HaveEnded, all_ends, desk_among, no_linked, worker_at}
+use Rattle.rt_worker.specs.Together.{HaveEnded, all_ends, desk_among, no_linked}
 use Rattle.rt_worker.proofs.Ending.{at_last, ended_together}
 use Rattle.rt_runtime.specs.Outcomes.{AllFitTheirOrders, FitsItsOrder}
-use Rattle.rt_runtime.specs.State.{RuntimeView, outside_of, submitted_under}
+use Rattle.rt_runtime.specs.State.{RuntimeView, outside_of}
 
 -- the outcome that stands first under a name, among outcomes of one link
 record IsFirst {J T : Type 0} (sender core : ℕ) (name : JobId) (given : List (ℕ × Outcome J T)) (told : OutcomeNote T) : Type 0 where

@@ -7,7 +7,7 @@ use Rattle.rt_ids.specs.declared.order.Order.{Order}
 use Rattle.rt_ids.specs.declared.order.Order.TheVariants.{Job}
 use Rattle.rt_ids.specs.declared.order.Outcome.{Outcome}
 use Rattle.rt_ids.specs.declared.order.Outcome.TheVariants as outcomes
-use Rattle.rt_ids.specs.Assembly.{Assembly, outcome_of}
+use Rattle.rt_ids.specs.Assembly.{Assembly}
 use Rattle.rt_ids.specs.Outcomes.{outcome_note}
 use Rattle.rt_link.specs.Fits.{Fits}
 use Rattle.rt_runtime.specs.Calls.{HasFinished}

@@ -10,7 +10,7 @@ use Rattle.rt_ids.specs.declared.order.Order.{Order}
 use Rattle.rt_ids.specs.declared.order.Outcome.{Outcome}
 use Rattle.rt_recorded_desk.specs.Submissions.{opened_desk}
 use Rattle.rt_worker.specs.Queues.{opening_of}
-use Rattle.rt_worker.specs.Rooms.{ClosesRightly, least_free}
+use Rattle.rt_worker.specs.Rooms.{MayAct, least_free}
 use Rattle.rt_worker.specs.Together.{worker_at}
 use Rattle.rt_runtime.specs.declared.error.FinishError.{FinishError}
 use Rattle.rt_runtime.specs.declared.error.FinishError.TheVariants.{NotClosed}
@@ -50,9 +50,9 @@ module _ {J T : Type 0} where
   Starts cores cap room queues clocks gates (Err Thread) = IsGood cores cap room queues clocks gates
 
 module _ {J : Type 0} (fits : Order J → Outcome J ℕ → Type 0) where
-  -- The journals are joined, so they are sound, and they have a text. The outside journal is that of the caller's calls. Each core is drained,
-  -- and closed by itself only where its journal was short. Its journal begins with what its worker began with. What it tells of an order is what the
-  -- order asks.
+  -- The journals are joined, so they are sound, and they have a text. The outside journal is that of the caller's calls. Each core is drained.
+  -- It closed by itself only where its journal was short, and it sent, redeemed and let go only while one of its jobs was polled. Its journal begins
+  -- with what its worker began with. What it tells of an order is what the order asks.
   pub record HasFinished (view : RuntimeView J ℕ) (assembly : Assembly ℕ) : Type 0 where
     pub closed : (core : ℕ) → core < view.desk.cores → closing_at core view ≡ true
     pub cores : assembly.cores ≡ view.desk.cores
@@ -62,7 +62,7 @@ module _ {J : Type 0} (fits : Order J → Outcome J ℕ → Type 0) where
     pub spelled : IsSpelled assembly
     pub outside : journal_of view.desk.cores assembly ≡ view.desk.journal.notes
     pub drained : (core : ℕ) → core < view.desk.cores → IsDrained view.desk.cores (journal_of core assembly)
-    pub closes : (core : ℕ) → core < view.desk.cores → EachNote (ClosesRightly (least_free view.desk.cores view.desk.cap) view.room) (journal_of core assembly)
+    pub acts : (core : ℕ) → core < view.desk.cores → EachNote (MayAct (least_free view.desk.cores view.desk.cap) view.room) (journal_of core assembly)
     pub openings : (core : ℕ) → core < view.desk.cores → opening_of (journal_of core assembly) ≡ opening_of (worker_at core view.workers).recorded.journal.notes
     pub fitting : AllFitTheirOrders fits view assembly
 

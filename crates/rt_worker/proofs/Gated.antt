@@ -25,7 +25,7 @@ use Rattle.rt_worker.specs.Linked.{LinkedView, IsLinked, StaysLinked}
 use Rattle.rt_worker.specs.Queues.{opening_of}
 use Rattle.rt_worker.specs.Steps.{ShutsGate}
 use Rattle.rt_worker.specs.Gates.{WritesShut, WritesReturn, IsShutWithin, LeavesShut, LeavesReturning, ShutsFirst}
-use Rattle.rt_worker.specs.Rooms.{last_through, least_free, ClosesRightly, ClosesOnlyShort, HasSpare, IsShort, IsEnding}
+use Rattle.rt_worker.specs.Rooms.{last_through, least_free, MayAct, ActsAsItMay, HasSpare, IsShort, IsEnding}
 use Rattle.rt_worker.proofs.Along.{stays_along, stays_same}
 use Rattle.rt_worker.proofs.Stepping.{sends_kept}
 use Rattle.rt_worker.proofs.Spare.{sums_within, places_more}
@@ -60,9 +60,9 @@ module _ {T : Type 0} where
   one_longer sender old new (inl same) = let now : length new.notes ≡ length old.notes = ap (λ journal. length journal.notes) same in omega (arith, now)
   one_longer sender old new (inr wrote) = let now : length new.notes ≡ suc (length old.notes) = ap (λ journal. length journal.notes) wrote.1 in omega (arith, now)
 
-  shut_closes : (sender least room : ℕ) (old new : JournalView T) → WritesShut sender old new → EachNote (ClosesRightly least room) old.notes → EachNote (ClosesRightly least room) new.notes
-  shut_closes sender least room old new (inl same) each = subst (λ journal. EachNote (ClosesRightly least room) journal.notes) (sym same) each
-  shut_closes sender least room old new (inr wrote) each = subst (λ journal. EachNote (ClosesRightly least room) journal.notes) (sym wrote.1) (tt, each)
+  shut_acts : (sender least room : ℕ) (old new : JournalView T) → WritesShut sender old new → EachNote (MayAct least room) old.notes → EachNote (MayAct least room) new.notes
+  shut_acts sender least room old new (inl same) each = subst (λ journal. EachNote (MayAct least room) journal.notes) (sym same) each
+  shut_acts sender least room old new (inr wrote) each = subst (λ journal. EachNote (MayAct least room) journal.notes) (sym wrote.1) (tt, each)
 
 module _ {J T : Type 0} where
   -- what an end with a shut gate tells: as many orders came through as have an outcome, and a link holds more
@@ -86,7 +86,7 @@ module _ {J T : Type 0} where
     shut = λ sender low. absurd (omega (arith, low));
     mode = refl;
     longer = omega arith;
-    closes = λ least each. each;
+    acts = λ least each. each;
     stays = stays_same old;
   }
 
@@ -107,7 +107,7 @@ module _ {J T : Type 0} where
         (cases_eq sender count);
     mode = mode_same count middle.recorded.journal new.recorded.journal next.wrote ∙ first.mode;
     longer = omega (arith, first.longer, one_longer count middle.recorded.journal new.recorded.journal next.wrote);
-    closes = λ least each. shut_closes count least old.recorded.journal.room middle.recorded.journal new.recorded.journal next.wrote (first.closes least each);
+    acts = λ least each. shut_acts count least old.recorded.journal.room middle.recorded.journal new.recorded.journal next.wrote (first.acts least each);
     stays = stays_along old middle new first.stays next.stays;
   }
 
@@ -140,23 +140,23 @@ module _ {J T : Type 0} where
           omega (arith, all_within, same_places, places, spare, returned_room, shuts.longer, returns.stays.seat.cores, cores, room, linked.recorded.kept.is_core);
     }
 
-    pub ending_closes : IsShort old.recorded → ClosesOnlyShort old.recorded.core.cores old.recorded.cap old.recorded.journal →
-        ClosesOnlyShort new.recorded.core.cores new.recorded.cap new.recorded.journal
-    ending_closes short each =
+    pub ending_acts : IsShort old.recorded → ActsAsItMay old.recorded.core.cores old.recorded.cap old.recorded.journal →
+        ActsAsItMay new.recorded.core.cores new.recorded.cap new.recorded.journal
+    ending_acts short each =
         let cores : new.recorded.core.cores ≡ old.recorded.core.cores = shuts.stays.seat.cores ∙ returns.stays.seat.cores in
         let cap : new.recorded.cap ≡ old.recorded.cap = shuts.stays.seat.cap ∙ returns.stays.seat.cap in
         let room : new.recorded.journal.room ≡ middle.recorded.journal.room = shuts.stays.seat.room in
-        subst (λ least. EachNote (ClosesRightly least new.recorded.journal.room) new.recorded.journal.notes)
+        subst (λ least. EachNote (MayAct least new.recorded.journal.room) new.recorded.journal.notes)
         (sym (ap (λ cores. least_free cores new.recorded.cap) cores ∙ ap (λ cap. least_free old.recorded.core.cores cap) cap))
-        (subst (λ room. EachNote (ClosesRightly (least_free old.recorded.core.cores old.recorded.cap) room) new.recorded.journal.notes) (sym room)
-        (shuts.closes (least_free old.recorded.core.cores old.recorded.cap)
-        (subst (λ room. EachNote (ClosesRightly (least_free old.recorded.core.cores old.recorded.cap) room) middle.recorded.journal.notes) (sym returns.stays.seat.room)
+        (subst (λ room. EachNote (MayAct (least_free old.recorded.core.cores old.recorded.cap) room) new.recorded.journal.notes) (sym room)
+        (shuts.acts (least_free old.recorded.core.cores old.recorded.cap)
+        (subst (λ room. EachNote (MayAct (least_free old.recorded.core.cores old.recorded.cap) room) middle.recorded.journal.notes) (sym returns.stays.seat.room)
         (by_return middle.recorded.journal returns.wrote))))
       where
-        by_return : (now : JournalView T) → WritesReturn old.recorded.journal now → EachNote (ClosesRightly (least_free old.recorded.core.cores old.recorded.cap) old.recorded.journal.room) now.notes
-        by_return now (inl same) = subst (λ journal. EachNote (ClosesRightly (least_free old.recorded.core.cores old.recorded.cap) old.recorded.journal.room) journal.notes) (sym same) each
+        by_return : (now : JournalView T) → WritesReturn old.recorded.journal now → EachNote (MayAct (least_free old.recorded.core.cores old.recorded.cap) old.recorded.journal.room) now.notes
+        by_return now (inl same) = subst (λ journal. EachNote (MayAct (least_free old.recorded.core.cores old.recorded.cap) old.recorded.journal.room) journal.notes) (sym same) each
         by_return now (inr wrote) =
-            subst (λ journal. EachNote (ClosesRightly (least_free old.recorded.core.cores old.recorded.cap) old.recorded.journal.room) journal.notes) (sym wrote) (inr (refl, short), each)
+            subst (λ journal. EachNote (MayAct (least_free old.recorded.core.cores old.recorded.cap) old.recorded.journal.room) journal.notes) (sym wrote) (inr (refl, short), each)
 
   -- a core that closed by itself is linked as before
   pub returned_linked : {same : J → J → Type 0} {made : J → ℕ} {polls : Owed J T} {fits : Order J → Outcome J T → Type 0} (old new : RecordedView J T) (ends : EndsView J T) → IsLinked same made polls fits (record { recorded = old; ends = ends }) →

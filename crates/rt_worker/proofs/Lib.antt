@@ -1,6 +1,7 @@
 pub mod Along
 pub mod Openings
 mod QueuesRefused
+mod ActsRefused
 pub mod Stepping
 pub mod Delivered
 pub mod Posted
@@ -8,6 +9,7 @@ pub mod InPlace
 pub mod Collected
 pub mod HandedBack
 pub mod Noted
+pub mod Acting
 pub mod Spare
 pub mod Gated
 pub mod Serving

@@ -19,7 +19,7 @@ use Rattle.rt_ids.specs.Commands.{refusal, effect_note}
 use Rattle.rt_ids.proofs.Returning.{nobody_enters}
 use Rattle.rt_journal.specs.Deliveries.{IsDelivery, entry_note, with_effect}
 use Rattle.rt_journal.specs.Recorded.{given_count}
-use Rattle.rt_worker.specs.Rooms.{ClosesRightly}
+use Rattle.rt_worker.specs.Rooms.{MayAct}
 use Rattle.std.proofs.Common.{inr}
 
 -- one more where the name is of this sender
@@ -40,13 +40,13 @@ module _ {T : Type 0} (name : JobId) (before : Journal T) where
       by_effect (Some note) = omega arith
 
   -- a command's effect follows its answer
-  effects_close : (least room : ℕ) (order : Order (Unit {0})) (answer : Answer) → EachNote (ClosesRightly least room) before →
-      EachNote (ClosesRightly least room) (with_effect (effect_note order answer) (writes.Answered name answer ∷ []) ++ before)
-  effects_close least room (Create weight) (answers.Created queue) each = (tt, (tt, each))
-  effects_close least room (SetShares queue weight) answers.SharesSet each = (tt, (tt, each))
-  effects_close least room (Close queue mode) answers.Closed each = (tt, (tt, each))
-  effects_close least room (CloseCore mode) answers.Closed each = (inl refl, (tt, each))
-  effects_close least room _ _ each = (tt, each)
+  effects_act : (least room : ℕ) (order : Order (Unit {0})) (answer : Answer) → EachNote (MayAct least room) before →
+      EachNote (MayAct least room) (with_effect (effect_note order answer) (writes.Answered name answer ∷ []) ++ before)
+  effects_act least room (Create weight) (answers.Created queue) each = (tt, (tt, each))
+  effects_act least room (SetShares queue weight) answers.SharesSet each = (tt, (tt, each))
+  effects_act least room (Close queue mode) answers.Closed each = (tt, (tt, each))
+  effects_act least room (CloseCore mode) answers.Closed each = (inl refl, (tt, each))
+  effects_act least room _ _ each = (tt, each)
 
   -- an answer gives one outcome, and its effect none
   effects_give : (order : Order (Unit {0})) (answer : Answer) (sender : ℕ) →
@@ -67,18 +67,18 @@ module _ {T : Type 0} (name : JobId) (before : Journal T) where
     delivery_short (CloseCore mode) notes is = rw is.2 (effects_short (CloseCore mode) is.0)
 
     -- no core closes by itself by a delivery
-    pub delivery_closes : (least room : ℕ) (order : Order J) (notes : List (Note T)) → IsDelivery name order before notes → EachNote (ClosesRightly least room) before →
-        EachNote (ClosesRightly least room) (notes ++ before)
-    delivery_closes least room (Job queue job) notes is each = subst (λ notes. EachNote (ClosesRightly least room) (notes ++ before)) (sym is) (by_refusal (refusal queue before))
+    pub delivery_acts : (least room : ℕ) (order : Order J) (notes : List (Note T)) → IsDelivery name order before notes → EachNote (MayAct least room) before →
+        EachNote (MayAct least room) (notes ++ before)
+    delivery_acts least room (Job queue job) notes is each = subst (λ notes. EachNote (MayAct least room) (notes ++ before)) (sym is) (by_refusal (refusal queue before))
       where
-        by_refusal : (why : Option Reason) → EachNote (ClosesRightly least room) (entry_note name queue why ∷ before)
+        by_refusal : (why : Option Reason) → EachNote (MayAct least room) (entry_note name queue why ∷ before)
         by_refusal None = (tt, each)
         by_refusal (Some reason) = (tt, each)
-    delivery_closes least room (Create weight) notes is each = subst (λ notes. EachNote (ClosesRightly least room) (notes ++ before)) (sym is.2) (effects_close least room (Create weight) is.0 each)
-    delivery_closes least room (SetShares queue weight) notes is each =
-        subst (λ notes. EachNote (ClosesRightly least room) (notes ++ before)) (sym is.2) (effects_close least room (SetShares queue weight) is.0 each)
-    delivery_closes least room (Close queue mode) notes is each = subst (λ notes. EachNote (ClosesRightly least room) (notes ++ before)) (sym is.2) (effects_close least room (Close queue mode) is.0 each)
-    delivery_closes least room (CloseCore mode) notes is each = subst (λ notes. EachNote (ClosesRightly least room) (notes ++ before)) (sym is.2) (effects_close least room (CloseCore mode) is.0 each)
+    delivery_acts least room (Create weight) notes is each = subst (λ notes. EachNote (MayAct least room) (notes ++ before)) (sym is.2) (effects_act least room (Create weight) is.0 each)
+    delivery_acts least room (SetShares queue weight) notes is each =
+        subst (λ notes. EachNote (MayAct least room) (notes ++ before)) (sym is.2) (effects_act least room (SetShares queue weight) is.0 each)
+    delivery_acts least room (Close queue mode) notes is each = subst (λ notes. EachNote (MayAct least room) (notes ++ before)) (sym is.2) (effects_act least room (Close queue mode) is.0 each)
+    delivery_acts least room (CloseCore mode) notes is each = subst (λ notes. EachNote (MayAct least room) (notes ++ before)) (sym is.2) (effects_act least room (CloseCore mode) is.0 each)
 
     -- in a core that hands back each delivery gives one outcome
     pub delivery_gives : (order : Order J) (notes : List (Note T)) → IsDelivery name order before notes → core_mode before ≡ Some Return → (sender : ℕ) →

@@ -23,15 +23,15 @@ use Rattle.rt_grid.specs.Ends.{EndsView, IsFreshOut, in_at, no_out}
 use Rattle.rt_settings.specs.Configs.{least_room}
 use Rattle.rt_worker.specs.Linked.{IsLinked}
 use Rattle.rt_worker.specs.Opening.{AreEndsOf, IsOpenedOver, CreatesSince}
-use Rattle.rt_worker.specs.Rooms.{least_free, ClosesRightly, ClosesOnlyShort, HasSpare}
+use Rattle.rt_worker.specs.Rooms.{least_free, MayAct, ActsAsItMay, HasSpare}
 use Rattle.rt_worker.proofs.Along.{ins_along, outs_along, seat_along, seat_same}
 
 module _ {T : Type 0} where
   -- a creation closes nothing
-  pub opening_closes : (least room : ℕ) (notes : Journal T) → IsOpening notes → EachNote (ClosesRightly least room) notes
-  opening_closes least room [] opening = tt
-  opening_closes least room (Created queue weight ∷ before) opening = (tt, opening_closes least room before opening)
-  opening_closes least room (_ ∷ before) opening = absurd opening
+  pub opening_acts : (least room : ℕ) (notes : Journal T) → IsOpening notes → EachNote (MayAct least room) notes
+  opening_acts least room [] opening = tt
+  opening_acts least room (Created queue weight ∷ before) opening = (tt, opening_acts least room before opening)
+  opening_acts least room (_ ∷ before) opening = absurd opening
 
 module _ {J T : Type 0} where
   -- a fresh end to a core, and one from an actor
@@ -148,8 +148,8 @@ module _ {J T : Type 0} where
           let places : (recorded.core.cores + 1) * (recorded.cap + 1) ≡ (cores + 1) * (cap + 1) = ap (λ cores. (cores + 1) * (recorded.cap + 1)) created.seat.cores ∙ ap (λ cap. (cores + 1) * (cap + 1)) created.seat.cap in
           omega (arith, enough, created.few, places, created.seat.room)
 
-      pub opened_closes : ClosesOnlyShort recorded.core.cores recorded.cap recorded.journal
-      opened_closes = opening_closes (least_free recorded.core.cores recorded.cap) recorded.journal.room recorded.journal.notes created.opening
+      pub opened_acts : ActsAsItMay recorded.core.cores recorded.cap recorded.journal
+      opened_acts = opening_acts (least_free recorded.core.cores recorded.cap) recorded.journal.room recorded.journal.notes created.opening
 
       pub opened_terms : terms_at recorded ≡ record { actor = core; cores = cores; cap = cap }
       opened_terms =

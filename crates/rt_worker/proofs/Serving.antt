@@ -1,5 +1,5 @@
 -- Each step of a worker leaves it room for the next.
-use Rattle.std.proofs.Common.{◌≡◌, inr, ℕ, suc, ◌+◌, ◌*◌, ◌≤◌, [], ◌∷◌, ◌++◌, length, sym, ◌∙◌, ap, subst, arith}
+use Rattle.std.proofs.Common.{◌≡◌, inr, ℕ, suc, ◌+◌, ◌*◌, ◌≤◌, ◌∷◌, ◌++◌, length, sym, ◌∙◌, ap, subst, arith}
 use Rattle.std.specs.Prelude.{◌==◌, Bool, true, false, Some, unwrap_or, IsSome}
 use Rattle.std.proofs.lemmas.List.{length-append}
 use Rattle.rt_ids.specs.declared.order.Outcome.{Outcome}
@@ -8,65 +8,36 @@ use Rattle.rt_ids.specs.declared.note.Note.TheVariants as writes
 use Rattle.rt_ids.specs.declared.order.Mode.TheVariants.{Return}
 use Rattle.rt_ids.specs.Filters.{given_outcomes}
 use Rattle.rt_ids.specs.Work.{number_if}
-use Rattle.rt_ids.specs.Journal.{Journal, EachNote}
+use Rattle.rt_ids.specs.Journal.{EachNote}
 use Rattle.rt_ids.specs.Closing.{core_mode, final_count}
 use Rattle.rt_ids.specs.Lawful.{MayStand}
 use Rattle.rt_ids.proofs.Returning.{has_reason}
-use Rattle.rt_jobs.specs.declared.job.Step.{Step}
-use Rattle.rt_jobs.specs.declared.job.Step.TheVariants as step
 use Rattle.rt_jobs.specs.Steps.{Owed}
-use Rattle.rt_ids.specs.declared.names.JobId.{JobId}
 use Rattle.rt_journal.specs.Polls.{poll_note, settle_note}
 use Rattle.rt_journal.specs.Recorded.{RecordedView, terms_at, sum_upto, given_count}
 use Rattle.rt_journal.specs.Ends.{IsSameSeat}
 use Rattle.rt_journal.specs.Steps.{Delivers, Receives}
-use Rattle.rt_recorded_desk.specs.Posts.{ArePosts}
-use Rattle.rt_recorded_desk.specs.Tickets.{AreCollected}
 use Rattle.rt_journal.proofs.Sums.{sum_upto-same, sum_upto-one_more}
 use Rattle.rt_grid.specs.Ends.{in_at}
 use Rattle.rt_worker.specs.Linked.{LinkedView, IsLinked}
 use Rattle.rt_worker.specs.Steps.{DeliversFrom, CollectsOf, MakesTurn, PollsOne, HandsBack}
 use Rattle.rt_worker.specs.Gates.{ShutsFirst}
 use Rattle.rt_worker.specs.Ended.{IsServed}
-use Rattle.rt_worker.specs.Rooms.{least_free, last_through, ClosesRightly, ClosesOnlyShort, HasSpare, IsEnding, IsProvided, IsReady}
+use Rattle.rt_worker.specs.Rooms.{least_free, last_through, IsPolling, MayAct, ActsAsItMay, HasSpare, IsEnding, IsProvided, IsReady}
 use Rattle.rt_worker.specs.declared.turn.Made.{Made}
 use Rattle.rt_worker.specs.declared.turn.Made.TheVariants as came
-use Rattle.rt_worker.proofs.Noted.{more_from, delivery_short, delivery_closes, delivery_gives}
+use Rattle.rt_worker.proofs.Acting.{begins_poll, collects_act, picks_act, posts_act, settles_act}
+use Rattle.rt_worker.proofs.Noted.{more_from, delivery_short, delivery_acts, delivery_gives}
 use Rattle.rt_worker.proofs.Spare.{stays_returning, places_some, places_more, places_few, posts_few}
 
-module _ {T : Type 0} where
-  -- the notes of a pick close nothing, nor do those of a post, nor that of a settling
-  picks_close : (least room : ℕ) (name : JobId) (was_started : Bool) (queue runtime : ℕ) (before : Journal T) → EachNote (ClosesRightly least room) before →
-      EachNote (ClosesRightly least room) (poll_note name was_started ∷ writes.Pick queue runtime ∷ before)
-  picks_close least room name false queue runtime before each = (tt, (tt, each))
-  picks_close least room name true queue runtime before each = (tt, (tt, each))
-
-  posts_close : (least room : ℕ) (notes before : Journal T) → ArePosts notes → EachNote (ClosesRightly least room) before → EachNote (ClosesRightly least room) (notes ++ before)
-  posts_close least room [] before posts each = each
-  posts_close least room (writes.Sent name order ∷ notes) before posts each = (tt, posts_close least room notes before posts each)
-  posts_close least room (writes.Redeemed name outcome ∷ notes) before posts each = (tt, posts_close least room notes before posts each)
-  posts_close least room (writes.Detached name ∷ notes) before posts each = (tt, posts_close least room notes before posts each)
-  posts_close least room (_ ∷ notes) before posts each = absurd posts
-
-  settles_close : (least room : ℕ) (name : JobId) (time : ℕ) (did : Step T) (before : Journal T) → EachNote (ClosesRightly least room) before →
-      EachNote (ClosesRightly least room) (settle_note name time did ∷ before)
-  settles_close least room name time step.Yield before each = (tt, each)
-  settles_close least room name time (step.Done out) before each = (tt, each)
-
-  -- nor do the notes of outcomes that were collected
-  collects_close : (least room core : ℕ) (notes before : Journal T) → AreCollected core notes → EachNote (ClosesRightly least room) before → EachNote (ClosesRightly least room) (notes ++ before)
-  collects_close least room core [] before are each = each
-  collects_close least room core (writes.Collected name outcome ∷ notes) before are each = (tt, collects_close least room core notes before are.1 each)
-  collects_close least room core (_ ∷ notes) before are each = absurd are
-
 module _ {J T : Type 0} where
-  -- what was closed rightly by the old numbers was so by the new ones
-  pub closes_here : (old new : RecordedView J T) → IsSameSeat old new → EachNote (ClosesRightly (least_free old.core.cores old.cap) old.journal.room) new.journal.notes →
-      ClosesOnlyShort new.core.cores new.cap new.journal
-  closes_here old new seat each =
-      subst (λ least. EachNote (ClosesRightly least new.journal.room) new.journal.notes)
+  -- what a core may do by the old numbers it may do by the new ones
+  pub acts_here : (old new : RecordedView J T) → IsSameSeat old new → EachNote (MayAct (least_free old.core.cores old.cap) old.journal.room) new.journal.notes →
+      ActsAsItMay new.core.cores new.cap new.journal
+  acts_here old new seat each =
+      subst (λ least. EachNote (MayAct least new.journal.room) new.journal.notes)
       (sym (ap (λ cores. least_free cores new.cap) seat.cores ∙ ap (λ cap. least_free old.core.cores cap) seat.cap))
-      (subst (λ room. EachNote (ClosesRightly (least_free old.core.cores old.cap) room) new.journal.notes) (sym seat.room) each)
+      (subst (λ room. EachNote (MayAct (least_free old.core.cores old.cap) room) new.journal.notes) (sym seat.room) each)
 
   -- who is ready for a step is provided
   pub ready_provided : (ending : Bool) (view : RecordedView J T) → IsReady ending view → IsProvided ending view
@@ -106,11 +77,11 @@ module _ {J T : Type 0} where
   module _ {same : J → J → Type 0} {made : J → ℕ} {polls : Owed J T} {fits : Order J → Outcome J T → Type 0} where
     -- the same core is as well served as before
     pub unmoved : (ending : Bool) (old new : LinkedView J T) → IsLinked same made polls fits new → IsReady ending old.recorded → new.recorded ≡ old.recorded →
-        ClosesOnlyShort old.recorded.core.cores old.recorded.cap old.recorded.journal → IsServed same made polls fits (record { linked = new; ending = ending })
-    unmoved ending old new linked ready is closes = record {
+        ActsAsItMay old.recorded.core.cores old.recorded.cap old.recorded.journal → IsServed same made polls fits (record { linked = new; ending = ending })
+    unmoved ending old new linked ready is acts = record {
       linked = linked;
       provided = subst (IsProvided ending) (sym is) (ready_provided ending old.recorded ready);
-      closes = subst (λ (view : RecordedView J T). ClosesOnlyShort view.core.cores view.cap view.journal) (sym is) closes;
+      acts = subst (λ (view : RecordedView J T). ActsAsItMay view.core.cores view.cap view.journal) (sym is) acts;
     }
 
     module _ (sender : ℕ) (old new : LinkedView J T) (was : IsLinked same made polls fits old) (now : IsLinked same made polls fits new) (known : sender ≤ old.recorded.core.cores) (seat : IsSameSeat old.recorded new.recorded)
@@ -146,44 +117,44 @@ module _ {J T : Type 0} where
       delivered_provided false ready = spare_after old.recorded new.recorded 2 seat ready delivered_longer (omega (arith, places_some old.recorded.core.cores old.recorded.cap))
       delivered_provided true ready = ending_after old.recorded new.recorded (delivered_one ready.returning) ready
 
-      pub delivered_served : (ending : Bool) → IsReady ending old.recorded → ClosesOnlyShort old.recorded.core.cores old.recorded.cap old.recorded.journal →
+      pub delivered_served : (ending : Bool) → IsReady ending old.recorded → ActsAsItMay old.recorded.core.cores old.recorded.cap old.recorded.journal →
           IsServed same made polls fits (record { linked = new; ending = ending })
-      delivered_served ending ready closes = record {
+      delivered_served ending ready acts = record {
         linked = now;
         provided = delivered_provided ending ready;
-        closes = closes_here old.recorded new.recorded seat
-            (subst (EachNote (ClosesRightly (least_free old.recorded.core.cores old.recorded.cap) old.recorded.journal.room)) (sym notes_now)
-            (delivery_closes does.0.name old.recorded.journal.notes (least_free old.recorded.core.cores old.recorded.cap) old.recorded.journal.room does.0.order received.notes received.delivery closes));
+        acts = acts_here old.recorded new.recorded seat
+            (subst (EachNote (MayAct (least_free old.recorded.core.cores old.recorded.cap) old.recorded.journal.room)) (sym notes_now)
+            (delivery_acts does.0.name old.recorded.journal.notes (least_free old.recorded.core.cores old.recorded.cap) old.recorded.journal.room does.0.order received.notes received.delivery acts));
       }
 
     -- whether an order was delivered or not
     pub delivers_served : (sender : ℕ) (found ending : Bool) (old new : LinkedView J T) → IsLinked same made polls fits old → IsLinked same made polls fits new → sender ≤ old.recorded.core.cores →
-        DeliversFrom sender old found new → IsReady ending old.recorded → ClosesOnlyShort old.recorded.core.cores old.recorded.cap old.recorded.journal →
+        DeliversFrom sender old found new → IsReady ending old.recorded → ActsAsItMay old.recorded.core.cores old.recorded.cap old.recorded.journal →
         IsServed same made polls fits (record { linked = new; ending = ending })
-    delivers_served sender true ending old new was now known does ready closes = delivered_served sender old new was now known does.stays.seat does.delivers ending ready closes
-    delivers_served sender false ending old new was now known does ready closes = unmoved ending old new now ready does.delivers.1 closes
+    delivers_served sender true ending old new was now known does ready acts = delivered_served sender old new was now known does.stays.seat does.delivers ending ready acts
+    delivers_served sender false ending old new was now known does ready acts = unmoved ending old new now ready does.delivers.1 acts
 
     -- gates that are shut in a core that was closed by an order
     pub shuts_served : (old new : LinkedView J T) → IsLinked same made polls fits new → ShutsFirst (old.recorded.core.cores + 1) old new → IsReady false old.recorded →
-        ClosesOnlyShort old.recorded.core.cores old.recorded.cap old.recorded.journal → IsServed same made polls fits (record { linked = new; ending = false })
-    shuts_served old new now shuts ready closes = record {
+        ActsAsItMay old.recorded.core.cores old.recorded.cap old.recorded.journal → IsServed same made polls fits (record { linked = new; ending = false })
+    shuts_served old new now shuts ready acts = record {
       linked = now;
       provided = spare_after old.recorded new.recorded (old.recorded.core.cores + 1) shuts.stays.seat ready shuts.longer (omega (arith, places_more old.recorded.core.cores old.recorded.cap));
-      closes = closes_here old.recorded new.recorded shuts.stays.seat (shuts.closes (least_free old.recorded.core.cores old.recorded.cap) closes);
+      acts = acts_here old.recorded new.recorded shuts.stays.seat (shuts.acts (least_free old.recorded.core.cores old.recorded.cap) acts);
     }
 
     -- outcomes that were collected
     pub collects_served : (core count : ℕ) (old new : LinkedView J T) → IsLinked same made polls fits new → CollectsOf core old count new → IsReady false old.recorded →
-        ClosesOnlyShort old.recorded.core.cores old.recorded.cap old.recorded.journal → IsServed same made polls fits (record { linked = new; ending = false })
-    collects_served core count old new now did ready closes =
+        ActsAsItMay old.recorded.core.cores old.recorded.cap old.recorded.journal → IsServed same made polls fits (record { linked = new; ending = false })
+    collects_served core count old new now did ready acts =
         let notes_now : new.recorded.journal.notes ≡ did.collects.0 ++ old.recorded.journal.notes = ap (λ journal. journal.notes) did.collects.3 in
         let longer : length new.recorded.journal.notes ≡ length did.collects.0 + length old.recorded.journal.notes = ap length notes_now ∙ length-append did.collects.0 old.recorded.journal.notes in
         record {
           linked = now;
           provided = spare_after old.recorded new.recorded old.recorded.cap did.stays.seat ready (omega (arith, longer, did.collects.2, did.few)) (places_few old.recorded.core.cores old.recorded.cap);
-          closes = closes_here old.recorded new.recorded did.stays.seat
-              (subst (EachNote (ClosesRightly (least_free old.recorded.core.cores old.recorded.cap) old.recorded.journal.room)) (sym notes_now)
-              (collects_close _ _ core did.collects.0 old.recorded.journal.notes did.collects.1 closes));
+          acts = acts_here old.recorded new.recorded did.stays.seat
+              (subst (EachNote (MayAct (least_free old.recorded.core.cores old.recorded.cap) old.recorded.journal.room)) (sym notes_now)
+              (collects_act _ _ core did.collects.0 old.recorded.journal.notes did.collects.1 acts));
         }
 
     module _ (old new : LinkedView J T) (was : IsLinked same made polls fits old) (now : IsLinked same made polls fits new) (seat : IsSameSeat old.recorded new.recorded) where
@@ -198,25 +169,25 @@ module _ {J T : Type 0} where
         settled_notes : new.recorded.journal.notes ≡ settle_note did.settles.out.name (unwrap_or did.ran.told did.spent) did.ran.step ∷ did.left.journal.notes
         settled_notes = ap (λ journal. journal.notes) did.settles.journal
 
-        polled_closes : EachNote (ClosesRightly (least_free old.recorded.core.cores old.recorded.cap) old.recorded.journal.room) old.recorded.journal.notes →
-            EachNote (ClosesRightly (least_free old.recorded.core.cores old.recorded.cap) old.recorded.journal.room) new.recorded.journal.notes
-        polled_closes closes =
-            subst (EachNote (ClosesRightly (least_free old.recorded.core.cores old.recorded.cap) old.recorded.journal.room)) (sym settled_notes)
-            (settles_close _ _ _ _ did.ran.step did.left.journal.notes
-            (subst (EachNote (ClosesRightly (least_free old.recorded.core.cores old.recorded.cap) old.recorded.journal.room)) (sym posted_notes)
-            (posts_close _ _ did.posted.notes did.picked.journal.notes did.posted.posts
-            (subst (EachNote (ClosesRightly (least_free old.recorded.core.cores old.recorded.cap) old.recorded.journal.room)) (sym picked_notes)
-            (picks_close _ _ did.name did.was_started did.queue did.picks.runtime old.recorded.journal.notes closes)))))
+        polled_acts : EachNote (MayAct (least_free old.recorded.core.cores old.recorded.cap) old.recorded.journal.room) old.recorded.journal.notes →
+            EachNote (MayAct (least_free old.recorded.core.cores old.recorded.cap) old.recorded.journal.room) new.recorded.journal.notes
+        polled_acts acts =
+            subst (EachNote (MayAct (least_free old.recorded.core.cores old.recorded.cap) old.recorded.journal.room)) (sym settled_notes)
+            (settles_act _ _ _ _ did.ran.step did.left.journal.notes
+            (subst (EachNote (MayAct (least_free old.recorded.core.cores old.recorded.cap) old.recorded.journal.room)) (sym posted_notes)
+            (posts_act _ _ did.posted.notes did.picked.journal.notes did.posted.posts (subst IsPolling (sym picked_notes) (begins_poll did.name did.was_started (writes.Pick did.queue did.picks.runtime ∷ old.recorded.journal.notes)))
+            (subst (EachNote (MayAct (least_free old.recorded.core.cores old.recorded.cap) old.recorded.journal.room)) (sym picked_notes)
+            (picks_act _ _ did.name did.was_started did.queue did.picks.runtime old.recorded.journal.notes acts)))))
 
         polled_provided : (ending : Bool) → IsReady ending old.recorded → IsProvided ending new.recorded
         polled_provided false ready = spare_after old.recorded new.recorded (old.recorded.core.cores * (3 * old.recorded.cap) + 3) seat ready (omega (arith, did.few)) (posts_few old.recorded.core.cores old.recorded.cap)
         polled_provided true ready = absurd (has_reason did.queue old.recorded.journal.notes (inr ready.returning) did.picks.kept)
 
-        polled_served : (ending : Bool) → IsReady ending old.recorded → ClosesOnlyShort old.recorded.core.cores old.recorded.cap old.recorded.journal → IsServed same made polls fits (record { linked = new; ending = ending })
-        polled_served ending ready closes = record {
+        polled_served : (ending : Bool) → IsReady ending old.recorded → ActsAsItMay old.recorded.core.cores old.recorded.cap old.recorded.journal → IsServed same made polls fits (record { linked = new; ending = ending })
+        polled_served ending ready acts = record {
           linked = now;
           provided = polled_provided ending ready;
-          closes = closes_here old.recorded new.recorded seat (polled_closes closes);
+          acts = acts_here old.recorded new.recorded seat (polled_acts acts);
         }
 
       -- a job that is handed back
@@ -242,18 +213,18 @@ module _ {J T : Type 0} where
             })
             ready
 
-        returned_served : (ending : Bool) → IsReady ending old.recorded → ClosesOnlyShort old.recorded.core.cores old.recorded.cap old.recorded.journal → IsServed same made polls fits (record { linked = new; ending = ending })
-        returned_served ending ready closes = record {
+        returned_served : (ending : Bool) → IsReady ending old.recorded → ActsAsItMay old.recorded.core.cores old.recorded.cap old.recorded.journal → IsServed same made polls fits (record { linked = new; ending = ending })
+        returned_served ending ready acts = record {
           linked = now;
           provided = returned_provided ending ready;
-          closes = closes_here old.recorded new.recorded seat
-              (subst (EachNote (ClosesRightly (least_free old.recorded.core.cores old.recorded.cap) old.recorded.journal.room)) (sym returned_notes) (tt, (tt, closes)));
+          acts = acts_here old.recorded new.recorded seat
+              (subst (EachNote (MayAct (least_free old.recorded.core.cores old.recorded.cap) old.recorded.journal.room)) (sym returned_notes) (tt, (tt, acts)));
         }
 
       -- whatever a turn came to
       pub turned_served : (answers : J → T → Type 0) (tells : ℕ → Type 0) (came_to : Made) (ending : Bool) → MakesTurn same made polls answers fits tells old came_to new → IsReady ending old.recorded →
-          ClosesOnlyShort old.recorded.core.cores old.recorded.cap old.recorded.journal → IsServed same made polls fits (record { linked = new; ending = ending })
-      turned_served answers tells came.Polled ending did ready closes = polled_served did ending ready closes
-      turned_served answers tells came.Returned ending did ready closes = returned_served did ending ready closes
-      turned_served answers tells came.Idle ending did ready closes = unmoved ending old new now ready did.1 closes
-      turned_served answers tells came.Spent ending did ready closes = unmoved ending old new now ready did.2 closes
+          ActsAsItMay old.recorded.core.cores old.recorded.cap old.recorded.journal → IsServed same made polls fits (record { linked = new; ending = ending })
+      turned_served answers tells came.Polled ending did ready acts = polled_served did ending ready acts
+      turned_served answers tells came.Returned ending did ready acts = returned_served did ending ready acts
+      turned_served answers tells came.Idle ending did ready acts = unmoved ending old new now ready did.1 acts
+      turned_served answers tells came.Spent ending did ready acts = unmoved ending old new now ready did.2 acts

@@ -8,7 +8,7 @@ use Rattle.rt_notes.specs.Journals.{JournalView}
 use Rattle.rt_journal.specs.Recorded.{RecordedView, given_count}
 use Rattle.rt_journal.specs.Steps.{with_notes}
 use Rattle.rt_worker.specs.Linked.{LinkedView, StaysLinked}
-use Rattle.rt_worker.specs.Rooms.{last_through, ClosesRightly}
+use Rattle.rt_worker.specs.Rooms.{last_through, MayAct}
 
 module _ {T : Type 0} where
   -- nothing is written, or that the gate of this sender was shut
@@ -43,6 +43,6 @@ module _ {J T : Type 0} where
     pub shut : (sender : ℕ) → sender < count → IsShutWithin sender new.recorded
     pub mode : core_mode new.recorded.journal.notes ≡ core_mode old.recorded.journal.notes
     pub longer : length new.recorded.journal.notes ≤ length old.recorded.journal.notes + count
-    pub closes : (least : ℕ) → EachNote (ClosesRightly least old.recorded.journal.room) old.recorded.journal.notes
-        → EachNote (ClosesRightly least old.recorded.journal.room) new.recorded.journal.notes
+    pub acts : (least : ℕ) → EachNote (MayAct least old.recorded.journal.room) old.recorded.journal.notes
+        → EachNote (MayAct least old.recorded.journal.room) new.recorded.journal.notes
     pub stays : StaysLinked old new

@@ -1,11 +1,12 @@
 -- How many notes a worker keeps free, and what it does where few are free.
-use Rattle.std.specs.Prelude.{◌≡◌, ◌≢◌, ◌⊎◌, ℕ, ◌+◌, ◌-◌, ◌*◌, ◌<◌, ◌≤◌, Bool, true, false, Some, length, unwrap_or, IsSome}
+use Rattle.std.specs.Prelude.{◌≡◌, ◌≢◌, ◌⊎◌, ℕ, ◌+◌, ◌-◌, ◌*◌, ◌<◌, ◌≤◌, Bool, true, false, Some, [], length, unwrap_or, IsSome}
 use Rattle.rt_ids.specs.declared.note.Note.{Note}
-use Rattle.rt_ids.specs.declared.note.Note.TheVariants.{CoreClosed}
+use Rattle.rt_ids.specs.declared.note.Note.TheVariants.{CoreClosed, Sent, Redeemed, Detached}
 use Rattle.rt_ids.specs.declared.order.Mode.TheVariants.{Return}
 use Rattle.rt_ids.specs.Journal.{Journal, EachNote}
 use Rattle.rt_ids.specs.Closing.{core_mode, final_count}
 use Rattle.rt_ids.specs.Commands.{effect_awaited}
+use Rattle.rt_ids.specs.Lines.{jobs_out}
 use Rattle.rt_notes.specs.Journals.{JournalView, free_notes}
 use Rattle.rt_journal.specs.Recorded.{RecordedView, given_count, sum_upto}
 
@@ -18,14 +19,22 @@ module _ {T : Type 0} where
   abbrev pub last_through : Journal T → ℕ → ℕ
   last_through notes sender = unwrap_or (final_count sender notes) 0
 
-  -- the core closes where a command to close it was just answered, or by itself in mode `Return` where the journal is short
-  abbrev pub ClosesRightly : ℕ → ℕ → Note T → Journal T → Type 0
-  ClosesRightly least room (CoreClosed mode) before = IsSome (effect_awaited before) ⊎ ((mode ≡ Return) × (room - length before < least))
-  ClosesRightly least room _ before = Unit {0}
+  -- a job of the core is being polled
+  abbrev pub IsPolling : Journal T → Type 0
+  IsPolling before = jobs_out before ≢ []
 
-  -- no core closed by itself unless its journal was short
-  abbrev pub ClosesOnlyShort : ℕ → ℕ → JournalView T → Type 0
-  ClosesOnlyShort cores cap journal = EachNote (ClosesRightly (least_free cores cap) journal.room) journal.notes
+  -- The core closes where a command to close it was just answered, or by itself in mode `Return` where the journal is short. It sends, redeems and
+  -- lets go only while one of its jobs is being polled.
+  abbrev pub MayAct : ℕ → ℕ → Note T → Journal T → Type 0
+  MayAct least room (CoreClosed mode) before = IsSome (effect_awaited before) ⊎ ((mode ≡ Return) × (room - length before < least))
+  MayAct least room (Sent name order) before = IsPolling before
+  MayAct least room (Redeemed name outcome) before = IsPolling before
+  MayAct least room (Detached name) before = IsPolling before
+  MayAct least room _ before = Unit {0}
+
+  -- each note of the journal is one that the core may write there
+  abbrev pub ActsAsItMay : ℕ → ℕ → JournalView T → Type 0
+  ActsAsItMay cores cap journal = EachNote (MayAct (least_free cores cap) journal.room) journal.notes
 
 module _ {J T : Type 0} where
   -- the journal is short

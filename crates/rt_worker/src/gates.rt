@@ -5,7 +5,7 @@ ghost use Rattle.rt_ids.specs.Closing.{core_mode};
 ghost use Rattle.rt_link.specs.Fits.{Fits};
 ghost use Rattle.rt_worker.specs.Linked.{IsLinked, StaysLinked};
 ghost use Rattle.rt_worker.specs.Gates.{LeavesShut, LeavesReturning, ShutsFirst};
-ghost use Rattle.rt_worker.specs.Rooms.{ClosesOnlyShort, HasSpare, IsEnding, IsShort};
+ghost use Rattle.rt_worker.specs.Rooms.{ActsAsItMay, HasSpare, IsEnding, IsShort};
 
 use crate::lent::look_at;
 use crate::linked::Linked;
@@ -61,9 +61,9 @@ impl<J: Task<Out = u64>> Linked<J> {
     pub(crate) fn end(&mut self)
         requires spare { HasSpare self.old.recorded }
         requires short { IsShort self.old.recorded }
-        requires closes { ClosesOnlyShort self.old.recorded.core.cores self.old.recorded.cap self.old.recorded.journal }
+        requires acts { ActsAsItMay self.old.recorded.core.cores self.old.recorded.cap self.old.recorded.journal }
         ensures ending { IsEnding self.new.recorded }
-        ensures closes { ClosesOnlyShort self.new.recorded.core.cores self.new.recorded.cap self.new.recorded.journal }
+        ensures acts { ActsAsItMay self.new.recorded.core.cores self.new.recorded.cap self.new.recorded.journal }
         ensures stays { StaysLinked self.old self.new }
         ensures linked { IsLinked J.SameTask J.made J.Polls (Fits J.SameTask J.Answers) self.new }
     {

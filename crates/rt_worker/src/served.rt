@@ -5,7 +5,7 @@ ghost use Rattle.rt_ids.specs.Closing.{IsDrained};
 ghost use Rattle.rt_link.specs.Fits.{Fits};
 ghost use Rattle.rt_worker.specs.Ended.{HasEnded};
 ghost use Rattle.rt_worker.specs.Linked.{StaysLinked};
-ghost use Rattle.rt_worker.specs.Rooms.{ClosesOnlyShort, HasSpare, IsReady};
+ghost use Rattle.rt_worker.specs.Rooms.{ActsAsItMay, HasSpare, IsReady};
 
 use crate::ended::Ended;
 use crate::linked::Linked;
@@ -43,7 +43,7 @@ impl<J: Task<Out = u64>> Served<J> {
     /// A linked core that has room for its end, and no more.
     pub fn of(linked: Linked<J>) -> Self
         requires spare { HasSpare linked.recorded }
-        requires closes { ClosesOnlyShort linked.recorded.core.cores linked.recorded.cap linked.recorded.journal }
+        requires acts { ActsAsItMay linked.recorded.core.cores linked.recorded.cap linked.recorded.journal }
         ensures { result ≡ record { linked = linked; ending = false } }
     {
         let _recorded = &linked.recorded;

@@ -10,4 +10,4 @@ invariant_of-self g c =
     subst (λ ending. IsServed g.J.Task.SameTask g.J.Task.made g.J.Task.Polls (Fits g.J.Task.SameTask g.J.Task.Answers) (record { linked = c.shut_gates.new.self; ending = ending })) (sym c.if-self.false)
     (shuts_served c.self.inside.linked c.shut_gates.new.self c.shut_gates.ensures.linked c.shut_gates.ensures.shuts
     (subst (λ ending. IsReady ending c.self.inside.linked.recorded) c.if-self.false (subst (λ view. IsReady view.ending view.linked.recorded) (sym c.self.view_is) c.look.ensures.ready))
-    c.self.invariant.closes)
+    c.self.invariant.acts)

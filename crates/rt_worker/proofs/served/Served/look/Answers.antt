@@ -4,5 +4,5 @@ pub invariant_of-self : goal.invariant_of-self
 invariant_of-self g c = record {
   linked = c.end.ensures.linked;
   provided = c.end.ensures.ending;
-  closes = c.end.ensures.closes;
+  acts = c.end.ensures.acts;
 }
