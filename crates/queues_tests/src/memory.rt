@@ -39,20 +39,30 @@ fn two_queues_come(core: &mut OneCore<'_>) -> bool {
         && answers(core, 5, order, Answer::Created(QueueNo(4)), Some(made))
 }
 
+/// A core with two more queues in this heap, if they fit.
+fn made_in(heap: &LocalHeap, turns: u64) -> Option<OneCore<'_>> {
+    let mut core = opens(heap, turns)?;
+    if creates(&mut core, 1000, Ok(SECOND)) && creates(&mut core, 1000, Ok(THIRD)) {
+        Some(core)
+    } else {
+        None
+    }
+}
+
+/// Whether a core in a heap that is full serves, and asks for no more memory.
+fn serves_full(core: &mut OneCore<'_>, heap: &LocalHeap) -> bool {
+    let used = heap.used();
+    no_queue_fits(core) && each_serves(core) && heap.used() == used
+}
+
 /// None if the core and two more queues don't fit in this heap. If they do: whether it serves, needs no more memory, and takes two more
 /// queues once there is memory for them.
 fn serves_in(heap: &LocalHeap, turns: u64) -> Option<bool> {
     let spare: Vec<u64, &LocalHeap> = Vec::with_capacity(heap, 64).ok()?;
-    let mut core = opens(heap, turns)?;
-    let made = creates(&mut core, 1000, Ok(SECOND)) && creates(&mut core, 1000, Ok(THIRD));
-    let used = heap.used();
-    if made {
-        let goes_on = no_queue_fits(&mut core) && each_serves(&mut core) && heap.used() == used;
-        drop(spare);
-        Some(goes_on && two_queues_come(&mut core))
-    } else {
-        None
-    }
+    let mut core = made_in(heap, turns)?;
+    let goes_on = serves_full(&mut core, heap);
+    drop(spare);
+    Some(goes_on && two_queues_come(&mut core))
 }
 
 /// In heaps that grow by 16 bytes, each growth of the opening and of two creations is the one that is refused, in turn, and all memory

@@ -7,9 +7,10 @@ use rt_ids::{CoreNo, Mode, Order, Outcome, QueueNo, SendError, Ticket};
 use rt_jobs::{Job, Post, Step, Task};
 use rt_runtime::SubmitError;
 use std::alloc::AllocError;
-use std::sync::Arc;
 use std::sync::atomic::Ordering;
+use std::sync::{Arc, Wait};
 use std::test::Fail;
+use std::thread::Threads;
 
 /// Waits until both jobs are submitted, and closes the other core. Answers 1 if that was accepted, else 0.
 #[derive(Drop)]
@@ -104,6 +105,12 @@ fn is_closed(house: &mut House<Closer>, core: u8) -> bool {
     )
 }
 
+/// Whether the caller closes both cores, and all comes to its end.
+fn ends<R: Threads + Wait>(rt: &R, house: House<Closer>) -> bool {
+    let mut house = house;
+    is_closed(&mut house, 0) && is_closed(&mut house, 1) && house.finish(rt).is_ok()
+}
+
 #[test]
 fn two_cores_close_each_other(rt: HostRuntime) -> Result<(), Fail> {
     let (asked, both_there) = (new_mark(rt.alloc())?, new_mark(rt.alloc())?);
@@ -113,6 +120,6 @@ fn two_cores_close_each_other(rt: HostRuntime) -> Result<(), Fail> {
         return Ok(());
     };
     assert!(rt; close_each_other(&mut house, &both_there)?);
-    assert!(rt; is_closed(&mut house, 0) && is_closed(&mut house, 1) && house.finish(&rt).is_ok());
+    assert!(rt; ends(&rt, house));
     Ok(())
 }

@@ -123,17 +123,31 @@ fn saw(assembly: &Assembly, core: u8) -> bool {
     false
 }
 
+/// Submits to each of two cores a job that meets the other's, and closes both.
+fn submit_both<R: Drop>(house: &mut House<R>, alloc: Global) -> Result<bool, AllocError> {
+    let (one, two) = (new_mark(alloc)?, new_mark(alloc)?);
+    Ok(submit(house, CoreNo(0), &one, &two)? && submit(house, CoreNo(1), &two, &one)?)
+}
+
+/// The journals of two cores whose jobs met, if all was accepted.
+fn journals_of<R>(rt: R, alloc: Global) -> Result<Option<Assembly>, AllocError>
+where
+    R: Threads + Wait + Clock + Copy + Drop + Send + 'static,
+{
+    let Some(mut house) = start(rt, alloc)? else {
+        return Ok(None);
+    };
+    if submit_both(&mut house, alloc)? {
+        Ok(house.finish(&rt).ok())
+    } else {
+        Ok(None)
+    }
+}
+
 #[test]
 fn two_polls_at_once(rt: HostRuntime) -> Result<(), Fail> {
-    let (one, two) = (new_mark(rt.alloc())?, new_mark(rt.alloc())?);
-    let Some(mut house) = start(rt, rt.alloc())? else {
-        assert!(rt; false, "no house");
-        return Ok(());
-    };
-    assert!(rt; submit(&mut house, CoreNo(0), &one, &two)?);
-    assert!(rt; submit(&mut house, CoreNo(1), &two, &one)?);
-    let Ok(assembly) = house.finish(&rt) else {
-        assert!(rt; false, "not closed");
+    let Some(assembly) = journals_of(rt, rt.alloc())? else {
+        assert!(rt; false, "no journals");
         return Ok(());
     };
     assert!(rt; saw(&assembly, 0) && saw(&assembly, 1));
