@@ -9,9 +9,8 @@ use Rattle.rt_recorded_desk.proofs.LaneEnds.{fresh_has_lane}
 use Rattle.rt_journal.proofs.Opened.{recorded-opened}
 use Rattle.rt_world.specs.Links.{AreFresh}
 use Rattle.rt_world.specs.Inside.{AreOpened}
-use Rattle.rt_world.proofs.Desks.{desk_at-core, desk_at-outside, journal_at-world, sent_at-world}
+use Rattle.rt_world.proofs.Desks.{desk_at-core, desk_at-outside, journal_at-world, sent_at-world, world_lists}
 use Rattle.rt_world.proofs.LinkSteps.{IsSenderOn}
-use Rattle.rt_world.proofs.Hollow.{world_lists}
 use Rattle.rt_world.proofs.Places.{none_anywhere, none_in_table}
 
 -- the ends of a link that was just opened, beside actors that have noted nothing

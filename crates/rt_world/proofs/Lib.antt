@@ -5,7 +5,6 @@ pub mod LinkRows
 pub mod LinkSteps
 pub mod LentLinks
 pub mod Opening
-pub mod Hollow
 pub mod Fresh
 pub mod WorldAfter
 pub mod CoreSteps
@@ -19,19 +18,6 @@ pub mod OneTurn
 pub mod Turning
 pub mod Gathered
 pub mod WorldSound
-pub mod PlainNotes
-pub mod KeptLists
-pub mod DeterminedRefusals
-pub mod DeterminedSteps
-pub mod DeterminedCalls
-pub mod DeterminedTurns
-pub mod DeterminedRuns
-pub mod DeterminedOpenings
-pub mod DeterminedScripts
-pub mod NoRefusals
-pub mod UnbegunCreations
-pub mod RowRuns
-pub mod WorkedRows
 pub mod Posted
 pub mod Posting
 pub mod Polling

@@ -3,6 +3,7 @@ use Rattle.rt_world.proofs.Words.{◌≡◌, ℕ, ◌+◌, ◌-◌, ◌^◌, ◌
 use Rattle.rt_world.proofs.Words.{None, slice_get, Note, IsRightPick, Owed, RecordedView, desk_of, Whole, Fits, journal_at, noted, no_link, row_of, link_at}
 use Rattle.rt_world.proofs.Words.{Parts, core_at, world_of, IsWorld, IsAtRest, created_count, return_reason, line, turns, CreatesQueue, with_notes, IsHandBack}
 use Rattle.std.proofs.lemmas.Option.{slice_get_within}
+use Rattle.rt_ids.specs.Limits.{most_queues}
 use Rattle.rt_ids.specs.declared.note.Note.TheVariants as writes
 use Rattle.rt_taskqueue.specs.declared.queues.CreateError.{CreateError}
 use Rattle.rt_taskqueue.specs.declared.queues.CreateError.TheVariants.{TooMany, Memory}
@@ -103,7 +104,7 @@ module _ {J T : Type 0} {same : J → J → Type 0} {made : J → ℕ} {polls : 
     quiet_noted (writes.Created queue weight ∷ []) did.2,
   )
   creates_now weight (Err TooMany) did = (ap (λ journal. created_count journal + 1) here ∙ did.0, unchanged did.1)
-  creates_now weight (Err Memory) did = (subst (λ journal. created_count journal + 1 < 256) (sym here) did.0, unchanged did.1)
+  creates_now weight (Err Memory) did = (subst (λ journal. created_count journal + 1 < most_queues) (sym here) did.0, unchanged did.1)
 
 -- a creation leaves the core at rest
 pub created_stays : {J T : Type 0} {same : J → J → Type 0} {made : J → ℕ} {polls : Owed J T} {answers : J → T → Type 0} {old : Parts J T}

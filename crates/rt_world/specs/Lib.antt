@@ -15,10 +15,3 @@ pub mod Links
 pub mod Lending
 pub mod Inside
 pub mod Opening
-pub mod Determined
-pub mod ScriptRuns
-pub mod Creations
-pub mod Rows
-pub mod WorkedRows
-pub mod ClosedRow
-pub mod Hollow

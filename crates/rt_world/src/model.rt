@@ -64,7 +64,7 @@ impl<J: Task<Out = u64>, A: Allocator + Clone> Model for World<J, A> {
 /// Why a world can't be opened.
 #[derive(Clone, Copy, PartialEq, Eq, Debug, thiserror::Error)]
 pub enum WorldError {
-    /// The cores aren't 1 to 16, the capacity of a link isn't 1 to 1024, or a journal is to have more than 2^24 notes.
+    /// There is no core, or no place in a link; or more cores, places or notes are asked for than the limits of rt_ids allow.
     #[error("cores, capacity or room out of range")]
     BadConfig,
     /// There is no memory for all of it.

@@ -8,7 +8,7 @@ ghost use Rattle.rt_world.specs.Links.{IsFreshRow, AreFresh};
 
 use super::links::Links;
 use super::{World, WorldError};
-use rt_ids::{ActorNo, CoreNo, QueueNo};
+use rt_ids::{ActorNo, CoreNo, MOST_CAPACITY, MOST_CORES, MOST_NOTES, QueueNo};
 use rt_jobs::Task;
 use rt_journal::{Recorded, RecordedDesk};
 use rt_link::PlainLink;
@@ -20,7 +20,11 @@ use std::alloc::{AllocError, Allocator, Global};
 fn is_config(cores: u8, cap: u16, room: u32) -> bool
     ensures { IsTrue result ↔ IsConfig cores cap room }
 {
-    cores >= 1 && cores <= 16 && cap >= 1 && cap <= 1024 && room <= 1 << 24
+    cores >= 1
+        && cores <= MOST_CORES
+        && cap >= 1
+        && cap <= MOST_CAPACITY
+        && room as usize <= MOST_NOTES
 }
 
 fn open_cores<J: Task<Out = u64>, A: Allocator + Clone>(
@@ -75,8 +79,8 @@ fn open_row<J: Task>(
 }
 
 impl<J: Task<Out = u64>, A: Allocator + Clone> World<J, A> {
-    /// Opens a world of `cores` cores (1 to 16) with queue 0 alone, links of capacity `cap` (1 to 1024), and journals of `room`
-    /// notes (at most 2^24). Cores take their memory from `core_alloc`, all else from `alloc`.
+    /// Opens a world of `cores` cores (1 to `MOST_CORES`) with queue 0 alone, links of capacity `cap` (1 to `MOST_CAPACITY`), and
+    /// journals of `room` notes (at most `MOST_NOTES`). Cores take their memory from `core_alloc`, all else from `alloc`.
     ///
     /// # Errors
     ///
@@ -112,7 +116,7 @@ impl<J: Task<Out = u64>, A: Allocator + Clone> World<J, A> {
     ///
     /// # Errors
     ///
-    /// `TooMany` exactly where the core has 256 queues, else `Memory` where there isn't enough. Nothing changes then.
+    /// `TooMany` exactly where the core has `MOST_QUEUES` queues, else `Memory` where there isn't enough. Nothing changes then.
     pub fn create(&mut self, core: CoreNo, shares: Shares) -> Result<QueueNo, CreateError>
         requires core { core < self.old.cores }
         requires unbegun { IsUnbegun self.old }
