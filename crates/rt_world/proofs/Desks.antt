@@ -1,7 +1,8 @@
 -- The world that parts make, read off its actors.
-use Rattle.rt_world.proofs.Words.{◌≡◌, ℕ, ◌+◌, ◌<◌, List, [], ◌∷◌, ◌++◌, length, sym, ◌∙◌, ap, subst, arith, get_or, set, length_push, length-map, get_or_push}
-use Rattle.rt_world.proofs.Words.{get_or_append_left, map-set, map, Note, RecordedView, desk_of, journal_at, row_of, link_at, no_link, Parts, core_at, desks}
-use Rattle.rt_world.proofs.Words.{desk_at, world_of, DeskView, opened_desk, opened_beside, get_or-map, sent_at, assembly_of, notes_at, Owed, IsWorld, HasAllLists}
+use Rattle.rt_world.proofs.Words.{◌≡◌, ℕ, ◌+◌, ◌<◌, List, [], ◌∷◌, ◌++◌, length, sym, ◌∙◌, ap, subst, arith, get_or, set, length_push, length-map}
+use Rattle.rt_world.proofs.Words.{get_or_push, get_or_append_left, map-set, map, Note, RecordedView, desk_of, journal_at, row_of, link_at, no_link, Parts}
+use Rattle.rt_world.proofs.Words.{core_at, desks, desk_at, world_of, DeskView, opened_desk, opened_beside, get_or-map, sent_at, assembly_of, notes_at, Owed}
+use Rattle.rt_world.proofs.Words.{IsWorld, HasAllLists}
 use Rattle.std.proofs.Math.Seq.{set-append_seam}
 use Rattle.std.proofs.lemmas.List.{set-append_left}
 use Rattle.std.proofs.lemmas.Option.{unwrap_or-slice_get}

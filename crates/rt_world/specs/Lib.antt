@@ -1,17 +1,12 @@
 pub mod State
 pub mod Closings
 pub mod Collections
-pub mod Stats
 pub mod Sends
 pub mod Acts
 pub mod Deliveries
 pub mod Receipts
 pub mod Calls
-pub mod Beside
-pub mod OneTurn
 pub mod Turns
 pub mod Runs
-pub mod Links
-pub mod Lending
 pub mod Inside
 pub mod Opening
