@@ -12,16 +12,17 @@ use Rattle.rt_world.specs.declared.event.Reply.{Reply}
 use Rattle.rt_world.specs.State.{journal_at, assembly_of}
 use Rattle.rt_world.specs.Sends.{actor_of}
 use Rattle.rt_world.specs.Opening.{HasAllLists, IsUnbegun, IsFresh}
-use Rattle.rt_world.specs.Creations.{OrderNoQueues, with_creations}
-use Rattle.rt_world.specs.Determined.{WasRefused, AreAlike}
-use Rattle.rt_world.specs.ScriptRuns.{ScriptSame, script_made, ScriptPolls, ScriptAnswers, IsScriptRun}
-use Rattle.rt_world.proofs.KeptLists.{happens_keep}
-use Rattle.rt_world.proofs.DeterminedOpenings.{fresh_once}
-use Rattle.rt_world.proofs.DeterminedRefusals.{refused-happens, was_refused}
-use Rattle.rt_world.proofs.DeterminedRuns.{happens_once, assembly_once}
-use Rattle.rt_world.proofs.DeterminedScripts.{scripts_owe_one, scripts_order_none}
-use Rattle.rt_world.proofs.NoRefusals.{plain_unbegun, run_plain}
-use Rattle.rt_world.proofs.UnbegunCreations.{unbegun_fresh, unbegun_creations}
+use Rattle.rt_world_laws.specs.Creations.{OrderNoQueues, with_creations}
+use Rattle.rt_world_laws.specs.Alike.{AreAlike}
+use Rattle.rt_world_laws.specs.Determined.{WasRefused}
+use Rattle.rt_world_laws.specs.ScriptRuns.{ScriptSame, script_made, ScriptPolls, ScriptAnswers, IsScriptRun}
+use Rattle.rt_world_laws.proofs.KeptLists.{happens_keep}
+use Rattle.rt_world_laws.proofs.DeterminedOpenings.{fresh_once}
+use Rattle.rt_world_laws.proofs.DeterminedRefusals.{refused-happens, was_refused}
+use Rattle.rt_world_laws.proofs.DeterminedRuns.{happens_once, assembly_once}
+use Rattle.rt_world_laws.proofs.DeterminedScripts.{scripts_owe_one, scripts_order_none}
+use Rattle.rt_world_laws.proofs.NoRefusals.{plain_unbegun, run_plain}
+use Rattle.rt_world_laws.proofs.UnbegunCreations.{unbegun_fresh, unbegun_creations}
 use Rattle.rt_script.specs.declared.event.ScriptEvent.{ScriptEvent}
 use Rattle.rt_script.specs.Drafts.{Drafted}
 use Rattle.rt_script.specs.Scripts.{script_of}

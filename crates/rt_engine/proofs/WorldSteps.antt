@@ -23,7 +23,7 @@ use Rattle.rt_world.specs.declared.event.Reply.{Reply}
 use Rattle.rt_world.specs.declared.event.Reply.TheVariants as reply
 use Rattle.rt_world.specs.State.{journal_at, noted, without_job, with_sent, assembly_of, IsNearlyFull}
 use Rattle.rt_world.specs.Calls.{CallsAt}
-use Rattle.rt_world.specs.ScriptRuns.{ScriptSame, script_made, ScriptPolls, ScriptAnswers}
+use Rattle.rt_world_laws.specs.ScriptRuns.{ScriptSame, script_made, ScriptPolls, ScriptAnswers}
 use Rattle.rt_world.specs.Sends.{actor_of, AreThere, Sends, sent_reply}
 use Rattle.rt_world.specs.Deliveries.{IsDelivery, with_effect, Delivers}
 use Rattle.rt_ids.specs.Filters.{accepted_orders}

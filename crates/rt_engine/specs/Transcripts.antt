@@ -15,7 +15,7 @@ use Rattle.rt_world.specs.State.{WorldView, journal_at, noted, assembly_of}
 use Rattle.rt_world.specs.Sends.{actor_of}
 use Rattle.rt_world.specs.Opening.{IsFresh, HasAllLists}
 use Rattle.rt_world.specs.Runs.{Happens, IsRun, RunsTo}
-use Rattle.rt_world.specs.ScriptRuns.{ScriptSame, script_made, ScriptPolls, ScriptAnswers}
+use Rattle.rt_world_laws.specs.ScriptRuns.{ScriptSame, script_made, ScriptPolls, ScriptAnswers}
 use Rattle.rt_text.specs.declared.reply.Ends.{Ends}
 use Rattle.rt_text.specs.declared.reply.Quiet.{Quiet}
 use Rattle.rt_script.specs.Drafts.{Drafted}

@@ -1,17 +1,18 @@
 -- What an actor did on its link, as its world sees it: whatever it was, the link's sender did it, it is the step of its event, and the world stays one.
-use Rattle.rt_world.proofs.Words.{◌≡◌, ℕ, ◌+◌, ◌<◌, ◌≤◌, List, length, sym, ◌∙◌, ap, subst, arith, set, map, Journal, Owed, Whole, Fits, Parts, Reply, WorldView}
-use Rattle.rt_world.proofs.Words.{journal_at, desks, world_of, IsWorld, DeskView, Act, IsActOf, IsActAt, Acts, HasActed, Collects, Redeems, Detaches, Sends}
-use Rattle.rt_world.proofs.Words.{RecordedView, desk_of, core_at, link_at, IsAtRest}
+use Rattle.rt_world.proofs.Words.{◌≡◌, ℕ, ◌+◌, ◌<◌, ◌≤◌, List, length, sym, ◌∙◌, ap, subst, arith, set, map, Journal, Owed, Whole, Fits, Parts, Reply}
+use Rattle.rt_world.proofs.Words.{WorldView, journal_at, desks, world_of, IsWorld, DeskView, Act, IsActOf, IsActAt, Acts, HasActed, Collects, Redeems}
+use Rattle.rt_world.proofs.Words.{Detaches, Sends, RecordedView, desk_of, core_at, link_at, IsAtRest}
 use Rattle.rt_world.specs.declared.model.acts.Act.TheVariants.{Send, Collect, Redeem, Detach}
 use Rattle.rt_world.specs.Acts.{notes_for, HasCoreActed}
 use Rattle.rt_world.proofs.Desks.{desks-core}
-use Rattle.rt_world.proofs.LinkRows.{with_link}
-use Rattle.rt_world.proofs.LinkSteps.{OnlySent, in_stays}
+use Rattle.rt_linked_core.proofs.LinkRows.{with_link}
+use Rattle.rt_linked_core.proofs.LinkSteps.{OnlySent, in_stays}
 use Rattle.rt_world.proofs.WorldAfter.{rest_after}
 use Rattle.rt_world.proofs.CoreSteps.{desk_is, parts_now, rests}
 use Rattle.rt_world.proofs.Sending.{IsDoneOn, IsActing, its_cap, its_room, later, changes, all_sent, others_received, senders_sent}
-use Rattle.rt_world.proofs.SentLinks.{IsSubmitted, only_sent, sends_now}
-use Rattle.rt_world.proofs.Ticketing.{got_more, got_same, same_given, collects_now, redeems_now, detaches_now}
+use Rattle.rt_linked_core.proofs.SentLinks.{IsSubmitted, only_sent, got_more, got_same, same_given}
+use Rattle.rt_world.proofs.SentLinks.{sends_now}
+use Rattle.rt_world.proofs.Ticketing.{collects_now, redeems_now, detaches_now}
 
 -- notes that have room in the world have room there
 pub its_notes_fit : {J : Type 0} {same : J → J → Type 0} {made : J → ℕ} {polls : Owed J ℕ} {answers : J → ℕ → Type 0} {old : Parts J ℕ} {sender core : ℕ} {desk : DeskView J ℕ} {link : Whole J ℕ}

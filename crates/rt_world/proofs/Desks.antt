@@ -1,7 +1,8 @@
 -- The world that parts make, read off its actors.
-use Rattle.rt_world.proofs.Words.{◌≡◌, ℕ, ◌+◌, ◌<◌, List, [], ◌∷◌, ◌++◌, length, sym, ◌∙◌, ap, subst, arith, get_or, set, length_push, length-map, get_or_push}
-use Rattle.rt_world.proofs.Words.{get_or_append_left, map-set, map, Note, RecordedView, desk_of, journal_at, row_of, link_at, no_link, Parts, core_at, desks}
-use Rattle.rt_world.proofs.Words.{desk_at, world_of, DeskView, opened_desk, opened_beside, get_or-map, sent_at, assembly_of, notes_at}
+use Rattle.rt_world.proofs.Words.{◌≡◌, ℕ, ◌+◌, ◌<◌, List, [], ◌∷◌, ◌++◌, length, sym, ◌∙◌, ap, subst, arith, get_or, set, length_push, length-map}
+use Rattle.rt_world.proofs.Words.{get_or_push, get_or_append_left, map-set, map, Note, RecordedView, desk_of, journal_at, row_of, link_at, no_link, Parts}
+use Rattle.rt_world.proofs.Words.{core_at, desks, desk_at, world_of, DeskView, opened_desk, opened_beside, get_or-map, sent_at, assembly_of, notes_at, Owed}
+use Rattle.rt_world.proofs.Words.{IsWorld, HasAllLists}
 use Rattle.std.proofs.Math.Seq.{set-append_seam}
 use Rattle.std.proofs.lemmas.List.{set-append_left}
 use Rattle.std.proofs.lemmas.Option.{unwrap_or-slice_get}
@@ -52,3 +53,13 @@ module _ {J T : Type 0} (parts : Parts J T) where
   journals-noted actor now notes longer =
       map-set (λ desk. desk.journal.notes) (desks parts) actor now
       ∙ ap (set (world_of parts).journals actor) (longer ∙ ap (λ before. notes ++ before) (sym (journal_at-world actor)))
+
+module _ {J T : Type 0} {same : J → J → Type 0} {made : J → ℕ} {polls : Owed J T} {answers : J → T → Type 0} (parts : Parts J T) (world : IsWorld same made polls answers parts) where
+  pub world_lists : HasAllLists (world_of parts)
+  world_lists = record {
+    journals_are = length-map (desks parts) (λ desk. desk.journal.notes) ∙ (desk_count parts ∙ ap (λ count. count + 1) world.all_there.cores_are);
+    senders_are = length-map parts.links (map (λ link. link.sent)) ∙ world.all_there.rows_are;
+    links_are = λ sender known.
+        ap length (get_or-map (map (λ link. link.sent)) parts.links sender [])
+        ∙ (length-map (row_of sender parts.links) (λ link. link.sent) ∙ world.all_there.links_are sender known);
+  }

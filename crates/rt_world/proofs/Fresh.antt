@@ -1,42 +1,15 @@
 -- A world as it opens: nothing was noted, and it is at rest.
-use Rattle.rt_world.proofs.Words.{◌≡◌, ℕ, ◌<◌, ◌≤◌, List, [], refl, sym, ◌∙◌, ap, subst, ⊎_elim, arith, cases_lt, Owed, Whole, out_of}
-use Rattle.rt_world.proofs.Words.{inward_of, RecordedView, IsRecorded, desk_of, Fits, IsOutOf, IsInOf, journal_at, link_at, Parts, core_at}
-use Rattle.rt_world.proofs.Words.{desk_at, world_of, HasAllLists, IsWorld, IsAtRest, DeskView, IsWritten, opened_desk, terms_of_desk, opened_beside, sent_at, IsFresh}
-use Rattle.rt_world.proofs.Words.{none-some}
+use Rattle.rt_world.proofs.Words.{◌≡◌, ℕ, ◌<◌, ◌≤◌, List, [], refl, sym, ◌∙◌, ap, subst, ⊎_elim, arith, cases_lt, Owed, Whole, inward_of, RecordedView}
+use Rattle.rt_world.proofs.Words.{IsRecorded, desk_of, Fits, IsInOf, journal_at, link_at, Parts, core_at, desk_at, world_of, HasAllLists, IsWorld, IsAtRest}
+use Rattle.rt_world.proofs.Words.{DeskView, IsWritten, opened_desk, terms_of_desk, sent_at, IsFresh}
 use Rattle.rt_link.specs.Whole.{fresh}
-use Rattle.rt_link.specs.Ends.{SoundOut}
-use Rattle.rt_recorded_desk.proofs.LaneEnds.{fresh_has_lane}
 use Rattle.rt_journal.proofs.Opened.{recorded-opened}
-use Rattle.rt_world.specs.Links.{AreFresh}
-use Rattle.rt_world.specs.Inside.{AreOpened}
-use Rattle.rt_world.proofs.Desks.{desk_at-core, desk_at-outside, journal_at-world, sent_at-world}
-use Rattle.rt_world.proofs.LinkSteps.{IsSenderOn}
-use Rattle.rt_world.proofs.Hollow.{world_lists}
-use Rattle.rt_world.proofs.Places.{none_anywhere, none_in_table}
-
--- the ends of a link that was just opened, beside actors that have noted nothing
-module _ {J T : Type 0} (sender core cores cap room : ℕ) where
-  out_of-opened : core < cores → IsOutOf {J = J} {T = T} core (opened_desk sender cores cap room) (out_of (fresh sender core cap 0)) 0
-  out_of-opened known =
-      record { known = known; from = refl; to = refl; base = refl; capacity = refl; behind = omega arith; accepted = refl; outstanding = refl; collected = refl }
-
-  sound_at_opening : SoundOut {J = J} {T = T} (out_of (fresh sender core cap 0)) 0
-  sound_at_opening = record { numbered = omega arith; room = omega arith; credits = omega arith; behind = omega arith; within = omega arith }
-
-  in_of-opened : sender ≤ cores → IsInOf {J = J} {T = T} sender (opened_beside core cores cap room) (inward_of (fresh sender core cap 0))
-  in_of-opened known = record {
-    known = known;
-    from = refl;
-    to = refl;
-    base = refl;
-    capacity = refl;
-    behind = omega arith;
-    gate = refl;
-    taken = refl;
-    given = refl;
-    ungiven = tt;
-    orders = λ name order from at. absurd (none-some order at);
-  }
+use Rattle.rt_linked_core.specs.Links.{AreFresh}
+use Rattle.rt_linked_core.specs.Cores.{AreOpened}
+use Rattle.rt_world.proofs.Desks.{desk_at-core, desk_at-outside, journal_at-world, sent_at-world, world_lists}
+use Rattle.rt_linked_core.proofs.FreshLinks.{in_of-opened, fresh_sender}
+use Rattle.rt_linked_core.proofs.LinkSteps.{IsSenderOn}
+use Rattle.rt_linked_core.proofs.Places.{none_anywhere, none_in_table}
 
 module _ {J T : Type 0} (same : J → J → Type 0) (made : J → ℕ) (polls : Owed J T) (answers : J → T → Type 0) (cores cap room : ℕ)
     (inside : List (RecordedView J T)) (outside : DeskView J T) (links : List (List (Whole J T)))
@@ -57,10 +30,7 @@ module _ {J T : Type 0} (same : J → J → Type 0) (made : J → ℕ) (polls : 
   senders : (sender core : ℕ) → sender ≤ cores → core < cores → IsSenderOn (Fits same answers) core (desk_at sender parts) (link_at sender core links)
   senders sender core known core_known =
       subst (IsSenderOn (Fits same answers) core (desk_at sender parts)) (sym (links_open.each_fresh sender core known core_known))
-      (subst (λ desk. IsSenderOn (Fits same answers) core desk (fresh sender core cap 0)) (sym (desk_is sender known)) (record {
-        out = out_of-opened sender core cores cap room core_known;
-        lane = fresh_has_lane (Fits same answers) core sender cores cap room (out_of (fresh sender core cap 0)) core_known (refl, refl, refl, refl, refl, sound_at_opening sender core cores cap room);
-      }))
+      (subst (λ desk. IsSenderOn (Fits same answers) core desk (fresh sender core cap 0)) (sym (desk_is sender known)) (fresh_sender (Fits same answers) sender core cores cap room core_known))
 
   -- the parts that were just opened make a world at rest
   pub world_at_opening : IsWorld same made polls answers parts

@@ -1,18 +1,19 @@
 -- A core's turn in its world: a job is picked, it is polled with its post, and the poll is settled; or it is handed back.
-use Rattle.rt_world.proofs.Words.{◌≡◌, ℕ, ◌+◌, ◌-◌, ◌^◌, ◌<◌, ◌≤◌, List, [], ◌∷◌, refl, sym, ◌∙◌, ap, subst, inl, inr, arith, set, get_or-set_same, unwrap_or}
-use Rattle.rt_world.proofs.Words.{set-set, set-get_or, same_Some, Some, slice_get, JobId, Order, Journal, IsRightPick, Owed, Whole, RecordedView, Reply, row_of}
+use Rattle.rt_world.proofs.Words.{◌≡◌, ℕ, ◌+◌, ◌-◌, ◌^◌, ◌<◌, ◌≤◌, List, [], ◌∷◌, refl, sym, ◌∙◌, ap, subst, inl, inr, arith, set, get_or-set_same}
+use Rattle.rt_world.proofs.Words.{unwrap_or, set-set, set-get_or, Some, slice_get, JobId, Order, Journal, IsRightPick, Owed, Whole, RecordedView, row_of}
 use Rattle.rt_world.proofs.Words.{link_at, Parts, core_at, world_of, IsWorld, IsAtRest, journal_at, noted, Job, return_reason, name_started, is_told, line}
 use Rattle.rt_world.proofs.Words.{turns, has_work, Makes, polls_made, poll_note, order_taken, opened_beside, with_notes, post_of, CallsAt, order_under}
 use Rattle.rt_world.proofs.Words.{pick_notes, IsPoll, Turns}
 use Rattle.rt_ids.specs.declared.note.Note.TheVariants as writes
 use Rattle.rt_journal.specs.Polls.{settle_note}
-use Rattle.rt_journal.proofs.SentNotes.{all_posted}
-use Rattle.rt_world.specs.declared.event.Reply.TheVariants as reply
-use Rattle.rt_world.specs.OneTurn as one
+use Rattle.rt_linked_core.specs.declared.turn.Turned.{Turned}
+use Rattle.rt_linked_core.specs.declared.turn.Turned.TheVariants.{Made, Idle, Spent}
+use Rattle.rt_world.specs.Turns.{turned_reply}
+use Rattle.rt_linked_core.specs.OneTurn as one
 use Rattle.rt_world.proofs.CoreSteps.{cores_are, number_is, parts_now, receives, journal_is, core_noted}
 use Rattle.rt_world.proofs.Desks.{sent_at-world}
-use Rattle.rt_world.proofs.LinkSteps.{received-same, no_change}
-use Rattle.rt_world.proofs.OneTurn.{polls_made-picked}
+use Rattle.rt_linked_core.proofs.LinkSteps.{received-same, no_change}
+use Rattle.rt_linked_core.proofs.OneTurn.{settled_stays, out_is, poll_owed, poll_task}
 use Rattle.rt_world.proofs.Posting.{Post, parts_at, IsAt, calls_now}
 use Rattle.rt_world.proofs.Turning.{quiet, quiet_rests, quiet_at_rest, quiet_noted, handed_back, unchanged}
 use Rattle.rt_world.proofs.WorldAfter.{rest_after}
@@ -81,45 +82,13 @@ module _ {J : Type 0} {same : J → J → Type 0} {made : J → ℕ} {polls : Ow
       mid_core = get_or-set_same old.inside number did.turn.left (opened_beside 0 0 0 0) (omega (arith, there, world.all_there.cores_are))
 
       stays : one.StaysBeside same made polls number (core_at number mid) new mid.links after
-      stays = subst (λ at. one.StaysBeside same made polls number at new mid.links after) (sym mid_core)
-          (record {
-            recorded = did.recorded;
-            at_rest = did.turn.settles.out_now;
-            seat = did.turn.stays_settled.seat;
-            outs = did.turn.stays_settled.outs;
-            lanes = did.turn.stays_settled.lanes;
-            links = did.links;
-            ins = did.ins;
-          })
+      stays = subst (λ at. one.StaysBeside same made polls number at new mid.links after) (sym mid_core) (settled_stays did)
 
       settled_is : quiet mid_world number there new after stays ≡ turned
       settled_is = λ i. record old { inside = set-set old.inside number did.turn.left new i; links = after }
 
       polled_rests : IsWorld same made polls answers turned
       polled_rests = subst (IsWorld same made polls answers) settled_is (quiet_rests mid_world number there new after stays)
-
-      -- the job that is settled is the one that was picked
-      out_is : did.turn.settles.out ≡ record { name = did.name; queue = did.queue; job = did.turn.ran.before }
-      out_is = same_Some _ _ (sym did.turn.settles.was_out ∙ (ap (λ view. view.core.out) did.turn.rest ∙ did.turn.picks.out))
-
-      counted : polls_made did.turn.settles.out.name did.turn.left.journal.notes ≡ polls_made did.name (journal_at number (world_of old))
-      counted =
-          ap (λ out. polls_made out.name did.turn.left.journal.notes) out_is
-          ∙ (ap (λ desk. polls_made did.name desk.journal.notes) did.turn.posted.desk
-          ∙ ((all_posted did.turn.posted.notes did.turn.picked.journal.notes did.turn.posted.posts).polls did.name
-          ∙ (ap (λ journal. polls_made did.name journal.notes) did.turn.picks.journal
-          ∙ (polls_made-picked did.name did.name did.queue did.turn.picks.runtime did.started view.journal.notes ∙ ap (polls_made did.name) (sym here)))))
-
-      -- what the poll owed of the job that was in the core, it owes of the one that was sent
-      owed : polls did.turn.settles.sent (made did.turn.settles.sent + polls_made did.name (journal_at number (world_of old))) did.turn.owed.calls did.turn.ran.step did.turn.ran.told
-      owed =
-          subst (λ count. polls did.turn.settles.sent (made did.turn.settles.sent + count) did.turn.owed.calls did.turn.ran.step did.turn.ran.told) counted
-          (did.turn.settles.owed did.turn.owed.calls did.turn.owed.owed)
-
-      task : order_taken view.took did.name ≡ Some (Job did.queue did.turn.settles.sent)
-      task =
-          ap (λ took. order_taken took did.name) (sym (ap (λ view. view.took) did.turn.rest ∙ did.turn.picks.took))
-          ∙ (ap (λ out. order_taken did.turn.left.took out.name) (sym out_is) ∙ (did.turn.settles.task ∙ ap (λ out. Some (Job out.queue did.turn.settles.sent)) out_is))
 
       abbrev before : Journal ℕ
       before = journal_at number (world_of old)
@@ -136,7 +105,7 @@ module _ {J : Type 0} {same : J → J → Type 0} {made : J → ℕ} {polls : Ow
           ∙ (quiet_noted mid_world number there new after stays (settle_note did.turn.settles.out.name (unwrap_or did.turn.ran.told spent) did.turn.ran.step ∷ [])
           (did.turn.settles.journal
           ∙ λ i. with_notes (settle_note did.turn.settles.out.name (unwrap_or did.turn.ran.told (did.turn.told i)) did.turn.ran.step ∷ []) (sym mid_core i).journal)
-          ∙ ap (λ out. noted number (settle_note out.name (unwrap_or did.turn.ran.told spent) did.turn.ran.step ∷ []) (world_of mid)) out_is)
+          ∙ ap (λ out. noted number (settle_note out.name (unwrap_or did.turn.ran.told spent) did.turn.ran.step ∷ []) (world_of mid)) (out_is did))
 
       polled : IsPoll same made polls answers number spent (world_of old) (world_of turned)
       polled = record {
@@ -149,11 +118,11 @@ module _ {J : Type 0} {same : J → J → Type 0} {made : J → ℕ} {polls : Ow
         first = ap (line did.queue) here ∙ did.turn.picks.first;
         kept = ap (return_reason did.queue) here ∙ did.turn.picks.kept;
         job = did.turn.settles.sent;
-        task = task_sent did.name (Job did.queue did.turn.settles.sent) task;
+        task = task_sent did.name (Job did.queue did.turn.settles.sent) (poll_task did);
         calls = did.turn.owed.calls;
         step = did.turn.ran.step;
         told = did.turn.ran.told;
-        owed = owed;
+        owed = subst (λ journal. polls did.turn.settles.sent (made did.turn.settles.sent + polls_made did.name journal) did.turn.owed.calls did.turn.ran.step did.turn.ran.told) (sym here) (poll_owed did);
         answered = did.turn.settles.answered;
         posted = world_of mid;
         posts = subst (λ start. Makes (CallsAt same answers number) did.turn.owed.calls start (world_of mid)) picked_noted
@@ -162,19 +131,18 @@ module _ {J : Type 0} {same : J → J → Type 0} {made : J → ℕ} {polls : Ow
       }
 
     -- after a turn the world is one at rest again, and the turn is the step of its event
-    pub record IsTurned (answer : Reply J) : Type 0 where
+    pub record IsTurned (answer : Turned) : Type 0 where
       pub holds : IsWorld same made polls answers turned
       pub at_rest : IsAtRest old → IsAtRest turned
-      pub does : Turns same made polls answers number spent (world_of old) (world_of turned) answer
+      pub does : Turns same made polls answers number spent (world_of old) (world_of turned) (turned_reply answer)
 
     module _ (stays : one.StaysBeside same made polls number view new old.links after) where
-      without_poll : (answer : Reply J) → Turns same made polls answers number spent (world_of old) (world_of turned) answer → IsTurned answer
+      without_poll : (answer : Turned) → Turns same made polls answers number spent (world_of old) (world_of turned) (turned_reply answer) → IsTurned answer
       without_poll answer turns = record { holds = quiet_rests world number there new after stays; at_rest = quiet_at_rest world number there new after stays; does = turns }
 
-    pub turns_now : (answer : Reply J) → one.Turns same made polls answers number spent view new old.links after answer → IsTurned answer
-    turns_now reply.Noted (inl poll) = record { holds = polled_rests poll; at_rest = λ rest. rest_after old number new after rest poll.turn.settles.out_now; does = inl (polled poll) }
-    turns_now reply.Noted (inr back) = without_poll back.1 reply.Noted (inr (handed_back world number there new after back.1 back.0))
-    turns_now reply.Idle did = without_poll did.2 reply.Idle ((λ queue. ap (has_work queue) here ∙ did.0 queue), unchanged world number there new after did.2 did.1)
-    turns_now reply.Spent did =
-        without_poll did.3 reply.Spent (ap turns here ∙ did.0, (did.1.0, ap (has_work did.1.0) here ∙ did.1.1), unchanged world number there new after did.3 did.2)
-    turns_now _ did = absurd did
+    pub turns_now : (answer : Turned) → one.Turns same made polls answers number spent view new old.links after answer → IsTurned answer
+    turns_now Made (inl poll) = record { holds = polled_rests poll; at_rest = λ rest. rest_after old number new after rest poll.turn.settles.out_now; does = inl (polled poll) }
+    turns_now Made (inr back) = without_poll back.1 Made (inr (handed_back world number there new after back.1 back.0))
+    turns_now Idle did = without_poll did.2 Idle ((λ queue. ap (has_work queue) here ∙ did.0 queue), unchanged world number there new after did.2 did.1)
+    turns_now Spent did =
+        without_poll did.3 Spent (ap turns here ∙ did.0, (did.1.0, ap (has_work did.1.0) here ∙ did.1.1), unchanged world number there new after did.3 did.2)

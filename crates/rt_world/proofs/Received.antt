@@ -1,24 +1,21 @@
 -- A core does something on the link of a sender: it is the step of its event, and the world stays one.
-use Rattle.rt_world.proofs.Words.{◌≡◌, ℕ, ◌<◌, ◌≤◌, Bool, List, sym, ◌∙◌, ap, subst, get_or, Order, Owed, Whole, inward_of, RecordedView, IsInOf, WorldView}
-use Rattle.rt_world.proofs.Words.{journal_at, link_at, Parts, core_at, world_of, IsWorld, Outcome, kept_by_receiver, StartsWith, StartsWith-same, ◌+◌, true}
-use Rattle.rt_world.proofs.Words.{false, [], ◌∷◌, length, arith, append-nil, Option, Some, None, slice_get, Reply, noted, desk_at, IsAtRest, accepted_orders}
-use Rattle.rt_world.proofs.Words.{Inward, Gives, ChangesLink, sent_at, Delivers, IsDelivery, next_place, HasReceived}
-use Rattle.rt_link.specs.Calls.{SeesMore, Takes}
-use Rattle.rt_world.proofs.LinkSteps.{OnlyReceived}
+use Rattle.rt_world.proofs.Words.{◌≡◌, ℕ, ◌<◌, ◌≤◌, Bool, List, sym, ◌∙◌, ap, subst, Owed, Whole, inward_of, RecordedView, IsInOf, WorldView, journal_at}
+use Rattle.rt_world.proofs.Words.{link_at, Parts, core_at, world_of, IsWorld, ◌+◌, true, false, [], ◌∷◌, length, arith, append-nil, slice_get, Reply, noted}
+use Rattle.rt_world.proofs.Words.{desk_at, IsAtRest, accepted_orders, ChangesLink, sent_at, Delivers, IsDelivery, next_place, HasReceived}
+use Rattle.rt_linked_core.proofs.TakenLinks.{DidOnLink, on_link, took_on_link, seen_is, sent_is, only_received}
 use Rattle.rt_world.proofs.CoreSteps.{journal_is, number_is, parts_now, core_noted, core_unchanged, receives}
 use Rattle.rt_ids.specs.declared.order.Envelope.{Envelope}
 use Rattle.rt_ids.specs.Filters.{delivered_names}
 use Rattle.rt_journal.specs.Steps.{Delivers as DeliversTo}
-use Rattle.rt_journal.proofs.GivenEnds.{gave_rest}
 use Rattle.rt_recorded_desk.proofs.NumberedOrders.{length-numbered}
 use Rattle.rt_ids.specs.declared.note.Note.TheVariants as writes
 use Rattle.rt_world.specs.declared.model.receipts.Receipt.{Receipt}
 use Rattle.rt_world.specs.declared.model.receipts.Receipt.TheVariants.{Take, Shut}
 use Rattle.rt_world.specs.Deliveries.{taken_reply}
 use Rattle.rt_world.specs.Receipts.{ReceivesOn, Receives}
-use Rattle.rt_world.proofs.Places.{by_place}
+use Rattle.rt_linked_core.proofs.Places.{by_place}
 use Rattle.rt_world.proofs.Desks.{journal_at-world, sent_at-world}
-use Rattle.rt_world.proofs.LinkRows.{with_link, same_sent, ChangesLink-with_link}
+use Rattle.rt_linked_core.proofs.LinkRows.{with_link, same_sent, ChangesLink-with_link}
 use Rattle.rt_world.proofs.WorldAfter.{rest_after}
 use Rattle.std.proofs.lemmas.Option.{slice_get_past}
 
@@ -43,69 +40,6 @@ module _ {J T : Type 0} {same : J → J → Type 0} {made : J → ℕ} {polls : 
 
   pub receiver_notes : {seen : WorldView J T} → world_of old ≡ seen → view.journal.notes ≡ journal_at core seen
   receiver_notes world_is = ap (λ view. view.journal.notes) by.view_is ∙ (sym (journal_is world core by.core_there) ∙ ap (journal_at core) world_is)
-
--- a receiver sees what it saw, and the sender's numbers are the same
-module _ {J T : Type 0} (link after : Whole J T) (more : SeesMore (inward_of link) (inward_of after)) (untouched : kept_by_receiver after ≡ kept_by_receiver link)
-    (rest : inward_of after ≡ record (inward_of link) { seen = after.sent; taken = after.taken; given = after.given; shut = after.shut }) where
-  pub sent_is : after.sent ≡ link.sent
-  sent_is = StartsWith-same after.sent link.sent more.0 (ap (λ kept. get_or kept 0 0) untouched)
-
-  pub only_received : StartsWith after.given link.given → OnlyReceived link after
-  only_received given = record {
-    rest = λ i. record {
-      from = ap (λ end. end.from) rest i;
-      to = ap (λ end. end.to) rest i;
-      base = ap (λ end. end.base) rest i;
-      capacity = ap (λ end. end.capacity) rest i;
-      sent = sent_is i;
-      taken = after.taken;
-      given = after.given;
-      got = ap (λ kept. get_or kept 1 0) untouched i;
-      credited = ap (λ kept. get_or kept 2 0) untouched i;
-      shut = after.shut;
-    };
-    given = given;
-  }
-
--- what the core did on the link: it took, gave an outcome or shut the gate; and it sees what it saw
-pub record DidOnLink {J T : Type 0} (link after : Whole J T) : Type 0 where
-  pub rest : inward_of after ≡ record (inward_of link) { seen = after.sent; taken = after.taken; given = after.given; shut = after.shut }
-  pub more : SeesMore (inward_of link) (inward_of after)
-  pub given : StartsWith after.given link.given
-
-pub on_link : {J T : Type 0} {link after : Whole J T} {seen : List (Order J)} {taken : ℕ} {given : List (ℕ × Outcome J T)} {shut : Bool} →
-    inward_of after ≡ record (inward_of link) { seen = seen; taken = taken; given = given; shut = shut } →
-    SeesMore (inward_of link) (inward_of after) → StartsWith after.given link.given → DidOnLink link after
-on_link {link = link} is more given = record {
-  rest = is ∙ (λ i. record (inward_of link) {
-    seen = sym (ap (λ end. end.seen) is) i;
-    taken = sym (ap (λ end. end.taken) is) i;
-    given = sym (ap (λ end. end.given) is) i;
-    shut = sym (ap (λ end. end.shut) is) i;
-  });
-  more = more;
-  given = given;
-}
-
--- what was given before is given still
-given_more : {J T : Type 0} (taken : Inward J T) (after : Whole J T) (number : ℕ) (outcome : Option (Outcome J T)) → Gives taken number outcome (inward_of after) → StartsWith after.given taken.given
-given_more taken after number None gives = ([], ap (λ end. end.given) gives ∙ sym (append-nil taken.given))
-given_more taken after number (Some outcome) gives = ((number, outcome) ∷ [], ap (λ end. end.given) gives)
-
--- the core took an order, and gave its outcome, if there is one yet
-module _ {J T : Type 0} (link after : Whole J T) (taken : Inward J T) (envelope : Envelope J) (outcome : Option (Outcome J T)) (takes : Takes (inward_of link) taken (Some envelope))
-    (gives : Gives taken envelope.name.number outcome (inward_of after)) where
-  rest_is : inward_of after ≡ record taken { given = after.given }
-  rest_is = gave_rest taken envelope.name.number outcome (inward_of after) gives
-
-  seen_is : after.sent ≡ taken.seen
-  seen_is = ap (λ end. end.seen) rest_is
-
-  took_on_link : DidOnLink link after
-  took_on_link =
-      on_link (rest_is ∙ (λ i. record (takes.0 i) { given = after.given }))
-      (subst (λ seen. StartsWith seen link.sent × (link.shut ≡ true → seen ≡ link.sent)) (sym seen_is) takes.1)
-      (subst (StartsWith after.given) (ap (λ end. end.given) takes.0) (given_more taken after envelope.name.number outcome gives))
 
 module _ {J T : Type 0} {same : J → J → Type 0} {made : J → ℕ} {polls : Owed J T} {answers : J → T → Type 0} {old : Parts J T} {sender core : ℕ} {what : Receipt}
     {its_view now : RecordedView J T} {its_link after : Whole J T} {answer : Reply J} (world : IsWorld same made polls answers old)

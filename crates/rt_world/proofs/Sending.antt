@@ -1,11 +1,11 @@
 -- A world at rest stays one as the outside actor does something on the link to a core.
 use Rattle.rt_world.proofs.Words.{◌≡◌, ◌≢◌, ℕ, ◌+◌, ◌<◌, ◌≤◌, List, ◌++◌, length, refl, sym, ◌∙◌, ap, subst, arith, set, map, set-get_or, Note, Order}
-use Rattle.rt_world.proofs.Words.{Journal, Owed, Whole, Fits, out_of, WorldView, journal_at, noted, link_at, Parts, desks, desk_at, world_of, IsWorld, Outcome}
-use Rattle.rt_world.proofs.Words.{DeskView, opened_desk, StaysBeside, ChangesLink, seat_of}
+use Rattle.rt_world.proofs.Words.{Journal, Owed, Whole, Fits, out_of, WorldView, journal_at, noted, link_at, Parts, desks, desk_at, world_of, IsWorld}
+use Rattle.rt_world.proofs.Words.{Outcome, DeskView, opened_desk, StaysBeside, ChangesLink, seat_of}
 use Rattle.rt_world.proofs.Desks.{desk_at-outside, desks-outside, journal_at-world, journals-noted}
-use Rattle.rt_world.proofs.Places.{by_place}
-use Rattle.rt_world.proofs.LinkRows.{with_link, same_sent, ChangesLink-with_link}
-use Rattle.rt_world.proofs.LinkSteps.{OnlyReceived, OnlySent, IsSenderOn, received-same, sent-same, each_link, other_link}
+use Rattle.rt_linked_core.proofs.Places.{by_place}
+use Rattle.rt_linked_core.proofs.LinkRows.{with_link, same_sent, ChangesLink-with_link}
+use Rattle.rt_linked_core.proofs.LinkSteps.{OnlyReceived, OnlySent, IsSenderOn, received-same, sent-same, each_link, other_link}
 use Rattle.rt_world.proofs.WorldAfter.{world_after, world_sender}
 
 -- what a call on the sender's end says of its desk, and of the link

@@ -1,68 +1,18 @@
 -- A send as its world sees it: what the link's sender did on it, and what the sender is told.
-use Rattle.rt_world.proofs.Words.{◌≡◌, ℕ, ◌<◌, ◌≤◌, Bool, true, false, List, [], ◌∷◌, ◌++◌, length, refl, sym, ◌∙◌, ap, subst, arith, get_or, set, Result, Ok}
-use Rattle.rt_world.proofs.Words.{Err, true≢false, append-nil, Some, map, JobId, Order, Journal, Owed, Whole, out_of, inward_of, journal_at, Parts, desks}
-use Rattle.rt_world.proofs.Words.{world_of, IsWorld, SendError, Closed, Full, Spent, accepted_orders, IsNextSent, outstanding_count, kept_by_sender, DeskView}
-use Rattle.rt_world.proofs.Words.{terms_of_desk, Sends, sent_reply}
+use Rattle.rt_world.proofs.Words.{◌≡◌, ℕ, ◌<◌, ◌≤◌, true, List, [], ◌∷◌, ◌++◌, length, sym, ◌∙◌, ap, subst, get_or, set, Result, Ok, Err, append-nil, Some}
+use Rattle.rt_world.proofs.Words.{map, JobId, Order, Journal, Owed, Whole, out_of, inward_of, journal_at, Parts, desks, world_of, IsWorld, SendError, Closed}
+use Rattle.rt_world.proofs.Words.{Full, Spent, accepted_orders, IsNextSent, outstanding_count, DeskView, terms_of_desk, Sends, sent_reply}
 use Rattle.rt_ids.specs.declared.note.Note.TheVariants as writes
 use Rattle.rt_ids.specs.declared.order.SendError.TheVariants.{NoCore}
 use Rattle.rt_ids.specs.Closing.{final_count}
 use Rattle.rt_ids.specs.Orders.{without_job}
 use Rattle.rt_link.specs.Calls.{Sends as SendsOn, final_of}
-use Rattle.rt_link.specs.Whole.{gate_number}
 use Rattle.rt_recorded_desk.specs.Submissions.{Submits, numbered}
 use Rattle.rt_world.proofs.Desks.{sent_at-world}
-use Rattle.rt_world.proofs.LinkRows.{sent-with_link}
-use Rattle.rt_world.proofs.LinkSteps.{OnlySent}
+use Rattle.rt_linked_core.proofs.LinkRows.{sent-with_link}
+use Rattle.rt_linked_core.proofs.SentLinks.{added, IsSubmitted, same_gate, sent_is}
 use Rattle.rt_world.proofs.CoreSteps.{journal_is}
 use Rattle.rt_world.proofs.Sending.{IsActing, its_seat, its_cap, its_notes, later, journals_noted, same_now}
-use Rattle.rt_link.proofs.Framed.{Sends-accepted, Sends-refused}
-
-pub one_gate : (gate other : Bool) → gate_number gate ≡ gate_number other → gate ≡ other
-one_gate true true same = refl
-one_gate true false same = absurd (omega (arith, same))
-one_gate false true same = absurd (omega (arith, same))
-one_gate false false same = refl
-
--- what the link has sent more
-abbrev pub added : {J : Type 0} → Order J → Result JobId (SendError J) → List (Order J)
-added order (Ok name) = order ∷ []
-added order (Err error) = []
-
--- what a submission says of the sender's desk, and of the link
-pub record IsSubmitted {J T : Type 0} (core : ℕ) (order : Order J) (desk : DeskView J T) (link : Whole J T) (answer : Result JobId (SendError J)) (now : DeskView J T) (after : Whole J T) : Type 0 where
-  pub submits : Submits core order desk answer now
-  pub sends : SendsOn (out_of link) link.credited order (out_of after) (numbered answer)
-  pub credited : after.credited ≡ link.credited
-  pub untouched : kept_by_sender after ≡ kept_by_sender link
-
-module _ {J T : Type 0} (core : ℕ) (order : Order J) (desk : DeskView J T) (link : Whole J T) (answer : Result JobId (SendError J)) (now : DeskView J T) (after : Whole J T)
-    (did : IsSubmitted core order desk link answer now after) where
-  -- nothing changes but what the link has sent
-  after_is : after ≡ record link { sent = link.sent ++ added order answer }
-  after_is = by_answer answer did.sends
-    where
-      by_answer : (answer : Result JobId (SendError J)) → SendsOn (out_of link) link.credited order (out_of after) (numbered answer) → after ≡ record link { sent = link.sent ++ added order answer }
-      by_answer (Ok name) sends = Sends-accepted link after did.credited did.untouched order name.number sends
-      by_answer (Err error) sends = Sends-refused link after did.credited did.untouched order error sends ∙ (λ i. record link { sent = sym (append-nil link.sent) i })
-
-  pub same_gate : after.shut ≡ link.shut
-  same_gate = ap (λ link. link.shut) after_is
-
-  pub sent_is : after.sent ≡ link.sent ++ added order answer
-  sent_is = ap (λ link. link.sent) after_is
-
-  pub only_sent : OnlySent link after
-  only_sent = record {
-    rest = after_is ∙ (λ i. record link { sent = sym sent_is i; got = sym (ap (λ link. link.got) after_is) i; credited = sym (ap (λ link. link.credited) after_is) i });
-    sent = (added order answer, sent_is);
-    gate = λ shut. by_answer answer shut did.sends sent_is;
-  }
-    where
-      -- behind a shut gate nothing is sent
-      by_answer : (answer : Result JobId (SendError J)) → link.shut ≡ true → SendsOn (out_of link) link.credited order (out_of after) (numbered answer) →
-          after.sent ≡ link.sent ++ added order answer → after.sent ≡ link.sent
-      by_answer (Ok name) shut sends sent = absurd (true≢false (sym shut ∙ sends.0))
-      by_answer (Err error) shut sends sent = sent ∙ append-nil link.sent
 
 module _ {J T : Type 0} {same : J → J → Type 0} {made : J → ℕ} {polls : Owed J T} {answers : J → T → Type 0} {old : Parts J T}
     {sender core : ℕ} {desk now : DeskView J T} {link after : Whole J T} {order : Order J} {answer : Result JobId (SendError J)} {journals : List (Journal T)}

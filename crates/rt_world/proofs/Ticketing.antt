@@ -1,10 +1,10 @@
 -- What a sender does with its outcomes, as its world sees it.
 use Rattle.rt_world.proofs.Words.{◌≡◌, ℕ, cond, List, [], ◌∷◌, ◌++◌, length, refl, sym, ◌∙◌, ap, arith, append_assoc, Some, None, eq-eqb, append-nil}
-use Rattle.rt_world.proofs.Words.{length-append, Note, Outcomes, collected_outcomes, Journal, collected_notes, ◌+◌, ◌-◌, ◌<◌, ◌≤◌, subst, get_or, set, map}
-use Rattle.rt_world.proofs.Words.{Result, Ok, Err, Option, slice_get, JobId, Order, Owed, Whole, Fits, out_of, WorldView, journal_at, noted, link_at, Parts}
-use Rattle.rt_world.proofs.Words.{desks, world_of, IsWorld, TicketError, Unknown, Gone, Pending, Outcome, IsRedeemable, IsDetachable, outcome_note, StartsWith}
-use Rattle.rt_world.proofs.Words.{kept_by_sender, DeskView, RefusesTicket, RedeemsTicket, DetachesTicket, WasAccepted, uncollected, Collects, Redeems, Detaches}
-use Rattle.rt_world.proofs.Words.{redeemed_reply, detached_reply, StartsWith-same}
+use Rattle.rt_world.proofs.Words.{length-append, Note, Outcomes, collected_outcomes, Journal, collected_notes, ◌+◌, ◌-◌, ◌<◌, ◌≤◌, subst, set, map, Result}
+use Rattle.rt_world.proofs.Words.{Ok, Err, Option, slice_get, JobId, Order, Owed, Whole, Fits, out_of, WorldView, journal_at, noted, link_at, Parts, desks}
+use Rattle.rt_world.proofs.Words.{world_of, IsWorld, TicketError, Unknown, Gone, Pending, Outcome, IsRedeemable, IsDetachable, outcome_note, DeskView}
+use Rattle.rt_world.proofs.Words.{RefusesTicket, RedeemsTicket, DetachesTicket, WasAccepted, uncollected, Collects, Redeems, Detaches, redeemed_reply}
+use Rattle.rt_world.proofs.Words.{detached_reply}
 use Rattle.rt_ids.specs.declared.note.Note.TheVariants as writes
 use Rattle.rt_ids.specs.Journal.{with_last}
 use Rattle.rt_recorded_desk.specs.Tickets.{AreCollected, CollectsFrom, GetsAll}
@@ -18,7 +18,6 @@ use Rattle.rt_recorded_desk.specs.Ends.{named_outcomes}
 use Rattle.rt_world.specs.declared.event.Reply.TheVariants as reply
 use Rattle.rt_world.specs.Collections.{FitsUnder}
 use Rattle.rt_world.proofs.Desks.{sent_at-world}
-use Rattle.rt_world.proofs.LinkSteps.{sender_rest, OnlySent}
 use Rattle.rt_world.proofs.CoreSteps.{journal_is, number_is}
 use Rattle.rt_world.proofs.Sending.{IsDoneOn, IsActing, its_sender, its_seat, its_notes, later, noted_now, same_now}
 use Rattle.rt_desk.proofs.Taken.{taken-get}
@@ -51,24 +50,6 @@ module _ {T : Type 0} where
             ∙ (ap (λ list. list ++ (name, what) ∷ []) rest.longer ∙ append_assoc (collected_outcomes core before) rest.outcomes ((name, what) ∷ []));
       }
   are_of core (_ ∷ notes) before collected = absurd collected
-
--- a sender that got outcomes, or gave a credit back, sees what it saw
-module _ {J T : Type 0} (link after : Whole J T) (untouched : kept_by_sender after ≡ kept_by_sender link) where
-  module _ (seen : StartsWith after.given link.given) (rest : out_of after ≡ record (out_of link) { seen = after.given; got = after.got }) where
-    pub same_given : after.given ≡ link.given
-    same_given = StartsWith-same after.given link.given seen (ap (λ kept. get_or kept 1 0) untouched)
-
-    pub got_more : OnlySent link after
-    got_more = record {
-      rest = sender_rest link after untouched rest same_given (ap (λ out. out.closed) rest);
-      sent = ([], ap (λ out. out.sent) rest ∙ sym (append-nil link.sent));
-      gate = λ shut. ap (λ out. out.sent) rest;
-    }
-
-  pub got_same : out_of after ≡ out_of link → OnlySent link after
-  got_same is =
-      got_more ([], ap (λ out. out.seen) is ∙ sym (append-nil link.given))
-      (is ∙ (λ i. record (out_of link) { seen = sym (ap (λ out. out.seen) is) i; got = sym (ap (λ out. out.got) is) i }))
 
 module _ {J T : Type 0} {same : J → J → Type 0} {made : J → ℕ} {polls : Owed J T} {answers : J → T → Type 0} {old : Parts J T}
     {sender to : ℕ} {desk now : DeskView J T} {link after : Whole J T} {journals : List (Journal T)} (world : IsWorld same made polls answers old)

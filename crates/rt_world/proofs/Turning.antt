@@ -1,18 +1,18 @@
 -- A world stays one as a core makes a step that sends nothing, or creates a queue before the first event.
-use Rattle.rt_world.proofs.Words.{◌≡◌, ℕ, ◌+◌, ◌-◌, ◌^◌, ◌<◌, ◌≤◌, [], ◌∷◌, sym, ◌∙◌, ap, subst, arith, List, Result, Ok, Err, get_or_from_slice_get, map, Some}
-use Rattle.rt_world.proofs.Words.{None, slice_get, Note, IsRightPick, Owed, RecordedView, desk_of, Whole, Fits, journal_at, noted, no_link, row_of, link_at}
-use Rattle.rt_world.proofs.Words.{Parts, core_at, world_of, IsWorld, IsAtRest, created_count, return_reason, line, turns, CreatesQueue, with_notes, IsHandBack}
+use Rattle.rt_world.proofs.Words.{◌≡◌, ℕ, ◌+◌, ◌-◌, ◌^◌, ◌<◌, ◌≤◌, [], ◌∷◌, sym, ◌∙◌, ap, subst, arith, List, Result, Ok, Err, get_or_from_slice_get, map}
+use Rattle.rt_world.proofs.Words.{Some, slice_get, Note, IsRightPick, Owed, RecordedView, desk_of, Whole, Fits, journal_at, noted, no_link, row_of, link_at}
+use Rattle.rt_world.proofs.Words.{Parts, core_at, world_of, IsWorld, IsAtRest, created_count, return_reason, line, turns, CreatesQueue, with_notes}
+use Rattle.rt_world.proofs.Words.{IsHandBack}
 use Rattle.std.proofs.lemmas.Option.{slice_get_within}
+use Rattle.rt_ids.specs.Limits.{most_queues}
 use Rattle.rt_ids.specs.declared.note.Note.TheVariants as writes
 use Rattle.rt_taskqueue.specs.declared.queues.CreateError.{CreateError}
 use Rattle.rt_taskqueue.specs.declared.queues.CreateError.TheVariants.{TooMany, Memory}
-use Rattle.rt_world.specs.OneTurn as one
+use Rattle.rt_linked_core.specs.OneTurn as one
 use Rattle.rt_world.specs.Opening.{CreatesAtOpening}
-use Rattle.rt_world.proofs.LinkRows.{same_sent}
-use Rattle.rt_world.proofs.LinkSteps.{IsSenderOn, received-given}
+use Rattle.rt_linked_core.proofs.LinkRows.{same_sent}
+use Rattle.rt_linked_core.proofs.LinkSteps.{IsSenderOn, received-given}
 use Rattle.rt_world.proofs.WorldAfter.{rest_after}
-use Rattle.rt_world.proofs.LentLinks.{no_gift}
-use Rattle.rt_world.proofs.OneTurn.{beside_then}
 use Rattle.rt_world.proofs.CoreSteps.{cores_are, parts_now, receives, journal_is, core_sender, core_noted, core_unchanged}
 
 -- a core that makes a step has each end beside it, and nothing is owed
@@ -103,24 +103,4 @@ module _ {J T : Type 0} {same : J → J → Type 0} {made : J → ℕ} {polls : 
     quiet_noted (writes.Created queue weight ∷ []) did.2,
   )
   creates_now weight (Err TooMany) did = (ap (λ journal. created_count journal + 1) here ∙ did.0, unchanged did.1)
-  creates_now weight (Err Memory) did = (subst (λ journal. created_count journal + 1 < 256) (sym here) did.0, unchanged did.1)
-
--- a creation leaves the core at rest
-pub created_stays : {J T : Type 0} {same : J → J → Type 0} {made : J → ℕ} {polls : Owed J T} {answers : J → T → Type 0} {old : Parts J T}
-    (world : IsWorld same made polls answers old) (core : ℕ) (there : core < old.cores) (free : (core_at core old).core.out ≡ None) (now : RecordedView J T) (weight : ℕ) (told : Result ℕ CreateError) →
-    CreatesQueue weight (core_at core old) told now → one.IsKeptBeside same made polls one.none_owed (core_at core old) now →
-    one.StaysBeside same made polls core (core_at core old) now old.links old.links
-created_stays {old = old} world core there free now weight told did kept = record {
-  recorded = kept.sound;
-  at_rest = by_told told did ∙ free;
-  seat = kept.seat;
-  outs = kept.outs;
-  lanes = kept.lanes;
-  links = no_gift core old.links;
-  ins = beside_then kept core old.links (all_beside world core there);
-}
-  where
-    by_told : (told : Result ℕ CreateError) → CreatesQueue weight (core_at core old) told now → now.core.out ≡ (core_at core old).core.out
-    by_told (Ok queue) did = did.3
-    by_told (Err TooMany) did = ap (λ view. view.core.out) did.1
-    by_told (Err Memory) did = ap (λ view. view.core.out) did.1
+  creates_now weight (Err Memory) did = (subst (λ journal. created_count journal + 1 < most_queues) (sym here) did.0, unchanged did.1)

@@ -1,88 +1,63 @@
 -- The words of the crates below and of this one that its proofs speak in.
-pub use Rattle.rt_core.specs.Figures.{core_stats, queue_stats}
-pub use Rattle.rt_ids.specs.Closing.{core_mode}
 pub use Rattle.rt_ids.specs.Collecting.{IsDetachable, IsRedeemable}
-pub use Rattle.rt_ids.specs.Commands.{IsOpening, created_count, effect_note, return_reason}
+pub use Rattle.rt_ids.specs.Commands.{IsOpening, created_count, return_reason}
 pub use Rattle.rt_ids.specs.Filters.{Outcomes, accepted_orders, collected_outcomes, name_started}
 pub use Rattle.rt_ids.specs.Joining.{AreJoined}
-pub use Rattle.rt_ids.specs.Journal.{EachNote, Journal, is_told}
-pub use Rattle.rt_ids.specs.Keys.{KeyAtMost}
-pub use Rattle.rt_ids.specs.Lawful.{IsNextSent, MayStand}
+pub use Rattle.rt_ids.specs.Journal.{Journal, is_told}
+pub use Rattle.rt_ids.specs.Lawful.{IsNextSent}
 pub use Rattle.rt_ids.specs.Lines.{line}
 pub use Rattle.rt_ids.specs.Outcomes.{outcome_note}
 pub use Rattle.rt_ids.specs.Outstanding.{outstanding_count}
 pub use Rattle.rt_ids.specs.Picks.{IsRightPick, turns}
-pub use Rattle.rt_ids.specs.Runtimes.{virtual_runtime}
 pub use Rattle.rt_ids.specs.Sound.{IsSound}
-pub use Rattle.rt_ids.specs.Terms.{Terms}
 pub use Rattle.rt_ids.specs.Work.{has_work}
 pub use Rattle.rt_ids.specs.declared.names.JobId.{JobId}
 pub use Rattle.rt_ids.specs.declared.names.TicketError.{TicketError}
 pub use Rattle.rt_ids.specs.declared.names.TicketError.TheVariants.{Gone, Pending, Unknown}
 pub use Rattle.rt_ids.specs.declared.note.Note.{Note}
-pub use Rattle.rt_ids.specs.declared.note.OutcomeNote.{OutcomeNote}
-pub use Rattle.rt_ids.specs.declared.order.Answer.{Answer}
 pub use Rattle.rt_ids.specs.declared.order.Order.{Order}
-pub use Rattle.rt_ids.specs.declared.order.Order.TheVariants.{Close, CloseCore, Create, Job, SetShares}
+pub use Rattle.rt_ids.specs.declared.order.Order.TheVariants.{Job}
 pub use Rattle.rt_ids.specs.declared.order.Outcome.{Outcome}
-pub use Rattle.rt_ids.specs.declared.order.Reason.{Reason}
 pub use Rattle.rt_ids.specs.declared.order.SendError.{SendError}
 pub use Rattle.rt_ids.specs.declared.order.SendError.TheVariants.{Closed, Full, Spent}
 pub use Rattle.rt_ids.specs.declared.stats.CoreStats.{CoreStats}
 pub use Rattle.rt_jobs.specs.Calls.{Call, Makes}
 pub use Rattle.rt_jobs.specs.Calls.Call.{Detach, Redeem, Submit}
-pub use Rattle.rt_jobs.specs.Scripts.{Script}
 pub use Rattle.rt_jobs.specs.Steps.{Owed}
-pub use Rattle.rt_jobs.specs.declared.job.Step.{Step}
-pub use Rattle.rt_journal.proofs.DeliveredEnds.{told_elsewhere}
 pub use Rattle.rt_recorded_desk.proofs.NumberedOrders.{get_or-map}
-pub use Rattle.rt_journal.specs.Ends.{Gives, IsInOf, IsInOwing, IsSameSeat, KeepsIn, told_under}
-pub use Rattle.rt_recorded_desk.specs.Ends.{IsOutOf}
-pub use Rattle.rt_journal.specs.Owed.{owed_back}
+pub use Rattle.rt_journal.specs.Ends.{IsInOf, IsSameSeat, KeepsIn}
 pub use Rattle.rt_journal.specs.Polls.{poll_note, polls_made}
 pub use Rattle.rt_journal.specs.Recorded.{IsRecorded, RecordedView, desk_of, order_taken}
 pub use Rattle.rt_journal.specs.Steps.{CreatesQueue, opened_beside, with_notes}
 pub use Rattle.rt_recorded_desk.specs.Submissions.{DeskView, IsWritten, opened_desk, terms_of_desk}
-pub use Rattle.rt_recorded_desk.specs.Tickets.{DetachesTicket, HasLane, RedeemsTicket, RefusesTicket, StaysBeside}
+pub use Rattle.rt_recorded_desk.specs.Tickets.{DetachesTicket, RedeemsTicket, RefusesTicket, StaysBeside}
 pub use Rattle.rt_journal.specs.Whole.{post_of}
-pub use Rattle.rt_link.proofs.Lists.{StartsWith-same}
-pub use Rattle.rt_link.specs.Ends.{StartsWith}
 pub use Rattle.rt_link.specs.Fits.{Fits}
-pub use Rattle.rt_link.specs.Whole.{inward_of, kept_by_receiver, kept_by_sender, out_of}
-pub use Rattle.rt_link.specs.declared.ends.Inward.{Inward}
+pub use Rattle.rt_link.specs.Whole.{inward_of, kept_by_sender, out_of}
 pub use Rattle.rt_link.specs.declared.plain.Whole.{Whole}
-pub use Rattle.rt_taskqueue.specs.Queues.{queue_count, waiting_of}
 pub use Rattle.rt_world.specs.Acts.{Acts, HasActed, IsActAt, IsActOf}
-pub use Rattle.rt_world.specs.Calls.{AskAlike, CallsAt}
-pub use Rattle.rt_world.specs.Closings.{Shuts}
+pub use Rattle.rt_world.specs.Calls.{CallsAt}
 pub use Rattle.rt_world.specs.Collections.{Collects, Detaches, Redeems, WasAccepted, collected_notes, detached_reply, redeemed_reply, uncollected}
-pub use Rattle.rt_world.specs.Creations.{CallNoQueues, IsNoCreation, OrderNoQueues, PollsOrderNone, with_creations}
-pub use Rattle.rt_world.specs.Deliveries.{Delivers, IsDelivery, next_place, with_effect}
-pub use Rattle.rt_world.specs.Determined.{AreAlike, AreAllAlike, IsToldRun, OwesOne, WasRefused, WasRefusedSince, is_refusal, tells_refusal}
+pub use Rattle.rt_world.specs.Deliveries.{Delivers, IsDelivery, next_place}
 pub use Rattle.rt_world.specs.Inside.{IsAtRest, IsWorld, Parts, core_at, desk_at, desks, notes_at, seat_of, world_of}
-pub use Rattle.rt_world.specs.Links.{ChangesLink, GivesOnOne, IsFreshRow, link_at, no_link, row_of}
-pub use Rattle.rt_world.specs.OneTurn.{IsBesideAll, IsKeptBeside, none_owed, owed_settled}
-pub use Rattle.rt_world.specs.Opening.{HasAllLists, IsFresh, IsUnbegun}
+pub use Rattle.rt_linked_core.specs.Links.{ChangesLink, link_at, no_link, row_of}
+pub use Rattle.rt_linked_core.specs.OneTurn.{IsKeptBeside, none_owed}
+pub use Rattle.rt_world.specs.Opening.{HasAllLists, IsFresh}
 pub use Rattle.rt_world.specs.Receipts.{HasReceived}
-pub use Rattle.rt_world.specs.Rows.{name}
-pub use Rattle.rt_world.specs.Runs.{Happens, IsRun, Steps}
-pub use Rattle.rt_world.specs.ScriptRuns.{ScriptAnswers, ScriptPolls, ScriptSame, script_made}
+pub use Rattle.rt_world.specs.Runs.{Happens, IsRun}
 pub use Rattle.rt_world.specs.Sends.{AreThere, Sends, actor_of, sent_reply}
-pub use Rattle.rt_world.specs.State.{IsNearlyFull, WorldView, assembly_of, journal_at, noted, order_under, sent_at, terms_at, with_sent, without_job}
-pub use Rattle.rt_world.specs.Stats.{TellsCore, TellsQueues}
-pub use Rattle.rt_world.specs.Turns.{IsHandBack, IsPoll, Turns, pick_notes, settle_note}
+pub use Rattle.rt_world.specs.State.{WorldView, assembly_of, journal_at, noted, order_under, sent_at}
+pub use Rattle.rt_recorded_stats.specs.Stats.{TellsCore, TellsQueues}
+pub use Rattle.rt_world.specs.Turns.{IsHandBack, IsPoll, Turns, pick_notes}
 pub use Rattle.rt_world.specs.declared.event.Event.{Event}
-pub use Rattle.rt_world.specs.declared.event.Event.TheVariants.{Collect, Deliver, Send, Shut, Turn}
 pub use Rattle.rt_world.specs.declared.event.Reply.{Reply}
 pub use Rattle.rt_world.specs.declared.model.acts.Act.{Act}
-pub use Rattle.std.proofs.Common.{Bool, List, [], ap, append_assoc, arith, cond, false, get_or, get_or-set_other, get_or-set_same, inl, inr, length, refl, set}
-pub use Rattle.std.proofs.Common.{subst, suc, sym, true, vec_capacity, vec_items, zero, ℕ, ⊎_elim, ◌*◌, ◌++◌, ◌+◌, ◌-◌, ◌<◌, ◌^◌, ◌∙◌, ◌∷◌, ◌≡◌, ◌≢◌, ◌≤◌, ◌⊎◌}
-pub use Rattle.std.proofs.Math.Logic.{⊎_map}
-pub use Rattle.std.proofs.lemmas.Bool.{cases_eq, cases_lt, eq-eqb, true≢false}
+pub use Rattle.std.proofs.Common.{Bool, List, [], ap, append_assoc, arith, cond, false, get_or, get_or-set_other, get_or-set_same, inl, inr, length, refl}
+pub use Rattle.std.proofs.Common.{set, subst, sym, true, vec_capacity, ℕ, ⊎_elim, ◌*◌, ◌++◌, ◌+◌, ◌-◌, ◌<◌, ◌^◌, ◌∙◌, ◌∷◌, ◌≡◌, ◌≢◌, ◌≤◌}
+pub use Rattle.std.proofs.lemmas.Bool.{cases_lt, eq-eqb, true≢false}
 pub use Rattle.std.proofs.lemmas.Iterator.Adapters.{YieldsList-from_vec}
 pub use Rattle.std.proofs.lemmas.Iterator.Consumers.{YieldsList-end, YieldsList-turn}
-pub use Rattle.std.proofs.lemmas.List.{append-nil, get_or_append_left, get_or_default, get_or_past, get_or_push, length-append, length-map, length-set}
-pub use Rattle.std.proofs.lemmas.List.{length_push, map-append, map-id, map-set, set-get_or, set-set}
-pub use Rattle.std.proofs.lemmas.Option.{get_or_from_slice_get, none-some, same_Some}
-pub use Rattle.std.specs.Prelude.{Err, IsTrue, None, Ok, Option, Result, Some, is_some, map, nat_le, slice_get, unwrap_or, ◌==◌, ◌||◌, ◌↔◌}
-pub use Rattle.std.specs.Vec.{with_item}
+pub use Rattle.std.proofs.lemmas.List.{append-nil, get_or_append_left, get_or_default, get_or_push, length-append, length-map, length-set, length_push}
+pub use Rattle.std.proofs.lemmas.List.{map-append, map-id, map-set, set-get_or, set-set}
+pub use Rattle.std.proofs.lemmas.Option.{get_or_from_slice_get}
+pub use Rattle.std.specs.Prelude.{Err, IsTrue, None, Ok, Option, Result, Some, map, slice_get, unwrap_or, ◌↔◌}

@@ -1,13 +1,13 @@
 -- The journals of a world at rest are joined, and so they are sound together.
-use Rattle.rt_world.proofs.Words.{ℕ, ◌+◌, [], refl, sym, ◌∙◌, ap, subst, arith, length-map, append-nil, Owed, out_of, inward_of, link_at, Parts, core_at, desks}
-use Rattle.rt_world.proofs.Words.{desk_at, world_of, IsWorld, IsAtRest, AreJoined, IsSound, IsWritten, terms_of_desk, assembly_of}
+use Rattle.rt_world.proofs.Words.{ℕ, ◌+◌, refl, sym, ◌∙◌, ap, subst, arith, length-map, Owed, out_of, inward_of, link_at, Parts, core_at, desks, desk_at}
+use Rattle.rt_world.proofs.Words.{world_of, IsWorld, IsAtRest, AreJoined, IsSound, IsWritten, terms_of_desk, assembly_of}
 use Rattle.rt_ids.proofs.Joining.{joining_is_sound}
 use Rattle.rt_journal.specs.Together.{AreTogether, IsAssemblyOf}
 use Rattle.rt_journal.proofs.Together.{together_joined}
+use Rattle.rt_linked_core.proofs.LinkSteps.{plain_joined}
 use Rattle.rt_world.proofs.Desks.{desk_count, desk_at-core, desk_at-outside, journal_of-world}
 
 module _ {J : Type 0} {same : J → J → Type 0} {made : J → ℕ} {polls : Owed J ℕ} {answers : J → ℕ → Type 0} (parts : Parts J ℕ) (world : IsWorld same made polls answers parts) (rest : IsAtRest parts) where
-  -- a plain link shows each end all that the other did
   together : AreTogether same made polls parts.cores parts.cap (λ actor. desk_at actor parts) (λ core. core_at core parts)
       (λ sender core. out_of (link_at sender core parts.links)) (λ sender core. (link_at sender core parts.links).credited) (λ sender core. inward_of (link_at sender core parts.links))
   together = record {
@@ -18,16 +18,7 @@ module _ {J : Type 0} {same : J → J → Type 0} {made : J → ℕ} {polls : Ow
     outside = subst (λ desk. IsWritten (terms_of_desk desk) desk.journal.notes) (sym (desk_at-outside parts parts.cores world.all_there.cores_are)) world.outside;
     outs = world.beside.outs;
     ins = world.beside.ins;
-    joined = λ sender core known core_known. record {
-      from = refl;
-      to = refl;
-      base = refl;
-      capacity = refl;
-      orders = ([], sym (append-nil (link_at sender core parts.links).sent));
-      outcomes = ([], sym (append-nil (link_at sender core parts.links).given));
-      gate = λ shut. shut;
-      final = λ shut. refl;
-    };
+    joined = λ sender core known core_known. plain_joined (link_at sender core parts.links);
   }
 
   assembled : IsAssemblyOf parts.cores parts.cap (λ actor. desk_at actor parts) (assembly_of (world_of parts))

@@ -68,14 +68,3 @@ module _ {J : Type 0} (same : J → J → Type 0) (answers : J → ℕ → Type 
       × (new ≡ noted sender (writes.Redeemed name (outcome_note outcome) ∷ []) old)
   Redeems sender name old new (reply.NoTicket error) = RefusesTicket name error (journal_at sender old) × (new ≡ old)
   Redeems sender name old new _ = ⊥
-
-  -- both redeem what one order may come to, and tell the same of it; if a job came back, it has that order's task, and may differ in how far it got
-  pub record AreBothRedeemed (answer other : Reply J) : Type 0 where
-    pub outcome : Outcome J ℕ
-    pub back : Outcome J ℕ
-    pub redeemed : answer ≡ reply.Redeemed outcome
-    pub other_redeemed : other ≡ reply.Redeemed back
-    pub tells : outcome_note outcome ≡ outcome_note back
-    pub order : Order J
-    pub fits : Fits same answers order outcome
-    pub other_fits : Fits same answers order back

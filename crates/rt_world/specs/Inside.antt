@@ -14,7 +14,7 @@ use Rattle.rt_journal.specs.Ends.{IsInOf}
 use Rattle.rt_recorded_desk.specs.Ends.{IsOutOf}
 use Rattle.rt_recorded_desk.specs.Tickets.{HasLane}
 use Rattle.rt_world.specs.State.{WorldView}
-use Rattle.rt_world.specs.Links.{row_of, link_at}
+use Rattle.rt_linked_core.specs.Links.{row_of, link_at}
 
 -- the parts of a world: its cores, each beside its journal; the outside actor; and its links, by sender and then by core
 pub record Parts (J T : Type 0) : Type 0 where
@@ -82,11 +82,6 @@ module _ {J T : Type 0} where
   -- no core has a job out
   abbrev pub IsAtRest : Parts J T → Type 0
   IsAtRest parts = (core : ℕ) → core < parts.cores → (core_at core parts).core.out ≡ None
-
-  -- a core of each number, just opened
-  pub record AreOpened (cores cap room : ℕ) (inside : List (RecordedView J T)) : Type 0 where
-    pub cores_are : length inside ≡ cores
-    pub each_opened : (core : ℕ) → core < cores → slice_index_or inside core (opened_beside 0 0 0 0) ≡ opened_beside core cores cap room
 
 -- a list without an item, with the memory for so many
 pub record HasRoomFor {A : Type 0} (count : ℕ) (items : List A) (capacity : ℕ) : Type 0 where

@@ -1,24 +1,25 @@
 -- A world as it opens, and the numbers that it opens with.
-use Rattle.std.specs.Prelude.{◌≡◌, ℕ, ◌+◌, ◌^◌, ◌<◌, ◌≤◌, [], ◌∷◌, length, slice_index_or, Result, Ok, Err}
+use Rattle.std.specs.Prelude.{◌≡◌, ℕ, ◌+◌, ◌<◌, ◌≤◌, [], ◌∷◌, length, slice_index_or, Result, Ok, Err}
 use Rattle.rt_ids.specs.declared.order.Order.{Order}
 use Rattle.rt_ids.specs.Commands.{IsOpening}
 use Rattle.rt_world.specs.declared.event.Event.{Event}
 use Rattle.rt_world.specs.declared.event.Event.TheVariants.{Send}
 use Rattle.rt_ids.specs.declared.note.Note.TheVariants.{Created}
 use Rattle.rt_ids.specs.Commands.{created_count}
+use Rattle.rt_ids.specs.Limits.{most_cores, most_capacity, most_queues, most_notes}
 use Rattle.rt_taskqueue.specs.declared.queues.CreateError.{CreateError}
 use Rattle.rt_taskqueue.specs.declared.queues.CreateError.TheVariants.{TooMany, Memory}
 use Rattle.rt_world.specs.declared.model.WorldError.{WorldError}
 use Rattle.rt_world.specs.declared.model.WorldError.TheVariants as why
 use Rattle.rt_world.specs.State.{WorldView, journal_at, sent_at, noted}
 
--- 1 to 16 cores, links of capacity 1 to 1024, and journals of at most 2^24 notes
+-- at least one core and one place in each link, and no more cores, places and notes than the limits allow
 pub record IsConfig (cores cap room : ℕ) : Type 0 where
   pub some_core : 1 ≤ cores
-  pub few_cores : cores ≤ 16
+  pub few_cores : cores ≤ most_cores
   pub some_cap : 1 ≤ cap
-  pub low_cap : cap ≤ 1024
-  pub low_room : room ≤ 2 ^ 24
+  pub low_cap : cap ≤ most_capacity
+  pub low_room : room ≤ most_notes
 
 -- a journal for each core and for the outside actor, and for each of them a list of orders to each core
 pub record HasAllLists {J T : Type 0} (world : WorldView J T) : Type 0 where
@@ -52,9 +53,9 @@ Opens cores cap room (Ok world) = IsConfig cores cap room × IsFresh cores cap r
 Opens cores cap room (Err why.BadConfig) = IsConfig cores cap room → ⊥
 Opens cores cap room (Err why.Memory) = IsConfig cores cap room
 
--- a queue is made before the first event, under the next number; a core that has 256 queues says so, else there was no memory
+-- a queue is made before the first event, under the next number; a core that has as many queues as it may says so, else there was no memory
 abbrev pub CreatesAtOpening : {J T : Type 0} → ℕ → ℕ → WorldView J T → Result ℕ CreateError → WorldView J T → Type 0
 CreatesAtOpening core weight old (Ok queue) new =
-    (queue ≡ created_count (journal_at core old) + 1) × (queue < 256) × (new ≡ noted core (Created queue weight ∷ []) old)
-CreatesAtOpening core weight old (Err TooMany) new = (created_count (journal_at core old) + 1 ≡ 256) × (new ≡ old)
-CreatesAtOpening core weight old (Err Memory) new = (created_count (journal_at core old) + 1 < 256) × (new ≡ old)
+    (queue ≡ created_count (journal_at core old) + 1) × (queue < most_queues) × (new ≡ noted core (Created queue weight ∷ []) old)
+CreatesAtOpening core weight old (Err TooMany) new = (created_count (journal_at core old) + 1 ≡ most_queues) × (new ≡ old)
+CreatesAtOpening core weight old (Err Memory) new = (created_count (journal_at core old) + 1 < most_queues) × (new ≡ old)

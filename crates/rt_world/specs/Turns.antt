@@ -14,11 +14,19 @@ use Rattle.rt_ids.specs.Commands.{return_reason}
 use Rattle.rt_jobs.specs.Calls.{Call, Makes}
 use Rattle.rt_jobs.specs.declared.job.Step.{Step}
 use Rattle.rt_jobs.specs.Steps.{IfDone, Owed}
+use Rattle.rt_linked_core.specs.declared.turn.Turned.{Turned}
+use Rattle.rt_linked_core.specs.declared.turn.Turned.TheVariants as turned
 use Rattle.rt_world.specs.declared.event.Reply.{Reply}
 use Rattle.rt_world.specs.declared.event.Reply.TheVariants as reply
 pub use Rattle.rt_journal.specs.Polls.{polls_made, poll_note, settle_note}
 use Rattle.rt_world.specs.State.{WorldView, journal_at, order_under, noted}
 use Rattle.rt_world.specs.Calls.{CallsAt}
+
+-- what a core is told of its turn
+abbrev pub turned_reply : {J : Type 0} → Turned → Reply J
+turned_reply turned.Made = reply.Noted
+turned_reply turned.Idle = reply.Idle
+turned_reply turned.Spent = reply.Spent
 
 -- the notes of a pick, and of the poll that it begins
 abbrev pub pick_notes : {T : Type 0} → JobId → ℕ → ℕ → Journal T → List (Note T)

@@ -2,7 +2,6 @@
 #![tactic(auto)]
 
 pub mod event;
-pub mod laws;
 pub mod model;
 
 pub use event::{Event, Reply};

@@ -6,10 +6,10 @@ ghost use Rattle.rt_ids.specs.Sound.{IsSound};
 ghost use Rattle.rt_journal.specs.Recorded.{IsRecorded};
 ghost use Rattle.rt_world.specs.State.{journal_at, assembly_of};
 
-use self::links::Links;
 use rt_ids::{ActorNo, CoreNo};
 use rt_jobs::Task;
 use rt_journal::{Recorded, RecordedDesk};
+use rt_linked_core::Links;
 use rt_notes::{Assembly, Journal};
 use std::alloc::{AllocError, Allocator, Global};
 use std::marker::Model;
@@ -17,7 +17,6 @@ use std::marker::Model;
 mod acts;
 mod closings;
 mod events;
-mod links;
 mod opening;
 mod receipts;
 mod sound;
@@ -64,7 +63,7 @@ impl<J: Task<Out = u64>, A: Allocator + Clone> Model for World<J, A> {
 /// Why a world can't be opened.
 #[derive(Clone, Copy, PartialEq, Eq, Debug, thiserror::Error)]
 pub enum WorldError {
-    /// The cores aren't 1 to 16, the capacity of a link isn't 1 to 1024, or a journal is to have more than 2^24 notes.
+    /// There is no core, or no place in a link; or more cores, places or notes are asked for than the limits of rt_ids allow.
     #[error("cores, capacity or room out of range")]
     BadConfig,
     /// There is no memory for all of it.

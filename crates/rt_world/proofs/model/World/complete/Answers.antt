@@ -1,5 +1,5 @@
 use Rattle.rt_world.proofs.Words.{subst, HasAllLists}
-use Rattle.rt_world.proofs.Hollow.{world_lists}
+use Rattle.rt_world.proofs.Desks.{world_lists}
 use Rattle.rt_world.proofs.model.World.complete.Goals as goal
 
 pub returns : goal.returns

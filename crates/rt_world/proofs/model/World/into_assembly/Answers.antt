@@ -1,5 +1,5 @@
-use Rattle.rt_world.proofs.Words.{◌≡◌, ◌+◌, [], ◌∷◌, ◌++◌, length, sym, ◌∙◌, ap, subst, arith, ℕ, map, YieldsList-from_vec, YieldsList-turn}
-use Rattle.rt_world.proofs.Words.{YieldsList-end, map-id, map-append, length-map, AreJoined, IsSound, assembly_of, Parts, world_of}
+use Rattle.rt_world.proofs.Words.{◌≡◌, ◌+◌, [], ◌∷◌, ◌++◌, length, sym, ◌∙◌, ap, subst, arith, ℕ, map, YieldsList-from_vec, YieldsList-turn, YieldsList-end}
+use Rattle.rt_world.proofs.Words.{map-id, map-append, length-map, AreJoined, IsSound, assembly_of, Parts, world_of}
 use Rattle.rt_world.proofs.Gathered.{journals_of, gathered_count, gathered_are}
 use Rattle.rt_world.proofs.WorldSound.{world_joined, world_sound}
 use Rattle.rt_world.proofs.model.World.into_assembly.Given.{Over}

@@ -1,5 +1,5 @@
-use Rattle.rt_world.proofs.Words.{ℕ, List, [], ◌∷◌, ◌++◌, Owed, Event, Reply, WorldView, Happens, refl, sym, subst, ◌∙◌, YieldsList-from_vec, YieldsList-turn}
-use Rattle.rt_world.proofs.Words.{YieldsList-end, map-id, IsRun}
+use Rattle.rt_world.proofs.Words.{ℕ, List, [], ◌∷◌, ◌++◌, Owed, Event, Reply, WorldView, Happens, refl, sym, subst, ◌∙◌, YieldsList-from_vec}
+use Rattle.rt_world.proofs.Words.{YieldsList-turn, YieldsList-end, map-id, IsRun}
 use Rattle.rt_jobs.specs.Ready.{HasReadyJob}
 use Rattle.rt_world.specs.Opening.{HasReadyEvent}
 use Rattle.rt_world.proofs.model.World.run.Goals as goal

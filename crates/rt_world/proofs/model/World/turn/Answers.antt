@@ -38,5 +38,5 @@ pub returns : goal.returns
 returns g c =
     let there : c.args.core < c.self.inside.cores = omega (arith, c.requires.core, ap (λ world. world.cores) c.self.view_is) in
     let view = viewed c.self.invariant.1 c.args.core there _ c.core.view_is c.index_mut.ensures.value in
-    rw (← c.self.view_is, c.core.view_is)
+    rw (← c.self.view_is, c.core.view_is, c.reply_for.ensures)
     (turns_now c.self.invariant.1 c.args.core there c.args.spent c.turn_of.new.core _ c.turn_of.result (rw view at c.turn_of.ensures)).does

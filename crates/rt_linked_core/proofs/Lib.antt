@@ -1,0 +1,11 @@
+pub mod Words
+pub mod Places
+pub mod Opening
+pub mod LinkRows
+pub mod LinkSteps
+pub mod FreshLinks
+pub mod SentLinks
+pub mod TakenLinks
+pub mod LentLinks
+pub mod OneTurn
+pub mod Posted

@@ -1,0 +1,5 @@
+pub mod Cores
+pub mod Links
+pub mod Lending
+pub mod Beside
+pub mod OneTurn

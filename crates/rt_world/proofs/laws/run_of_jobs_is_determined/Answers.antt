@@ -1,5 +1,0 @@
-use Rattle.rt_world.proofs.NoRefusals.{jobs_once}
-use Rattle.rt_world.proofs.laws.run_of_jobs_is_determined.Goals as goal
-
-pub returns : goal.returns
-returns g c = jobs_once g.J.Task.SameTask g.J.Task.made g.J.Task.Polls g.J.Task.Answers

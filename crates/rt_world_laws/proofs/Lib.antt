@@ -1,0 +1,15 @@
+pub mod Words
+pub mod Hollow
+pub mod PlainNotes
+pub mod KeptLists
+pub mod DeterminedRefusals
+pub mod DeterminedSteps
+pub mod DeterminedCalls
+pub mod DeterminedTurns
+pub mod DeterminedRuns
+pub mod DeterminedOpenings
+pub mod DeterminedScripts
+pub mod NoRefusals
+pub mod UnbegunCreations
+pub mod RowRuns
+pub mod WorkedRows
