@@ -2,12 +2,12 @@
 use Rattle.rt_journal.proofs.Names.{◌≡◌, ℕ, suc, ◌+◌, cond, List, [], ◌∷◌, length, refl, sym, ◌∙◌, ap, subst, ◌⊎◌}
 use Rattle.rt_journal.proofs.Names.{⊎_elim, arith, ◌==◌, Option, Some, None, slice_get, option_map, eq-eqb, ne_eqb}
 use Rattle.rt_journal.proofs.Names.{JobId, Envelope, Order, Outcome, OutcomeNote, with_last, outcome_note}
-use Rattle.rt_journal.proofs.Names.{given_outcomes, number_if, Inward, SoundIn, AreNamed, Takes, RecordedView, desk_of}
-use Rattle.rt_journal.proofs.Names.{order_taken, delivered_count, IsInOf, IsInOwing, IsUngiven, GivesMore, told_under}
-use Rattle.rt_journal.proofs.Names.{KeepsIn, IsSameSeat, named_outcomes, IsNextIn, Receives, KeepsOuts}
+use Rattle.rt_journal.proofs.Names.{given_outcomes, number_if, Inward, SoundIn, AreNamed, Takes, RecordedView}
+use Rattle.rt_journal.proofs.Names.{desk_of, order_taken, delivered_count, IsInOf, IsInOwing, IsUngiven, GivesMore}
+use Rattle.rt_journal.proofs.Names.{told_under, KeepsIn, IsSameSeat, named_outcomes, IsNextIn, Receives, KeepsOuts}
+use Rattle.rt_journal.proofs.Names.{keeps_outs}
 use Rattle.rt_journal.proofs.Received.{order_taken-parts}
 use Rattle.rt_journal.proofs.EndsKept.{keeps_in, slice_get-seen, sees_more_in, final_of-more}
-use Rattle.rt_recorded_desk.proofs.OutEnds.{keeps_outs}
 
 length-named : {J T : Type 0} (sender core : ℕ) (outcomes : List (ℕ × Outcome J T)) → length (named_outcomes sender core outcomes) ≡ length outcomes
 length-named sender core [] = refl

@@ -2,12 +2,12 @@
 use Rattle.rt_journal.proofs.Names.{◌≡◌, ℕ, ◌+◌, List, [], ◌∷◌, ◌++◌, length, append_assoc, refl, sym, ◌∙◌, ap, arith}
 use Rattle.rt_journal.proofs.Names.{Option, Some, slice_get, Bool, true, false, length-append, JobId, OutcomeNote}
 use Rattle.rt_journal.proofs.Names.{with_last, Order, IsPrefix, given_outcomes, Inward, final_count, StartsWith}
-use Rattle.rt_journal.proofs.Names.{SeesMore, final_of, RecordedView, order_taken, delivered_count, IsInOf, LeavesOwed}
-use Rattle.rt_journal.proofs.Names.{IsUngiven, IsSameSeat, named_outcomes, subst, ◌⊎◌, ⊎_elim, inl, inr, cond, ◌==◌}
-use Rattle.rt_journal.proofs.Names.{None, or_parts, eqb-true, true≢false, option_map, none-some, same_Some}
-use Rattle.rt_journal.proofs.Names.{slice_get-map, Note, Job, IsAnswer, if_from, name_ended, outcome_given, DeliversAs}
-use Rattle.rt_journal.proofs.Names.{Journal, EachNote, is_told, same_name, is_name, outcome_note, same_as_itself}
-use Rattle.rt_journal.proofs.Names.{name_of, ◌≤◌, slice_get_within, ◌<◌}
+use Rattle.rt_journal.proofs.Names.{SeesMore, final_of, RecordedView, order_taken, delivered_count, IsInOf}
+use Rattle.rt_journal.proofs.Names.{LeavesOwed, IsUngiven, IsSameSeat, named_outcomes, subst, ◌⊎◌, ⊎_elim, inl, inr}
+use Rattle.rt_journal.proofs.Names.{cond, ◌==◌, None, or_parts, eqb-true, true≢false, option_map, none-some}
+use Rattle.rt_journal.proofs.Names.{same_Some, slice_get-map, Note, Job, IsAnswer, if_from, name_ended, outcome_given}
+use Rattle.rt_journal.proofs.Names.{DeliversAs, Journal, EachNote, is_told, same_name, is_name, outcome_note}
+use Rattle.rt_journal.proofs.Names.{same_as_itself, name_of, ◌≤◌, slice_get_within, ◌<◌}
 use Rattle.rt_link.proofs.Lists.{slice_get-starts, slice_get-with_last}
 use Rattle.rt_ids.specs.declared.note.Note.TheVariants as writes
 

@@ -5,23 +5,21 @@ use Rattle.rt_journal.proofs.Names.{Option, Some, None, is_some, max, true≢fal
 use Rattle.rt_journal.proofs.Names.{All-nil, Terms, JobId, same_name, Journal, EachNote, is_told, with_last}
 use Rattle.rt_journal.proofs.Names.{delivered_names, name_started, if_from, has_work, queue_of, virtual_runtime, line}
 use Rattle.rt_journal.proofs.Names.{refusal, MayStand, IsNextDelivered, known_of, not_old, started_of, line-took}
-use Rattle.rt_journal.proofs.Names.{line-took_elsewhere, false_from_ne_true, same_as_itself, virtual_runtime-took_idle}
-use Rattle.rt_journal.proofs.Names.{virtual_runtime-took_busy, virtual_runtime-took_elsewhere, floor-stays, waiting_of}
-use Rattle.rt_journal.proofs.Names.{CoreView, JobOut, no_tally, tally_of, runtime_of, is_working, entry_runtime}
-use Rattle.rt_journal.proofs.Names.{counted, Agrees, IsJobOut, AreMarked, Note, Order, Reason, Answer, shares}
-use Rattle.rt_journal.proofs.Names.{created_count, IsAnswer, has_effect, CountsAlone, queue_just_picked}
-use Rattle.rt_journal.proofs.Names.{effect_awaited, inr, List, nat_le, le-leb, lt-leb, length-append, InRange}
-use Rattle.rt_journal.proofs.Names.{list_told, core_mode, IsCreationAnswer, queue_created, shares-created}
-use Rattle.rt_journal.proofs.Names.{shares-created_elsewhere, shares-set, shares-set_elsewhere, queue_count, shares_of}
-use Rattle.rt_journal.proofs.Names.{Creates, Weighs, slice_set, Mode, or_else, queue_mode, final_count, mode_of}
-use Rattle.rt_journal.proofs.Names.{HasClosed, ChangesLine, QueuesView, Tally, slice_index_or}
-use Rattle.std.proofs.Common.{length-set}
+use Rattle.rt_journal.proofs.Names.{line-took_elsewhere, false_from_ne_true, same_as_itself}
+use Rattle.rt_journal.proofs.Names.{virtual_runtime-took_idle, virtual_runtime-took_busy}
+use Rattle.rt_journal.proofs.Names.{virtual_runtime-took_elsewhere, floor-stays, waiting_of, CoreView, JobOut}
+use Rattle.rt_journal.proofs.Names.{no_tally, tally_of, runtime_of, is_working, entry_runtime, counted, Agrees}
+use Rattle.rt_journal.proofs.Names.{IsJobOut, AreMarked, Note, Order, Reason, Answer, shares, created_count, IsAnswer}
+use Rattle.rt_journal.proofs.Names.{has_effect, CountsAlone, queue_just_picked, effect_awaited, inr, List, nat_le}
+use Rattle.rt_journal.proofs.Names.{le-leb, lt-leb, length-append, InRange, list_told, queue_created, shares-created}
+use Rattle.rt_journal.proofs.Names.{shares-created_elsewhere, shares-set, shares-set_elsewhere, queue_count}
+use Rattle.rt_journal.proofs.Names.{shares_of, Creates, Weighs, slice_set, Mode, or_else, queue_mode, final_count}
+use Rattle.rt_journal.proofs.Names.{mode_of, HasClosed, ChangesLine, QueuesView, Tally, slice_index_or, length-set}
+use Rattle.rt_journal.proofs.Names.{names_of, plainly_stands}
 use Rattle.rt_ids.specs.declared.note.Note.TheVariants as writes
-use Rattle.rt_journal.specs.Agreement.{names_of}
-use Rattle.rt_journal.proofs.Sums.{everywhere}
-use Rattle.rt_journal.proofs.Kept.{figures-same, figures-stays, IsKept, turns-stays, working, kept_after, SameModes}
+use Rattle.rt_journal.proofs.Sums.{each_line}
+use Rattle.rt_journal.proofs.Kept.{figures-same, figures-stays, IsKept, turns-stays, working, kept_after}
 use Rattle.rt_journal.proofs.Kept.{closing-stays, agrees_unmoved, IsCalm, IsOpenNote, agrees_steady}
-use Rattle.rt_recorded_desk.proofs.LaneNotes.{plainly_stands}
 use Rattle.rt_ids.specs.declared.order.Order.TheVariants as orders
 use Rattle.rt_ids.specs.declared.order.Answer.TheVariants as answers
 
@@ -66,11 +64,9 @@ module _ {J T : Type 0} (terms : Terms) (old : CoreView J) (name : JobId) (queue
   is_marked entry = entry.1 ≡ is_told name_started entry.0 journal
 
   took_marks : (other : ℕ) → AreMarked (writes.Took name queue ∷ journal) (waiting_of other queues)
-  took_marks = everywhere (λ at. AreMarked (writes.Took name queue ∷ journal) (waiting_of at queues)) queue
-      (subst (AreMarked (writes.Took name queue ∷ journal)) (sym changes.changed)
+  took_marks = each_line (λ at. AreMarked (writes.Took name queue ∷ journal)) changes
       (All-append is_marked (waiting_of queue old.queues) ((name, false, job) ∷ []) (kept.agrees.marks queue)
-      (All-cons is_marked (name, false, job) [] (sym (not_started terms journal kept.notes name next)) (All-nil is_marked))))
-      (λ other away. subst (AreMarked (writes.Took name queue ∷ journal)) (sym (changes.others other away)) (kept.agrees.marks other))
+      (All-cons is_marked (name, false, job) [] (sym (not_started terms journal kept.notes name next)) (All-nil is_marked))) kept.agrees.marks
 
   there : queue < length old.tallies
   there = omega (arith, exists, kept.agrees.tallied)
@@ -131,26 +127,21 @@ module _ {J T : Type 0} (terms : Terms) (old new : CoreView J) (name : JobId) (j
       (λ from known. delivered_counted terms old name journal sender next kept.agrees from known ∙ ap length (sym (delivers from))) old.gates old.mode
       (closing-stays old (record old { delivered = counted name old }) note journal (assumption) opens kept.agrees.closing))
 
-  pub agrees-back : (reason : Reason) → Agrees new (writes.Back name reason ∷ journal)
-  agrees-back reason = agrees-counted (writes.Back name reason) refl refl (λ queue. refl) (record { queues = λ queue. refl; core = refl; gates = λ sender. refl }) (λ sender. refl)
-
   pub agrees-answered : (answer : Answer) → Agrees new (writes.Answered name answer ∷ journal)
-  agrees-answered answer = agrees-counted (writes.Answered name answer) refl refl (λ queue. refl) (record { queues = λ queue. refl; core = refl; gates = λ sender. refl }) (λ sender. refl)
+  agrees-answered answer = agrees-counted (writes.Answered name answer) refl refl (λ queue. refl) (assumption) (λ sender. refl)
 
   -- a job that is refused goes back
   pub kept-back : (queue : ℕ) (reason : Reason) → refusal queue journal ≡ Some reason → IsKept terms new (writes.Back name reason ∷ journal)
-  kept-back queue reason refused = kept_after terms (writes.Back name reason) kept (agrees-back reason) kept.is_core (next, (queue, refused)) refl tt refl refl
+  kept-back queue reason refused =
+      let agrees = agrees-counted (writes.Back name reason) refl refl (λ queue. refl) (assumption) (λ sender. refl) in
+      kept_after terms (writes.Back name reason) kept agrees kept.is_core (next, (queue, refused)) refl tt refl refl
 
-  -- a command is answered
-  pub answered_stands : (order : Order (Unit {0})) (answer : Answer) → IsAnswer order answer journal → MayStand terms (writes.Answered name answer) journal
-  answered_stands order answer right =
-      plainly_stands terms (writes.Answered name answer) journal kept.is_core (next, (order, right)) kept.no_pick kept.no_answer refl tt
-
-  -- and the note of its effect follows
+  -- a command is answered, and the note of its effect follows
   pub kept-effect : (order : Order (Unit {0})) (answer : Answer) → IsAnswer order answer journal → (note : Note T) {core : CoreView J} → Agrees core (note ∷ writes.Answered name answer ∷ journal) →
       MayStand terms note (writes.Answered name answer ∷ journal) → queue_just_picked (note ∷ writes.Answered name answer ∷ journal) ≡ None → effect_awaited (note ∷ writes.Answered name answer ∷ journal) ≡ None →
       IsKept terms core (note ∷ writes.Answered name answer ∷ journal)
-  kept-effect order answer right note agrees stands no_pick no_answer = assumption (answered_stands order answer right)
+  kept-effect order answer right note agrees stands no_pick no_answer =
+      assumption (plainly_stands terms (writes.Answered name answer) journal kept.is_core (next, (order, right)) kept.no_pick kept.no_answer refl tt)
 
   pub kept-answered : (order : Order (Unit {0})) (answer : Answer) → IsAnswer order answer journal → has_effect answer ≡ false →
       IsKept terms new (writes.Answered name answer ∷ journal)
@@ -194,10 +185,6 @@ module _ {J T : Type 0} (terms : Terms) (old new : CoreView J) (name : JobId) (q
   middle = record old { delivered = counted name old }
 
   -- a creation finds a core that isn't closed, and room for one more queue
-  pub creation_answer : core_mode journal ≡ None → (full : Bool) → nat_le 255 (created_count journal) ≡ full → (answer : Answer) → IsCreationAnswer None full (created_count journal + 1) answer →
-      IsAnswer (orders.Create weight) answer journal
-  creation_answer never full at answer right = rw (never, at) right
-
   pub kept-created : queue ≡ queue_count old.queues → Creates old weight new →
       IsAnswer (orders.Create weight) (answers.Created queue) journal
       × IsKept terms new (writes.Created queue weight ∷ writes.Answered name (answers.Created queue) ∷ journal)
@@ -213,7 +200,7 @@ module _ {J T : Type 0} (terms : Terms) (old new : CoreView J) (name : JobId) (q
       few = lt-leb 255 (created_count journal) (omega (arith, creates.few, kept.agrees.last))
 
       right : IsAnswer (orders.Create weight) (answers.Created queue) journal
-      right = creation_answer (sym kept.agrees.closing.mode ∙ creates.is_open) false few (answers.Created queue) (inr (ap answers.Created (number ∙ kept.agrees.last)))
+      right = rw (sym kept.agrees.closing.mode ∙ creates.is_open, few) (inr (ap answers.Created (number ∙ kept.agrees.last)))
 
   pub kept-weighed : Weighs old queue weight new →
       IsAnswer (orders.SetShares queue weight) answers.SharesSet journal

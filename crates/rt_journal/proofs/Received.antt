@@ -1,20 +1,18 @@
 -- A core beside its journal stays recorded as an order is delivered to it: the orders by their names, the polls of a new job, and all else.
-use Rattle.rt_journal.proofs.Names.{◌≡◌, Bool, true, false, List, [], ◌∷◌, ◌++◌, refl, ◌∙◌, ap, ◌⊎◌, Option, Some}
-use Rattle.rt_journal.proofs.Names.{None, option_map, JobId, Note, Envelope, Order, Job, Journal, EachNote, IsOpening}
-use Rattle.rt_journal.proofs.Names.{one_name, same_as_itself, without_job, CarriesOut, DeliversAs, order_taken}
-use Rattle.rt_journal.proofs.Names.{note_taken, ◌+◌, sym, subst, arith, true≢false, false_from_ne_true, Terms, Yield}
-use Rattle.rt_journal.proofs.Names.{Done, is_name, delivered_names, name_delivered, number_if, name_settled, MayFollow}
-use Rattle.rt_journal.proofs.Names.{MayStand, grows, alone_out, IsOld, known_of, polls_made, ℕ, ◌*◌, ◌<◌, ◌≤◌, length}
-use Rattle.rt_journal.proofs.Names.{⊎_elim, get_or, zero-add, ◌==◌, All, reverse, eq-eqb, ne_eqb, cases_eq}
-use Rattle.rt_journal.proofs.Names.{length-reverse, All-append, given_outcomes, Owed, IsSameTask, waiting_of, CoreView}
-use Rattle.rt_journal.proofs.Names.{inside_count, delivered_of, Delivered, IsNextDelivered, IsSpelledOrder, IsKept}
-use Rattle.rt_journal.proofs.Names.{IsWritten, RecordedView, terms_at, IsRecorded, IsHeld, IsTaken, HasTask, OwesAfter}
-use Rattle.rt_journal.proofs.Names.{sum_upto, delivered_count, given_count, IsSameSeat, KeepsSent, GivesMore}
-use Rattle.rt_journal.proofs.Names.{told_under, outcome_delivered, OutcomeNote, outcome_note, IsNextIn, Receives}
-use Rattle.rt_journal.proofs.Names.{JobOut}
+use Rattle.rt_journal.proofs.Names.{◌==◌, ne_eqb, ◌≡◌, Bool, true, false, List, [], ◌∷◌, ◌++◌, refl, ◌∙◌, ap, ◌⊎◌}
+use Rattle.rt_journal.proofs.Names.{Option, Some, None, option_map, JobId, Note, Envelope, Order, Job, Journal}
+use Rattle.rt_journal.proofs.Names.{EachNote, one_name, same_as_itself, without_job, CarriesOut, DeliversAs}
+use Rattle.rt_journal.proofs.Names.{order_taken, note_taken, ◌+◌, sym, subst, arith, true≢false, false_from_ne_true}
+use Rattle.rt_journal.proofs.Names.{Terms, Yield, Done, is_name, delivered_names, name_delivered, number_if}
+use Rattle.rt_journal.proofs.Names.{name_settled, MayFollow, MayStand, grows, alone_out, IsOld, known_of, polls_made}
+use Rattle.rt_journal.proofs.Names.{ℕ, ◌*◌, ◌<◌, ◌≤◌, length, ⊎_elim, zero-add, All, reverse, eq-eqb, length-reverse}
+use Rattle.rt_journal.proofs.Names.{given_outcomes, Owed, IsSameTask, waiting_of, CoreView, inside_count}
+use Rattle.rt_journal.proofs.Names.{delivered_of, Delivered, IsSpelledOrder, IsKept, IsWritten, RecordedView}
+use Rattle.rt_journal.proofs.Names.{terms_at, IsRecorded, IsHeld, IsTaken, HasTask, OwesAfter, sum_upto}
+use Rattle.rt_journal.proofs.Names.{delivered_count, given_count, IsSameSeat, KeepsSent, GivesMore, told_under}
+use Rattle.rt_journal.proofs.Names.{outcome_delivered, OutcomeNote, outcome_note, IsNextIn, Receives, CoreDelivers}
 use Rattle.rt_ids.specs.declared.note.Note.TheVariants as writes
-use Rattle.rt_core.specs.Deliveries.{Delivers as CoreDelivers}
-use Rattle.rt_journal.proofs.Sums.{sum_upto-one_more, sum_upto-room}
+use Rattle.rt_journal.proofs.Sums.{everywhere, sum_upto-one_more, sum_upto-room}
 use Rattle.rt_journal.proofs.CarriedOut.{IsCarriedOut, IsOf, carries_out}
 
 module _ {J : Type 0} (last : Envelope J) where
@@ -62,12 +60,6 @@ as_sent-stays {T} old new stays (note ∷ before) each = (by_note note each.0, a
     by_note (writes.CoreClosed mode) sent = carried (writes.CoreClosed mode) before sent
     by_note _ sent = tt
 
--- a creation at the opening carries out no order
-pub carries_out-opening : {T : Type 0} (under : JobId → Option (Order (Unit {0}))) (note : Note T) (before : Journal T) → IsOpening before → CarriesOut under note before
-carries_out-opening under note [] opening = tt
-carries_out-opening under note (writes.Created queue weight ∷ before) opening = tt
-carries_out-opening under note (_ ∷ before) opening = absurd opening
-
 module _ {T : Type 0} (terms : Terms) where
   -- whose poll is settled was delivered before
   settled_old : (name : JobId) (note : Note T) (before : Journal T) → MayFollow terms note before → EachNote (MayStand terms) before →
@@ -108,9 +100,6 @@ module _ {J T : Type 0} {same : J → J → Type 0} {made : J → ℕ} {polls : 
   pub waiting_stays : (queue : ℕ) → All (λ entry. HasTask same made polls old.took (written ++ old.journal.notes) queue entry.0 entry.2) (waiting_of queue old.core.queues)
   waiting_stays queue place default within = task_stays (λ order at. at) (unpolled _) (recorded.waiting queue place default within)
 
-  pub out_stays : (job : JobOut J) → old.core.out ≡ Some job → HasTask same made polls old.took (written ++ old.journal.notes) job.queue job.name job.job
-  out_stays job at = task_stays (λ order at. at) (unpolled job.name) (recorded.out job at)
-
 module _ {J T : Type 0} {same : J → J → Type 0} {made : J → ℕ} {polls : Owed J T} (is_same : IsSameTask same)
     (old : RecordedView J T) (recorded : IsRecorded same made polls old) (envelope : Envelope J) (told : Option (OutcomeNote T)) (core : CoreView J) (written : List (Note T))
     (done : IsCarriedOut old envelope.name envelope.order told core written) (next : IsNextIn old envelope.name) where
@@ -122,9 +111,6 @@ module _ {J T : Type 0} {same : J → J → Type 0} {made : J → ℕ} {polls : 
 
   abbrev pub received : RecordedView J T
   received = record { cap = old.cap; core = core; journal = record old.journal { notes = longer }; took = old.took ++ envelope ∷ []; lanes = old.lanes }
-
-  pub same_seat : IsSameSeat old received
-  same_seat = record { number = done.number; cores = done.cores; cap = refl; room = refl }
 
   counted_here : delivered_count longer name.from ≡ delivered_count old.journal.notes name.from + 1
   counted_here = done.delivered name.from ∙ ap (λ test. delivered_count old.journal.notes name.from + number_if test) (eq-eqb name.from name.from refl)
@@ -145,14 +131,10 @@ module _ {J T : Type 0} {same : J → J → Type 0} {made : J → ℕ} {polls : 
       given_more from = omega (arith, ap length (done.given from), grows (given_outcomes from old.journal.notes) (told_under name told from))
 
       each : (from : ℕ) → from ≤ core.cores → delivered_count longer from ≤ given_count longer from + old.cap
-      each from there =
-          ⊎_elim
-          (λ one. subst (λ at. delivered_count longer at ≤ given_count longer at + old.cap) (sym one) (omega (arith, counted_here, next.place, given_more name.from)))
-          (λ other.
-          let was : delivered_count old.journal.notes from ≤ given_count old.journal.notes from + old.cap = recorded.held.each from (omega (arith, there, done.cores)) in
-          let none : number_if (name.from == from) ≡ 0 = ap number_if (ne_eqb name.from from (λ one. other (sym one))) in
-          omega (arith, was, none, done.delivered from, given_more from))
-          (cases_eq from name.from)
+      each = everywhere (λ at. at ≤ core.cores → delivered_count longer at ≤ given_count longer at + old.cap) name.from (λ there. omega (arith, counted_here, next.place, given_more name.from))
+          (λ other away there.
+          let none : number_if (name.from == other) ≡ 0 = ap number_if (ne_eqb name.from other (λ one. away (sym one))) in
+          omega (arith, recorded.held.each other (omega (arith, there, done.cores)), none, done.delivered other, given_more other))
 
       inside : inside_count core + sum_upto (given_count longer) old.core.cores ≤ sum_upto (delivered_count longer) old.core.cores
       inside =
@@ -170,26 +152,20 @@ module _ {J T : Type 0} {same : J → J → Type 0} {made : J → ℕ} {polls : 
   abbrev Task : ℕ → JobId × Bool × J → Type 0
   Task queue entry = HasTask same made polls received.took longer queue entry.0 entry.2
 
-  came_tasks : (queue : ℕ) → All (Task queue) (done.entered.more queue)
-  came_tasks queue place default within = let is = done.entered.came queue place default within in by_entry (get_or (done.entered.more queue) place default) is
+  waiting_now : (queue : ℕ) → All (Task queue) (waiting_of queue core.queues)
+  waiting_now = done.entered Task (λ queue place default within. task_stays (stays _) (done.polls _) (recorded.waiting queue place default within)) came
     where
       never : polls_made name longer ≡ 0
       never = done.polls name ∙ polls_made-fresh (terms_at old) name old.journal.notes recorded.kept.notes (λ late. omega (arith, late, next.next))
 
-      by_entry : (entry : JobId × Bool × J) → IsOf name envelope.order queue entry → Task queue entry
-      by_entry entry is = record {
+      came : (queue : ℕ) (entry : JobId × Bool × J) → IsOf name envelope.order queue entry → Task queue entry
+      came queue entry is = record {
         sent = entry.2;
         task = ap (order_taken received.took) is.0 ∙ (here ∙ ap Some is.1);
         same_task = is_same.itself entry.2;
         owes = subst (λ count. OwesAfter same made polls entry.2 count entry.2) (sym (ap (λ which. polls_made which longer) is.0 ∙ never))
             (λ more calls step told owed. subst (λ place. polls entry.2 (made entry.2 + place) calls step told) (sym (zero-add more)) owed);
       }
-
-  waiting_now : (queue : ℕ) → All (Task queue) (waiting_of queue core.queues)
-  waiting_now queue =
-      subst (All (Task queue)) (sym (done.entered.lines queue))
-      (All-append (Task queue) (waiting_of queue old.core.queues) (done.entered.more queue)
-      (λ place default within. task_stays (stays _) (done.polls _) (recorded.waiting queue place default within)) (came_tasks queue))
 
   terms_now : terms_at old ≡ terms_at received
   terms_now = λ i. record { actor = sym done.number i; cores = sym done.cores i; cap = old.cap }
@@ -216,9 +192,6 @@ room_in view name recorded next =
 
 module _ {J T : Type 0} {same : J → J → Type 0} {made : J → ℕ} {polls : Owed J T} (old : RecordedView J T) (name : JobId)
     (recorded : IsRecorded same made polls old) (next : IsNextIn old name) where
-  pub next_delivered : IsNextDelivered (terms_at old) name old.journal.notes
-  next_delivered = record { sender = next.sender; receiver = next.receiver; next = next.next; in_range = next.in_range; gate = next.gate }
-
   -- the core counts as its journal does
   pub next_for_core : name.number ≡ delivered_of name.from old.core + 1
   next_for_core = let counted = recorded.kept.agrees.delivered name.from next.sender in omega (arith, next.next, counted)
@@ -240,7 +213,7 @@ module _ {J T : Type 0} {same : J → J → Type 0} {made : J → ℕ} {polls : 
   told = option_map outcome_note (outcome_delivered {T = T} delivered)
 
   pub done : IsCarriedOut old envelope.name envelope.order told core (reverse written)
-  done = carries_out old envelope.name recorded.kept (next_delivered old envelope.name recorded next) next.sender core envelope.order spelled delivered written does
+  done = carries_out old envelope.name recorded.kept (assumption next) next.sender core envelope.order spelled delivered written does
 
   -- what the desk asks of the notes
   pub notes_fit : IsWritten (terms_at old) (reverse written ++ old.journal.notes) × KeepsSent old.journal.notes (reverse written ++ old.journal.notes) × (length written ≤ 2)
@@ -250,7 +223,7 @@ module _ {J T : Type 0} {same : J → J → Type 0} {made : J → ℕ} {polls : 
     pub received_now : HasReceived same made polls envelope told old new
     received_now = subst (HasReceived same made polls envelope told old) (sym is) (record {
       sound = recorded_now is_same old recorded envelope told core (reverse written) done next;
-      seat = same_seat is_same old recorded envelope told core (reverse written) done next;
+      seat = record { number = done.number; cores = done.cores; cap = refl; room = refl };
       receives = record { notes = reverse written; delivery = done.delivery; journal = refl; took = refl; out = done.out; lists = done.lists; delivered = done.delivered };
       gives = done.given;
       stands = here is_same old recorded envelope told core (reverse written) done next;
