@@ -94,38 +94,19 @@ module _ {J T : Type 0} (core : CoreView J) (journal : Journal T) where
       rw (has_work-line terms queue journal notes, ← queue_out-agrees agrees.out, ← agrees.lines queue)
       (sym (nat_lt-line (waiting_of queue core.queues) (is_number queue (state.queue_out core.out))))
 
--- what a note tells of jobs: who comes, goes, is polled, settled and started, where one enters, what that costs, and what is counted of it
-pub record JobsTold : Type 0 where
-  pub joins : ℕ → Option JobId
-  pub leaves : Option JobId
-  pub polls : Option JobId
-  pub settles : Option JobId
-  pub starts : Option JobId
-  pub enters : Option ℕ
-  pub takes : JobId → Option ℕ
-  pub costs : ℕ → ℕ
-  pub picks : ℕ
-  pub turns : ℕ
-  pub counts : ℕ → Figures
-
-abbrev pub jobs_told : {T : Type 0} → Note T → Journal T → JobsTold
-jobs_told note before = record {
-  joins = λ queue. name_joining queue note before;
-  leaves = name_leaving note;
-  polls = name_polled note;
-  settles = name_settled note;
-  starts = name_started note;
-  enters = queue_joined note;
-  takes = λ name. queue_entered name note;
-  costs = λ queue. charge_noted queue note before;
-  picks = runtime_picked note;
-  turns = pick_count note;
-  counts = λ queue. figures_noted queue note before;
-}
-
--- a note that tells nothing of jobs, as that of a gate that is shut
-abbrev pub IsCalm : {T : Type 0} → Note T → Journal T → Type 0
-IsCalm {T} note before = jobs_told note before ≡ jobs_told {T = T} (writes.Shut 0 0) []
+-- a note by which no job comes, goes, is polled, settled or started, none enters a queue, and nothing is charged, picked or counted, as that of a gate that is shut
+pub record IsCalm {T : Type 0} (note : Note T) (before : Journal T) : Type 0 where
+  pub joins : (queue : ℕ) → name_joining queue note before ≡ None
+  pub leaves : name_leaving note ≡ None
+  pub polls : name_polled note ≡ None
+  pub settles : name_settled note ≡ None
+  pub starts : name_started note ≡ None
+  pub enters : queue_joined note ≡ None
+  pub takes : (name : JobId) → queue_entered name note ≡ None
+  pub costs : (queue : ℕ) → charge_noted queue note before ≡ 0
+  pub picks : runtime_picked note ≡ 0
+  pub turns_made : pick_count note ≡ 0
+  pub counts : (queue : ℕ) → figures_noted queue note before ≡ no_figures
 
 -- what is no pick makes no turn
 pub turns-stays : {T : Type 0} (note : Note T) (before : Journal T) → pick_count note ≡ 0 → turns (note ∷ before) ≡ turns before
@@ -133,8 +114,8 @@ turns-stays note before none = ap (λ count. turns before + count) none ∙ add-
 
 module _ {J T : Type 0} (note : Note T) (before : Journal T) (calm : IsCalm note before) where
   out-calm : (out : Option (JobOut J)) → IsJobOut out before → IsJobOut out (note ∷ before)
-  out-calm None nobody = rw (ap (λ told. told.settles) calm, ap (λ told. told.polls) calm) nobody
-  out-calm (Some job) alone = (rw (ap (λ told. told.settles) calm, ap (λ told. told.polls) calm) alone.0, rw (ap (λ told. told.takes job.name) calm) alone.1)
+  out-calm None nobody = rw (calm.settles, calm.polls) nobody
+  out-calm (Some job) alone = (rw (calm.settles, calm.polls) alone.0, rw (calm.takes job.name) alone.1)
 
   -- a core whose queues hold the same jobs and count the same of them agrees with a calm note
   agrees_calm : (old : CoreView J) → Agrees old before → (queues : QueuesView J) (tallies : List Tally) (delivered : List ℕ) (gates : List (Option ℕ)) (mode : Option Mode) →
@@ -145,12 +126,12 @@ module _ {J T : Type 0} (note : Note T) (before : Journal T) (calm : IsCalm note
       AgreesOnClosing (record old { queues = queues; tallies = tallies; delivered = delivered; gates = gates; mode = mode }) (note ∷ before) →
       Agrees (record old { queues = queues; tallies = tallies; delivered = delivered; gates = gates; mode = mode }) (note ∷ before)
   agrees_calm old agrees queues tallies delivered gates mode same_lines same tallied last more weights senders counted closing =
-      let lines = λ (queue : ℕ). ap names_of (same_lines queue) ∙ (agrees.lines queue ∙ sym (line-stays queue note before (ap (λ told. told.leaves) calm) (ap (λ told. told.joins queue) calm))) in
-      let marks = λ (queue : ℕ). subst (AreMarked (note ∷ before)) (sym (same_lines queue)) (rw (ap (λ told. told.starts) calm) (agrees.marks queue)) in
-      let runtimes = λ (queue : ℕ). ap (λ tally. tally.runtime) (same queue) ∙ (agrees.runtimes queue ∙ sym (virtual_runtime-stays queue before note (ap (λ told. told.enters) calm) (ap (λ told. told.costs queue) calm))) in
-      let floor_now = agrees.the_floor ∙ sym (floor-stays note before (ap (λ told. told.picks) calm)) in
-      let turns_now = agrees.turns ∙ sym (turns-stays note before (ap (λ told. told.turns) calm)) in
-      let figures = λ (queue : ℕ). ap figures_in (same queue) ∙ (agrees.figures queue ∙ sym (figures-stays queue note before (ap (λ told. told.counts queue) calm))) in
+      let lines = λ (queue : ℕ). ap names_of (same_lines queue) ∙ (agrees.lines queue ∙ sym (line-stays queue note before calm.leaves (calm.joins queue))) in
+      let marks = λ (queue : ℕ). subst (AreMarked (note ∷ before)) (sym (same_lines queue)) (rw calm.starts (agrees.marks queue)) in
+      let runtimes = λ (queue : ℕ). ap (λ tally. tally.runtime) (same queue) ∙ (agrees.runtimes queue ∙ sym (virtual_runtime-stays queue before note calm.enters (calm.costs queue))) in
+      let floor_now = agrees.the_floor ∙ sym (floor-stays note before calm.picks) in
+      let turns_now = agrees.turns ∙ sym (turns-stays note before calm.turns_made) in
+      let figures = λ (queue : ℕ). ap figures_in (same queue) ∙ (agrees.figures queue ∙ sym (figures-stays queue note before (calm.counts queue))) in
       let out_exists : (job : JobOut J) → old.out ≡ Some job → job.queue < queue_count queues = λ job at. omega (arith, more, agrees.out_exists job at) in
       assumption (out-calm old.out agrees.out)
 

@@ -128,12 +128,12 @@ module _ {J T : Type 0} (terms : Terms) (old new : CoreView J) (name : JobId) (j
       (closing-stays old (record old { delivered = counted name old }) note journal (assumption) opens kept.agrees.closing))
 
   pub agrees-answered : (answer : Answer) → Agrees new (writes.Answered name answer ∷ journal)
-  agrees-answered answer = agrees-counted (writes.Answered name answer) refl refl (λ queue. refl) (assumption) (λ sender. refl)
+  agrees-answered answer = agrees-counted (writes.Answered name answer) (assumption) refl (λ queue. refl) (assumption) (λ sender. refl)
 
   -- a job that is refused goes back
   pub kept-back : (queue : ℕ) (reason : Reason) → refusal queue journal ≡ Some reason → IsKept terms new (writes.Back name reason ∷ journal)
   kept-back queue reason refused =
-      let agrees = agrees-counted (writes.Back name reason) refl refl (λ queue. refl) (assumption) (λ sender. refl) in
+      let agrees = agrees-counted (writes.Back name reason) (assumption) refl (λ queue. refl) (assumption) (λ sender. refl) in
       kept_after terms (writes.Back name reason) kept agrees kept.is_core (next, (queue, refused)) refl tt refl refl
 
   -- a command is answered, and the note of its effect follows
@@ -157,7 +157,7 @@ module _ {J T : Type 0} (old new : CoreView J) (queue weight : ℕ) (journal : J
   -- a queue is created
   pub agrees-created : queue ≡ queue_count old.queues → Creates old weight new → new.delivered ≡ old.delivered → Agrees new (writes.Created queue weight ∷ journal)
   agrees-created next creates same =
-      agrees_steady old new journal (writes.Created queue weight) agrees refl new.queues (old.tallies ++ no_tally ∷ [])
+      agrees_steady old new journal (writes.Created queue weight) agrees (assumption) new.queues (old.tallies ++ no_tally ∷ [])
       (creates.rest ∙ ap (λ delivered. record old { queues = new.queues; tallies = old.tallies ++ no_tally ∷ []; delivered = delivered }) same)
       creates.added.same_lines (get_or-append_default old.tallies no_tally) (length-append old.tallies (no_tally ∷ []) ∙ (ap (λ count. count + 1) agrees.tallied ∙ sym creates.added.count))
       (creates.added.count ∙ ap (λ count. count + 1) (agrees.last ∙ sym (length-append (list_told queue_created journal) (queue ∷ [])))) (omega (arith, creates.added.count)) weights (λ sender. refl)
@@ -170,7 +170,7 @@ module _ {J T : Type 0} (old new : CoreView J) (queue weight : ℕ) (journal : J
   -- a queue gets shares
   pub agrees-weighed : Weighs old queue weight new → new.delivered ≡ old.delivered → Agrees new (writes.SharesSet queue weight ∷ journal)
   agrees-weighed weighs same =
-      agrees_steady old new journal (writes.SharesSet queue weight) agrees refl new.queues old.tallies (weighs.rest ∙ ap (λ delivered. record old { queues = new.queues; delivered = delivered }) same)
+      agrees_steady old new journal (writes.SharesSet queue weight) agrees (assumption) new.queues old.tallies (weighs.rest ∙ ap (λ delivered. record old { queues = new.queues; delivered = delivered }) same)
       weighs.shares.same_lines (λ other. refl) (agrees.tallied ∙ sym weighs.shares.same_count) (weighs.shares.same_count ∙ agrees.last) (omega (arith, weighs.shares.same_count)) weights (λ sender. refl)
       (assumption (λ (other : ℕ). weighs.shares.same_modes other ∙ agrees.closing.modes other))
     where
@@ -224,7 +224,7 @@ module _ {J T : Type 0} (old new : CoreView J) (journal : Journal T) (agrees : A
   pub agrees-core_closed : (mode : Mode) → new ≡ record old { mode = Some mode } → Agrees new (writes.CoreClosed mode ∷ journal)
   agrees-core_closed mode is =
       subst (λ core. Agrees core (writes.CoreClosed mode ∷ journal)) (sym is)
-      (agrees_unmoved old journal (writes.CoreClosed mode) agrees refl refl (λ queue. refl) old.delivered agrees.senders agrees.delivered old.gates (Some mode)
+      (agrees_unmoved old journal (writes.CoreClosed mode) agrees (assumption) refl (λ queue. refl) old.delivered agrees.senders agrees.delivered old.gates (Some mode)
       (record { modes = agrees.closing.modes; mode = refl; gate_places = agrees.closing.gate_places; gates = agrees.closing.gates }))
 
   -- a gate is shut
@@ -234,7 +234,7 @@ module _ {J T : Type 0} (old new : CoreView J) (journal : Journal T) (agrees : A
       let gates : (sender : ℕ) → get_or (slice_set old.gates from (Some count)) sender None ≡ or_else (cond (sender == from) (Some count) None) (final_count sender journal) =
       λ sender. grind (arith, get_or-set_same old.gates from (Some count) None, get_or-set_other old.gates from sender (Some count) None, agrees.closing.gates sender) in
       subst (λ core. Agrees core (writes.Shut from count ∷ journal)) (sym is)
-      (agrees_unmoved old journal (writes.Shut from count) agrees refl refl (λ queue. refl) old.delivered agrees.senders agrees.delivered
+      (agrees_unmoved old journal (writes.Shut from count) agrees (assumption) refl (λ queue. refl) old.delivered agrees.senders agrees.delivered
       (slice_set old.gates from (Some count)) old.mode (assumption (places, gates)))
 
   -- a queue is closed
@@ -242,6 +242,6 @@ module _ {J T : Type 0} (old new : CoreView J) (journal : Journal T) (agrees : A
   agrees-queue_closed queue mode has =
       let modes : (other : ℕ) → mode_of other new.queues ≡ or_else (cond (other == queue) (Some mode) None) (queue_mode other journal) =
       λ other. grind (arith, has.closed.changed, has.closed.others other, agrees.closing.modes other) in
-      agrees_steady old new journal (writes.QueueClosed queue mode) agrees refl new.queues old.tallies has.rest has.closed.same_lines (λ other. refl) (agrees.tallied ∙ sym has.closed.same_count)
+      agrees_steady old new journal (writes.QueueClosed queue mode) agrees (assumption) new.queues old.tallies has.rest has.closed.same_lines (λ other. refl) (agrees.tallied ∙ sym has.closed.same_count)
       (has.closed.same_count ∙ agrees.last) (omega (arith, has.closed.same_count))
       (λ other there. has.closed.same_shares other ∙ agrees.weights other (rw (← has.closed.same_count) there)) (λ sender. refl) (assumption modes)

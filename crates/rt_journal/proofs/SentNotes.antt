@@ -47,16 +47,16 @@ module _ {T : Type 0} where
     }
 
     sent_no_more : (name : JobId) (order : Order (Unit {0})) → SaysNoMore old (writes.Sent name order ∷ before)
-    sent_no_more name order = silent_note (writes.Sent name order) refl refl (λ queue. refl) (assumption) (λ sender. refl) (λ sender. refl) (λ under is. (tt, is)) (λ name. add-zero (polls_made name before))
+    sent_no_more name order = silent_note (writes.Sent name order) (assumption) refl (λ queue. refl) (assumption) (λ sender. refl) (λ sender. refl) (λ under is. (tt, is)) (λ name. add-zero (polls_made name before))
 
     collected_no_more : (name : JobId) (outcome : OutcomeNote T) → SaysNoMore old (writes.Collected name outcome ∷ before)
-    collected_no_more name outcome = silent_note (writes.Collected name outcome) refl refl (λ queue. refl) (assumption) (λ sender. refl) (λ sender. refl) (λ under is. (tt, is)) (λ name. add-zero (polls_made name before))
+    collected_no_more name outcome = silent_note (writes.Collected name outcome) (assumption) refl (λ queue. refl) (assumption) (λ sender. refl) (λ sender. refl) (λ under is. (tt, is)) (λ name. add-zero (polls_made name before))
 
     redeemed_no_more : (name : JobId) (outcome : OutcomeNote T) → SaysNoMore old (writes.Redeemed name outcome ∷ before)
-    redeemed_no_more name outcome = silent_note (writes.Redeemed name outcome) refl refl (λ queue. refl) (assumption) (λ sender. refl) (λ sender. refl) (λ under is. (tt, is)) (λ name. add-zero (polls_made name before))
+    redeemed_no_more name outcome = silent_note (writes.Redeemed name outcome) (assumption) refl (λ queue. refl) (assumption) (λ sender. refl) (λ sender. refl) (λ under is. (tt, is)) (λ name. add-zero (polls_made name before))
 
     detached_no_more : (name : JobId) → SaysNoMore old (writes.Detached name ∷ before)
-    detached_no_more name = silent_note (writes.Detached name) refl refl (λ queue. refl) (assumption) (λ sender. refl) (λ sender. refl) (λ under is. (tt, is)) (λ name. add-zero (polls_made name before))
+    detached_no_more name = silent_note (writes.Detached name) (assumption) refl (λ queue. refl) (assumption) (λ sender. refl) (λ sender. refl) (λ under is. (tt, is)) (λ name. add-zero (polls_made name before))
 
   pub all_collected : (core : ℕ) (notes before : Journal T) → AreCollected core notes → SaysNoMore before (notes ++ before)
   all_collected core [] before are = no_more before
