@@ -8,8 +8,8 @@ use Rattle.rt_journal.proofs.Names.{◌==◌, Some, All, is_some, same_Some, All
 use Rattle.rt_journal.proofs.Names.{Reason, Journal, is_told, pick_count, number_if, length-with_last_if, if_from}
 use Rattle.rt_journal.proofs.Names.{name_ended, given_outcomes, held_count, inside_count, HandsBack, polls_made}
 use Rattle.rt_journal.proofs.Names.{poll_note, HasTask, note_taken, sum_upto, given_count, IsPick, IsHandBack}
-use Rattle.rt_journal.proofs.Names.{owed_back, known_of, among, same_as_itself, without_job, option_map, Terms}
-use Rattle.rt_journal.proofs.Names.{QueuesView, none-some, JobOut, CorePicks, names_of, Returned, Picks}
+use Rattle.rt_journal.proofs.Names.{owed_back, known_of, among, same_as_itself, without_job, option_map, QueuesView}
+use Rattle.rt_journal.proofs.Names.{none-some, JobOut, CorePicks, names_of, Returned, Picks}
 use Rattle.rt_core.specs.declared.turn.Ahead.TheVariants as ahead
 use Rattle.rt_core.specs.declared.turn.Turn.TheVariants.{Back}
 use Rattle.rt_core.specs.declared.turn.PickError.TheVariants.{Spent}
@@ -78,9 +78,6 @@ no_polls which name queue runtime was_started journal = grind arith
 
 module _ {J T : Type 0} {same : J → J → Type 0} {made : J → ℕ} {polls : Owed J T}
     (old : RecordedView J T) (recorded : IsRecorded same made polls old) (left : turns old.journal.notes < most_turns) where
-  abbrev terms : Terms
-  terms = terms_at old
-
   abbrev notes : Journal T
   notes = old.journal.notes
 
@@ -120,7 +117,7 @@ module _ {J T : Type 0} {same : J → J → Type 0} {made : J → ℕ} {polls : 
         let given = sum_upto-same (given_count (written ++ notes)) (given_count notes) old.core.cores (λ sender. ap length (quiet.given sender)) in
         let fewer : held_count queues + 1 + sum_upto (given_count (written ++ notes)) old.core.cores ≤ inside_count old.core + sum_upto (given_count notes) old.core.cores = omega (arith, one_fewer, given) in
         assumption (
-          kept-picked terms old.core name queue was_started job queues notes recorded.kept front keeps left,
+          kept-picked (terms_at old) old.core name queue was_started job queues notes recorded.kept front keeps left,
           front.line.same_room,
           still_waiting written unpolled,
           λ (out : JobOut J) (at : Some (record { name = name; queue = queue; job = job }) ≡ Some out). subst (λ out. HasTask same made polls old.took (written ++ notes) out.queue out.name out.job) (same_Some _ out at) task,
@@ -131,11 +128,11 @@ module _ {J T : Type 0} {same : J → J → Type 0} {made : J → ℕ} {polls : 
       nobody_out = front.next.free;
       turn_left = left;
       runtime = runtime;
-      right = right_pick terms old.core name queue was_started job queues notes recorded.kept front;
+      right = right_pick (terms_at old) old.core name queue was_started job queues notes recorded.kept front;
       others = names_of front.others;
-      first = first_in_line terms old.core name queue was_started job queues notes recorded.kept front;
-      kept = reason_told terms old.core name queue was_started job queues notes recorded.kept front ∙ keeps;
-      started = start_told terms old.core name queue was_started job queues notes recorded.kept front;
+      first = first_in_line (terms_at old) old.core name queue was_started job queues notes recorded.kept front;
+      kept = reason_told (terms_at old) old.core name queue was_started job queues notes recorded.kept front ∙ keeps;
+      started = start_told (terms_at old) old.core name queue was_started job queues notes recorded.kept front;
       journal = refl;
       out = refl;
       took = refl;
@@ -148,13 +145,13 @@ module _ {J T : Type 0} {same : J → J → Type 0} {made : J → ℕ} {polls : 
     unpolled_back reason which = add-zero (polls_made which notes + 0) ∙ add-zero (polls_made which notes)
 
     going_on : is_told name_ended name notes ≡ false
-    going_on = ((known_of terms notes recorded.kept.notes).line_inside queue name
-        (ap (among name) (first_in_line terms old.core name queue was_started job queues notes recorded.kept front) ∙ rw (same_as_itself name) refl)).going_on
+    going_on = ((known_of (terms_at old) notes recorded.kept.notes).line_inside queue name
+        (ap (among name) (first_in_line (terms_at old) old.core name queue was_started job queues notes recorded.kept front) ∙ rw (same_as_itself name) refl)).going_on
 
     handed : (reason : Reason) → core_says.return_reason queue old.core ≡ Some reason →
         IsQuietStep old (returned_view old.core queue queues) (back reason) same made polls everyone (λ sender. if_from sender name (name, outcomes.Returned reason))
     handed reason returns = record {
-      kept = kept-returned terms old.core name queue was_started job queues notes recorded.kept front reason returns left;
+      kept = kept-returned (terms_at old) old.core name queue was_started job queues notes recorded.kept front reason returns left;
       number = refl;
       cores = refl;
       room = front.line.same_room;
@@ -180,10 +177,10 @@ module _ {J T : Type 0} {same : J → J → Type 0} {made : J → ℕ} {polls : 
           turn_left = left;
           queue = queue;
           runtime = runtime;
-          right = right_pick terms old.core name queue was_started job queues notes recorded.kept front;
+          right = right_pick (terms_at old) old.core name queue was_started job queues notes recorded.kept front;
           others = names_of front.others;
-          first = first_in_line terms old.core name queue was_started job queues notes recorded.kept front;
-          returns = reason_told terms old.core name queue was_started job queues notes recorded.kept front ∙ returns;
+          first = first_in_line (terms_at old) old.core name queue was_started job queues notes recorded.kept front;
+          returns = reason_told (terms_at old) old.core name queue was_started job queues notes recorded.kept front ∙ returns;
           sent = task.sent;
           task = task.task;
           job = job;

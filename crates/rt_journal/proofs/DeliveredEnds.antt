@@ -1,17 +1,12 @@
 -- The ends of links stay beside a core and its journal as an order is delivered.
-use Rattle.rt_journal.proofs.Names.{◌≡◌, ℕ, suc, ◌+◌, cond, List, [], ◌∷◌, length, refl, sym, ◌∙◌, ap, subst, ◌⊎◌}
-use Rattle.rt_journal.proofs.Names.{⊎_elim, arith, ◌==◌, Option, Some, None, slice_get, option_map, eq-eqb, ne_eqb}
-use Rattle.rt_journal.proofs.Names.{JobId, Envelope, Order, Outcome, OutcomeNote, with_last, outcome_note}
-use Rattle.rt_journal.proofs.Names.{given_outcomes, number_if, Inward, SoundIn, AreNamed, Takes, RecordedView}
-use Rattle.rt_journal.proofs.Names.{desk_of, order_taken, delivered_count, IsInOf, IsInOwing, IsUngiven, GivesMore}
-use Rattle.rt_journal.proofs.Names.{told_under, KeepsIn, IsSameSeat, named_outcomes, IsNextIn, Receives, KeepsOuts}
-use Rattle.rt_journal.proofs.Names.{keeps_outs}
+use Rattle.rt_journal.proofs.Names.{length-map, ◌≡◌, ℕ, ◌+◌, cond, length, refl, sym, ◌∙◌, ap, subst, ◌⊎◌, ⊎_elim}
+use Rattle.rt_journal.proofs.Names.{arith, ◌==◌, Option, Some, None, slice_get, option_map, eq-eqb, ne_eqb, JobId}
+use Rattle.rt_journal.proofs.Names.{Envelope, Order, Outcome, OutcomeNote, with_last, outcome_note, given_outcomes}
+use Rattle.rt_journal.proofs.Names.{number_if, Inward, SoundIn, AreNamed, Takes, RecordedView, desk_of, order_taken}
+use Rattle.rt_journal.proofs.Names.{delivered_count, IsInOf, IsInOwing, GivesMore, told_under, KeepsIn, IsSameSeat}
+use Rattle.rt_journal.proofs.Names.{named_outcomes, IsNextIn, Receives, KeepsOuts, keeps_outs}
 use Rattle.rt_journal.proofs.Received.{order_taken-parts}
 use Rattle.rt_journal.proofs.EndsKept.{keeps_in, slice_get-seen, sees_more_in, final_of-more}
-
-length-named : {J T : Type 0} (sender core : ℕ) (outcomes : List (ℕ × Outcome J T)) → length (named_outcomes sender core outcomes) ≡ length outcomes
-length-named sender core [] = refl
-length-named sender core (outcome ∷ rest) = ap suc (length-named sender core rest)
 
 -- what is told under a name is told to its sender alone
 pub told_elsewhere : {T : Type 0} (name : JobId) (what : Option (OutcomeNote T)) (sender : ℕ) → (sender ≡ name.from → ⊥) → told_under name what sender ≡ None
@@ -21,7 +16,8 @@ told_elsewhere name (Some what) sender away = ap (λ test. cond test (Some (name
 -- an end that shows one more has its name next, and a place for it
 pub next_in : {J T : Type 0} (view : RecordedView J T) (before after : Inward J T) (envelope : Envelope J) → IsInOf before.from view before →
     Takes before after (Some envelope) → SoundIn after → IsNextIn view envelope.name
-next_in view before after envelope is takes sound = grind (arith, length-named before.from view.core.core before.given)
+next_in view before after envelope is takes sound =
+    let given : length (named_outcomes before.from view.core.core before.given) ≡ length before.given = length-map _ _ in grind (arith, given)
 
 module _ {J T : Type 0} (old new : RecordedView J T) (envelope : Envelope J) (next : IsNextIn old envelope.name) (did : Receives old envelope new) (seat : IsSameSeat old new)
     (outcome : Option (Outcome J T)) (gives : GivesMore (told_under envelope.name (option_map outcome_note outcome)) old.journal.notes new.journal.notes) where
@@ -49,10 +45,6 @@ module _ {J T : Type 0} (old new : RecordedView J T) (envelope : Envelope J) (ne
   abbrev owed : Option (JobId × OutcomeNote T)
   owed = told_under name (option_map outcome_note outcome) name.from
 
-  -- each outcome that was given has the number of an order before this one
-  not_yet : (before after : Inward J T) → Takes before after (Some envelope) → AreNamed before.base before.taken before.given → IsUngiven owed after.given
-  not_yet before after takes named = grind (arith, named.0)
-
   -- the end of this sender has one more taken, and owes its outcome, if there is one yet
   here_keeps : (before after : Inward J T) → IsInOf name.from old before → Takes before after (Some envelope) → SoundIn after → AreNamed before.base before.taken before.given →
       IsInOwing name.from owed new after
@@ -66,7 +58,7 @@ module _ {J T : Type 0} (old new : RecordedView J T) (envelope : Envelope J) (ne
     taken = counted_here ∙ (ap (λ count. count + 1) is.taken ∙ sym (ap (λ end. end.taken) takes.0));
     behind = sound.behind;
     given = gives name.from ∙ ap (λ told. with_last told owed) (is.given ∙ (λ i. named_outcomes name.from (sym seat.number i) (sym takes.0 i).given));
-    ungiven = not_yet before after takes named;
+    ungiven = grind (arith, named.0);
     orders = λ which order from at. ⊎_elim (was which order from) (last which order) (parts which order at);
   }
     where

@@ -12,17 +12,15 @@ use Rattle.rt_journal.proofs.Names.{MayWrite, MayStand, takes_turn, IsEffectDue,
 use Rattle.rt_journal.proofs.Names.{floor-stays, line-stays, queue_out-alone, queue_out-nobody, waiting_of, JobOut}
 use Rattle.rt_journal.proofs.Names.{is_working, is_any, runtime_of, Agrees, AgreesOnClosing, IsJobOut, AreMarked}
 use Rattle.rt_journal.proofs.Names.{QueuesView, queue_count, shares_of, Created, or_else, mode_told, core_mode_told}
-use Rattle.rt_journal.proofs.Names.{count_told, queue_mode, core_mode, final_count, IsOpening, refusal}
-use Rattle.rt_journal.proofs.Names.{reason_if_returning, mode_of, ◌++◌, map-append, All-append, All-cons, All-nil}
-use Rattle.rt_journal.proofs.Names.{charge, is_told, jobs_out, jobs_out-yield, jobs_out-done, line-yield}
-use Rattle.rt_journal.proofs.Names.{line-yield_elsewhere, line-done, is_told-alone, virtual_runtime-yield}
-use Rattle.rt_journal.proofs.Names.{virtual_runtime-yield_elsewhere, virtual_runtime-done}
-use Rattle.rt_journal.proofs.Names.{virtual_runtime-done_elsewhere, ChangesLine, tally_of, settled_view, poll_note}
-use Rattle.rt_journal.proofs.Names.{none-some, names_of, return_reason, length-set, plainly_stands}
+use Rattle.rt_journal.proofs.Names.{count_told, queue_mode, core_mode, final_count, IsOpening, refusal, mode_of, ◌++◌}
+use Rattle.rt_journal.proofs.Names.{map-append, All-append, All-cons, All-nil, charge, is_told, jobs_out}
+use Rattle.rt_journal.proofs.Names.{jobs_out-yield, jobs_out-done, line-yield, line-yield_elsewhere, line-done}
+use Rattle.rt_journal.proofs.Names.{is_told-alone, virtual_runtime-yield, virtual_runtime-yield_elsewhere}
+use Rattle.rt_journal.proofs.Names.{virtual_runtime-done, virtual_runtime-done_elsewhere, ChangesLine, tally_of}
+use Rattle.rt_journal.proofs.Names.{settled_view, poll_note, none-some, names_of, length-set, plainly_stands}
 use Rattle.rt_ids.specs.declared.note.Note.TheVariants as writes
 use Rattle.rt_core.specs.State as state
 pub use Rattle.rt_journal.specs.Agreement.{IsKept}
-use Rattle.rt_ids.specs.declared.order.Reason.TheVariants as why
 use Rattle.rt_core.specs.Closing as core_says
 use Rattle.rt_journal.proofs.Sums.{each_line, everywhere}
 
@@ -77,6 +75,17 @@ module _ {J : Type 0} (old new : CoreView J) (queue : ℕ) (tally : Tally) (ther
 pub set_runtime : (tallies : List Tally) (queue : ℕ) (tally : Tally) → queue < length tallies → tally.runtime ≡ (get_or tallies queue no_tally).runtime → (other : ℕ) →
     (get_or (set tallies queue tally) other no_tally).runtime ≡ (get_or tallies other no_tally).runtime
 set_runtime tallies queue tally there same other = grind (arith, get_or-set_same tallies queue tally no_tally there, get_or-set_other tallies queue other tally no_tally)
+
+module _ {J T : Type 0} where
+  -- a job in a line is marked as started where the journal says so
+  abbrev pub is_marked : Journal T → JobId × Bool × J → Type 0
+  is_marked journal entry = entry.1 ≡ is_told name_started entry.0 journal
+
+  -- so they stay, as one more that is marked so enters a line
+  pub marks_longer : (journal : Journal T) {old queues : QueuesView J} {queue : ℕ} (name : JobId) (started : Bool) (job : J) → started ≡ is_told name_started name journal →
+      ChangesLine old queues queue (waiting_of queue old ++ (name, started, job) ∷ []) → ((other : ℕ) → AreMarked journal (waiting_of other old)) → (other : ℕ) → AreMarked journal (waiting_of other queues)
+  marks_longer journal {old = old} {queue = queue} name started job is changes were = each_line (λ at. AreMarked journal) changes
+      (All-append (is_marked journal) (waiting_of queue old) ((name, started, job) ∷ []) (were queue) (All-cons (is_marked journal) (name, started, job) [] is (All-nil (is_marked journal)))) were
 
 module _ {J : Type 0} where
   -- something is there where a job waits or is out
@@ -205,10 +214,6 @@ module _ {J T : Type 0} (view : CoreView J) (journal : Journal T) (agrees : Agre
   pub refusal-agrees : queue_count view.queues ≡ created_count journal + 1 → (queue : ℕ) → core_says.refusal queue view ≡ refusal queue journal
   refusal-agrees last queue = grind (arith, agrees.modes queue)
 
-  -- a job is handed back for the reason that the journal gives
-  pub return_reason-agrees : (queue : ℕ) → core_says.return_reason queue view ≡ return_reason queue journal
-  return_reason-agrees queue = λ i. or_else (reason_if_returning (agrees.modes queue i) why.QueueReturned) (reason_if_returning (agrees.mode i) why.CoreReturned)
-
 -- a core that opens is open
 module _ {T : Type 0} where
   pub opening_is_open : (journal : Journal T) → IsOpening journal → core_mode journal ≡ None
@@ -263,16 +268,13 @@ module _ {J T : Type 0} (terms : Terms) (old : CoreView J) (job : JobOut J) (tim
         let within : job.queue < length old.tallies = omega (arith, exists, kept.agrees.tallied) in
         assumption (figures-grow old new job.queue settled_tally within refl journal (note ∷ journal) (one_poll time done) refl kept.agrees.figures told, nobody)
 
-  abbrev is_marked : JobId × Bool × J → Type 0
-  is_marked entry = entry.1 ≡ is_told name_started entry.0 journal
-
   -- the job goes to the end of its line
   pub kept-yield : (queues : QueuesView J) (back : J) → ChangesLine old.queues queues job.queue (waiting_of job.queue old.queues ++ (job.name, true, back) ∷ []) →
       IsKept terms (settled_view old job time 0 queues) (writes.Yield job.name time ∷ journal)
   kept-yield queues back changes =
       kept_after terms (writes.Yield job.name time) kept
       (agrees_settled 0 queues (writes.Yield job.name time) (assumption) (λ other. told-yield other job.queue journal job.name is_out.1 time)
-      changes.same_count changes.same_shares changes.same_modes lines marks (virtual_runtime-yield job.queue journal job.name time is_out.1)
+      changes.same_count changes.same_shares changes.same_modes lines (marks_longer journal job.name true back (sym (is_told-alone terms job.name journal kept.notes is_out.0)) changes kept.agrees.marks) (virtual_runtime-yield job.queue journal job.name time is_out.1)
       (λ other away. virtual_runtime-yield_elsewhere other journal job.name time job.queue is_out.1 away) (jobs_out-yield job.name time journal is_out.0)) kept.is_core is_out.0 refl tt refl refl
     where
       lines : (other : ℕ) → names_of (waiting_of other queues) ≡ line other (writes.Yield job.name time ∷ journal)
@@ -280,11 +282,6 @@ module _ {J T : Type 0} (terms : Terms) (old : CoreView J) (job : JobOut J) (tim
           let longer = map-append (λ (entry : JobId × Bool × J). entry.0) (waiting_of job.queue old.queues) ((job.name, true, back) ∷ []) in
           let here = line-yield job.queue time job.name journal is_out.1 in
           grind (arith, longer, here, kept.agrees.lines other, changes.others other, line-yield_elsewhere other job.queue time job.name journal is_out.1)
-
-      marks : (other : ℕ) → AreMarked (writes.Yield job.name time ∷ journal) (waiting_of other queues)
-      marks = each_line (λ at. AreMarked (writes.Yield job.name time ∷ journal)) changes
-          (All-append is_marked (waiting_of job.queue old.queues) ((job.name, true, back) ∷ []) (kept.agrees.marks job.queue)
-          (All-cons is_marked (job.name, true, back) [] (sym (is_told-alone terms job.name journal kept.notes is_out.0)) (All-nil is_marked))) kept.agrees.marks
 
   -- the job is gone
   pub kept-done : (value : T) → IsKept terms (settled_view old job time 1 old.queues) (writes.Done job.name time value ∷ journal)

@@ -1,15 +1,14 @@
 -- What a core tells of itself stays what its journal says, as a submission is delivered: a job enters or goes back, a command is answered, creates, weighs or closes; and as a gate is shut.
 use Rattle.rt_journal.proofs.Names.{◌≡◌, ℕ, ◌+◌, ◌<◌, ◌≤◌, Bool, true, false, [], ◌∷◌, ◌++◌, length, refl, sym, ◌∙◌}
 use Rattle.rt_journal.proofs.Names.{ap, subst, arith, get_or, set, get_or-set_same, get_or-set_other, cond, ◌==◌}
-use Rattle.rt_journal.proofs.Names.{Option, Some, None, is_some, max, true≢false, map-append, All-append, All-cons}
-use Rattle.rt_journal.proofs.Names.{All-nil, Terms, JobId, same_name, Journal, EachNote, is_told, with_last}
-use Rattle.rt_journal.proofs.Names.{delivered_names, name_started, if_from, has_work, queue_of, virtual_runtime, line}
-use Rattle.rt_journal.proofs.Names.{refusal, MayStand, IsNextDelivered, known_of, not_old, started_of, line-took}
-use Rattle.rt_journal.proofs.Names.{line-took_elsewhere, false_from_ne_true, same_as_itself}
-use Rattle.rt_journal.proofs.Names.{virtual_runtime-took_idle, virtual_runtime-took_busy}
+use Rattle.rt_journal.proofs.Names.{Option, Some, None, is_some, max, true≢false, map-append, Terms, JobId, same_name}
+use Rattle.rt_journal.proofs.Names.{Journal, EachNote, is_told, with_last, delivered_names, name_started, if_from}
+use Rattle.rt_journal.proofs.Names.{has_work, queue_of, virtual_runtime, line, refusal, MayStand, IsNextDelivered}
+use Rattle.rt_journal.proofs.Names.{known_of, not_old, started_of, line-took, line-took_elsewhere, false_from_ne_true}
+use Rattle.rt_journal.proofs.Names.{same_as_itself, virtual_runtime-took_idle, virtual_runtime-took_busy}
 use Rattle.rt_journal.proofs.Names.{virtual_runtime-took_elsewhere, floor-stays, waiting_of, CoreView, JobOut}
 use Rattle.rt_journal.proofs.Names.{no_tally, tally_of, runtime_of, is_working, entry_runtime, counted, Agrees}
-use Rattle.rt_journal.proofs.Names.{IsJobOut, AreMarked, Note, Order, Reason, Answer, shares, created_count, IsAnswer}
+use Rattle.rt_journal.proofs.Names.{IsJobOut, Note, Order, Reason, Answer, shares, created_count, IsAnswer}
 use Rattle.rt_journal.proofs.Names.{has_effect, CountsAlone, queue_just_picked, effect_awaited, inr, List, nat_le}
 use Rattle.rt_journal.proofs.Names.{le-leb, lt-leb, length-append, InRange, list_told, queue_created, shares-created}
 use Rattle.rt_journal.proofs.Names.{shares-created_elsewhere, shares-set, shares-set_elsewhere, queue_count}
@@ -17,8 +16,7 @@ use Rattle.rt_journal.proofs.Names.{shares_of, Creates, Weighs, slice_set, Mode,
 use Rattle.rt_journal.proofs.Names.{mode_of, HasClosed, ChangesLine, QueuesView, Tally, slice_index_or, length-set}
 use Rattle.rt_journal.proofs.Names.{names_of, plainly_stands}
 use Rattle.rt_ids.specs.declared.note.Note.TheVariants as writes
-use Rattle.rt_journal.proofs.Sums.{each_line}
-use Rattle.rt_journal.proofs.Kept.{figures-same, figures-stays, IsKept, turns-stays, working, kept_after}
+use Rattle.rt_journal.proofs.Kept.{marks_longer, figures-same, figures-stays, IsKept, turns-stays, working, kept_after}
 use Rattle.rt_journal.proofs.Kept.{closing-stays, agrees_unmoved, IsCalm, IsOpenNote, agrees_steady}
 use Rattle.rt_ids.specs.declared.order.Order.TheVariants as orders
 use Rattle.rt_ids.specs.declared.order.Answer.TheVariants as answers
@@ -60,14 +58,6 @@ module _ {J T : Type 0} (terms : Terms) (old : CoreView J) (name : JobId) (queue
   took_lines other =
       grind (arith, line-took queue name journal, line-took_elsewhere other queue name journal, changes.others other, kept.agrees.lines other, map-append (λ (entry : JobId × Bool × J). entry.0) (waiting_of queue old.queues) ((name, false, job) ∷ []))
 
-  abbrev is_marked : JobId × Bool × J → Type 0
-  is_marked entry = entry.1 ≡ is_told name_started entry.0 journal
-
-  took_marks : (other : ℕ) → AreMarked (writes.Took name queue ∷ journal) (waiting_of other queues)
-  took_marks = each_line (λ at. AreMarked (writes.Took name queue ∷ journal)) changes
-      (All-append is_marked (waiting_of queue old.queues) ((name, false, job) ∷ []) (kept.agrees.marks queue)
-      (All-cons is_marked (name, false, job) [] (sym (not_started terms journal kept.notes name next)) (All-nil is_marked))) kept.agrees.marks
-
   there : queue < length old.tallies
   there = omega (arith, exists, kept.agrees.tallied)
 
@@ -107,7 +97,7 @@ module _ {J T : Type 0} (terms : Terms) (old : CoreView J) (name : JobId) (queue
       let agrees : Agrees entered (writes.Took name queue ∷ journal) = assumption (
         senders_counted terms old name journal sender next kept.agrees,
         took_lines,
-        took_marks,
+        marks_longer journal name false job (sym (not_started terms journal kept.notes name next)) changes kept.agrees.marks,
         took_runtimes,
         took_out old.out kept.agrees.out,
         delivered_counted terms old name journal sender next kept.agrees,

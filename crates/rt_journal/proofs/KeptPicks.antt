@@ -1,23 +1,24 @@
 -- What a core tells of itself stays what its journal says, as a pick takes a job out or hands it back; the pick is right, and its notes may stand.
-use Rattle.rt_journal.proofs.Names.{◌≡◌, Bool, true, false, List, [], ◌∷◌, sym, ◌∙◌, subst, false_from_ne_true}
-use Rattle.rt_journal.proofs.Names.{true≢false, or_parts, All-cons, All-nil, All-head, All-tail, JobId, same_name}
-use Rattle.rt_journal.proofs.Names.{Journal, is_told, name_started, among, one_name, same_as_itself}
-use Rattle.rt_journal.proofs.Names.{is_told-start_elsewhere, AreMarked, Note, queue_joined, charge_noted, ℕ, ◌+◌, ◌<◌}
-use Rattle.rt_journal.proofs.Names.{◌≤◌, length, refl, ap, arith, get_or_past, Some, None, max, same_Some, Terms}
-use Rattle.rt_journal.proofs.Names.{most_turns, KeyAtMost, queue_of, virtual_runtime, line, jobs_out, IsRightPick}
-use Rattle.rt_journal.proofs.Names.{turns, queue_just_picked, effect_awaited, MayStand, IsTurnOf, jobs_out-start}
-use Rattle.rt_journal.proofs.Names.{jobs_out-resume, known_of, Distinct, apart_of, line-turn, line-turn_elsewhere}
-use Rattle.rt_journal.proofs.Names.{virtual_runtime-stays, floor-stays, right_pick_of_lines, queue_count, waiting_of}
-use Rattle.rt_journal.proofs.Names.{no_queue, CoreView, JobOut, tally_of, runtime_of, IsJobOut, figures_of}
-use Rattle.rt_journal.proofs.Names.{figures_told, poll_note, set, Reason, Agrees, ⊎_elim, cases_lt, name_leaving}
-use Rattle.rt_journal.proofs.Names.{name_joining, with_last, QueuesView, ChangesLine, Tally, Figures, figures_in}
-use Rattle.rt_journal.proofs.Names.{cond, ◌==◌, none-some, Option, names_of, length-set, return_reason, names_but_for}
-use Rattle.rt_journal.proofs.Names.{IsNext, plainly_stands}
+use Rattle.rt_journal.proofs.Names.{reason_if_returning, or_else, ◌≡◌, Bool, true, false, List, [], ◌∷◌, sym, ◌∙◌}
+use Rattle.rt_journal.proofs.Names.{subst, false_from_ne_true, true≢false, or_parts, All-cons, All-nil, All-head}
+use Rattle.rt_journal.proofs.Names.{All-tail, JobId, same_name, Journal, is_told, name_started, among, one_name}
+use Rattle.rt_journal.proofs.Names.{same_as_itself, is_told-start_elsewhere, AreMarked, Note, queue_joined}
+use Rattle.rt_journal.proofs.Names.{charge_noted, ℕ, ◌+◌, ◌<◌, length, refl, ap, arith, get_or_past, Some, None, max}
+use Rattle.rt_journal.proofs.Names.{same_Some, Terms, most_turns, KeyAtMost, queue_of, virtual_runtime, line}
+use Rattle.rt_journal.proofs.Names.{jobs_out, IsRightPick, turns, queue_just_picked, effect_awaited, MayStand}
+use Rattle.rt_journal.proofs.Names.{IsTurnOf, jobs_out-start, jobs_out-resume, known_of, Distinct, apart_of}
+use Rattle.rt_journal.proofs.Names.{line-turn, line-turn_elsewhere, virtual_runtime-stays, floor-stays}
+use Rattle.rt_journal.proofs.Names.{right_pick_of_lines, queue_count, waiting_of, no_queue, CoreView, JobOut}
+use Rattle.rt_journal.proofs.Names.{tally_of, runtime_of, IsJobOut, figures_of, figures_told, poll_note, set, Reason}
+use Rattle.rt_journal.proofs.Names.{Agrees, ⊎_elim, cases_lt, name_leaving, name_joining, with_last, QueuesView}
+use Rattle.rt_journal.proofs.Names.{ChangesLine, Tally, Figures, figures_in, cond, ◌==◌, none-some, Option, names_of}
+use Rattle.rt_journal.proofs.Names.{length-set, return_reason, names_but_for, IsNext, plainly_stands}
 use Rattle.rt_ids.specs.declared.note.Note.TheVariants as writes
 use Rattle.rt_core.specs.Closing as core
+use Rattle.rt_ids.specs.declared.order.Reason.TheVariants as why
 use Rattle.rt_journal.proofs.Sums.{each_line, everywhere}
-use Rattle.rt_journal.proofs.Kept.{set_runtime, figures-grow, one_pick, told-polled, IsPlain}
-use Rattle.rt_journal.proofs.Kept.{same_modes, closing-stays, return_reason-agrees, IsKept}
+use Rattle.rt_journal.proofs.Kept.{is_marked, set_runtime, figures-grow, one_pick, told-polled, IsPlain}
+use Rattle.rt_journal.proofs.Kept.{same_modes, closing-stays, IsKept}
 use Rattle.rt_journal.proofs.Kept.{turns-stays, one_return, told-returned}
 
 -- a name that isn't among some is none of them
@@ -26,9 +27,6 @@ other_way name other apart =
     false_from_ne_true _ (λ same. true≢false (sym (subst (λ one. same_name name one ≡ true) (sym (one_name other name same)) (same_as_itself name)) ∙ apart))
 
 module _ {J T : Type 0} (name : JobId) (before : Journal T) where
-  abbrev pub is_marked : Journal T → JobId × Bool × J → Type 0
-  is_marked journal entry = entry.1 ≡ is_told name_started entry.0 journal
-
   -- who is another than the one that starts is marked as before
   pub marks-start : (waiting : List (JobId × Bool × J)) → among name (names_of waiting) ≡ false → AreMarked before waiting →
       AreMarked (writes.Start name ∷ before) waiting
@@ -81,10 +79,6 @@ returned_view old queue queues = record old {
   turns = old.turns + 1;
 }
 
--- a line is empty where there is no such queue
-no_line : {J : Type 0} (queue : ℕ) (core : CoreView J) → queue_count core.queues ≤ queue → waiting_of queue core.queues ≡ []
-no_line queue core past = ap (λ view. view.waiting) (get_or_past core.queues.queues queue no_queue past)
-
 module _ {J T : Type 0} (terms : Terms) (old : CoreView J) (name : JobId) (queue : ℕ) (was_started : Bool) (job : J) (queues : QueuesView J) (journal : Journal T)
     (kept : IsKept terms old journal) (front : LeavesFront old name queue was_started job queues) where
   abbrev runtime : ℕ
@@ -101,7 +95,7 @@ module _ {J T : Type 0} (terms : Terms) (old : CoreView J) (name : JobId) (queue
 
   -- it was started before exactly where the journal says so
   pub start_told : was_started ≡ is_told name_started name journal
-  start_told = All-head (is_marked name journal journal) (name, was_started, job) front.others (subst (AreMarked journal) front.first (kept.agrees.marks queue))
+  start_told = All-head (is_marked journal) (name, was_started, job) front.others (subst (AreMarked journal) front.first (kept.agrees.marks queue))
 
   least : (other : ℕ) (first : JobId) (rest : List JobId) → line other journal ≡ first ∷ rest → KeyAtMost (virtual_runtime queue journal) queue (virtual_runtime other journal) other
   least other first rest there = grind (arith, front.next.least other, kept.agrees.runtimes other, kept.agrees.runtimes queue, kept.agrees.lines other)
@@ -113,7 +107,7 @@ module _ {J T : Type 0} (terms : Terms) (old : CoreView J) (name : JobId) (queue
 
   -- it goes back for the reason that the journal gives, if there is one
   pub reason_told : return_reason queue journal ≡ core.return_reason queue old
-  reason_told = sym (return_reason-agrees old journal kept.agrees.closing queue)
+  reason_told = λ i. or_else (reason_if_returning (sym (kept.agrees.closing.modes queue) i) why.QueueReturned) (reason_if_returning (sym kept.agrees.closing.mode i) why.CoreReturned)
 
   turn : IsTurnOf name queue picked
   turn = record { picked = refl; others = names_of front.others; first = first_in_line }
@@ -123,7 +117,7 @@ module _ {J T : Type 0} (terms : Terms) (old : CoreView J) (name : JobId) (queue
 
   exists : queue < queue_count old.queues
   exists = ⊎_elim (λ within. within)
-      (λ past. absurd (let same : (name, was_started, job) ∷ front.others ≡ [] = sym front.first ∙ no_line queue old past in cc)) (cases_lt queue (queue_count old.queues))
+      (λ past. absurd (let same : (name, was_started, job) ∷ front.others ≡ [] = sym front.first ∙ ap (λ view. view.waiting) (get_or_past old.queues.queues queue no_queue past) in cc)) (cases_lt queue (queue_count old.queues))
 
   lines_now : (other : ℕ) → names_of (waiting_of other queues) ≡ line other (writes.Start name ∷ picked)
   lines_now other =
@@ -142,7 +136,7 @@ module _ {J T : Type 0} (terms : Terms) (old : CoreView J) (name : JobId) (queue
 
   marks_then : (other : ℕ) → AreMarked journal (waiting_of other queues)
   marks_then = each_line (λ at. AreMarked journal) front.line
-      (All-tail (is_marked name journal journal) (name, was_started, job) front.others (subst (AreMarked journal) front.first (kept.agrees.marks queue))) kept.agrees.marks
+      (All-tail (is_marked journal) (name, was_started, job) front.others (subst (AreMarked journal) front.first (kept.agrees.marks queue))) kept.agrees.marks
 
   -- the core after the pick and the note behind it: the queue has this tally, and this job is out
   module _ (note : Note T) (follows : FollowsPick name note picked) (tally : Tally) (grow : Figures → Figures) (out : Option (JobOut J)) where

@@ -1,7 +1,7 @@
 -- The words of the crates below and of the specs of this one that these proofs use.
 pub use Rattle.std.proofs.Common.{add-zero, get_or-set_other, length-set, zero-add, ⊎_elim, ◌^◌}
 pub use Rattle.std.proofs.lemmas.Bool.{cases_lt, eqb-true, le-leb, lt-leb, or_parts}
-pub use Rattle.std.proofs.lemmas.List.{get_or_past, length-reverse, take-append-drop}
+pub use Rattle.std.proofs.lemmas.List.{get_or_past, length-map, length-reverse, take-append-drop}
 pub use Rattle.std.proofs.lemmas.List.Elements.{All-append, All-cons, All-head, All-nil, All-tail}
 pub use Rattle.std.proofs.lemmas.Option.{none-some, same_Some, slice_get-map}
 pub use Rattle.std.specs.Option.{option_map}

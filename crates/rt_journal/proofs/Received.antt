@@ -155,17 +155,16 @@ module _ {J T : Type 0} {same : J → J → Type 0} {made : J → ℕ} {polls : 
   waiting_now : (queue : ℕ) → All (Task queue) (waiting_of queue core.queues)
   waiting_now = done.entered Task (λ queue place default within. task_stays (stays _) (done.polls _) (recorded.waiting queue place default within)) came
     where
-      never : polls_made name longer ≡ 0
-      never = done.polls name ∙ polls_made-fresh (terms_at old) name old.journal.notes recorded.kept.notes (λ late. omega (arith, late, next.next))
-
       came : (queue : ℕ) (entry : JobId × Bool × J) → IsOf name envelope.order queue entry → Task queue entry
-      came queue entry is = record {
-        sent = entry.2;
-        task = ap (order_taken received.took) is.0 ∙ (here ∙ ap Some is.1);
-        same_task = is_same.itself entry.2;
-        owes = subst (λ count. OwesAfter same made polls entry.2 count entry.2) (sym (ap (λ which. polls_made which longer) is.0 ∙ never))
-            (λ more calls step told owed. subst (λ place. polls entry.2 (made entry.2 + place) calls step told) (sym (zero-add more)) owed);
-      }
+      came queue entry is =
+          let never = done.polls name ∙ polls_made-fresh (terms_at old) name old.journal.notes recorded.kept.notes (λ late. omega (arith, late, next.next)) in
+          record {
+            sent = entry.2;
+            task = ap (order_taken received.took) is.0 ∙ (here ∙ ap Some is.1);
+            same_task = is_same.itself entry.2;
+            owes = subst (λ count. OwesAfter same made polls entry.2 count entry.2) (sym (ap (λ which. polls_made which longer) is.0 ∙ never))
+                (λ more calls step told owed. subst (λ place. polls entry.2 (made entry.2 + place) calls step told) (sym (zero-add more)) owed);
+          }
 
   terms_now : terms_at old ≡ terms_at received
   terms_now = λ i. record { actor = sym done.number i; cores = sym done.cores i; cap = old.cap }

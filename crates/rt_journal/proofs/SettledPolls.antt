@@ -2,17 +2,16 @@
 use Rattle.rt_journal.proofs.Names.{◌≡◌, ℕ, ◌+◌, ◌<◌, ◌≤◌, Bool, true, false, List, [], ◌∷◌, ◌++◌, length, refl, sym}
 use Rattle.rt_journal.proofs.Names.{◌∙◌, ap, subst, arith, add-zero, get_or, ◌==◌, Option, Some, None, All, is_some}
 use Rattle.rt_journal.proofs.Names.{unwrap_or, false_from_ne_true, length-append, All-append, All-cons, All-nil}
-use Rattle.rt_journal.proofs.Names.{JobId, Note, same_name, is_name, Journal, jobs_out, name_settled, number_if}
-use Rattle.rt_journal.proofs.Names.{alone_out, apart_of, among, same_as_itself, Step, Call, Owed, AfterPoll}
-use Rattle.rt_journal.proofs.Names.{IsSameTask, IfDone, OnYield, OwesOn, waiting_of, held_count, ChangesLine, Settled}
-use Rattle.rt_journal.proofs.Names.{Yielded, CoreView, JobOut, inside_count, IsTaskOut, settled_view, IsJobOut}
-use Rattle.rt_journal.proofs.Names.{polls_made, settle_note, RecordedView, terms_at, IsRecorded, HasTask, note_taken}
-use Rattle.rt_journal.proofs.Names.{OwesAfter, sum_upto, given_count, IsOut, IsPolled, Settles, TellsStep, Job}
-use Rattle.rt_journal.proofs.Names.{without_job, known_of, option_map, Inward, IsInOf, IsUngiven, told_under}
-use Rattle.rt_journal.proofs.Names.{outcome_note, outcome_settled, length-with_last_if, given_outcomes, IfSome}
-use Rattle.rt_journal.proofs.Names.{same_Some, Envelope, Outcome, MayGive, Fits, order_taken, IsInOwing, KeepsIn}
-use Rattle.rt_journal.proofs.Names.{LeavesOwed, Gives, IsOutUnder, OwesSettled, MayAnswer, QueuesView, none-some}
-use Rattle.rt_journal.proofs.Names.{Finished, CoreSettles, names_of}
+use Rattle.rt_journal.proofs.Names.{JobId, Note, same_name, Journal, jobs_out, number_if, alone_out, apart_of, among}
+use Rattle.rt_journal.proofs.Names.{same_as_itself, Step, Call, Owed, AfterPoll, IsSameTask, IfDone, OnYield, OwesOn}
+use Rattle.rt_journal.proofs.Names.{waiting_of, held_count, ChangesLine, Settled, Yielded, CoreView, JobOut}
+use Rattle.rt_journal.proofs.Names.{inside_count, IsTaskOut, settled_view, IsJobOut, polls_made, settle_note}
+use Rattle.rt_journal.proofs.Names.{RecordedView, terms_at, IsRecorded, HasTask, note_taken, OwesAfter, sum_upto}
+use Rattle.rt_journal.proofs.Names.{given_count, IsOut, IsPolled, Settles, TellsStep, Job, without_job, known_of}
+use Rattle.rt_journal.proofs.Names.{option_map, Inward, IsInOf, IsUngiven, told_under, outcome_note, outcome_settled}
+use Rattle.rt_journal.proofs.Names.{length-with_last_if, given_outcomes, IfSome, same_Some, Envelope, Outcome}
+use Rattle.rt_journal.proofs.Names.{MayGive, Fits, order_taken, KeepsIn, LeavesOwed, Gives, IsOutUnder, OwesSettled}
+use Rattle.rt_journal.proofs.Names.{MayAnswer, QueuesView, none-some, Finished, CoreSettles, names_of}
 use Rattle.rt_ids.specs.declared.note.Note.TheVariants as writes
 use Rattle.rt_jobs.specs.declared.job.Step.TheVariants as steps
 use Rattle.rt_journal.proofs.Sums.{each_line, sum_upto-at_most_one}
@@ -31,9 +30,6 @@ among-place : {J : Type 0} (name : JobId) (waiting : List (JobId × Bool × J)) 
     (place : ℕ) (default : JobId × Bool × J) → place < length waiting → same_name name (get_or waiting place default).0 ≡ false
 among-place name [] apart place default within = absurd (omega arith)
 among-place name (entry ∷ rest) apart place default within = grind (arith, among-place name rest)
-
-settled_name : {T : Type 0} (name : JobId) (time : ℕ) (step : Step T) → name_settled (settle_note name time step) ≡ Some name
-settled_name name time step = grind arith
 
 -- what is given by the note is the outcome that the caller is told
 pub given_told : (J : Type 0) {T : Type 0} (name : JobId) (step : Step T) (settled : Settled T) → TellsStep step settled → (sender : ℕ) →
@@ -74,7 +70,7 @@ module _ {J T : Type 0} {same : J → J → Type 0} {made : J → ℕ} {polls : 
     Task queue entry = HasTask same made polls old.took longer queue entry.0 entry.2
 
     polls_now : (which : JobId) → polls_made which longer ≡ polls_made which old.journal.notes + number_if (same_name which out.name)
-    polls_now which = ap (λ settled. polls_made which old.journal.notes + number_if (is_name which settled)) (settled_name out.name time step)
+    polls_now which = grind arith
 
     -- who wasn't polled keeps its task and its count
     still_waiting : (queue : ℕ) → All (Task queue) (waiting_of queue old.core.queues)
@@ -201,16 +197,12 @@ module _ {J T : Type 0} {same : J → J → Type 0} {made : J → ℕ} {polls : 
   owes_it : (sender : ℕ) → LeavesOwed sender (told_under name (option_map outcome_note outcome) sender) old new
   owes_it sender = subst (λ name. LeavesOwed sender (told_under name (option_map outcome_note outcome) sender) old new) name_is (owes settles.out settles.was_out sender)
 
-  module _ (before : Inward J T) (beside : IsInOf name.from old before) where
-    owing : IsInOwing name.from (told_under name (option_map outcome_note outcome) name.from) new before
-    owing = (owes_it name.from).each before beside
-
-    answer : MayAnswer answers new.took name settled
-    answer = its_answer answers new.took name settles.out.queue settles.sent ((λ i. order_taken (settles.took i) (sym name_is i)) ∙ settles.task) ran.step settled settles.tells settles.answered
-
-    -- it may be given, and is owed no more then
-    pub settled_given : IfSome outcome (λ outcome. MayGive (Fits same answers) before name.number outcome) × ((after : Inward J T) → Gives before name.number outcome after → IsInOf name.from new after)
-    settled_given = given_done answers new recorded name before settled answer owing
+  -- it may be given, and is owed no more then
+  pub settled_given : (before : Inward J T) → IsInOf name.from old before →
+      IfSome outcome (λ outcome. MayGive (Fits same answers) before name.number outcome) × ((after : Inward J T) → Gives before name.number outcome after → IsInOf name.from new after)
+  settled_given before beside = given_done answers new recorded name before settled
+      (its_answer answers new.took name settles.out.queue settles.sent ((λ i. order_taken (settles.took i) (sym name_is i)) ∙ settles.task) ran.step settled settles.tells settles.answered)
+      ((owes_it name.from).each before beside)
 
   pub others_settled : (sender : ℕ) → (sender ≡ name.from → ⊥) → KeepsIn sender old new
   others_settled sender away = subst (λ owed. LeavesOwed sender owed old new) (told_elsewhere name (option_map outcome_note outcome) sender away) (owes_it sender)

@@ -71,13 +71,10 @@ module _ {T : Type 0} (terms : Terms) (outside : terms.cores ≤ terms.actor) wh
   by_note under (writes.Detached name) before writer = (tt, λ rest. rest)
   by_note under _ before writer = absurd (omega (arith, writer, outside))
 
-  nobody_out : (journal : Journal T) → EachNote (MayStand terms) journal → jobs_out journal ≡ []
-  nobody_out [] notes = refl
-  nobody_out (note ∷ before) notes = (by_note (λ name. None) note before notes.0.writer).1 (nobody_out before notes.1)
-
-  nothing_delivered : (under : JobId → Option (Order (Unit {0}))) (journal : Journal T) → EachNote (MayStand terms) journal → EachNote (DeliversAs under) journal
-  nothing_delivered under [] notes = tt
-  nothing_delivered under (note ∷ before) notes = ((by_note under note before notes.0.writer).0, nothing_delivered under before notes.1)
+  by_notes : (under : JobId → Option (Order (Unit {0}))) (journal : Journal T) → EachNote (MayStand terms) journal → EachNote (DeliversAs under) journal × (jobs_out journal ≡ [])
+  by_notes under [] notes = (tt, refl)
+  by_notes under (note ∷ before) notes =
+      let rest = by_notes under before notes.1 in let now = by_note under note before notes.0.writer in ((now.0, rest.0), now.1 rest.1)
 
 -- outcomes that are the beginning of others are so under their names
 named-prefix : {J T : Type 0} (sender core : ℕ) (front whole : List (ℕ × Outcome J T)) → IsPrefix front whole → IsPrefix (named_outcomes sender core front) (named_outcomes sender core whole)
@@ -113,7 +110,7 @@ module _ {J T : Type 0} {same : J → J → Type 0} {made : J → ℕ} {polls : 
             notes = are.outside.notes;
             no_pick = are.outside.no_pick;
             no_answer = are.outside.no_answer;
-            nobody_out = nobody_out (terms_of_desk (desk cores)) (omega (arith, ap (λ terms. terms.actor) (are.actors cores (omega arith)), ap (λ terms. terms.cores) (are.actors cores (omega arith)))) (notes_at cores) are.outside.notes;
+            nobody_out = (by_notes (terms_of_desk (desk cores)) (omega (arith, ap (λ terms. terms.actor) (are.actors cores (omega arith)), ap (λ terms. terms.cores) (are.actors cores (omega arith)))) (λ name. None) (notes_at cores) are.outside.notes).1;
           })
 
   terms_are : (actor : ℕ) → actor ≤ cores → terms_of actor assembly ≡ terms_of_desk (desk actor)
@@ -146,9 +143,6 @@ module _ {J T : Type 0} {same : J → J → Type 0} {made : J → ℕ} {polls : 
     accepted_count : length (accepted_orders d (notes_at sender)) ≡ length (out sender d).sent
     accepted_count = ap length accepted_are ∙ length-numbered sender d 0 (out sender d).sent
 
-    seen_within : length (inward sender d).seen ≤ length (out sender d).sent
-    seen_within = omega (arith, ap length link.orders.1, length-append (inward sender d).seen link.orders.0)
-
     delivered_are : delivered_names sender (core d).journal.notes ≡ names_from sender d 0 (inward sender d).taken
     delivered_are =
         delivered_numbered (terms_at (core d)) sender (core d).journal.notes (are.recorded d d_there).kept.notes
@@ -159,20 +153,17 @@ module _ {J T : Type 0} {same : J → J → Type 0} {made : J → ℕ} {polls : 
         subst (λ notes. IsPrefix (delivered_names sender notes) (names_of (accepted_orders d (notes_at sender)))) (sym (notes_are d d_there))
         (subst (λ front. IsPrefix front (names_of (accepted_orders d (notes_at sender)))) (sym delivered_are)
         (subst (IsPrefix (names_from sender d 0 (inward sender d).taken)) (sym (ap names_of accepted_are ∙ names_of-numbered sender d 0 (out sender d).sent))
-        (names_from-prefix sender d (inward sender d).taken (length (out sender d).sent) (omega (arith, ins.behind, seen_within)))))
+        (names_from-prefix sender d (inward sender d).taken (length (out sender d).sent) (omega (arith, ins.behind, ap length link.orders.1, length-append (inward sender d).seen link.orders.0)))))
 
     collection : IsPrefix (collected_outcomes d (notes_at sender)) (given_outcomes sender (notes_at d))
     collection =
         subst (λ notes. IsPrefix (collected_outcomes d (notes_at sender)) (given_outcomes sender notes)) (sym (notes_are d d_there))
         (subst (λ front. IsPrefix front (given_outcomes sender (core d).journal.notes)) (sym (outs.collected ∙ ap (λ at. named_outcomes at d got) sender_is))
         (subst (IsPrefix (named_outcomes sender d got)) (sym (ins.given ∙ ap (λ at. named_outcomes sender at (inward sender d).given) (numbers d d_there)))
-        (named-prefix sender d got (inward sender d).given (prefix-along got (out sender d).seen (inward sender d).given seen_got (link.outcomes.0, sym link.outcomes.1)))))
+        (named-prefix sender d got (inward sender d).given (prefix-along got (out sender d).seen (inward sender d).given (drop (out sender d).got (out sender d).seen, take-append-drop (out sender d).got (out sender d).seen) (link.outcomes.0, sym link.outcomes.1)))))
       where
         got : List (ℕ × Outcome J T)
         got = take (out sender d).got (out sender d).seen
-
-        seen_got : IsPrefix got (out sender d).seen
-        seen_got = (drop (out sender d).got (out sender d).seen, take-append-drop (out sender d).got (out sender d).seen)
 
     gate : (count : ℕ) → final_count sender (notes_at d) ≡ Some count → count ≡ length (accepted_orders d (notes_at sender))
     gate count told = grind (arith, ins.gate, notes_are d d_there, link.final, accepted_count, ins.base)
@@ -208,7 +199,7 @@ module _ {J T : Type 0} {same : J → J → Type 0} {made : J → ℕ} {polls : 
       outside : cores ≤ actor → EachNote (DeliversAsSent assembly) (notes_at actor)
       outside past =
           let terms = are.actors actor there in
-          nothing_delivered (terms_of_desk (desk actor)) (omega (arith, past, ap (λ terms. terms.actor) terms, ap (λ terms. terms.cores) terms)) (λ name. order_of name assembly) (notes_at actor) (lawful_at actor there).notes
+          (by_notes (terms_of_desk (desk actor)) (omega (arith, past, ap (λ terms. terms.actor) terms, ap (λ terms. terms.cores) terms)) (λ name. order_of name assembly) (notes_at actor) (lawful_at actor there).notes).0
 
   links : LinksAgree assembly
   links = record {
