@@ -28,13 +28,6 @@ module _ {J T : Type 0} (old new : RecordedView J T) (envelope : Envelope J) (ne
   parts : (which : JobId) (order : Order J) → order_taken new.took which ≡ Some order → (order_taken old.took which ≡ Some order) ⊎ ((which ≡ name) × (envelope.order ≡ order))
   parts which order at = order_taken-parts envelope old.took which order (subst (λ took. order_taken took which ≡ Some order) did.took at)
 
-  -- the ends of other senders stay
-  pub others_keep : (sender : ℕ) → (sender ≡ name.from → ⊥) → KeepsIn sender old new
-  others_keep sender other =
-      keeps_in old new seat sender None (gives sender ∙ ap (with_last (given_outcomes sender old.journal.notes)) (told_elsewhere name (option_map outcome_note outcome) sender other)) (did.lists.gates sender) (λ inward is. tt)
-      (let none : number_if (name.from == sender) ≡ 0 = ap number_if (ne_eqb name.from sender (λ one. other (sym one))) in omega (arith, did.delivered sender, none))
-      (λ which order from at. ⊎_elim (λ was. was) (λ last. absurd (other (sym from ∙ ap (λ id. id.from) last.0))) (parts which order at))
-
   -- the sender's ends stay
   pub outs_keep : KeepsOuts (desk_of old) (desk_of new)
   outs_keep = keeps_outs (desk_of old) (desk_of new) (λ i. record { actor = seat.number i; cores = seat.cores i; cap = seat.cap i; journal = new.journal; lanes = new.lanes }) did.lists.sent
@@ -46,9 +39,9 @@ module _ {J T : Type 0} (old new : RecordedView J T) (envelope : Envelope J) (ne
   owed = told_under name (option_map outcome_note outcome) name.from
 
   -- the end of this sender has one more taken, and owes its outcome, if there is one yet
-  here_keeps : (before after : Inward J T) → IsInOf name.from old before → Takes before after (Some envelope) → SoundIn after → AreNamed before.base before.taken before.given →
+  pub beside_owes : (before after : Inward J T) → IsInOf before.from old before → Takes before after (Some envelope) → SoundIn after → AreNamed before.base before.taken before.given →
       IsInOwing name.from owed new after
-  here_keeps before after is takes sound named = record {
+  beside_owes before after beside takes sound named = record {
     known = rw seat.cores next.sender;
     from = ap (λ end. end.from) takes.0 ∙ is.from;
     to = ap (λ end. end.to) takes.0 ∙ (is.to ∙ sym seat.number);
@@ -62,6 +55,9 @@ module _ {J T : Type 0} (old new : RecordedView J T) (envelope : Envelope J) (ne
     orders = λ which order from at. ⊎_elim (was which order from) (last which order) (parts which order at);
   }
     where
+      is : IsInOf name.from old before
+      is = subst (λ from. IsInOf from old before) (sym (ap (λ id. id.from) takes.2)) beside
+
       was : (which : JobId) (order : Order J) → which.from ≡ name.from → order_taken old.took which ≡ Some order →
           (place : ℕ) × (which ≡ record { from = name.from; to = new.core.core; number = place + 1 }) × (slice_get after.seen place ≡ Some order)
       was which order from at =
@@ -77,14 +73,13 @@ module _ {J T : Type 0} (old new : RecordedView J T) (envelope : Envelope J) (ne
         takes.3 ∙ ap Some at.1,
       )
 
-  -- the same of an end that was beside its core
-  pub beside_owes : (before after : Inward J T) → IsInOf before.from old before → Takes before after (Some envelope) → SoundIn after → AreNamed before.base before.taken before.given →
-      IsInOwing name.from owed new after
-  beside_owes before after is takes sound named =
-      here_keeps before after (subst (λ from. IsInOf from old before) (sym (ap (λ id. id.from) takes.2)) is) takes sound named
-
+  -- the ends of other senders stay
   pub rest_keep : (before after : Inward J T) → Takes before after (Some envelope) → (sender : ℕ) → (sender ≡ before.from → ⊥) → KeepsIn sender old new
-  rest_keep before after takes sender other = others_keep sender (λ one. other (one ∙ ap (λ id. id.from) takes.2))
+  rest_keep before after takes sender other =
+      let away : sender ≡ name.from → ⊥ = λ one. other (one ∙ ap (λ id. id.from) takes.2) in
+      let none : number_if (name.from == sender) ≡ 0 = ap number_if (ne_eqb name.from sender (λ one. away (sym one))) in
+      keeps_in old new seat sender None (gives sender ∙ ap (with_last (given_outcomes sender old.journal.notes)) (told_elsewhere name (option_map outcome_note outcome) sender away)) (did.lists.gates sender) (λ inward is. tt)
+      (omega (arith, did.delivered sender, none)) (λ which order from at. ⊎_elim (λ was. was) (λ last. absurd (away (sym from ∙ ap (λ id. id.from) last.0))) (parts which order at))
 
 -- an end that shows nothing more stays beside the same core and journal
 pub nothing_keeps : {J T : Type 0} (view : RecordedView J T) (before after : Inward J T) → IsInOf before.from view before → Takes before after None → IsInOf before.from view after

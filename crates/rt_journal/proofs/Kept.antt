@@ -186,9 +186,6 @@ pub record SameModes {J : Type 0} (old new : CoreView J) : Type 0 where
   pub gates : new.gates ≡ old.gates
   pub cores : new.cores ≡ old.cores
 
-pub same_modes : {J : Type 0} (view : CoreView J) → SameModes view view
-same_modes view = record { modes = λ queue. refl; mode = refl; gates = refl; cores = refl }
-
 module _ {J T : Type 0} (old new : CoreView J) (note : Note T) (before : Journal T) where
   pub closing-stays : SameModes old new → IsOpenNote note → AgreesOnClosing old before → AgreesOnClosing new (note ∷ before)
   closing-stays same plain agrees = record {

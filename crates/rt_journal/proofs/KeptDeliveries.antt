@@ -178,36 +178,28 @@ module _ {J T : Type 0} (terms : Terms) (old new : CoreView J) (name : JobId) (q
   pub kept-created : queue ≡ queue_count old.queues → Creates old weight new →
       IsAnswer (orders.Create weight) (answers.Created queue) journal
       × IsKept terms new (writes.Created queue weight ∷ writes.Answered name (answers.Created queue) ∷ journal)
-  kept-created number creates = (
-    right,
-    kept-effect terms old middle name journal kept next sender refl (orders.Create weight) (answers.Created queue) right (writes.Created queue weight)
-        (agrees-created middle new queue weight _ (agrees-answered terms old middle name journal kept next sender refl (answers.Created queue)) number
-        (record { is_open = creates.is_open; few = creates.few; added = creates.added; rest = creates.rest }) now)
-        (record { may_follow = record { next = number ∙ kept.agrees.last; in_range = rw number creates.few; shares = in_range }; turn = refl; effect = refl; writer = kept.is_core }) refl refl,
-  )
-    where
-      few : nat_le 255 (created_count journal) ≡ false
-      few = lt-leb 255 (created_count journal) (omega (arith, creates.few, kept.agrees.last))
-
-      right : IsAnswer (orders.Create weight) (answers.Created queue) journal
-      right = rw (sym kept.agrees.closing.mode ∙ creates.is_open, few) (inr (ap answers.Created (number ∙ kept.agrees.last)))
+  kept-created number creates =
+      let few : nat_le 255 (created_count journal) ≡ false = lt-leb 255 (created_count journal) (omega (arith, creates.few, kept.agrees.last)) in
+      let right : IsAnswer (orders.Create weight) (answers.Created queue) journal = rw (sym kept.agrees.closing.mode ∙ creates.is_open, few) (inr (ap answers.Created (number ∙ kept.agrees.last))) in (
+        right,
+        kept-effect terms old middle name journal kept next sender refl (orders.Create weight) (answers.Created queue) right (writes.Created queue weight)
+            (agrees-created middle new queue weight _ (agrees-answered terms old middle name journal kept next sender refl (answers.Created queue)) number
+            (record { is_open = creates.is_open; few = creates.few; added = creates.added; rest = creates.rest }) now)
+            (record { may_follow = record { next = number ∙ kept.agrees.last; in_range = rw number creates.few; shares = in_range }; turn = refl; effect = refl; writer = kept.is_core }) refl refl,
+      )
 
   pub kept-weighed : Weighs old queue weight new →
       IsAnswer (orders.SetShares queue weight) answers.SharesSet journal
       × IsKept terms new (writes.SharesSet queue weight ∷ writes.Answered name answers.SharesSet ∷ journal)
-  kept-weighed weighs = (
-    right,
-    kept-effect terms old middle name journal kept next sender refl (orders.SetShares queue weight) answers.SharesSet right (writes.SharesSet queue weight)
-        (agrees-weighed middle new queue weight _ (agrees-answered terms old middle name journal kept next sender refl answers.SharesSet)
-        (record { exists = weighs.exists; shares = weighs.shares; rest = weighs.rest }) now)
-        (record { may_follow = (exists, in_range); turn = refl; effect = refl; writer = kept.is_core }) refl refl,
-  )
-    where
-      exists : queue ≤ created_count journal
-      exists = omega (arith, weighs.exists, kept.agrees.last)
-
-      right : IsAnswer (orders.SetShares queue weight) answers.SharesSet journal
-      right = rw (le-leb queue (created_count journal) exists)
+  kept-weighed weighs =
+      let exists : queue ≤ created_count journal = omega (arith, weighs.exists, kept.agrees.last) in
+      let right : IsAnswer (orders.SetShares queue weight) answers.SharesSet journal = rw (le-leb queue (created_count journal) exists) refl in (
+        right,
+        kept-effect terms old middle name journal kept next sender refl (orders.SetShares queue weight) answers.SharesSet right (writes.SharesSet queue weight)
+            (agrees-weighed middle new queue weight _ (agrees-answered terms old middle name journal kept next sender refl answers.SharesSet)
+            (record { exists = weighs.exists; shares = weighs.shares; rest = weighs.rest }) now)
+            (record { may_follow = (exists, in_range); turn = refl; effect = refl; writer = kept.is_core }) refl refl,
+      )
 
 module _ {J T : Type 0} (old new : CoreView J) (journal : Journal T) (agrees : Agrees old journal) where
   -- the core is closed

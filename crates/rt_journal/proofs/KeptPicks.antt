@@ -18,7 +18,7 @@ use Rattle.rt_core.specs.Closing as core
 use Rattle.rt_ids.specs.declared.order.Reason.TheVariants as why
 use Rattle.rt_journal.proofs.Sums.{each_line, everywhere}
 use Rattle.rt_journal.proofs.Kept.{is_marked, set_runtime, figures-grow, one_pick, told-polled, IsPlain}
-use Rattle.rt_journal.proofs.Kept.{same_modes, closing-stays, IsKept}
+use Rattle.rt_journal.proofs.Kept.{closing-stays, IsKept}
 use Rattle.rt_journal.proofs.Kept.{turns-stays, one_return, told-returned}
 
 -- a name that isn't among some is none of them
@@ -165,7 +165,7 @@ module _ {J T : Type 0} (terms : Terms) (old : CoreView J) (name : JobId) (queue
           out_exists = out_exists;
           delivered = λ sender known. kept.agrees.delivered sender known ∙ ap length (sym (follows.plain.delivered sender));
           figures = figures-grow old turned queue tally within refl journal (note ∷ picked) grow counts kept.agrees.figures told;
-          closing = closing-stays turned turned note picked (same_modes turned) follows.plain.opens
+          closing = closing-stays turned turned note picked (assumption) follows.plain.opens
               (closing-stays old turned (writes.Pick queue runtime) journal (record { modes = front.line.same_modes; mode = refl; gates = refl; cores = refl }) (assumption) kept.agrees.closing);
         } in
         let pick_stands = plainly_stands terms (writes.Pick queue runtime) journal kept.is_core (record { right = right_pick; turn_left = left }) kept.no_pick kept.no_answer refl tt in

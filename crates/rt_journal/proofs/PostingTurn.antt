@@ -1,14 +1,13 @@
 -- A whole turn with posts, beside its journal: the notes of the pick are written behind the old ones, then what is posted, then the note of the settling.
-use Rattle.rt_journal.proofs.Names.{Ok, Option, slice_get, ◌≡◌, refl, ℕ, ◌+◌, ◌<◌, Bool, true, false, List, length}
-use Rattle.rt_journal.proofs.Names.{reverse, sym, ◌∙◌, ap, subst, arith, most_turns, JobId, Note, Envelope, Order}
-use Rattle.rt_journal.proofs.Names.{Outcome, turns, Step, Owed, Start, Resume, CoreView, IsAhead, goes_out}
-use Rattle.rt_journal.proofs.Names.{pick_notes, settle_notes, ahead_picks, Outward, DeskView, IsWritten}
-use Rattle.rt_journal.proofs.Names.{terms_of_desk, desk_with, RecordedView, IsRecorded, desk_of, LeavesOwed}
-use Rattle.rt_journal.proofs.Names.{AreOutsOf, IsPick, StaysPut, option_map, ◌*◌, ◌≤◌, same_Some, outcome_note, Call}
-use Rattle.rt_journal.proofs.Names.{Doing, Makes, IsSameTask, JobOut, TurnsWhole, settled_of, IsSameSeat, told_under}
-use Rattle.rt_journal.proofs.Names.{OwesSettled, outcome_settled, PostView, HasPosted, lends, Does, IsPolled, Settles}
-use Rattle.rt_journal.proofs.Names.{post_of, IsPostingTurn, MayAnswer, TurnsNoted, OutcomeNote, CorePicks}
-use Rattle.rt_journal.proofs.Names.{posted_rest}
+use Rattle.rt_journal.proofs.Names.{Ok, slice_get, ◌≡◌, refl, ℕ, ◌+◌, ◌<◌, Bool, true, false, List, length, reverse}
+use Rattle.rt_journal.proofs.Names.{sym, ◌∙◌, ap, subst, arith, most_turns, JobId, Note, Envelope, Order, Outcome}
+use Rattle.rt_journal.proofs.Names.{turns, Step, Owed, Start, Resume, CoreView, IsAhead, goes_out, pick_notes}
+use Rattle.rt_journal.proofs.Names.{settle_notes, ahead_picks, Outward, DeskView, IsWritten, terms_of_desk, desk_with}
+use Rattle.rt_journal.proofs.Names.{RecordedView, IsRecorded, desk_of, LeavesOwed, AreOutsOf, IsPick, StaysPut}
+use Rattle.rt_journal.proofs.Names.{option_map, ◌*◌, ◌≤◌, same_Some, outcome_note, Call, Doing, Makes, IsSameTask}
+use Rattle.rt_journal.proofs.Names.{JobOut, TurnsWhole, settled_of, IsSameSeat, told_under, OwesSettled}
+use Rattle.rt_journal.proofs.Names.{outcome_settled, PostView, HasPosted, lends, Does, IsPolled, Settles, post_of}
+use Rattle.rt_journal.proofs.Names.{IsPostingTurn, MayAnswer, TurnsNoted, CorePicks, posted_rest}
 use Rattle.rt_journal.proofs.Ahead.{picked_did}
 use Rattle.rt_journal.proofs.QuietSteps.{nobody, everyone, HasDone, view_of, quiet_invariant, quiet_now, given_settled}
 use Rattle.rt_journal.proofs.QuietSteps.{HasStepped, MayNote, quiet_noted}
@@ -23,11 +22,6 @@ outs_kept old new stays ends outs = record {
   beside = λ core end there. (stays.outs core).each _ _ (outs.beside core end there);
   lanes = λ core end there. let had = outs.lanes core end there in record { lane = had.lane; is = ap (λ lanes. slice_get lanes core) stays.lanes ∙ had.is; lane_of = had.lane_of };
 }
-
--- a quiet step leaves the seat, the ends on which this actor sends, and its lanes
-stays_put : {J T : Type 0} {same : J → J → Type 0} {made : J → ℕ} {polls : Owed J T} {keeps : ℕ → Type 0} {gives : ℕ → Option (JobId × OutcomeNote T)} {does : RecordedView J T → RecordedView J T → Type 0} {old new : RecordedView J T} →
-    HasStepped same made polls keeps gives does old new → StaysPut old new
-stays_put now = record { seat = now.seat; outs = now.outs; lanes = now.lanes }
 
 -- the notes of the pick of the job that is told ahead, whatever core the pick comes to
 module _ {J T : Type 0} {same : J → J → Type 0} {made : J → ℕ} {polls : Owed J T}
@@ -65,7 +59,7 @@ module _ {J T : Type 0} {same : J → J → Type 0} {made : J → ℕ} {polls : 
   outs_note_pick {fits = fits} {out = out} {credited = credited} ends outs noted wrote =
       let picks = ahead_picks T core queue vr name started ahead in
       subst (λ desk. AreOutsOf fits out credited desk ends) (sym (is_picked core took said invariant left queue vr name started picks.0 picks.1 picks.2 slice slice_is noted wrote).1)
-      (outs_kept (view_of core took said) (view_of picks.1 took noted) (stays_put (has_picked core took said invariant left queue vr name started picks.0 picks.1 picks.2 slice slice_is noted wrote)) ends outs)
+      (outs_kept (view_of core took said) (view_of picks.1 took noted) (assumption (has_picked core took said invariant left queue vr name started picks.0 picks.1 picks.2 slice slice_is noted wrote)) ends outs)
 
 -- the notes of a pick are two, and that of a settling is one
 module _ {J T : Type 0} (said noted : DeskView J T) (slice : List (Note T)) (wrote : noted ≡ desk_with (reverse slice) said) where
@@ -159,7 +153,7 @@ module _ {J T E : Type 0} {same : J → J → Type 0} {done : J → Bool} {can_p
         told = told_it;
         picks = picks_it.does_so;
         sound = at_pick.0;
-        stays = stays_put picks_it;
+        stays = assumption picks_it;
         keeps = λ sender. picks_it.ins sender tt;
         owed = record { calls = calls; owed = whole.polled.owed; makes = posts_of (Makes does calls) makes };
         posted = posts_of (HasPosted out untouched) posted;
@@ -167,7 +161,7 @@ module _ {J T E : Type 0} {same : J → J → Type 0} {done : J → Bool} {can_p
         silent = said_left.ins;
         polled = polled;
         settles = settles_it;
-        stays_settled = stays_put has_settled;
+        stays_settled = assumption has_settled;
         owes = owes_it;
       }
 
@@ -179,7 +173,7 @@ module _ {J T E : Type 0} {same : J → J → Type 0} {done : J → Bool} {can_p
           (record { each = λ inward is. (owes_it whole.settles.0 whole.settles.1 sender).each inward ((said_left.ins sender).each inward ((picks_it.ins sender tt).each inward is)) }) in
           let may_answer = subst (λ name. MayAnswer answers took name (settled_of step)) (ap (λ job. job.name) (same_Some settles_it.out its_out (sym settles_it.was_out ∙ picks_it.does_so.out)))
           (its_answer answers took settles_it.out.name settles_it.out.queue settles_it.sent settles_it.task whole.ran.step (settled_of step) settles_it.tells settles_it.answered) in
-          let outs_now = outs_kept polled_view new (stays_put has_settled) later (subst (λ desk. AreOutsOf fits out credited desk later) at_poll.1 outs) in
+          let outs_now = outs_kept polled_view new (assumption has_settled) later (subst (λ desk. AreOutsOf fits out credited desk later) at_poll.1 outs) in
           let one = picks_it.seat in
           let other = has_settled.seat in
           let seat : IsSameSeat old new = assumption (other.number ∙ one.number, other.cores ∙ one.cores, other.cap ∙ (ap (λ desk. desk.cap) rest ∙ one.cap), other.room ∙ (ap (λ desk. desk.journal.room) rest ∙ one.room)) in

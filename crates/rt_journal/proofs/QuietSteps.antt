@@ -45,6 +45,14 @@ module _ {T : Type 0} (notes : Journal T) where
   quiet-settled name time (steps.Done out) = assumption
   quiet-settled name time steps.Yield = assumption
 
+-- where nothing is delivered, places stay, and no more jobs are inside than orders wait
+pub held_on : {T : Type 0} (gives : ℕ → Option (JobId × OutcomeNote T)) (old new : Journal T) → ((sender : ℕ) → delivered_names sender new ≡ delivered_names sender old) → GivesMore gives old new →
+    (cores cap jobs now : ℕ) → now + sum_upto (given_count new) cores ≤ jobs + sum_upto (given_count old) cores → IsHeld cores cap jobs old → IsHeld cores cap now new
+held_on gives old new delivered given cores cap jobs now fewer held = record {
+  each = λ sender there. omega (arith, held.each sender there, ap length (delivered sender), ap length (given sender), grows (given_outcomes sender old) (gives sender));
+  inside = omega (arith, held.inside, fewer, sum_upto-same (delivered_count new) (delivered_count old) cores (λ sender. ap length (delivered sender)));
+}
+
 module _ {J T : Type 0} (old : RecordedView J T) (core : CoreView J) (written : List (Note T)) where
   -- the core as it is now, beside a journal that is longer by these notes, the newest first
   abbrev pub stepped : RecordedView J T
@@ -77,16 +85,8 @@ module _ {J T : Type 0} {same : J → J → Type 0} {made : J → ℕ} {polls : 
   recorded_step = record {
     kept = subst (λ terms. IsKept terms core (written ++ old.journal.notes)) terms_now step.kept;
     room = step.room ∙ (recorded.room ∙ ap (λ cores. (cores + 1) * old.cap) (sym step.cores));
-    held = subst (λ cores. IsHeld cores old.cap (inside_count core) (written ++ old.journal.notes)) (sym step.cores) (record {
-      each = λ sender there.
-          omega (arith, recorded.held.each sender there, ap length (step.quiet.delivered sender), ap length (step.quiet.given sender), grows (given_outcomes sender old.journal.notes) (gives sender));
-      inside = omega (
-        arith,
-        recorded.held.inside,
-        step.fewer,
-        sum_upto-same (delivered_count (written ++ old.journal.notes)) (delivered_count old.journal.notes) old.core.cores (λ sender. ap length (step.quiet.delivered sender)),
-      );
-    });
+    held = subst (λ cores. IsHeld cores old.cap (inside_count core) (written ++ old.journal.notes)) (sym step.cores)
+        (held_on gives old.journal.notes (written ++ old.journal.notes) step.quiet.delivered step.quiet.given old.core.cores old.cap (inside_count old.core) (inside_count core) step.fewer recorded.held);
     taken = λ name order at.
         let was = recorded.taken name order at in record { sender = rw step.cores was.sender; old = omega (arith, was.old, ap length (step.quiet.delivered name.from)) };
     as_sent = step.quiet.as_sent _ recorded.as_sent;

@@ -1,30 +1,25 @@
 -- A core beside its journal stays recorded as an order is delivered to it: the orders by their names, the polls of a new job, and all else.
-use Rattle.rt_journal.proofs.Names.{◌==◌, ne_eqb, ◌≡◌, Bool, true, false, List, [], ◌∷◌, ◌++◌, refl, ◌∙◌, ap, ◌⊎◌}
-use Rattle.rt_journal.proofs.Names.{Option, Some, None, option_map, JobId, Note, Envelope, Order, Job, Journal}
-use Rattle.rt_journal.proofs.Names.{EachNote, one_name, same_as_itself, without_job, CarriesOut, DeliversAs}
-use Rattle.rt_journal.proofs.Names.{order_taken, note_taken, ◌+◌, sym, subst, arith, true≢false, false_from_ne_true}
-use Rattle.rt_journal.proofs.Names.{Terms, Yield, Done, is_name, delivered_names, name_delivered, number_if}
-use Rattle.rt_journal.proofs.Names.{name_settled, MayFollow, MayStand, grows, alone_out, IsOld, known_of, polls_made}
-use Rattle.rt_journal.proofs.Names.{ℕ, ◌*◌, ◌<◌, ◌≤◌, length, ⊎_elim, zero-add, All, reverse, eq-eqb, length-reverse}
+use Rattle.rt_journal.proofs.Names.{same_name, cond, or_else, ◌==◌, ne_eqb, ◌≡◌, Bool, true, false, List, [], ◌∷◌}
+use Rattle.rt_journal.proofs.Names.{◌++◌, refl, ◌∙◌, ap, ◌⊎◌, Option, Some, None, option_map, JobId, Note, Envelope}
+use Rattle.rt_journal.proofs.Names.{Order, Job, Journal, EachNote, one_name, same_as_itself, without_job, CarriesOut}
+use Rattle.rt_journal.proofs.Names.{DeliversAs, order_taken, note_taken, ◌+◌, sym, subst, arith, true≢false}
+use Rattle.rt_journal.proofs.Names.{false_from_ne_true, Terms, Yield, Done, is_name, delivered_names, name_delivered}
+use Rattle.rt_journal.proofs.Names.{number_if, name_settled, MayFollow, MayStand, grows, alone_out, IsOld, known_of}
+use Rattle.rt_journal.proofs.Names.{polls_made, ℕ, ◌*◌, ◌<◌, ◌≤◌, length, ⊎_elim, zero-add, All, reverse, eq-eqb}
 use Rattle.rt_journal.proofs.Names.{given_outcomes, Owed, IsSameTask, waiting_of, CoreView, inside_count}
-use Rattle.rt_journal.proofs.Names.{delivered_of, Delivered, IsSpelledOrder, IsKept, IsWritten, RecordedView}
-use Rattle.rt_journal.proofs.Names.{terms_at, IsRecorded, IsHeld, IsTaken, HasTask, OwesAfter, sum_upto}
-use Rattle.rt_journal.proofs.Names.{delivered_count, given_count, IsSameSeat, KeepsSent, GivesMore, told_under}
-use Rattle.rt_journal.proofs.Names.{outcome_delivered, OutcomeNote, outcome_note, IsNextIn, Receives, CoreDelivers}
+use Rattle.rt_journal.proofs.Names.{delivered_of, Delivered, IsSpelledOrder, IsKept, RecordedView, terms_at}
+use Rattle.rt_journal.proofs.Names.{IsRecorded, IsHeld, IsTaken, HasTask, OwesAfter, sum_upto, delivered_count}
+use Rattle.rt_journal.proofs.Names.{given_count, IsSameSeat, GivesMore, told_under, outcome_delivered, OutcomeNote}
+use Rattle.rt_journal.proofs.Names.{outcome_note, IsNextIn, Receives, CoreDelivers}
 use Rattle.rt_ids.specs.declared.note.Note.TheVariants as writes
 use Rattle.rt_journal.proofs.Sums.{everywhere, sum_upto-one_more, sum_upto-room}
 use Rattle.rt_journal.proofs.CarriedOut.{IsCarriedOut, IsOf, carries_out}
 
 module _ {J : Type 0} (last : Envelope J) where
-  -- an order stays under its name
-  pub order_taken-longer : (took : List (Envelope J)) (name : JobId) (order : Order J) → order_taken took name ≡ Some order → order_taken (took ++ last ∷ []) name ≡ Some order
-  order_taken-longer [] name order at = cc
-  order_taken-longer (envelope ∷ later) name order at = grind (arith, order_taken-longer later name order)
-
-  -- the last one stands under its name, if that is new
-  pub order_taken-last : (took : List (Envelope J)) → order_taken took last.name ≡ None → order_taken (took ++ last ∷ []) last.name ≡ Some last.order
-  order_taken-last [] none = rw (same_as_itself last.name)
-  order_taken-last (envelope ∷ later) none = grind (arith, order_taken-last later)
+  -- under a name stands what stood there, and else the last one, if it has that name
+  pub order_taken-with : (took : List (Envelope J)) (name : JobId) → order_taken (took ++ last ∷ []) name ≡ or_else (order_taken took name) (cond (same_name name last.name) (Some last.order) None)
+  order_taken-with [] name = grind arith
+  order_taken-with (envelope ∷ later) name = grind (arith, order_taken-with later name)
 
   -- what stands under a name stood there, or is the last one
   pub order_taken-parts : (took : List (Envelope J)) (name : JobId) (order : Order J) → order_taken (took ++ last ∷ []) name ≡ Some order →
@@ -119,10 +114,10 @@ module _ {J T : Type 0} {same : J → J → Type 0} {made : J → ℕ} {polls : 
   fresh = grind (arith, recorded.taken name)
 
   pub here : order_taken received.took name ≡ Some envelope.order
-  here = order_taken-last envelope old.took fresh
+  here = order_taken-with envelope old.took name ∙ (λ i. or_else (fresh i) (cond (same_as_itself name i) (Some envelope.order) None))
 
   stays : (which : JobId) (order : Order J) → order_taken old.took which ≡ Some order → order_taken received.took which ≡ Some order
-  stays which order at = order_taken-longer envelope old.took which order at
+  stays which order at = order_taken-with envelope old.took which ∙ ap (λ found. or_else found (cond (same_name which name) (Some envelope.order) None)) at
 
   held_now : IsHeld core.cores old.cap (inside_count core) longer
   held_now = record { each = each; inside = subst (λ cores. inside_count core + sum_upto (given_count longer) cores ≤ sum_upto (delivered_count longer) cores) (sym done.cores) inside }
@@ -213,10 +208,6 @@ module _ {J T : Type 0} {same : J → J → Type 0} {made : J → ℕ} {polls : 
 
   pub done : IsCarriedOut old envelope.name envelope.order told core (reverse written)
   done = carries_out old envelope.name recorded.kept (assumption next) next.sender core envelope.order spelled delivered written does
-
-  -- what the desk asks of the notes
-  pub notes_fit : IsWritten (terms_at old) (reverse written ++ old.journal.notes) × KeepsSent old.journal.notes (reverse written ++ old.journal.notes) × (length written ≤ 2)
-  notes_fit = (record { notes = done.kept.notes; no_pick = done.kept.no_pick; no_answer = done.kept.no_answer }, done.lists.sent, omega (arith, done.few, length-reverse written))
 
   module _ (new : RecordedView J T) (is : new ≡ record { cap = old.cap; core = core; journal = record old.journal { notes = reverse written ++ old.journal.notes }; took = old.took ++ envelope ∷ []; lanes = old.lanes }) where
     pub received_now : HasReceived same made polls envelope told old new

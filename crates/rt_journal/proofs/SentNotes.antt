@@ -1,19 +1,19 @@
 -- A core beside its journal stays recorded as its actor submits, collects, redeems or detaches, and the ends that it receives from stay beside it.
-use Rattle.rt_journal.proofs.Names.{◌≡◌, ℕ, List, [], ◌∷◌, ◌++◌, length, refl, sym, ◌∙◌, ap, subst, arith, add-zero}
-use Rattle.rt_journal.proofs.Names.{Result, Ok, Err, None, JobId, TicketError, Unknown, Gone, Note, OutcomeNote}
-use Rattle.rt_journal.proofs.Names.{Order, Outcome, Envelope, SendError, Closed, Full, NoCore, final_count}
-use Rattle.rt_journal.proofs.Names.{created_count, shares, delivered_names, given_outcomes, DeliversAs, Journal}
-use Rattle.rt_journal.proofs.Names.{EachNote, or_else, without_job, outcome_note, Owed, CoreView, Lane, Agrees}
-use Rattle.rt_journal.proofs.Names.{polls_made, DeskView, IsWritten, Submits, terms_of_desk, RecordedView, IsRecorded}
-use Rattle.rt_journal.proofs.Names.{desk_of, terms_at, delivered_count, given_count, KeepsIn, ArePosts, AreCollected}
+use Rattle.rt_journal.proofs.Names.{inside_count, ◌≡◌, ℕ, List, [], ◌∷◌, ◌++◌, length, refl, sym, ◌∙◌, ap, subst}
+use Rattle.rt_journal.proofs.Names.{arith, add-zero, Result, Ok, Err, None, JobId, TicketError, Unknown, Gone, Note}
+use Rattle.rt_journal.proofs.Names.{OutcomeNote, Order, Outcome, Envelope, SendError, Closed, Full, NoCore}
+use Rattle.rt_journal.proofs.Names.{final_count, created_count, shares, delivered_names, given_outcomes, DeliversAs}
+use Rattle.rt_journal.proofs.Names.{Journal, EachNote, or_else, without_job, outcome_note, Owed, CoreView, Lane}
+use Rattle.rt_journal.proofs.Names.{Agrees, polls_made, DeskView, IsWritten, Submits, terms_of_desk, RecordedView}
+use Rattle.rt_journal.proofs.Names.{IsRecorded, desk_of, terms_at, given_count, KeepsIn, ArePosts, AreCollected}
 use Rattle.rt_journal.proofs.Names.{CollectsFrom, RedeemsTicket, DetachesTicket, Pending}
 use Rattle.rt_ids.specs.declared.note.Note.TheVariants as writes
 use Rattle.rt_ids.specs.declared.order.SendError.TheVariants.{Spent}
-use Rattle.rt_journal.proofs.Kept.{IsOpenNote, same_modes, closing-stays, agrees_unmoved, IsCalm}
+use Rattle.rt_journal.proofs.Kept.{IsOpenNote, closing-stays, agrees_unmoved, IsCalm}
 use Rattle.rt_journal.proofs.EndsKept.{keeps_in}
 use Rattle.rt_journal.proofs.Received.{task_stays}
 use Rattle.rt_journal.proofs.Sums.{sum_upto-same}
-use Rattle.rt_journal.proofs.QuietSteps.{view_of, desk_is}
+use Rattle.rt_journal.proofs.QuietSteps.{nobody, held_on, view_of, desk_is}
 
 -- the longer journal says no more of the core, of what was delivered and given, of gates and of polls
 pub record SaysNoMore {T : Type 0} (old new : Journal T) : Type 1 where
@@ -38,7 +38,7 @@ module _ {T : Type 0} where
       agrees = λ core agreed.
           let agrees = was.agrees core agreed in
           agrees_unmoved core before note agrees calm creates weighs core.delivered agrees.senders (λ sender known. agrees.delivered sender known ∙ ap length (sym (delivered sender))) core.gates core.mode
-          (closing-stays core core note before (same_modes core) opens agrees.closing);
+          (closing-stays core core note before (assumption) opens agrees.closing);
       delivered = λ sender. delivered sender ∙ was.delivered sender;
       given = λ sender. given sender ∙ was.given sender;
       gates = λ sender. ap (λ told. or_else told (final_count sender before)) (opens.gates sender) ∙ was.gates sender;
@@ -79,15 +79,8 @@ module _ {J T : Type 0} (old : RecordedView J T) (longer : Journal T) (lanes : L
     recorded_silent recorded written = record {
       kept = record { is_core = recorded.kept.is_core; agrees = silent.agrees old.core recorded.kept.agrees; notes = written.notes; no_pick = written.no_pick; no_answer = written.no_answer };
       room = recorded.room;
-      held = record {
-        each = λ sender known. omega (arith, recorded.held.each sender known, ap length (silent.delivered sender), ap length (silent.given sender));
-        inside = omega (
-          arith,
-          recorded.held.inside,
-          sum_upto-same (delivered_count longer) (delivered_count old.journal.notes) old.core.cores (λ sender. ap length (silent.delivered sender)),
-          sum_upto-same (given_count longer) (given_count old.journal.notes) old.core.cores (λ sender. ap length (silent.given sender)),
-        );
-      };
+      held = held_on nobody old.journal.notes longer silent.delivered silent.given old.core.cores old.cap (inside_count old.core) (inside_count old.core)
+          (omega (arith, sum_upto-same (given_count longer) (given_count old.journal.notes) old.core.cores (λ sender. ap length (silent.given sender)))) recorded.held;
       taken = λ which order at.
           let was = recorded.taken which order at in record { sender = was.sender; old = omega (arith, was.old, ap length (silent.delivered which.from)) };
       as_sent = silent.as_sent _ recorded.as_sent;
