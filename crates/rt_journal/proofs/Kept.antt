@@ -179,21 +179,16 @@ pub record IsOpenNote {T : Type 0} (note : Note T) : Type 0 where
   pub core : core_mode_told note ≡ None
   pub gates : (sender : ℕ) → count_told sender note ≡ None
 
--- a step changes no mode and no gate
-pub record SameModes {J : Type 0} (old new : CoreView J) : Type 0 where
-  pub modes : (queue : ℕ) → mode_of queue new.queues ≡ mode_of queue old.queues
-  pub mode : new.mode ≡ old.mode
-  pub gates : new.gates ≡ old.gates
-  pub cores : new.cores ≡ old.cores
-
+-- so a step that changes no mode and no gate stays as the journal says
 module _ {J T : Type 0} (old new : CoreView J) (note : Note T) (before : Journal T) where
-  pub closing-stays : SameModes old new → IsOpenNote note → AgreesOnClosing old before → AgreesOnClosing new (note ∷ before)
-  closing-stays same plain agrees = record {
-    modes = λ queue. same.modes queue ∙ (agrees.modes queue ∙ sym (ap (λ told. or_else told (queue_mode queue before)) (plain.queues queue)));
-    mode = same.mode ∙ (agrees.mode ∙ sym (ap (λ told. or_else told (core_mode before)) plain.core));
-    gate_places = ap length same.gates ∙ (agrees.gate_places ∙ ap (λ cores. cores + 1) (sym same.cores));
+  pub closing-stays : ((queue : ℕ) → mode_of queue new.queues ≡ mode_of queue old.queues) → new.mode ≡ old.mode → new.gates ≡ old.gates → new.cores ≡ old.cores →
+      IsOpenNote note → AgreesOnClosing old before → AgreesOnClosing new (note ∷ before)
+  closing-stays modes mode gates cores plain agrees = record {
+    modes = λ queue. modes queue ∙ (agrees.modes queue ∙ sym (ap (λ told. or_else told (queue_mode queue before)) (plain.queues queue)));
+    mode = mode ∙ (agrees.mode ∙ sym (ap (λ told. or_else told (core_mode before)) plain.core));
+    gate_places = ap length gates ∙ (agrees.gate_places ∙ ap (λ cores. cores + 1) (sym cores));
     gates = λ sender.
-        ap (λ gates. slice_index_or gates sender None) same.gates
+        ap (λ gates. slice_index_or gates sender None) gates
         ∙ (agrees.gates sender ∙ sym (ap (λ told. or_else told (final_count sender before)) (plain.gates sender)));
   }
 
@@ -261,7 +256,7 @@ module _ {J T : Type 0} (terms : Terms) (old : CoreView J) (job : JobOut J) (tim
         let turns_now = kept.agrees.turns ∙ sym (turns-stays note journal plain.turns_made) in
         let none : (out : JobOut J) → None ≡ Some out → out.queue < queue_count queues = λ out none. absurd (none-some out none) in
         let delivered = λ (sender : ℕ) (known : sender ≤ old.cores). kept.agrees.delivered sender known ∙ ap length (sym (plain.delivered sender)) in
-        let closing = closing-stays old new note journal (record { modes = same_modes; mode = refl; gates = refl; cores = refl }) plain.opens kept.agrees.closing in
+        let closing = closing-stays old new note journal same_modes refl refl refl plain.opens kept.agrees.closing in
         let within : job.queue < length old.tallies = omega (arith, exists, kept.agrees.tallied) in
         assumption (figures-grow old new job.queue settled_tally within refl journal (note ∷ journal) (one_poll time done) refl kept.agrees.figures told, nobody)
 

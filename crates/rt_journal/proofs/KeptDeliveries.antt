@@ -115,7 +115,7 @@ module _ {J T : Type 0} (terms : Terms) (old new : CoreView J) (name : JobId) (j
       (agrees_unmoved old journal note kept.agrees calm creates weighs (counted name old)
       (senders_counted terms old name journal sender next kept.agrees)
       (λ from known. delivered_counted terms old name journal sender next kept.agrees from known ∙ ap length (sym (delivers from))) old.gates old.mode
-      (closing-stays old (record old { delivered = counted name old }) note journal (assumption) opens kept.agrees.closing))
+      (closing-stays old (record old { delivered = counted name old }) note journal (λ queue. refl) refl refl refl opens kept.agrees.closing))
 
   pub agrees-answered : (answer : Answer) → Agrees new (writes.Answered name answer ∷ journal)
   agrees-answered answer = agrees-counted (writes.Answered name answer) (assumption) refl (λ queue. refl) (assumption) (λ sender. refl)

@@ -165,8 +165,8 @@ module _ {J T : Type 0} (terms : Terms) (old : CoreView J) (name : JobId) (queue
           out_exists = out_exists;
           delivered = λ sender known. kept.agrees.delivered sender known ∙ ap length (sym (follows.plain.delivered sender));
           figures = figures-grow old turned queue tally within refl journal (note ∷ picked) grow counts kept.agrees.figures told;
-          closing = closing-stays turned turned note picked (assumption) follows.plain.opens
-              (closing-stays old turned (writes.Pick queue runtime) journal (record { modes = front.line.same_modes; mode = refl; gates = refl; cores = refl }) (assumption) kept.agrees.closing);
+          closing = closing-stays turned turned note picked (λ queue. refl) refl refl refl follows.plain.opens
+              (closing-stays old turned (writes.Pick queue runtime) journal front.line.same_modes refl refl refl (assumption) kept.agrees.closing);
         } in
         let pick_stands = plainly_stands terms (writes.Pick queue runtime) journal kept.is_core (record { right = right_pick; turn_left = left }) kept.no_pick kept.no_answer refl tt in
         assumption (agrees, stands, pick_stands, follows)

@@ -38,7 +38,7 @@ module _ {T : Type 0} where
       agrees = λ core agreed.
           let agrees = was.agrees core agreed in
           agrees_unmoved core before note agrees calm creates weighs core.delivered agrees.senders (λ sender known. agrees.delivered sender known ∙ ap length (sym (delivered sender))) core.gates core.mode
-          (closing-stays core core note before (assumption) opens agrees.closing);
+          (closing-stays core core note before (λ queue. refl) refl refl refl opens agrees.closing);
       delivered = λ sender. delivered sender ∙ was.delivered sender;
       given = λ sender. given sender ∙ was.given sender;
       gates = λ sender. ap (λ told. or_else told (final_count sender before)) (opens.gates sender) ∙ was.gates sender;
