@@ -2,11 +2,11 @@
 use Rattle.rt_journal.proofs.Names.{length-map, ◌≡◌, ℕ, ◌+◌, cond, length, refl, sym, ◌∙◌, ap, subst, ◌⊎◌, ⊎_elim}
 use Rattle.rt_journal.proofs.Names.{arith, ◌==◌, Option, Some, None, slice_get, option_map, eq-eqb, ne_eqb, JobId}
 use Rattle.rt_journal.proofs.Names.{Envelope, Order, Outcome, OutcomeNote, with_last, outcome_note, given_outcomes}
-use Rattle.rt_journal.proofs.Names.{number_if, Inward, SoundIn, AreNamed, Takes, RecordedView, desk_of, order_taken}
+use Rattle.rt_journal.proofs.Names.{number_if, Inward, SoundIn, AreNamed, Takes, RecordedView, order_taken}
 use Rattle.rt_journal.proofs.Names.{delivered_count, IsInOf, IsInOwing, GivesMore, told_under, KeepsIn, IsSameSeat}
-use Rattle.rt_journal.proofs.Names.{named_outcomes, IsNextIn, Receives, KeepsOuts, keeps_outs}
+use Rattle.rt_journal.proofs.Names.{named_outcomes, IsNextIn, Receives}
 use Rattle.rt_journal.proofs.Received.{order_taken-parts}
-use Rattle.rt_journal.proofs.EndsKept.{keeps_in, slice_get-seen, sees_more_in, final_of-more}
+use Rattle.rt_journal.proofs.EndsKept.{keeps_in, slice_get-seen, final_of-more}
 
 -- what is told under a name is told to its sender alone
 pub told_elsewhere : {T : Type 0} (name : JobId) (what : Option (OutcomeNote T)) (sender : ℕ) → (sender ≡ name.from → ⊥) → told_under name what sender ≡ None
@@ -27,10 +27,6 @@ module _ {J T : Type 0} (old new : RecordedView J T) (envelope : Envelope J) (ne
   -- what stands under a name stood there, or is the one that came
   parts : (which : JobId) (order : Order J) → order_taken new.took which ≡ Some order → (order_taken old.took which ≡ Some order) ⊎ ((which ≡ name) × (envelope.order ≡ order))
   parts which order at = order_taken-parts envelope old.took which order (subst (λ took. order_taken took which ≡ Some order) did.took at)
-
-  -- the sender's ends stay
-  pub outs_keep : KeepsOuts (desk_of old) (desk_of new)
-  outs_keep = keeps_outs (desk_of old) (desk_of new) (λ i. record { actor = seat.number i; cores = seat.cores i; cap = seat.cap i; journal = new.journal; lanes = new.lanes }) did.lists.sent
 
   counted_here : delivered_count new.journal.notes name.from ≡ delivered_count old.journal.notes name.from + 1
   counted_here = did.delivered name.from ∙ ap (λ test. delivered_count old.journal.notes name.from + number_if test) (eq-eqb name.from name.from refl)
@@ -80,7 +76,3 @@ module _ {J T : Type 0} (old new : RecordedView J T) (envelope : Envelope J) (ne
       let none : number_if (name.from == sender) ≡ 0 = ap number_if (ne_eqb name.from sender (λ one. away (sym one))) in
       keeps_in old new seat sender None (gives sender ∙ ap (with_last (given_outcomes sender old.journal.notes)) (told_elsewhere name (option_map outcome_note outcome) sender away)) (did.lists.gates sender) (λ inward is. tt)
       (omega (arith, did.delivered sender, none)) (λ which order from at. ⊎_elim (λ was. was) (λ last. absurd (away (sym from ∙ ap (λ id. id.from) last.0))) (parts which order at))
-
--- an end that shows nothing more stays beside the same core and journal
-pub nothing_keeps : {J T : Type 0} (view : RecordedView J T) (before after : Inward J T) → IsInOf before.from view before → Takes before after None → IsInOf before.from view after
-nothing_keeps view before after is takes = sees_more_in before.from view before after takes.0 takes.1 is

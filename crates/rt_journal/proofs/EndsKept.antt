@@ -70,8 +70,7 @@ another name other apart one = true≢false (sym (same_as_itself name) ∙ subst
 module _ {T : Type 0} (under : JobId → Option (Order (Unit {0}))) (name : JobId) (queue : ℕ) (is_job : under name ≡ Some (Job queue tt)) (sender : ℕ) where
   -- what is told as given to the sender of a name has that name
   its_name : (other : JobId) (what : OutcomeNote T) (entry : JobId × OutcomeNote T) (test : Bool) → cond test (Some (other, what)) None ≡ Some entry → other ≡ entry.0
-  its_name other what entry true at = ap (λ entry. entry.0) (same_Some _ _ at)
-  its_name other what entry false at = absurd (none-some entry at)
+  its_name other what entry test at = grind arith
 
   -- under the name of a job nothing is given before the job ends
   pub not_given : (journal : Journal T) → EachNote (DeliversAs under) journal → is_told name_ended name journal ≡ false →

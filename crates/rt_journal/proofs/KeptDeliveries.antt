@@ -1,20 +1,20 @@
 -- What a core tells of itself stays what its journal says, as a submission is delivered: a job enters or goes back, a command is answered, creates, weighs or closes; and as a gate is shut.
-use Rattle.rt_journal.proofs.Names.{◌≡◌, ℕ, ◌+◌, ◌<◌, ◌≤◌, Bool, true, false, [], ◌∷◌, ◌++◌, length, refl, sym, ◌∙◌}
-use Rattle.rt_journal.proofs.Names.{ap, subst, arith, get_or, set, get_or-set_same, get_or-set_other, cond, ◌==◌}
-use Rattle.rt_journal.proofs.Names.{Option, Some, None, is_some, max, true≢false, map-append, Terms, JobId, same_name}
-use Rattle.rt_journal.proofs.Names.{Journal, EachNote, is_told, with_last, delivered_names, name_started, if_from}
-use Rattle.rt_journal.proofs.Names.{has_work, queue_of, virtual_runtime, line, refusal, MayStand, IsNextDelivered}
-use Rattle.rt_journal.proofs.Names.{known_of, not_old, started_of, line-took, line-took_elsewhere, false_from_ne_true}
-use Rattle.rt_journal.proofs.Names.{same_as_itself, virtual_runtime-took_idle, virtual_runtime-took_busy}
-use Rattle.rt_journal.proofs.Names.{virtual_runtime-took_elsewhere, floor-stays, waiting_of, CoreView, JobOut}
-use Rattle.rt_journal.proofs.Names.{no_tally, tally_of, runtime_of, is_working, entry_runtime, counted, Agrees}
-use Rattle.rt_journal.proofs.Names.{IsJobOut, Note, Order, Reason, Answer, shares, created_count, IsAnswer}
-use Rattle.rt_journal.proofs.Names.{has_effect, CountsAlone, queue_just_picked, effect_awaited, inr, List, nat_le}
-use Rattle.rt_journal.proofs.Names.{le-leb, lt-leb, length-append, InRange, list_told, queue_created, shares-created}
-use Rattle.rt_journal.proofs.Names.{shares-created_elsewhere, shares-set, shares-set_elsewhere, queue_count}
-use Rattle.rt_journal.proofs.Names.{shares_of, Creates, Weighs, slice_set, Mode, or_else, queue_mode, final_count}
-use Rattle.rt_journal.proofs.Names.{mode_of, HasClosed, ChangesLine, QueuesView, Tally, slice_index_or, length-set}
-use Rattle.rt_journal.proofs.Names.{names_of, plainly_stands}
+use Rattle.rt_journal.proofs.Names.{is_working, has_work, max, ◌≡◌, ℕ, ◌+◌, ◌<◌, ◌≤◌, Bool, true, false, [], ◌∷◌}
+use Rattle.rt_journal.proofs.Names.{◌++◌, length, refl, sym, ◌∙◌, ap, subst, arith, get_or, set, get_or-set_same}
+use Rattle.rt_journal.proofs.Names.{get_or-set_other, cond, ◌==◌, Option, Some, None, is_some, true≢false, map-append}
+use Rattle.rt_journal.proofs.Names.{Terms, JobId, same_name, Journal, EachNote, is_told, with_last, delivered_names}
+use Rattle.rt_journal.proofs.Names.{name_started, if_from, queue_of, virtual_runtime, line, refusal, MayStand}
+use Rattle.rt_journal.proofs.Names.{IsNextDelivered, known_of, not_old, started_of, line-took, line-took_elsewhere}
+use Rattle.rt_journal.proofs.Names.{false_from_ne_true, same_as_itself, virtual_runtime-took_idle}
+use Rattle.rt_journal.proofs.Names.{virtual_runtime-took_busy, virtual_runtime-took_elsewhere, floor-stays}
+use Rattle.rt_journal.proofs.Names.{waiting_of, CoreView, JobOut, no_tally, tally_of, runtime_of, entry_runtime}
+use Rattle.rt_journal.proofs.Names.{counted, Agrees, IsJobOut, Note, Order, Reason, Answer, shares, created_count}
+use Rattle.rt_journal.proofs.Names.{IsAnswer, has_effect, CountsAlone, queue_just_picked, effect_awaited, inr, List}
+use Rattle.rt_journal.proofs.Names.{nat_le, le-leb, lt-leb, length-append, InRange, list_told, queue_created}
+use Rattle.rt_journal.proofs.Names.{shares-created, shares-created_elsewhere, shares-set, shares-set_elsewhere}
+use Rattle.rt_journal.proofs.Names.{queue_count, shares_of, Creates, Weighs, slice_set, Mode, or_else, queue_mode}
+use Rattle.rt_journal.proofs.Names.{final_count, mode_of, HasClosed, ChangesLine, QueuesView, Tally, slice_index_or}
+use Rattle.rt_journal.proofs.Names.{length-set, names_of, plainly_stands}
 use Rattle.rt_ids.specs.declared.note.Note.TheVariants as writes
 use Rattle.rt_journal.proofs.Kept.{marks_longer, figures-same, figures-stays, IsKept, turns-stays, working, kept_after}
 use Rattle.rt_journal.proofs.Kept.{closing-stays, agrees_unmoved, IsCalm, IsOpenNote, agrees_steady}
@@ -37,13 +37,13 @@ module _ {T : Type 0} (terms : Terms) (journal : Journal T) (notes : EachNote (M
   not_entered name other next entered = not_old terms other name journal next ((known_of terms journal notes).entered_old other entered)
 
   pub not_started : (name : JobId) → IsNextDelivered terms name journal → is_told name_started name journal ≡ false
-  not_started name next =
-      false_from_ne_true _
-      (
-      λ started.
-      let entered = (started_of terms journal notes).started_entered name started in
-      true≢false (sym (same_as_itself name) ∙ not_entered name name next entered)
-      )
+  not_started name next = false_from_ne_true _
+      (λ started. true≢false (sym (same_as_itself name) ∙ not_entered name name next ((started_of terms journal notes).started_entered name started)))
+
+-- a queue that works keeps its runtime, and one that doesn't is placed at the floor at least
+entering : (works busy : Bool) (runtime told floor_now floor_told entered : ℕ) → works ≡ busy → runtime ≡ told → floor_now ≡ floor_told →
+    (busy ≡ true → entered ≡ told) → (busy ≡ false → entered ≡ max told floor_told) → cond works runtime (max runtime floor_now) ≡ entered
+entering works busy runtime told floor_now floor_told entered same_work same_runtime same_floor at_work at_rest = grind arith
 
 -- a job that isn't refused enters its queue
 module _ {J T : Type 0} (terms : Terms) (old : CoreView J) (name : JobId) (queue : ℕ) (job : J) (journal : Journal T) (kept : IsKept terms old journal) (next : IsNextDelivered terms name journal) (sender : name.from ≤ old.cores)
@@ -62,19 +62,9 @@ module _ {J T : Type 0} (terms : Terms) (old : CoreView J) (name : JobId) (queue
   there = omega (arith, exists, kept.agrees.tallied)
 
   entry_is : entry_runtime queue old ≡ virtual_runtime queue (writes.Took name queue ∷ journal)
-  entry_is = by_work (has_work queue journal) refl
-    where
-      work : is_working queue old ≡ has_work queue journal
-      work = working old journal terms queue kept.notes kept.agrees
-
-      by_work : (test : Bool) → has_work queue journal ≡ test → entry_runtime queue old ≡ virtual_runtime queue (writes.Took name queue ∷ journal)
-      by_work true busy =
-          ap (λ works. cond works (runtime_of queue old) (max (runtime_of queue old) old.floor)) (work ∙ busy)
-          ∙ (kept.agrees.runtimes queue ∙ sym (virtual_runtime-took_busy queue journal name busy))
-      by_work false idle =
-          ap (λ works. cond works (runtime_of queue old) (max (runtime_of queue old) old.floor)) (work ∙ idle)
-          ∙ (ap (λ runtime. max runtime old.floor) (kept.agrees.runtimes queue)
-          ∙ (ap (λ at. max (virtual_runtime queue journal) at) kept.agrees.the_floor ∙ sym (virtual_runtime-took_idle queue journal name idle)))
+  entry_is =
+      entering (is_working queue old) (has_work queue journal) _ _ _ _ _ (working old journal terms queue kept.notes kept.agrees) (kept.agrees.runtimes queue) kept.agrees.the_floor
+      (virtual_runtime-took_busy queue journal name) (virtual_runtime-took_idle queue journal name)
 
   took_runtimes : (other : ℕ) → runtime_of other entered ≡ virtual_runtime other (writes.Took name queue ∷ journal)
   took_runtimes other =

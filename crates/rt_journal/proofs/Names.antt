@@ -12,8 +12,8 @@ pub use Rattle.rt_core.specs.Answers.{IsTaskOut}
 pub use Rattle.rt_core.specs.Closing.{ClosesCore, HasClosed, ShutsGate}
 pub use Rattle.rt_core.specs.Deliveries.{CountsAlone, Creates, CreatesQueue as CoreCreates, Delivers as CoreDelivers}
 pub use Rattle.rt_core.specs.Deliveries.{Enters, Weighs, counted}
-pub use Rattle.rt_core.specs.State.{CoreView, JobOut, delivered_of, entry_runtime, gate_of, inside_count, is_any}
-pub use Rattle.rt_core.specs.State.{is_working, no_tally, opened, runtime_of, tally_of}
+pub use Rattle.rt_core.specs.State.{CoreView, JobOut, entry_runtime, gate_of, inside_count, is_any, is_working}
+pub use Rattle.rt_core.specs.State.{no_tally, opened, runtime_of, tally_of}
 pub use Rattle.rt_core.specs.Turns.{HandsBack, IsNext, Picks as CorePicks, Settles as CoreSettles, TakesOut}
 pub use Rattle.rt_core.specs.Turns.{settled_view}
 pub use Rattle.rt_core.specs.Whole.{IsAhead, TellsAhead, TurnsWhole, goes_out, pick_notes, settle_notes, settled_of}

@@ -100,14 +100,6 @@ module _ {J T : Type 0} {same : J → J → Type 0} {made : J → ℕ} {polls : 
   pub ins_step : (sender : ℕ) → keeps sender → LeavesOwed sender (gives sender) old new
   ins_step sender kept = keeps_in old new seat_step sender _ (step.quiet.given sender) (step.quiet.gates sender kept) (step.ungiven sender) (ap length (step.quiet.delivered sender)) (λ name order from at. at)
 
--- where a call did nothing, all is as it was
-module _ {J T : Type 0} {same : J → J → Type 0} {made : J → ℕ} {polls : Owed J T}
-    (old : RecordedView J T) (recorded : IsRecorded same made polls old) where
-  pub nothing_done : IsQuietStep old old.core [] same made polls everyone nobody
-  nothing_done =
-      let fewer : inside_count old.core + sum_upto (given_count old.journal.notes) old.core.cores ≤ inside_count old.core + sum_upto (given_count old.journal.notes) old.core.cores = omega arith in
-      assumption
-
 module _ {J T : Type 0} (same : J → J → Type 0) (made : J → ℕ) (polls : Owed J T) (old : RecordedView J T) (core : CoreView J) where
   -- what a call of the core did: a quiet step of few notes, and what its caller is told of it
   pub record HasDone (keeps : ℕ → Type 0) (gives : ℕ → Option (JobId × OutcomeNote T)) (most : ℕ) (does : RecordedView J T → RecordedView J T → Type 0) (notes : List (Note T)) : Type 0 where
@@ -121,9 +113,13 @@ module _ {J T : Type 0} {same : J → J → Type 0} {made : J → ℕ} {polls : 
       length written ≤ most → does old (stepped old core (reverse written)) → HasDone same made polls old core keeps gives most does notes
   done_so {keeps = keeps} {gives = gives} is step few does_so = subst (HasDone same made polls old core keeps gives most does) (sym is) (record { step = step; few = few; does_so = does_so })
 
+  -- where a call did nothing, all is as it was
   pub nothing_did : IsRecorded same made polls old → core ≡ old.core → notes ≡ [] → does old old → HasDone same made polls old core everyone nobody most does notes
-  nothing_did recorded core_is is does_so = subst (HasDone same made polls old core everyone nobody most does) (sym is)
-      (subst (λ core. HasDone same made polls old core everyone nobody most does []) (sym core_is) (record { step = nothing_done old recorded; few = omega arith; does_so = does_so }))
+  nothing_did recorded core_is is does_so =
+      let fewer : inside_count old.core + sum_upto (given_count old.journal.notes) old.core.cores ≤ inside_count old.core + sum_upto (given_count old.journal.notes) old.core.cores = omega arith in
+      let nothing : IsQuietStep old old.core [] same made polls everyone nobody = assumption in
+      subst (HasDone same made polls old core everyone nobody most does) (sym is)
+      (subst (λ core. HasDone same made polls old core everyone nobody most does []) (sym core_is) (record { step = nothing; few = omega arith; does_so = does_so }))
 
 module _ {J T : Type 0} where
   -- the view of these parts

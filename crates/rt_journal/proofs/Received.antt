@@ -6,11 +6,11 @@ use Rattle.rt_journal.proofs.Names.{DeliversAs, order_taken, note_taken, ◌+◌
 use Rattle.rt_journal.proofs.Names.{false_from_ne_true, Terms, Yield, Done, is_name, delivered_names, name_delivered}
 use Rattle.rt_journal.proofs.Names.{number_if, name_settled, MayFollow, MayStand, grows, alone_out, IsOld, known_of}
 use Rattle.rt_journal.proofs.Names.{polls_made, ℕ, ◌*◌, ◌<◌, ◌≤◌, length, ⊎_elim, zero-add, All, reverse, eq-eqb}
-use Rattle.rt_journal.proofs.Names.{given_outcomes, Owed, IsSameTask, waiting_of, CoreView, inside_count}
-use Rattle.rt_journal.proofs.Names.{delivered_of, Delivered, IsSpelledOrder, IsKept, RecordedView, terms_at}
-use Rattle.rt_journal.proofs.Names.{IsRecorded, IsHeld, IsTaken, HasTask, OwesAfter, sum_upto, delivered_count}
-use Rattle.rt_journal.proofs.Names.{given_count, IsSameSeat, GivesMore, told_under, outcome_delivered, OutcomeNote}
-use Rattle.rt_journal.proofs.Names.{outcome_note, IsNextIn, Receives, CoreDelivers}
+use Rattle.rt_journal.proofs.Names.{given_outcomes, Owed, IsSameTask, waiting_of, CoreView, inside_count, Delivered}
+use Rattle.rt_journal.proofs.Names.{IsSpelledOrder, IsKept, RecordedView, terms_at, IsRecorded, IsHeld, IsTaken}
+use Rattle.rt_journal.proofs.Names.{HasTask, OwesAfter, sum_upto, delivered_count, given_count, IsSameSeat, GivesMore}
+use Rattle.rt_journal.proofs.Names.{told_under, outcome_delivered, OutcomeNote, outcome_note, IsNextIn, Receives}
+use Rattle.rt_journal.proofs.Names.{CoreDelivers}
 use Rattle.rt_ids.specs.declared.note.Note.TheVariants as writes
 use Rattle.rt_journal.proofs.Sums.{everywhere, sum_upto-one_more, sum_upto-room}
 use Rattle.rt_journal.proofs.CarriedOut.{IsCarriedOut, IsOf, carries_out}
@@ -183,12 +183,6 @@ room_in view name recorded next =
     let left : sum_upto (delivered_count view.journal.notes) view.core.cores < sum_upto (given_count view.journal.notes) view.core.cores + (view.core.cores + 1) * view.cap =
     sum_upto-room (delivered_count view.journal.notes) (given_count view.journal.notes) view.cap name.from view.core.cores next.sender recorded.held.each next.place in
     omega (arith, left, recorded.held.inside, recorded.room)
-
-module _ {J T : Type 0} {same : J → J → Type 0} {made : J → ℕ} {polls : Owed J T} (old : RecordedView J T) (name : JobId)
-    (recorded : IsRecorded same made polls old) (next : IsNextIn old name) where
-  -- the core counts as its journal does
-  pub next_for_core : name.number ≡ delivered_of name.from old.core + 1
-  next_for_core = let counted = recorded.kept.agrees.delivered name.from next.sender in omega (arith, next.next, counted)
 
 -- what a call leaves that received an order
 pub record HasReceived {J T : Type 0} (same : J → J → Type 0) (made : J → ℕ) (polls : Owed J T) (envelope : Envelope J) (told : Option (OutcomeNote T)) (old new : RecordedView J T) : Type 0 where

@@ -140,9 +140,6 @@ module _ {J T : Type 0} {same : J → J → Type 0} {made : J → ℕ} {polls : 
     accepted_are : accepted_orders d (notes_at sender) ≡ numbered_orders sender d 0 (out sender d).sent
     accepted_are = outs.accepted ∙ ap (λ at. numbered_orders at d 0 (out sender d).sent) sender_is
 
-    accepted_count : length (accepted_orders d (notes_at sender)) ≡ length (out sender d).sent
-    accepted_count = ap length accepted_are ∙ length-numbered sender d 0 (out sender d).sent
-
     delivered_are : delivered_names sender (core d).journal.notes ≡ names_from sender d 0 (inward sender d).taken
     delivered_are =
         delivered_numbered (terms_at (core d)) sender (core d).journal.notes (are.recorded d d_there).kept.notes
@@ -166,7 +163,9 @@ module _ {J T : Type 0} {same : J → J → Type 0} {made : J → ℕ} {polls : 
         got = take (out sender d).got (out sender d).seen
 
     gate : (count : ℕ) → final_count sender (notes_at d) ≡ Some count → count ≡ length (accepted_orders d (notes_at sender))
-    gate count told = grind (arith, ins.gate, notes_are d d_there, link.final, accepted_count, ins.base)
+    gate count told =
+        let accepted_count = ap length accepted_are ∙ length-numbered sender d 0 (out sender d).sent in
+        grind (arith, ins.gate, notes_are d d_there, link.final, accepted_count, ins.base)
 
   -- what a core took under a name is what was accepted under it
   sent_under : (d : ℕ) → d < cores → (name : JobId) (what : Order (Unit {0})) → note_taken (core d).took name ≡ Some what → order_of name assembly ≡ Some what

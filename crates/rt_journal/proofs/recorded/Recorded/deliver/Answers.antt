@@ -1,5 +1,6 @@
-use Rattle.rt_journal.proofs.Names.{true, subst, ap, ◌∙◌, Fits, IsRecorded, IsInOf, Delivers}
-use Rattle.rt_journal.proofs.DeliveredEnds.{next_in, outs_keep, beside_owes, rest_keep, nothing_keeps}
+use Rattle.rt_journal.proofs.Names.{desk_of, keeps_outs, true, subst, ap, ◌∙◌, Fits, IsRecorded, IsInOf, Delivers}
+use Rattle.rt_journal.proofs.DeliveredEnds.{next_in, beside_owes, rest_keep}
+use Rattle.rt_journal.proofs.EndsKept.{sees_more_in}
 use Rattle.rt_journal.proofs.GivenEnds.{given}
 use Rattle.rt_journal.proofs.recorded.Recorded.deliver.Goals as goal
 
@@ -26,11 +27,12 @@ returns-in-Some g c =
     let delivers : Delivers c.args.self.now (g.I.InEnd.inward c.args.end.now) c.receive-outcome.new.self (g.I.InEnd.inward c.give_if.new.end) true = (c.in-Some.envelope, (taken, c.receive-outcome.result, took.takes, c.give_if.ensures.gives), received.receives) in
     let beside = subst (λ from. IsInOf from c.receive-outcome.new.self (g.I.InEnd.inward c.give_if.new.end)) (ap (λ name. name.from) took.takes.2) now in
     let others = rest_keep c.args.self.now c.receive-outcome.new.self c.in-Some.envelope next received.receives received.seat c.receive-outcome.result received.gives (g.I.InEnd.inward c.args.end.now) taken took.takes in
-    let outs = outs_keep c.args.self.now c.receive-outcome.new.self c.in-Some.envelope next received.receives received.seat c.receive-outcome.result received.gives in
+    let outs = keeps_outs (desk_of c.args.self.now) (desk_of c.receive-outcome.new.self)
+    (λ i. record { actor = received.seat.number i; cores = received.seat.cores i; cap = received.seat.cap i; journal = c.receive-outcome.new.self.journal; lanes = c.receive-outcome.new.self.lanes }) received.receives.lists.sent in
     assumption (delivers, beside, others, outs, c.give_if.ensures.untouched ∙ took.untouched)
 
 pub returns-in-None-clause-beside : goal.returns-in-None-clause-beside
-returns-in-None-clause-beside g c = nothing_keeps c.args.self.now (g.I.InEnd.inward c.args.end.now) (g.I.InEnd.inward c.take.new.self) c.requires.beside c.in-None.ensures.takes
+returns-in-None-clause-beside g c = sees_more_in _ c.args.self.now (g.I.InEnd.inward c.args.end.now) (g.I.InEnd.inward c.take.new.self) c.in-None.ensures.takes.0 c.in-None.ensures.takes.1 c.requires.beside
 
 pub returns-in-None-clause-sound : goal.returns-in-None-clause-sound
 returns-in-None-clause-sound g c = subst (IsRecorded g.J.Task.SameTask g.J.Task.made g.J.Task.Polls) c.self.view_is c.self.invariant.0

@@ -1,6 +1,6 @@
 use Rattle.rt_journal.proofs.Names.{◌≤◌, length, length-reverse, sym, ◌∙◌, ap, subst, reverse, arith, IsSpelledOrder}
 use Rattle.rt_journal.proofs.Names.{IsNextIn, desk_with}
-use Rattle.rt_journal.proofs.Received.{next_for_core, done, room_in, received_now}
+use Rattle.rt_journal.proofs.Received.{done, room_in, received_now}
 use Rattle.rt_journal.proofs.CarriedOut.{fits_delivered}
 use Rattle.rt_journal.proofs.QuietSteps.{view_of, may_note, desk_is}
 use Rattle.rt_journal.proofs.recorded.Recorded.receive.Goals as goal
@@ -8,7 +8,7 @@ use Rattle.rt_journal.proofs.recorded.Recorded.receive.Goals as goal
 pub deliver-delivered-requires : goal.deliver-delivered-requires
 deliver-delivered-requires g c =
     let next = subst (λ view. IsNextIn view c.args.envelope.name) (sym c.self.view_is) c.requires.next in
-    (omega arith, (room_in (view_of c.self.inside.core c.self.inside.took.items c.self.inside.said) _ c.self.invariant.0 next, (next.sender, (next_for_core (view_of c.self.inside.core c.self.inside.took.items c.self.inside.said) _ c.self.invariant.0 next, c.requires.ready))))
+    (omega arith, (room_in (view_of c.self.inside.core c.self.inside.took.items c.self.inside.said) _ c.self.invariant.0 next, (next.sender, (omega (arith, next.next, c.self.invariant.0.kept.agrees.delivered c.args.envelope.name.from next.sender), c.requires.ready))))
 
 pub write-requires : goal.write-requires
 write-requires g c =
