@@ -8,24 +8,20 @@ use Rattle.rt_journal.proofs.Names.{◌==◌, Some, All, is_some, same_Some, All
 use Rattle.rt_journal.proofs.Names.{Reason, Journal, is_told, pick_count, number_if, length-with_last_if, if_from}
 use Rattle.rt_journal.proofs.Names.{name_ended, given_outcomes, held_count, inside_count, HandsBack, polls_made}
 use Rattle.rt_journal.proofs.Names.{poll_note, HasTask, note_taken, sum_upto, given_count, IsPick, IsHandBack}
-use Rattle.rt_journal.proofs.Names.{owed_back, known_of, among, same_as_itself, without_job, option_map, Terms}
-use Rattle.rt_journal.proofs.Names.{QueuesView, none-some, JobOut}
+use Rattle.rt_journal.proofs.Names.{owed_back, known_of, among, same_as_itself, without_job, option_map, QueuesView}
+use Rattle.rt_journal.proofs.Names.{none-some, JobOut, CorePicks, names_of, Returned, Picks}
 use Rattle.rt_core.specs.declared.turn.Ahead.TheVariants as ahead
 use Rattle.rt_core.specs.declared.turn.Turn.TheVariants.{Back}
 use Rattle.rt_core.specs.declared.turn.PickError.TheVariants.{Spent}
 use Rattle.rt_core.specs.Closing.{return_reason}
-use Rattle.rt_core.specs.Turns.{Picks as CorePicks}
-use Rattle.rt_journal.specs.Agreement.{names_of}
-use Rattle.rt_ids.specs.declared.note.Note.TheVariants.{Returned}
 use Rattle.rt_core.specs.Closing as core_says
-use Rattle.rt_journal.specs.Turns.{Picks}
-use Rattle.rt_journal.proofs.Sums.{everywhere, sum_upto-at_most_one}
+use Rattle.rt_journal.proofs.Sums.{each_line, sum_upto-at_most_one, sum_upto-same}
 use Rattle.rt_journal.proofs.KeptPicks.{LeavesFront, first_in_line, kept-picked, kept-returned, picked_view, reason_told, returned_view}
 use Rattle.rt_journal.proofs.KeptPicks.{right_pick, start_told}
 use Rattle.rt_journal.proofs.Received.{waiting_stays}
 use Rattle.rt_journal.proofs.EndsKept.{ungiven_if, not_given}
 use Rattle.rt_ids.specs.declared.note.OutcomeNote.TheVariants as outcomes
-use Rattle.rt_journal.proofs.QuietSteps.{nobody, quiet-picked, gates-picked, as_sent-picked, stepped, IsQuietStep}
+use Rattle.rt_journal.proofs.QuietSteps.{nobody, quiet-picked, stepped, IsQuietStep}
 use Rattle.rt_journal.proofs.QuietSteps.{everyone, HasDone, nothing_did, done_so}
 
 -- of two pairs that are each at most the other, the numbers are the same
@@ -49,13 +45,10 @@ module _ {J : Type 0} (view core : CoreView J) (told : TellsAhead view (Ok ahead
   is_back (Err Spent) notes picks = absurd (omega (arith, picks.1, told.4))
 
 module _ {J T : Type 0} {same : J → J → Type 0} {made : J → ℕ} {polls : Owed J T} (view : RecordedView J T) (recorded : IsRecorded same made polls view) where
-  lines : (queue : ℕ) → names_of (waiting_of queue view.core.queues) ≡ line queue view.journal.notes
-  lines = recorded.kept.agrees.lines
-
   -- no queue has work where none has a line
   pub idle : view.core.out ≡ None → ((queue : ℕ) → waiting_of queue view.core.queues ≡ []) → (queue : ℕ) → has_work queue view.journal.notes ≡ false
   idle free empty queue =
-      no_work (terms_at view) queue view.journal.notes recorded.kept.notes (sym (lines queue) ∙ ap names_of (empty queue))
+      no_work (terms_at view) queue view.journal.notes recorded.kept.notes (sym (recorded.kept.agrees.lines queue) ∙ ap names_of (empty queue))
       (subst (λ out. IsJobOut out view.journal.notes) free recorded.kept.agrees.out)
 
   pub works : (queue : ℕ) → (waiting_of queue view.core.queues ≡ [] → ⊥) → has_work queue view.journal.notes ≡ true
@@ -64,7 +57,7 @@ module _ {J T : Type 0} {same : J → J → Type 0} {made : J → ℕ} {polls : 
       by_line : (waiting : List (JobId × Bool × J)) → waiting_of queue view.core.queues ≡ waiting → has_work queue view.journal.notes ≡ true
       by_line [] none = absurd (some none)
       by_line (entry ∷ others) first =
-          work_of_line (terms_at view) queue view.journal.notes recorded.kept.notes entry.0 (names_of others) (sym (lines queue) ∙ ap names_of first)
+          work_of_line (terms_at view) queue view.journal.notes recorded.kept.notes entry.0 (names_of others) (sym (recorded.kept.agrees.lines queue) ∙ ap names_of first)
 
   -- where all turns are used, a queue has work
   pub all_used : TellsAhead view.core (Err Spent) → (turns view.journal.notes ≡ 2 ^ 64 - 1) × ((queue : ℕ) × (has_work queue view.journal.notes ≡ true))
@@ -85,9 +78,6 @@ no_polls which name queue runtime was_started journal = grind arith
 
 module _ {J T : Type 0} {same : J → J → Type 0} {made : J → ℕ} {polls : Owed J T}
     (old : RecordedView J T) (recorded : IsRecorded same made polls old) (left : turns old.journal.notes < most_turns) where
-  abbrev terms : Terms
-  terms = terms_at old
-
   abbrev notes : Journal T
   notes = old.journal.notes
 
@@ -114,9 +104,7 @@ module _ {J T : Type 0} {same : J → J → Type 0} {made : J → ℕ} {polls : 
       its_task = All-head (Task queue) (name, was_started, job) front.others all_first
 
       still_waiting : (other : ℕ) → All (Task other) (waiting_of other queues)
-      still_waiting = everywhere (λ at. All (Task at) (waiting_of at queues)) queue
-          (subst (All (Task queue)) (sym front.line.changed) (All-tail (Task queue) (name, was_started, job) front.others all_first))
-          (λ other away. subst (All (Task other)) (sym (front.line.others other away)) (waiting_stays old recorded written unpolled other))
+      still_waiting = each_line (λ at. All (Task at)) front.line (All-tail (Task queue) (name, was_started, job) front.others all_first) (waiting_stays old recorded written unpolled)
 
     abbrev written : List (Note T)
     written = poll_note name was_started ∷ Pick queue runtime ∷ []
@@ -125,31 +113,26 @@ module _ {J T : Type 0} {same : J → J → Type 0} {made : J → ℕ} {polls : 
     picked keeps =
         let unpolled = λ (which : JobId). no_polls which name queue runtime was_started notes in
         let task = its_task written unpolled in
+        let quiet = quiet-picked notes name queue runtime was_started in
+        let given = sum_upto-same (given_count (written ++ notes)) (given_count notes) old.core.cores (λ sender. ap length (quiet.given sender)) in
+        let fewer : held_count queues + 1 + sum_upto (given_count (written ++ notes)) old.core.cores ≤ inside_count old.core + sum_upto (given_count notes) old.core.cores = omega (arith, one_fewer, given) in
         assumption (
-          kept-picked terms old.core name queue was_started job queues notes recorded.kept front keeps left refl,
+          kept-picked (terms_at old) old.core name queue was_started job queues notes recorded.kept front keeps left,
           front.line.same_room,
-          quiet-picked notes name queue runtime was_started,
-          λ (sender : ℕ) (kept : everyone sender). gates-picked notes name queue runtime was_started sender,
-          fewer was_started,
-          as_sent-picked notes _ name queue runtime was_started recorded.as_sent,
           still_waiting written unpolled,
           λ (out : JobOut J) (at : Some (record { name = name; queue = queue; job = job }) ≡ Some out). subst (λ out. HasTask same made polls old.took (written ++ notes) out.queue out.name out.job) (same_Some _ out at) task,
         )
-      where
-        fewer : (before : Bool) → held_count queues + 1 + sum_upto (given_count (poll_note name before ∷ Pick queue runtime ∷ notes)) old.core.cores ≤ inside_count old.core + sum_upto (given_count notes) old.core.cores
-        fewer false = omega (arith, one_fewer)
-        fewer true = omega (arith, one_fewer)
 
     pick_is : core_says.return_reason queue old.core ≡ None → IsPick old name queue was_started job (stepped old (picked_view old.core name queue job queues) written)
     pick_is keeps = record {
       nobody_out = front.next.free;
       turn_left = left;
       runtime = runtime;
-      right = right_pick terms old.core name queue was_started job queues notes recorded.kept front;
+      right = right_pick (terms_at old) old.core name queue was_started job queues notes recorded.kept front;
       others = names_of front.others;
-      first = first_in_line terms old.core name queue was_started job queues notes recorded.kept front;
-      kept = reason_told terms old.core name queue was_started job queues notes recorded.kept front ∙ keeps;
-      started = start_told terms old.core name queue was_started job queues notes recorded.kept front;
+      first = first_in_line (terms_at old) old.core name queue was_started job queues notes recorded.kept front;
+      kept = reason_told (terms_at old) old.core name queue was_started job queues notes recorded.kept front ∙ keeps;
+      started = start_told (terms_at old) old.core name queue was_started job queues notes recorded.kept front;
       journal = refl;
       out = refl;
       took = refl;
@@ -162,13 +145,13 @@ module _ {J T : Type 0} {same : J → J → Type 0} {made : J → ℕ} {polls : 
     unpolled_back reason which = add-zero (polls_made which notes + 0) ∙ add-zero (polls_made which notes)
 
     going_on : is_told name_ended name notes ≡ false
-    going_on = ((known_of terms notes recorded.kept.notes).line_inside queue name
-        (ap (among name) (first_in_line terms old.core name queue was_started job queues notes recorded.kept front) ∙ rw (same_as_itself name) refl)).going_on
+    going_on = ((known_of (terms_at old) notes recorded.kept.notes).line_inside queue name
+        (ap (among name) (first_in_line (terms_at old) old.core name queue was_started job queues notes recorded.kept front) ∙ rw (same_as_itself name) refl)).going_on
 
     handed : (reason : Reason) → core_says.return_reason queue old.core ≡ Some reason →
         IsQuietStep old (returned_view old.core queue queues) (back reason) same made polls everyone (λ sender. if_from sender name (name, outcomes.Returned reason))
     handed reason returns = record {
-      kept = kept-returned terms old.core name queue was_started job queues notes recorded.kept front reason returns left refl;
+      kept = kept-returned (terms_at old) old.core name queue was_started job queues notes recorded.kept front reason returns left;
       number = refl;
       cores = refl;
       room = front.line.same_room;
@@ -177,13 +160,11 @@ module _ {J T : Type 0} {same : J → J → Type 0} {made : J → ℕ} {polls : 
           let task = its_task (back reason) (unpolled_back reason) in
           ungiven_if old sender inward is name (Job queue task.sent) task.task
           (not_given (note_taken old.took) name queue (ap (option_map without_job) task.task) sender notes recorded.as_sent going_on) (outcomes.Returned reason);
-      gates = λ sender kept. refl;
       fewer =
           let given_more : sum_upto (given_count (back reason ++ notes)) old.core.cores ≤ sum_upto (given_count notes) old.core.cores + 1 =
           sum_upto-at_most_one (given_count notes) (given_count (back reason ++ notes)) name.from (λ from. length-with_last_if (given_outcomes from notes) _ (name.from == from)) old.core.cores in
           let now : inside_count (returned_view old.core queue queues) ≡ held_count queues + 0 = ap (λ out. held_count queues + number_if (is_some out)) front.next.free in
           omega (arith, given_more, now, one_fewer);
-      as_sent = (tt, (tt, recorded.as_sent));
       waiting = still_waiting (back reason) (unpolled_back reason);
       out = λ out at. absurd (none-some out (sym front.next.free ∙ at));
     }
@@ -196,10 +177,10 @@ module _ {J T : Type 0} {same : J → J → Type 0} {made : J → ℕ} {polls : 
           turn_left = left;
           queue = queue;
           runtime = runtime;
-          right = right_pick terms old.core name queue was_started job queues notes recorded.kept front;
+          right = right_pick (terms_at old) old.core name queue was_started job queues notes recorded.kept front;
           others = names_of front.others;
-          first = first_in_line terms old.core name queue was_started job queues notes recorded.kept front;
-          returns = reason_told terms old.core name queue was_started job queues notes recorded.kept front ∙ returns;
+          first = first_in_line (terms_at old) old.core name queue was_started job queues notes recorded.kept front;
+          returns = reason_told (terms_at old) old.core name queue was_started job queues notes recorded.kept front ∙ returns;
           sent = task.sent;
           task = task.task;
           job = job;

@@ -1,64 +1,50 @@
 -- A core beside its journal creates a queue before anything else is done, closes by itself, and shuts the gate of a sender, whose end stays beside it.
-use Rattle.rt_journal.proofs.Names.{◌≡◌, ℕ, ◌+◌, List, [], ◌∷◌, refl, sym, ◌∙◌, ap, subst, arith, add-zero, All}
-use Rattle.rt_journal.proofs.Names.{is_some, Result, Ok, Err, InRange, JobId, Note, Journal, created_count, IsOpening}
-use Rattle.rt_journal.proofs.Names.{number_if, Owed, queue_count, held_count, CreateError, TooMany, Memory, CoreView}
-use Rattle.rt_journal.proofs.Names.{inside_count, Creates, polls_made, RecordedView, terms_at, IsRecorded, HasTask}
-use Rattle.rt_journal.proofs.Names.{CreatesQueue, Bool, true, false, cond, Option, Some, None, Answer, Mode, Order}
-use Rattle.rt_journal.proofs.Names.{closes, core_mode, effect_awaited, has_effect, CarriesOut, waiting_of, ClosesCore}
-use Rattle.rt_journal.proofs.Names.{ClosesItself, ◌≤◌, length, reverse, ◌≢◌, IsSome, slice_set, eq-eqb, ne_eqb}
-use Rattle.rt_journal.proofs.Names.{true≢false, length-append, IsNextShut, final_count, or_else, gate_of, ShutsGate}
-use Rattle.rt_journal.proofs.Names.{Inward, SoundIn, Shuts, IsInOf, TellsShut, DeliversAs, note_taken, given_count}
-use Rattle.rt_journal.proofs.Names.{sum_upto, JobOut}
+use Rattle.rt_journal.proofs.Names.{DeliversAs, EachNote, none-some, ◌≡◌, ℕ, ◌+◌, List, [], ◌∷◌, refl, sym, ◌∙◌, ap}
+use Rattle.rt_journal.proofs.Names.{subst, arith, add-zero, All, is_some, Result, Ok, Err, InRange, JobId, Note}
+use Rattle.rt_journal.proofs.Names.{Journal, IsOpening, number_if, Owed, queue_count, CreateError, TooMany, Memory}
+use Rattle.rt_journal.proofs.Names.{CoreView, inside_count, Creates, polls_made, RecordedView, terms_at, IsRecorded}
+use Rattle.rt_journal.proofs.Names.{HasTask, CreatesQueue, Bool, true, false, cond, Option, Some, None, Mode, Order}
+use Rattle.rt_journal.proofs.Names.{closes, core_mode, effect_awaited, CarriesOut, ClosesCore, ClosesItself, ◌≤◌}
+use Rattle.rt_journal.proofs.Names.{length, reverse, ◌≢◌, IsSome, slice_set, eq-eqb, ne_eqb, true≢false}
+use Rattle.rt_journal.proofs.Names.{length-append, IsNextShut, final_count, or_else, gate_of, ShutsGate, Inward}
+use Rattle.rt_journal.proofs.Names.{SoundIn, Shuts, IsInOf, TellsShut, given_count, sum_upto, JobOut, CoreCreates}
 use Rattle.rt_ids.specs.declared.note.Note.TheVariants as writes
-use Rattle.rt_core.specs.Deliveries.{CreatesQueue as CoreCreates}
 use Rattle.rt_journal.proofs.Kept.{IsKept, kept_after}
+use Rattle.rt_journal.proofs.CarriedOut.{HoldsSame}
 use Rattle.rt_journal.proofs.KeptDeliveries.{agrees-created, agrees-core_closed, agrees-shut}
-use Rattle.rt_journal.proofs.Received.{carries_out-opening, out_stays, waiting_stays}
+use Rattle.rt_journal.proofs.Received.{task_stays, waiting_stays}
 use Rattle.rt_journal.proofs.QuietSteps.{nobody, IsQuiet, IsQuietStep, everyone, HasDone, nothing_did, done_so, stepped}
 use Rattle.rt_journal.proofs.Sums.{sum_upto-same}
 use Rattle.rt_journal.proofs.EndsKept.{sees_more_in}
 
--- the same core holds the same jobs
-record HoldsSame {J : Type 0} (old core : CoreView J) : Type 0 where
-  pub number : core.core ≡ old.core
-  pub cores : core.cores ≡ old.cores
-  pub room : core.queues.room ≡ old.queues.room
-  pub same_held : held_count core.queues ≡ held_count old.queues
-  pub same_lines : (queue : ℕ) → waiting_of queue core.queues ≡ waiting_of queue old.queues
-  pub out : core.out ≡ old.out
+-- where no effect is awaited, a note is the effect of none
+carries_none : {T : Type 0} (under : JobId → Option (Order (Unit {0}))) (note : Note T) (before : Journal T) → effect_awaited before ≡ None → CarriesOut under note before
+carries_none under note [] none = tt
+carries_none under note (writes.Answered name answer ∷ before) none = λ has. absurd (none-some answer (sym none ∙ ap (λ test. cond test (Some answer) None) has))
+carries_none under note (_ ∷ before) none = tt
 
--- so one note by which nothing is sent, delivered or given, and no poll settled, is a quiet step
+-- one note by which nothing is sent, delivered or given, and no poll settled, is a quiet step
 module _ {J T : Type 0} {same : J → J → Type 0} {made : J → ℕ} {polls : Owed J T} (old : RecordedView J T) (recorded : IsRecorded same made polls old) (core : CoreView J) (holds : HoldsSame old.core core) (note : Note T) where
-  unmoved_step : {keeps : ℕ → Type 0} → IsKept (terms_at old) core (note ∷ old.journal.notes) → IsQuiet nobody old.journal.notes (note ∷ old.journal.notes) →
-      ((sender : ℕ) → keeps sender → final_count sender (note ∷ old.journal.notes) ≡ final_count sender old.journal.notes) → DeliversAs (note_taken old.took) note old.journal.notes →
+  unmoved_step : {keeps : ℕ → Type 0} → IsKept (terms_at old) core (note ∷ old.journal.notes) → IsQuiet keeps nobody old.journal.notes (note ∷ old.journal.notes) →
       ((which : JobId) → polls_made which (note ∷ old.journal.notes) ≡ polls_made which old.journal.notes) → IsQuietStep old core (note ∷ []) same made polls keeps nobody
-  unmoved_step kept quiet gates delivers unpolled =
+  unmoved_step kept quiet unpolled =
       let inside : inside_count core ≡ inside_count old.core = λ i. holds.same_held i + number_if (is_some (holds.out i)) in
       let given = sum_upto-same (given_count (note ∷ old.journal.notes)) (given_count old.journal.notes) old.core.cores (λ sender. ap length (quiet.given sender)) in
       let fewer : inside_count core + sum_upto (given_count (note ∷ old.journal.notes)) old.core.cores ≤ inside_count old.core + sum_upto (given_count old.journal.notes) old.core.cores = omega (arith, inside, given) in
       let waiting = λ (queue : ℕ). subst (All (λ entry. HasTask same made polls old.took (note ∷ old.journal.notes) queue entry.0 entry.2)) (sym (holds.same_lines queue)) (waiting_stays old recorded (note ∷ []) unpolled queue) in
-      let out = λ (job : JobOut J) (at : core.out ≡ Some job). out_stays old recorded (note ∷ []) unpolled job (sym holds.out ∙ at) in
-      assumption (delivers, recorded.as_sent)
+      let out : (job : JobOut J) → core.out ≡ Some job → HasTask same made polls old.took (note ∷ old.journal.notes) job.queue job.name job.job = λ job at. task_stays (λ order at. at) (unpolled job.name) (recorded.out job (sym holds.out ∙ at)) in
+      assumption
 
 module _ {J T : Type 0} {same : J → J → Type 0} {made : J → ℕ} {polls : Owed J T}
     (old : RecordedView J T) (recorded : IsRecorded same made polls old) (opening : IsOpening old.journal.notes) (weight : ℕ) (in_range : InRange weight) (core : CoreView J) where
   module _ (queue : ℕ) (next : queue ≡ queue_count old.core.queues) (creates : Creates old.core weight core) (delivered : core.delivered ≡ old.core.delivered) where
-    number_is : queue ≡ created_count old.journal.notes + 1
-    number_is = next ∙ recorded.kept.agrees.last
-
-    abbrev longer : Journal T
-    longer = writes.Created queue weight ∷ old.journal.notes
-
-    kept : IsKept (terms_at old) core longer
-    kept =
-        kept_after (terms_at old) (writes.Created queue weight) recorded.kept (agrees-created old.core core queue weight old.journal.notes recorded.kept.agrees next creates delivered)
-        recorded.kept.is_core (record { next = number_is; in_range = omega (arith, next, creates.few); shares = in_range }) refl opening refl refl
-
     created : IsQuietStep old core (writes.Created queue weight ∷ []) same made polls everyone nobody
     created =
+        let kept = kept_after (terms_at old) (writes.Created queue weight) recorded.kept (agrees-created old.core core queue weight old.journal.notes recorded.kept.agrees next creates delivered)
+        recorded.kept.is_core (record { next = next ∙ recorded.kept.agrees.last; in_range = omega (arith, next, creates.few); shares = in_range }) refl opening refl refl in
         let holds : HoldsSame old.core core = assumption (ap (λ core. core.core) creates.rest, ap (λ core. core.cores) creates.rest, creates.added.same_room, ap (λ core. core.out) creates.rest) in
-        unmoved_step old recorded core holds (writes.Created queue weight) kept (assumption) (λ sender kept. refl) (carries_out-opening _ (writes.Created queue weight) old.journal.notes opening)
-        (λ which. add-zero (polls_made which old.journal.notes))
+        let as_sent : (under : _) → EachNote (DeliversAs under) old.journal.notes → EachNote (DeliversAs under) (writes.Created queue weight ∷ old.journal.notes) = λ under before. (carries_none under (writes.Created queue weight) old.journal.notes recorded.kept.no_answer, before) in
+        unmoved_step old recorded core holds (writes.Created queue weight) kept (assumption as_sent) (λ which. add-zero (polls_made which old.journal.notes))
 
   -- whatever the core answers
   pub created_did : (answer : Result ℕ CreateError) (notes : List (Note T)) → CoreCreates old.core weight answer core notes →
@@ -69,16 +55,6 @@ module _ {J T : Type 0} {same : J → J → Type 0} {made : J → ℕ} {polls : 
   created_did (Err TooMany) notes does = nothing_did recorded does.1 does.2 (sym recorded.kept.agrees.last ∙ does.0, refl)
   created_did (Err Memory) notes does = nothing_did recorded does.1 does.2 (omega (arith, recorded.kept.agrees.last, does.0), refl)
 
-no_effect : (answer : Answer) (test : Bool) → cond test (Some answer) None ≡ None → test ≡ true → ⊥
-no_effect answer true none is = cc
-no_effect answer false none is = cc
-
--- where no effect is awaited, a note is the effect of none
-carries_none : {T : Type 0} (under : JobId → Option (Order (Unit {0}))) (note : Note T) (before : Journal T) → effect_awaited before ≡ None → CarriesOut under note before
-carries_none under note [] none = tt
-carries_none under note (writes.Answered name answer ∷ before) none = λ has. absurd (no_effect answer (has_effect answer) none has)
-carries_none under note (_ ∷ before) none = tt
-
 module _ {J T : Type 0} {same : J → J → Type 0} {made : J → ℕ} {polls : Owed J T} (old : RecordedView J T) (recorded : IsRecorded same made polls old) (mode : Mode) where
   closes_told : (test : Bool) → closes old.core.mode mode ≡ test → closes (core_mode old.journal.notes) mode ≡ test
   closes_told test changes = ap (λ was. closes was mode) (sym recorded.kept.agrees.closing.mode) ∙ changes
@@ -88,19 +64,14 @@ module _ {J T : Type 0} {same : J → J → Type 0} {made : J → ℕ} {polls : 
   close_step core changes is =
       let kept = kept_after (terms_at old) (writes.CoreClosed mode) recorded.kept (agrees-core_closed old.core core old.journal.notes recorded.kept.agrees mode is) recorded.kept.is_core
       (closes_told true changes) refl tt refl refl in
-      unmoved_step old recorded core (subst (HoldsSame old.core) (sym is) assumption) (writes.CoreClosed mode) kept (assumption) (λ sender kept. refl)
-      (carries_none _ (writes.CoreClosed mode) old.journal.notes recorded.kept.no_answer) (λ which. add-zero (polls_made which old.journal.notes))
+      let as_sent : (under : _) → EachNote (DeliversAs under) old.journal.notes → EachNote (DeliversAs under) (writes.CoreClosed mode ∷ old.journal.notes) = λ under before. (carries_none under (writes.CoreClosed mode) old.journal.notes recorded.kept.no_answer, before) in
+      unmoved_step old recorded core (subst (HoldsSame old.core) (sym is) assumption) (writes.CoreClosed mode) kept (assumption as_sent) (λ which. add-zero (polls_made which old.journal.notes))
 
   -- whether or not that changes anything
   pub closed_did : (closed : Bool) (core : CoreView J) (notes : List (Note T)) → ClosesCore old.core mode closed core notes →
       HasDone same made polls old core everyone nobody 1 (λ old new. ClosesItself old mode closed new) notes
   closed_did true core notes did = done_so did.2 (close_step core did.0 did.1) (omega arith) (closes_told true did.0, refl, ap (λ core. core.out) did.1, refl)
   closed_did false core notes did = nothing_did recorded did.1 did.2 (closes_told false did.0, refl)
-
--- a gate that isn't shut may be, at the count of its end
-pub next_shut : {J T : Type 0} (view : RecordedView J T) (from count : ℕ) (before after : Inward J T) → IsInOf from view before → Shuts before after count → SoundIn after →
-    IsSome (core_mode view.journal.notes) → final_count from view.journal.notes ≡ None → IsNextShut view.core.cores from count view.journal.notes
-next_shut view from count before after is shuts sound closed untold = grind (arith, length-append before.seen)
 
 module _ {J T : Type 0} (old : RecordedView J T) (from count : ℕ) (core : CoreView J) (is : core ≡ record old.core { gates = slice_set old.core.gates from (Some count) }) where
   abbrev written : List (Note T)
@@ -112,8 +83,8 @@ module _ {J T : Type 0} (old : RecordedView J T) (from count : ℕ) (core : Core
   shut_step recorded next =
       let kept = kept_after (terms_at old) (writes.Shut from count) recorded.kept (agrees-shut old.core core old.journal.notes recorded.kept.agrees from count next.known is) recorded.kept.is_core next
       refl tt refl refl in
-      unmoved_step old recorded core (subst (HoldsSame old.core) (sym is) assumption) (writes.Shut from count) kept (assumption)
-      (λ sender away. ap (λ test. or_else (cond test (Some count) None) (final_count sender old.journal.notes)) (ne_eqb sender from away)) tt (λ which. add-zero (polls_made which old.journal.notes))
+      let gates = λ (sender : ℕ) (away : sender ≡ from → ⊥). ap (λ test. or_else (cond test (Some count) None) (final_count sender old.journal.notes)) (ne_eqb sender from away) in
+      unmoved_step old recorded core (subst (HoldsSame old.core) (sym is) assumption) (writes.Shut from count) kept (assumption gates) (λ which. add-zero (polls_made which old.journal.notes))
 
   -- the end of this sender is shut where the journal says so
   pub shut_beside : (before after : Inward J T) → IsInOf from old before → Shuts before after count → IsInOf from (stepped old core written) after
@@ -133,8 +104,11 @@ module _ {J T : Type 0} (old : RecordedView J T) (from count : ℕ) (core : Core
 -- what a call that shut the gate knows of its parts
 module _ {J T : Type 0} (old now : RecordedView J T) (view_is : old ≡ now) (from count : ℕ) (before after : Inward J T)
     (beside : IsInOf from now before) (shuts : Shuts before after count) (sound : SoundIn after) (closed : IsSome (core_mode now.journal.notes)) (untold : final_count from now.journal.notes ≡ None) where
-  pub next_now : IsNextShut old.core.cores from count old.journal.notes
-  next_now = subst (λ view. IsNextShut view.core.cores from count view.journal.notes) (sym view_is) (next_shut now from count before after beside shuts sound closed untold)
+  -- a gate that isn't shut may be, at the count of its end
+  next_now : IsNextShut old.core.cores from count old.journal.notes
+  next_now =
+      let next : IsNextShut now.core.cores from count now.journal.notes = grind (arith, length-append before.seen) in
+      subst (λ view. IsNextShut view.core.cores from count view.journal.notes) (sym view_is) next
 
   -- what the core asks
   pub core_asks : {same : J → J → Type 0} {made : J → ℕ} {polls : Owed J T} → IsRecorded same made polls old → (from ≤ old.core.cores) × ((old.core.mode ≢ None) × (gate_of from old.core ≡ None))

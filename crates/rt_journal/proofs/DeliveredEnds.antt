@@ -1,17 +1,12 @@
 -- The ends of links stay beside a core and its journal as an order is delivered.
-use Rattle.rt_journal.proofs.Names.{◌≡◌, ℕ, suc, ◌+◌, cond, List, [], ◌∷◌, length, refl, sym, ◌∙◌, ap, subst, ◌⊎◌}
-use Rattle.rt_journal.proofs.Names.{⊎_elim, arith, ◌==◌, Option, Some, None, slice_get, option_map, eq-eqb, ne_eqb}
-use Rattle.rt_journal.proofs.Names.{JobId, Envelope, Order, Outcome, OutcomeNote, with_last, outcome_note}
-use Rattle.rt_journal.proofs.Names.{given_outcomes, number_if, Inward, SoundIn, AreNamed, Takes, RecordedView, desk_of}
-use Rattle.rt_journal.proofs.Names.{order_taken, delivered_count, IsInOf, IsInOwing, IsUngiven, GivesMore, told_under}
-use Rattle.rt_journal.proofs.Names.{KeepsIn, IsSameSeat, named_outcomes, IsNextIn, Receives, KeepsOuts}
+use Rattle.rt_journal.proofs.Names.{length-map, ◌≡◌, ℕ, ◌+◌, cond, length, refl, sym, ◌∙◌, ap, subst, ◌⊎◌, ⊎_elim}
+use Rattle.rt_journal.proofs.Names.{arith, ◌==◌, Option, Some, None, slice_get, option_map, eq-eqb, ne_eqb, JobId}
+use Rattle.rt_journal.proofs.Names.{Envelope, Order, Outcome, OutcomeNote, with_last, outcome_note, given_outcomes}
+use Rattle.rt_journal.proofs.Names.{number_if, Inward, SoundIn, AreNamed, Takes, RecordedView, order_taken}
+use Rattle.rt_journal.proofs.Names.{delivered_count, IsInOf, IsInOwing, GivesMore, told_under, KeepsIn, IsSameSeat}
+use Rattle.rt_journal.proofs.Names.{named_outcomes, IsNextIn, Receives}
 use Rattle.rt_journal.proofs.Received.{order_taken-parts}
-use Rattle.rt_journal.proofs.EndsKept.{keeps_in, slice_get-seen, sees_more_in, final_of-more}
-use Rattle.rt_recorded_desk.proofs.OutEnds.{keeps_outs}
-
-length-named : {J T : Type 0} (sender core : ℕ) (outcomes : List (ℕ × Outcome J T)) → length (named_outcomes sender core outcomes) ≡ length outcomes
-length-named sender core [] = refl
-length-named sender core (outcome ∷ rest) = ap suc (length-named sender core rest)
+use Rattle.rt_journal.proofs.EndsKept.{keeps_in, slice_get-seen, final_of-more}
 
 -- what is told under a name is told to its sender alone
 pub told_elsewhere : {T : Type 0} (name : JobId) (what : Option (OutcomeNote T)) (sender : ℕ) → (sender ≡ name.from → ⊥) → told_under name what sender ≡ None
@@ -21,7 +16,8 @@ told_elsewhere name (Some what) sender away = ap (λ test. cond test (Some (name
 -- an end that shows one more has its name next, and a place for it
 pub next_in : {J T : Type 0} (view : RecordedView J T) (before after : Inward J T) (envelope : Envelope J) → IsInOf before.from view before →
     Takes before after (Some envelope) → SoundIn after → IsNextIn view envelope.name
-next_in view before after envelope is takes sound = grind (arith, length-named before.from view.core.core before.given)
+next_in view before after envelope is takes sound =
+    let given : length (named_outcomes before.from view.core.core before.given) ≡ length before.given = length-map _ _ in grind (arith, given)
 
 module _ {J T : Type 0} (old new : RecordedView J T) (envelope : Envelope J) (next : IsNextIn old envelope.name) (did : Receives old envelope new) (seat : IsSameSeat old new)
     (outcome : Option (Outcome J T)) (gives : GivesMore (told_under envelope.name (option_map outcome_note outcome)) old.journal.notes new.journal.notes) where
@@ -32,31 +28,16 @@ module _ {J T : Type 0} (old new : RecordedView J T) (envelope : Envelope J) (ne
   parts : (which : JobId) (order : Order J) → order_taken new.took which ≡ Some order → (order_taken old.took which ≡ Some order) ⊎ ((which ≡ name) × (envelope.order ≡ order))
   parts which order at = order_taken-parts envelope old.took which order (subst (λ took. order_taken took which ≡ Some order) did.took at)
 
-  -- the ends of other senders stay
-  pub others_keep : (sender : ℕ) → (sender ≡ name.from → ⊥) → KeepsIn sender old new
-  others_keep sender other =
-      keeps_in old new seat sender None (gives sender ∙ ap (with_last (given_outcomes sender old.journal.notes)) (told_elsewhere name (option_map outcome_note outcome) sender other)) (did.lists.gates sender) (λ inward is. tt)
-      (let none : number_if (name.from == sender) ≡ 0 = ap number_if (ne_eqb name.from sender (λ one. other (sym one))) in omega (arith, did.delivered sender, none))
-      (λ which order from at. ⊎_elim (λ was. was) (λ last. absurd (other (sym from ∙ ap (λ id. id.from) last.0))) (parts which order at))
-
-  -- the sender's ends stay
-  pub outs_keep : KeepsOuts (desk_of old) (desk_of new)
-  outs_keep = keeps_outs (desk_of old) (desk_of new) (λ i. record { actor = seat.number i; cores = seat.cores i; cap = seat.cap i; journal = new.journal; lanes = new.lanes }) did.lists.sent
-
   counted_here : delivered_count new.journal.notes name.from ≡ delivered_count old.journal.notes name.from + 1
   counted_here = did.delivered name.from ∙ ap (λ test. delivered_count old.journal.notes name.from + number_if test) (eq-eqb name.from name.from refl)
 
   abbrev owed : Option (JobId × OutcomeNote T)
   owed = told_under name (option_map outcome_note outcome) name.from
 
-  -- each outcome that was given has the number of an order before this one
-  not_yet : (before after : Inward J T) → Takes before after (Some envelope) → AreNamed before.base before.taken before.given → IsUngiven owed after.given
-  not_yet before after takes named = grind (arith, named.0)
-
   -- the end of this sender has one more taken, and owes its outcome, if there is one yet
-  here_keeps : (before after : Inward J T) → IsInOf name.from old before → Takes before after (Some envelope) → SoundIn after → AreNamed before.base before.taken before.given →
+  pub beside_owes : (before after : Inward J T) → IsInOf before.from old before → Takes before after (Some envelope) → SoundIn after → AreNamed before.base before.taken before.given →
       IsInOwing name.from owed new after
-  here_keeps before after is takes sound named = record {
+  beside_owes before after beside takes sound named = record {
     known = rw seat.cores next.sender;
     from = ap (λ end. end.from) takes.0 ∙ is.from;
     to = ap (λ end. end.to) takes.0 ∙ (is.to ∙ sym seat.number);
@@ -66,10 +47,13 @@ module _ {J T : Type 0} (old new : RecordedView J T) (envelope : Envelope J) (ne
     taken = counted_here ∙ (ap (λ count. count + 1) is.taken ∙ sym (ap (λ end. end.taken) takes.0));
     behind = sound.behind;
     given = gives name.from ∙ ap (λ told. with_last told owed) (is.given ∙ (λ i. named_outcomes name.from (sym seat.number i) (sym takes.0 i).given));
-    ungiven = not_yet before after takes named;
+    ungiven = grind (arith, named.0);
     orders = λ which order from at. ⊎_elim (was which order from) (last which order) (parts which order at);
   }
     where
+      is : IsInOf name.from old before
+      is = subst (λ from. IsInOf from old before) (sym (ap (λ id. id.from) takes.2)) beside
+
       was : (which : JobId) (order : Order J) → which.from ≡ name.from → order_taken old.took which ≡ Some order →
           (place : ℕ) × (which ≡ record { from = name.from; to = new.core.core; number = place + 1 }) × (slice_get after.seen place ≡ Some order)
       was which order from at =
@@ -85,15 +69,10 @@ module _ {J T : Type 0} (old new : RecordedView J T) (envelope : Envelope J) (ne
         takes.3 ∙ ap Some at.1,
       )
 
-  -- the same of an end that was beside its core
-  pub beside_owes : (before after : Inward J T) → IsInOf before.from old before → Takes before after (Some envelope) → SoundIn after → AreNamed before.base before.taken before.given →
-      IsInOwing name.from owed new after
-  beside_owes before after is takes sound named =
-      here_keeps before after (subst (λ from. IsInOf from old before) (sym (ap (λ id. id.from) takes.2)) is) takes sound named
-
+  -- the ends of other senders stay
   pub rest_keep : (before after : Inward J T) → Takes before after (Some envelope) → (sender : ℕ) → (sender ≡ before.from → ⊥) → KeepsIn sender old new
-  rest_keep before after takes sender other = others_keep sender (λ one. other (one ∙ ap (λ id. id.from) takes.2))
-
--- an end that shows nothing more stays beside the same core and journal
-pub nothing_keeps : {J T : Type 0} (view : RecordedView J T) (before after : Inward J T) → IsInOf before.from view before → Takes before after None → IsInOf before.from view after
-nothing_keeps view before after is takes = sees_more_in before.from view before after takes.0 takes.1 is
+  rest_keep before after takes sender other =
+      let away : sender ≡ name.from → ⊥ = λ one. other (one ∙ ap (λ id. id.from) takes.2) in
+      let none : number_if (name.from == sender) ≡ 0 = ap number_if (ne_eqb name.from sender (λ one. away (sym one))) in
+      keeps_in old new seat sender None (gives sender ∙ ap (with_last (given_outcomes sender old.journal.notes)) (told_elsewhere name (option_map outcome_note outcome) sender away)) (did.lists.gates sender) (λ inward is. tt)
+      (omega (arith, did.delivered sender, none)) (λ which order from at. ⊎_elim (λ was. was) (λ last. absurd (away (sym from ∙ ap (λ id. id.from) last.0))) (parts which order at))

@@ -1,22 +1,19 @@
 -- A core is drained where its journal says so.
-use Rattle.rt_journal.proofs.Names.{◌≡◌, ℕ, sym, ◌∙◌, ap, Some, false_from_ne_true, true≢false, has_work, Owed}
-use Rattle.rt_journal.proofs.Names.{is_working, RecordedView, terms_at, IsRecorded}
+use Rattle.rt_journal.proofs.Names.{ℕ, sym, ◌∙◌, ap, Some, false_from_ne_true, true≢false, has_work, Owed}
+use Rattle.rt_journal.proofs.Names.{RecordedView, terms_at, IsRecorded}
 use Rattle.rt_ids.specs.Closing as told
 use Rattle.rt_core.specs.Closing as core
 use Rattle.rt_journal.proofs.Kept.{working}
 
 module _ {J T : Type 0} {same : J → J → Type 0} {made : J → ℕ} {polls : Owed J T} (view : RecordedView J T) (recorded : IsRecorded same made polls view) where
-  works : (queue : ℕ) → is_working queue view.core ≡ has_work queue view.journal.notes
-  works queue = working view.core view.journal.notes (terms_at view) queue recorded.kept.notes recorded.kept.agrees
-
   pub drained_told : core.IsDrained view.core → told.IsDrained view.core.cores view.journal.notes
   drained_told drained = record {
     delivered_all = λ sender known. sym (recorded.kept.agrees.closing.gates sender) ∙ (drained.delivered_all sender known ∙ ap Some (recorded.kept.agrees.delivered sender known));
-    idle = λ queue busy. true≢false (sym busy ∙ (sym (works queue) ∙ drained.idle queue));
+    idle = λ queue busy. true≢false (sym busy ∙ (sym (working view.core view.journal.notes (terms_at view) queue recorded.kept.notes recorded.kept.agrees) ∙ drained.idle queue));
   }
 
   pub drained_here : told.IsDrained view.core.cores view.journal.notes → core.IsDrained view.core
   drained_here drained = record {
     delivered_all = λ sender known. recorded.kept.agrees.closing.gates sender ∙ (drained.delivered_all sender known ∙ ap Some (sym (recorded.kept.agrees.delivered sender known)));
-    idle = λ queue. works queue ∙ false_from_ne_true (has_work queue view.journal.notes) (drained.idle queue);
+    idle = λ queue. working view.core view.journal.notes (terms_at view) queue recorded.kept.notes recorded.kept.agrees ∙ false_from_ne_true (has_work queue view.journal.notes) (drained.idle queue);
   }

@@ -2,12 +2,12 @@
 use Rattle.rt_journal.proofs.Names.{◌≡◌, ℕ, ◌+◌, List, [], ◌∷◌, ◌++◌, length, append_assoc, refl, sym, ◌∙◌, ap, arith}
 use Rattle.rt_journal.proofs.Names.{Option, Some, slice_get, Bool, true, false, length-append, JobId, OutcomeNote}
 use Rattle.rt_journal.proofs.Names.{with_last, Order, IsPrefix, given_outcomes, Inward, final_count, StartsWith}
-use Rattle.rt_journal.proofs.Names.{SeesMore, final_of, RecordedView, order_taken, delivered_count, IsInOf, LeavesOwed}
-use Rattle.rt_journal.proofs.Names.{IsUngiven, IsSameSeat, named_outcomes, subst, ◌⊎◌, ⊎_elim, inl, inr, cond, ◌==◌}
-use Rattle.rt_journal.proofs.Names.{None, or_parts, eqb-true, true≢false, option_map, none-some, same_Some}
-use Rattle.rt_journal.proofs.Names.{slice_get-map, Note, Job, IsAnswer, if_from, name_ended, outcome_given, DeliversAs}
-use Rattle.rt_journal.proofs.Names.{Journal, EachNote, is_told, same_name, is_name, outcome_note, same_as_itself}
-use Rattle.rt_journal.proofs.Names.{name_of, ◌≤◌, slice_get_within, ◌<◌}
+use Rattle.rt_journal.proofs.Names.{SeesMore, final_of, RecordedView, order_taken, delivered_count, IsInOf}
+use Rattle.rt_journal.proofs.Names.{LeavesOwed, IsUngiven, IsSameSeat, named_outcomes, subst, ◌⊎◌, ⊎_elim, inl, inr}
+use Rattle.rt_journal.proofs.Names.{cond, ◌==◌, None, or_parts, eqb-true, true≢false, option_map, none-some}
+use Rattle.rt_journal.proofs.Names.{same_Some, slice_get-map, Note, Job, IsAnswer, if_from, name_ended, outcome_given}
+use Rattle.rt_journal.proofs.Names.{DeliversAs, Journal, EachNote, is_told, same_name, is_name, outcome_note}
+use Rattle.rt_journal.proofs.Names.{same_as_itself, name_of, ◌≤◌, slice_get_within, ◌<◌}
 use Rattle.rt_link.proofs.Lists.{slice_get-starts, slice_get-with_last}
 use Rattle.rt_ids.specs.declared.note.Note.TheVariants as writes
 
@@ -70,8 +70,7 @@ another name other apart one = true≢false (sym (same_as_itself name) ∙ subst
 module _ {T : Type 0} (under : JobId → Option (Order (Unit {0}))) (name : JobId) (queue : ℕ) (is_job : under name ≡ Some (Job queue tt)) (sender : ℕ) where
   -- what is told as given to the sender of a name has that name
   its_name : (other : JobId) (what : OutcomeNote T) (entry : JobId × OutcomeNote T) (test : Bool) → cond test (Some (other, what)) None ≡ Some entry → other ≡ entry.0
-  its_name other what entry true at = ap (λ entry. entry.0) (same_Some _ _ at)
-  its_name other what entry false at = absurd (none-some entry at)
+  its_name other what entry test at = grind arith
 
   -- under the name of a job nothing is given before the job ends
   pub not_given : (journal : Journal T) → EachNote (DeliversAs under) journal → is_told name_ended name journal ≡ false →

@@ -2,11 +2,10 @@
 use Rattle.rt_journal.proofs.Names.{◌≡◌, ℕ, [], ◌∷◌, ◌++◌, refl, sym, ◌∙◌, ap, subst, arith, cond, Option, Some, None}
 use Rattle.rt_journal.proofs.Names.{IfSome, option_map, eq-eqb, map-append, JobId, Order, Job, Outcome, Reason}
 use Rattle.rt_journal.proofs.Names.{outcome_note, Owed, Inward, MayGive, Fits, Settled, Yielded, IsSentUnder}
-use Rattle.rt_journal.proofs.Names.{outcome_settled, MayAnswer, RecordedView, IsRecorded, IsTaken, order_taken, IsInOf}
-use Rattle.rt_journal.proofs.Names.{IsInOwing, Gives, told_under, name_of, named_outcomes}
+use Rattle.rt_journal.proofs.Names.{outcome_settled, MayAnswer, RecordedView, IsRecorded, IsTaken, order_taken}
+use Rattle.rt_journal.proofs.Names.{IsInOf, IsInOwing, Gives, told_under, name_of, named_outcomes, Finished}
 use Rattle.rt_ids.specs.declared.order.Outcome.TheVariants as outcome
 use Rattle.rt_ids.specs.declared.note.OutcomeNote.TheVariants as note
-use Rattle.rt_core.specs.declared.turn.Settled.TheVariants.{Finished}
 
 module _ {J T : Type 0} (view : RecordedView J T) (name : JobId) (order : Order J) (took : order_taken view.took name ≡ Some order) (inward : Inward J T) where
   -- what is told under a name, for its own sender
@@ -17,12 +16,12 @@ module _ {J T : Type 0} (view : RecordedView J T) (name : JobId) (order : Order 
     owes : IsInOwing name.from (Some (name, outcome_note outcome)) view inward
     owes = subst (λ owed. IsInOwing name.from owed view inward) (its_own outcome) is
 
-    pub may_give_one : IsTaken view.core.cores view.journal.notes name → (fits : Order J → Outcome J T → Type 0) → fits order outcome → MayGive fits inward name.number outcome
+    may_give_one : IsTaken view.core.cores view.journal.notes name → (fits : Order J → Outcome J T → Type 0) → fits order outcome → MayGive fits inward name.number outcome
     may_give_one taken fits fit =
         let found = is.orders name order refl took in
         grind (arith, found, taken, fit, owes.ungiven)
 
-    pub gave_one : IsInOf name.from view (record inward { given = inward.given ++ (name.number, outcome) ∷ [] })
+    gave_one : IsInOf name.from view (record inward { given = inward.given ++ (name.number, outcome) ∷ [] })
     gave_one =
         let found = is.orders name order refl took in
         let its_name : name ≡ name_of name.from view.core.core name.number = found.1 ∙ ap (name_of name.from view.core.core) (sym (ap (λ name. name.number) found.1)) in
@@ -32,16 +31,12 @@ module _ {J T : Type 0} (view : RecordedView J T) (name : JobId) (order : Order 
         ∙ sym (map-append (λ outcome. (name_of name.from view.core.core outcome.0, outcome_note outcome.1)) inward.given ((name.number, outcome) ∷ [])))
         )
 
-  -- the same of an outcome that there may be
-  pub may_give : IsTaken view.core.cores view.journal.notes name → (fits : Order J → Outcome J T → Type 0) (outcome : Option (Outcome J T)) → IfSome outcome (fits order) →
-      IsInOwing name.from (told_under name (option_map outcome_note outcome) name.from) view inward → IfSome outcome (λ outcome. MayGive fits inward name.number outcome)
-  may_give taken fits None fit is = tt
-  may_give taken fits (Some outcome) fit is = may_give_one outcome is taken fits fit
-
-  pub gave : (outcome : Option (Outcome J T)) → IsInOwing name.from (told_under name (option_map outcome_note outcome) name.from) view inward →
-      (after : Inward J T) → Gives inward name.number outcome after → IsInOf name.from view after
-  gave None is after gives = subst (IsInOf name.from view) (sym gives) is
-  gave (Some outcome) is after gives = subst (IsInOf name.from view) (sym gives) (gave_one outcome is)
+  -- an outcome that there may be may be given, and is owed no more then
+  pub given : IsTaken view.core.cores view.journal.notes name → (fits : Order J → Outcome J T → Type 0) (outcome : Option (Outcome J T)) → IfSome outcome (fits order) →
+      IsInOwing name.from (told_under name (option_map outcome_note outcome) name.from) view inward →
+      IfSome outcome (λ outcome. MayGive fits inward name.number outcome) × ((after : Inward J T) → Gives inward name.number outcome after → IsInOf name.from view after)
+  given taken fits None fit is = (tt, λ after gives. subst (IsInOf name.from view) (sym gives) is)
+  given taken fits (Some outcome) fit is = (may_give_one outcome is taken fits fit, λ after gives. subst (IsInOf name.from view) (sym gives) (gave_one outcome is))
 
 -- what is given changes nothing else of an end
 pub gave_rest : {J T : Type 0} (before : Inward J T) (number : ℕ) (outcome : Option (Outcome J T)) (after : Inward J T) → Gives before number outcome after → after ≡ record before { given = after.given }
@@ -49,28 +44,18 @@ gave_rest before number None after gives = subst (λ after. after ≡ record bef
 gave_rest before number (Some outcome) after gives = subst (λ after. after ≡ record before { given = after.given }) (sym gives) refl
 
 -- a job that is handed back may be given back
-module _ {J T : Type 0} {same : J → J → Type 0} (view : RecordedView J T) (name : JobId) (reason : Reason) (order : Order J) (under : IsSentUnder same view.took name order)
-    (inward : Inward J T) (is : IsInOwing name.from (Some (name, note.Returned reason)) view inward) where
-  owing_back : IsInOwing name.from (told_under name (Some (outcome_note {T = T} (outcome.Returned reason order))) name.from) view inward
-  owing_back = subst (λ owed. IsInOwing name.from owed view inward) (sym (its_own view name (Job under.queue under.sent) under.task inward (outcome.Returned reason order))) is
-
-  pub may_give_back : {made : J → ℕ} {polls : Owed J T} → IsRecorded same made polls view → (answers : J → T → Type 0) → MayGive (Fits same answers) inward name.number (outcome.Returned reason order)
-  may_give_back recorded answers =
-      may_give_one view name (Job under.queue under.sent) under.task inward (outcome.Returned reason order) owing_back (recorded.taken name _ under.task) (Fits same answers)
-      (subst (λ order. Fits same answers (Job under.queue under.sent) (outcome.Returned reason order)) (sym under.back) (refl, under.same_task))
-
-  pub gave_back : (after : Inward J T) → after ≡ record inward { given = inward.given ++ (name.number, outcome.Returned reason order) ∷ [] } → IsInOf name.from view after
-  gave_back after gives = subst (IsInOf name.from view) (sym gives) (gave_one view name (Job under.queue under.sent) under.task inward (outcome.Returned reason order) owing_back)
+pub given_back : {J T : Type 0} {same : J → J → Type 0} {made : J → ℕ} {polls : Owed J T} (answers : J → T → Type 0) (view : RecordedView J T) → IsRecorded same made polls view →
+    (name : JobId) (reason : Reason) (order : Order J) → IsSentUnder same view.took name order → (inward : Inward J T) → IsInOwing name.from (Some (name, note.Returned reason)) view inward →
+    MayGive (Fits same answers) inward name.number (outcome.Returned reason order) × ((after : Inward J T) → Gives inward name.number (Some (outcome.Returned reason order)) after → IsInOf name.from view after)
+given_back {T = T} {same = same} answers view recorded name reason order under inward is =
+    let fit : Fits same answers (Job under.queue under.sent) (outcome.Returned reason order) = subst (λ order. Fits same answers (Job under.queue under.sent) (outcome.Returned reason order)) (sym under.back) (refl, under.same_task) in
+    given view name (Job under.queue under.sent) under.task inward (recorded.taken name _ under.task) (Fits same answers) (Some (outcome.Returned reason order)) fit
+    (subst (λ owed. IsInOwing name.from owed view inward) (sym (its_own view name (Job under.queue under.sent) under.task inward (outcome.Returned reason order))) is)
 
 -- the outcome of a turn may be given, if the job is done
-module _ {J T : Type 0} {same : J → J → Type 0} {made : J → ℕ} {polls : Owed J T} (answers : J → T → Type 0) (view : RecordedView J T) (recorded : IsRecorded same made polls view) (name : JobId) (inward : Inward J T) where
-  pub may_give_done : (settled : Settled T) → MayAnswer answers view.took name settled → IsInOwing name.from (told_under name (option_map outcome_note (outcome_settled {J = J} settled)) name.from) view inward →
-      IfSome (outcome_settled settled) (λ outcome. MayGive (Fits same answers) inward name.number outcome)
-  may_give_done Yielded may is = tt
-  may_give_done (Finished answer) may is =
-      may_give_one view name (Job may.0 may.1) may.2 inward (outcome.Finished answer) is (recorded.taken name _ may.2) (Fits same answers) may.3
-
-  pub gave_done : (settled : Settled T) → MayAnswer answers view.took name settled → IsInOwing name.from (told_under name (option_map outcome_note (outcome_settled {J = J} settled)) name.from) view inward →
-      (after : Inward J T) → Gives inward name.number (outcome_settled settled) after → IsInOf name.from view after
-  gave_done Yielded may is after gives = subst (IsInOf name.from view) (sym gives) is
-  gave_done (Finished answer) may is after gives = subst (IsInOf name.from view) (sym gives) (gave_one view name (Job may.0 may.1) may.2 inward (outcome.Finished answer) is)
+pub given_done : {J T : Type 0} {same : J → J → Type 0} {made : J → ℕ} {polls : Owed J T} (answers : J → T → Type 0) (view : RecordedView J T) → IsRecorded same made polls view → (name : JobId) (inward : Inward J T)
+    (settled : Settled T) → MayAnswer answers view.took name settled → IsInOwing name.from (told_under name (option_map outcome_note (outcome_settled {J = J} settled)) name.from) view inward →
+    IfSome (outcome_settled settled) (λ outcome. MayGive (Fits same answers) inward name.number outcome) × ((after : Inward J T) → Gives inward name.number (outcome_settled settled) after → IsInOf name.from view after)
+given_done answers view recorded name inward Yielded may is = (tt, λ after gives. subst (IsInOf name.from view) (sym gives) is)
+given_done {same = same} answers view recorded name inward (Finished answer) may is =
+    given view name (Job may.0 may.1) may.2 inward (recorded.taken name _ may.2) (Fits same answers) (Some (outcome.Finished answer)) may.3 is

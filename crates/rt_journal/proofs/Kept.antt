@@ -12,100 +12,80 @@ use Rattle.rt_journal.proofs.Names.{MayWrite, MayStand, takes_turn, IsEffectDue,
 use Rattle.rt_journal.proofs.Names.{floor-stays, line-stays, queue_out-alone, queue_out-nobody, waiting_of, JobOut}
 use Rattle.rt_journal.proofs.Names.{is_working, is_any, runtime_of, Agrees, AgreesOnClosing, IsJobOut, AreMarked}
 use Rattle.rt_journal.proofs.Names.{QueuesView, queue_count, shares_of, Created, or_else, mode_told, core_mode_told}
-use Rattle.rt_journal.proofs.Names.{count_told, queue_mode, core_mode, final_count, IsOpening, refusal}
-use Rattle.rt_journal.proofs.Names.{reason_if_returning, mode_of, ◌++◌, map-append, All-append, All-cons, All-nil}
-use Rattle.rt_journal.proofs.Names.{charge, is_told, jobs_out, jobs_out-yield, jobs_out-done, line-yield}
-use Rattle.rt_journal.proofs.Names.{line-yield_elsewhere, line-done, is_told-alone, virtual_runtime-yield}
-use Rattle.rt_journal.proofs.Names.{virtual_runtime-yield_elsewhere, virtual_runtime-done}
-use Rattle.rt_journal.proofs.Names.{virtual_runtime-done_elsewhere, ChangesLine, tally_of, settled_view, poll_note}
-use Rattle.rt_journal.proofs.Names.{none-some}
+use Rattle.rt_journal.proofs.Names.{count_told, queue_mode, core_mode, final_count, IsOpening, refusal, mode_of, ◌++◌}
+use Rattle.rt_journal.proofs.Names.{map-append, All-append, All-cons, All-nil, charge, is_told, jobs_out}
+use Rattle.rt_journal.proofs.Names.{jobs_out-yield, jobs_out-done, line-yield, line-yield_elsewhere, line-done}
+use Rattle.rt_journal.proofs.Names.{is_told-alone, virtual_runtime-yield, virtual_runtime-yield_elsewhere}
+use Rattle.rt_journal.proofs.Names.{virtual_runtime-done, virtual_runtime-done_elsewhere, ChangesLine, tally_of}
+use Rattle.rt_journal.proofs.Names.{settled_view, poll_note, none-some, names_of, length-set, plainly_stands}
 use Rattle.rt_ids.specs.declared.note.Note.TheVariants as writes
 use Rattle.rt_core.specs.State as state
 pub use Rattle.rt_journal.specs.Agreement.{IsKept}
-use Rattle.rt_journal.specs.Agreement.{names_of}
-use Rattle.rt_core.specs.State.{tally_of}
-use Rattle.rt_ids.specs.declared.order.Reason.TheVariants as why
-use Rattle.rt_ids.specs.Commands.{return_reason}
 use Rattle.rt_core.specs.Closing as core_says
-use Rattle.std.proofs.Common.{length-set}
-use Rattle.rt_journal.proofs.Sums.{everywhere}
-use Rattle.rt_recorded_desk.proofs.LaneNotes.{plainly_stands}
-
-pub plus-none : (some : Figures) → plus some no_figures ≡ some
-plus-none some = grind arith
+use Rattle.rt_journal.proofs.Sums.{each_line, everywhere}
 
 -- a note that counts nothing leaves them
 pub figures-stays : {T : Type 0} (queue : ℕ) (note : Note T) (before : Journal T) → figures_noted queue note before ≡ no_figures →
     figures_told queue (note ∷ before) ≡ figures_told queue before
-figures-stays queue note before none = ap (plus (figures_told queue before)) none ∙ plus-none (figures_told queue before)
+figures-stays queue note before none = ap (plus (figures_told queue before)) none ∙ grind arith
 
--- what a pick adds to its queue, and what the end of a poll of so long adds
-abbrev pub one_pick : Figures
-one_pick = record { selected = 1; time = 0; finished = 0; returned = 0 }
+-- one pick more of a queue, one pick more that hands a job back, and the end of a poll of so long, with which so many jobs are done
+abbrev pub one_pick : Figures → Figures
+one_pick figures = record figures { selected = figures.selected + 1 }
 
-abbrev pub one_return : Figures
-one_return = record { selected = 1; time = 0; finished = 0; returned = 1 }
+abbrev pub one_return : Figures → Figures
+one_return figures = record figures { selected = figures.selected + 1; returned = figures.returned + 1 }
 
-abbrev pub one_yield : ℕ → Figures
-one_yield time = record { selected = 0; time = clamped time; finished = 0; returned = 0 }
-
-abbrev pub one_done : ℕ → Figures
-one_done time = record { selected = 0; time = clamped time; finished = 1; returned = 0 }
-
--- the tallies after them count so
-module _ (tally : Tally) where
-  pub counts-pick : figures_in (record tally { selected = tally.selected + 1 }) ≡ plus (figures_in tally) one_pick
-  counts-pick = grind arith
-
-  pub counts-return : figures_in (record tally { selected = tally.selected + 1; returned = tally.returned + 1 }) ≡ plus (figures_in tally) one_return
-  counts-return = grind arith
-
-  module _ (runtime time done : ℕ) where
-    pub counts-yield : done ≡ 0 → figures_in (record tally { runtime = runtime; time = tally.time + clamped time; finished = tally.finished + done }) ≡ plus (figures_in tally) (one_yield time)
-    counts-yield none = grind arith
-
-    pub counts-done : done ≡ 1 → figures_in (record tally { runtime = runtime; time = tally.time + clamped time; finished = tally.finished + done }) ≡ plus (figures_in tally) (one_done time)
-    counts-done one = grind arith
+abbrev pub one_poll : ℕ → ℕ → Figures → Figures
+one_poll time done figures = record figures { time = figures.time + clamped time; finished = figures.finished + done }
 
 module _ {T : Type 0} (other queue : ℕ) (journal : Journal T) where
-  -- figures that are added to this queue alone
-  abbrev added : Figures → Figures
-  added adds = plus (figures_told other journal) (cond (other == queue) adds no_figures)
+  -- figures that grow for this queue alone
+  abbrev grown : (Figures → Figures) → Figures
+  grown grow = cond (other == queue) (grow (figures_told other journal)) (figures_told other journal)
 
-  pub told-polled : (name : JobId) (runtime : ℕ) (was_started : Bool) → figures_told other (poll_note name was_started ∷ writes.Pick queue runtime ∷ journal) ≡ added one_pick
+  pub told-polled : (name : JobId) (runtime : ℕ) (was_started : Bool) → figures_told other (poll_note name was_started ∷ writes.Pick queue runtime ∷ journal) ≡ grown one_pick
   told-polled name runtime was_started = grind arith
 
   module _ (name : JobId) (its : queue_of name journal ≡ Some queue) where
-    pub told-yield : (time : ℕ) → figures_told other (writes.Yield name time ∷ journal) ≡ added (one_yield time)
+    pub told-yield : (time : ℕ) → figures_told other (writes.Yield name time ∷ journal) ≡ grown (one_poll time 0)
     told-yield time = grind (arith, its)
 
-    pub told-done : (time : ℕ) (value : T) → figures_told other (writes.Done name time value ∷ journal) ≡ added (one_done time)
+    pub told-done : (time : ℕ) (value : T) → figures_told other (writes.Done name time value ∷ journal) ≡ grown (one_poll time 1)
     told-done time value = grind (arith, its)
 
-    pub told-returned : (runtime : ℕ) (reason : Reason) → figures_told other (writes.Returned name reason ∷ writes.Pick queue runtime ∷ journal) ≡ added one_return
+    pub told-returned : (runtime : ℕ) (reason : Reason) → figures_told other (writes.Returned name reason ∷ writes.Pick queue runtime ∷ journal) ≡ grown one_return
     told-returned runtime reason = grind (arith, its)
 
 -- the tally of one queue is set
 module _ {J : Type 0} (old new : CoreView J) (queue : ℕ) (tally : Tally) (there : queue < length old.tallies) (is : new.tallies ≡ set old.tallies queue tally) where
-  pub figures-set : (adds : Figures) → figures_in tally ≡ plus (figures_of queue old) adds → (other : ℕ) →
-      figures_of other new ≡ plus (figures_of other old) (cond (other == queue) adds no_figures)
-  figures-set adds counts other = grind (arith, get_or-set_same old.tallies queue tally no_tally there, get_or-set_other old.tallies queue other tally no_tally)
-
   -- one that counts the same leaves all
   pub figures-same : figures_in tally ≡ figures_of queue old → (other : ℕ) → figures_of other new ≡ figures_of other old
-  figures-same counts other = grind (arith, figures-set no_figures)
+  figures-same counts other = grind (arith, get_or-set_same old.tallies queue tally no_tally there, get_or-set_other old.tallies queue other tally no_tally)
 
-  -- figures that the journal adds to this queue are added by the core
-  pub figures-grow : {T : Type 0} (journal longer : Journal T) (adds : Figures) → figures_in tally ≡ plus (figures_of queue old) adds →
+  -- figures that grow in the journal for this queue grow in the core
+  pub figures-grow : {T : Type 0} (journal longer : Journal T) (grow : Figures → Figures) → figures_in tally ≡ grow (figures_of queue old) →
       ((other : ℕ) → figures_of other old ≡ figures_told other journal) →
-      ((other : ℕ) → figures_told other longer ≡ plus (figures_told other journal) (cond (other == queue) adds no_figures)) →
+      ((other : ℕ) → figures_told other longer ≡ cond (other == queue) (grow (figures_told other journal)) (figures_told other journal)) →
       (other : ℕ) → figures_of other new ≡ figures_told other longer
-  figures-grow journal longer adds counts were told other = grind (arith, figures-set adds counts other, were other, told other)
+  figures-grow journal longer grow counts were told other =
+      grind (arith, get_or-set_same old.tallies queue tally no_tally there, get_or-set_other old.tallies queue other tally no_tally, were other, told other)
 
 -- a tally that is set at the same runtime leaves each runtime
 pub set_runtime : (tallies : List Tally) (queue : ℕ) (tally : Tally) → queue < length tallies → tally.runtime ≡ (get_or tallies queue no_tally).runtime → (other : ℕ) →
     (get_or (set tallies queue tally) other no_tally).runtime ≡ (get_or tallies other no_tally).runtime
 set_runtime tallies queue tally there same other = grind (arith, get_or-set_same tallies queue tally no_tally there, get_or-set_other tallies queue other tally no_tally)
+
+module _ {J T : Type 0} where
+  -- a job in a line is marked as started where the journal says so
+  abbrev pub is_marked : Journal T → JobId × Bool × J → Type 0
+  is_marked journal entry = entry.1 ≡ is_told name_started entry.0 journal
+
+  -- so they stay, as one more that is marked so enters a line
+  pub marks_longer : (journal : Journal T) {old queues : QueuesView J} {queue : ℕ} (name : JobId) (started : Bool) (job : J) → started ≡ is_told name_started name journal →
+      ChangesLine old queues queue (waiting_of queue old ++ (name, started, job) ∷ []) → ((other : ℕ) → AreMarked journal (waiting_of other old)) → (other : ℕ) → AreMarked journal (waiting_of other queues)
+  marks_longer journal {old = old} {queue = queue} name started job is changes were = each_line (λ at. AreMarked journal) changes
+      (All-append (is_marked journal) (waiting_of queue old) ((name, started, job) ∷ []) (were queue) (All-cons (is_marked journal) (name, started, job) [] is (All-nil (is_marked journal)))) were
 
 module _ {J : Type 0} where
   -- something is there where a job waits or is out
@@ -123,50 +103,28 @@ module _ {J T : Type 0} (core : CoreView J) (journal : Journal T) where
       rw (has_work-line terms queue journal notes, ← queue_out-agrees agrees.out, ← agrees.lines queue)
       (sym (nat_lt-line (waiting_of queue core.queues) (is_number queue (state.queue_out core.out))))
 
--- what a note tells of jobs: who comes, goes, is polled, settled and started, where one enters, what that costs, and what is counted of it
-pub record JobsTold : Type 0 where
-  pub joins : ℕ → Option JobId
-  pub leaves : Option JobId
-  pub polls : Option JobId
-  pub settles : Option JobId
-  pub starts : Option JobId
-  pub enters : Option ℕ
-  pub takes : JobId → Option ℕ
-  pub costs : ℕ → ℕ
-  pub picks : ℕ
-  pub turns : ℕ
-  pub counts : ℕ → Figures
-
-abbrev pub jobs_told : {T : Type 0} → Note T → Journal T → JobsTold
-jobs_told note before = record {
-  joins = λ queue. name_joining queue note before;
-  leaves = name_leaving note;
-  polls = name_polled note;
-  settles = name_settled note;
-  starts = name_started note;
-  enters = queue_joined note;
-  takes = λ name. queue_entered name note;
-  costs = λ queue. charge_noted queue note before;
-  picks = runtime_picked note;
-  turns = pick_count note;
-  counts = λ queue. figures_noted queue note before;
-}
-
--- a note that tells nothing of jobs, as that of a gate that is shut
-abbrev pub IsCalm : {T : Type 0} → Note T → Journal T → Type 0
-IsCalm {T} note before = jobs_told note before ≡ jobs_told {T = T} (writes.Shut 0 0) []
+-- a note by which no job comes, goes, is polled, settled or started, none enters a queue, and nothing is charged, picked or counted, as that of a gate that is shut
+pub record IsCalm {T : Type 0} (note : Note T) (before : Journal T) : Type 0 where
+  pub joins : (queue : ℕ) → name_joining queue note before ≡ None
+  pub leaves : name_leaving note ≡ None
+  pub polls : name_polled note ≡ None
+  pub settles : name_settled note ≡ None
+  pub starts : name_started note ≡ None
+  pub enters : queue_joined note ≡ None
+  pub takes : (name : JobId) → queue_entered name note ≡ None
+  pub costs : (queue : ℕ) → charge_noted queue note before ≡ 0
+  pub picks : runtime_picked note ≡ 0
+  pub turns_made : pick_count note ≡ 0
+  pub counts : (queue : ℕ) → figures_noted queue note before ≡ no_figures
 
 -- what is no pick makes no turn
 pub turns-stays : {T : Type 0} (note : Note T) (before : Journal T) → pick_count note ≡ 0 → turns (note ∷ before) ≡ turns before
 turns-stays note before none = ap (λ count. turns before + count) none ∙ add-zero (turns before)
 
 module _ {J T : Type 0} (note : Note T) (before : Journal T) (calm : IsCalm note before) where
-  marks-calm : (waiting : List (JobId × Bool × J)) → AreMarked before waiting → AreMarked (note ∷ before) waiting
-  marks-calm waiting marked = rw (ap (λ told. told.starts) calm) marked
-
   out-calm : (out : Option (JobOut J)) → IsJobOut out before → IsJobOut out (note ∷ before)
-  out-calm None nobody = rw (ap (λ told. told.settles) calm, ap (λ told. told.polls) calm) nobody
-  out-calm (Some job) alone = (rw (ap (λ told. told.settles) calm, ap (λ told. told.polls) calm) alone.0, rw (ap (λ told. told.takes job.name) calm) alone.1)
+  out-calm None nobody = rw (calm.settles, calm.polls) nobody
+  out-calm (Some job) alone = (rw (calm.settles, calm.polls) alone.0, rw (calm.takes job.name) alone.1)
 
   -- a core whose queues hold the same jobs and count the same of them agrees with a calm note
   agrees_calm : (old : CoreView J) → Agrees old before → (queues : QueuesView J) (tallies : List Tally) (delivered : List ℕ) (gates : List (Option ℕ)) (mode : Option Mode) →
@@ -177,12 +135,12 @@ module _ {J T : Type 0} (note : Note T) (before : Journal T) (calm : IsCalm note
       AgreesOnClosing (record old { queues = queues; tallies = tallies; delivered = delivered; gates = gates; mode = mode }) (note ∷ before) →
       Agrees (record old { queues = queues; tallies = tallies; delivered = delivered; gates = gates; mode = mode }) (note ∷ before)
   agrees_calm old agrees queues tallies delivered gates mode same_lines same tallied last more weights senders counted closing =
-      let lines = λ (queue : ℕ). ap names_of (same_lines queue) ∙ (agrees.lines queue ∙ sym (line-stays queue note before (ap (λ told. told.leaves) calm) (ap (λ told. told.joins queue) calm))) in
-      let marks = λ (queue : ℕ). subst (AreMarked (note ∷ before)) (sym (same_lines queue)) (marks-calm (waiting_of queue old.queues) (agrees.marks queue)) in
-      let runtimes = λ (queue : ℕ). ap (λ tally. tally.runtime) (same queue) ∙ (agrees.runtimes queue ∙ sym (virtual_runtime-stays queue before note (ap (λ told. told.enters) calm) (ap (λ told. told.costs queue) calm))) in
-      let floor_now = agrees.the_floor ∙ sym (floor-stays note before (ap (λ told. told.picks) calm)) in
-      let turns_now = agrees.turns ∙ sym (turns-stays note before (ap (λ told. told.turns) calm)) in
-      let figures = λ (queue : ℕ). ap figures_in (same queue) ∙ (agrees.figures queue ∙ sym (figures-stays queue note before (ap (λ told. told.counts queue) calm))) in
+      let lines = λ (queue : ℕ). ap names_of (same_lines queue) ∙ (agrees.lines queue ∙ sym (line-stays queue note before calm.leaves (calm.joins queue))) in
+      let marks = λ (queue : ℕ). subst (AreMarked (note ∷ before)) (sym (same_lines queue)) (rw calm.starts (agrees.marks queue)) in
+      let runtimes = λ (queue : ℕ). ap (λ tally. tally.runtime) (same queue) ∙ (agrees.runtimes queue ∙ sym (virtual_runtime-stays queue before note calm.enters (calm.costs queue))) in
+      let floor_now = agrees.the_floor ∙ sym (floor-stays note before calm.picks) in
+      let turns_now = agrees.turns ∙ sym (turns-stays note before calm.turns_made) in
+      let figures = λ (queue : ℕ). ap figures_in (same queue) ∙ (agrees.figures queue ∙ sym (figures-stays queue note before (calm.counts queue))) in
       let out_exists : (job : JobOut J) → old.out ≡ Some job → job.queue < queue_count queues = λ job at. omega (arith, more, agrees.out_exists job at) in
       assumption (out-calm old.out agrees.out)
 
@@ -221,24 +179,16 @@ pub record IsOpenNote {T : Type 0} (note : Note T) : Type 0 where
   pub core : core_mode_told note ≡ None
   pub gates : (sender : ℕ) → count_told sender note ≡ None
 
--- a step changes no mode and no gate
-pub record SameModes {J : Type 0} (old new : CoreView J) : Type 0 where
-  pub modes : (queue : ℕ) → mode_of queue new.queues ≡ mode_of queue old.queues
-  pub mode : new.mode ≡ old.mode
-  pub gates : new.gates ≡ old.gates
-  pub cores : new.cores ≡ old.cores
-
-pub same_modes : {J : Type 0} (view : CoreView J) → SameModes view view
-same_modes view = record { modes = λ queue. refl; mode = refl; gates = refl; cores = refl }
-
+-- so a step that changes no mode and no gate stays as the journal says
 module _ {J T : Type 0} (old new : CoreView J) (note : Note T) (before : Journal T) where
-  pub closing-stays : SameModes old new → IsOpenNote note → AgreesOnClosing old before → AgreesOnClosing new (note ∷ before)
-  closing-stays same plain agrees = record {
-    modes = λ queue. same.modes queue ∙ (agrees.modes queue ∙ sym (ap (λ told. or_else told (queue_mode queue before)) (plain.queues queue)));
-    mode = same.mode ∙ (agrees.mode ∙ sym (ap (λ told. or_else told (core_mode before)) plain.core));
-    gate_places = ap length same.gates ∙ (agrees.gate_places ∙ ap (λ cores. cores + 1) (sym same.cores));
+  pub closing-stays : ((queue : ℕ) → mode_of queue new.queues ≡ mode_of queue old.queues) → new.mode ≡ old.mode → new.gates ≡ old.gates → new.cores ≡ old.cores →
+      IsOpenNote note → AgreesOnClosing old before → AgreesOnClosing new (note ∷ before)
+  closing-stays modes mode gates cores plain agrees = record {
+    modes = λ queue. modes queue ∙ (agrees.modes queue ∙ sym (ap (λ told. or_else told (queue_mode queue before)) (plain.queues queue)));
+    mode = mode ∙ (agrees.mode ∙ sym (ap (λ told. or_else told (core_mode before)) plain.core));
+    gate_places = ap length gates ∙ (agrees.gate_places ∙ ap (λ cores. cores + 1) (sym cores));
     gates = λ sender.
-        ap (λ gates. slice_index_or gates sender None) same.gates
+        ap (λ gates. slice_index_or gates sender None) gates
         ∙ (agrees.gates sender ∙ sym (ap (λ told. or_else told (final_count sender before)) (plain.gates sender)));
   }
 
@@ -256,10 +206,6 @@ module _ {J T : Type 0} (view : CoreView J) (journal : Journal T) (agrees : Agre
   pub refusal-agrees : queue_count view.queues ≡ created_count journal + 1 → (queue : ℕ) → core_says.refusal queue view ≡ refusal queue journal
   refusal-agrees last queue = grind (arith, agrees.modes queue)
 
-  -- a job is handed back for the reason that the journal gives
-  pub return_reason-agrees : (queue : ℕ) → core_says.return_reason queue view ≡ return_reason queue journal
-  return_reason-agrees queue = λ i. or_else (reason_if_returning (agrees.modes queue i) why.QueueReturned) (reason_if_returning (agrees.mode i) why.CoreReturned)
-
 -- a core that opens is open
 module _ {T : Type 0} where
   pub opening_is_open : (journal : Journal T) → IsOpening journal → core_mode journal ≡ None
@@ -267,63 +213,60 @@ module _ {T : Type 0} where
   opening_is_open (Created queue weight ∷ before) opening = opening_is_open before opening
   opening_is_open (_ ∷ before) opening = absurd opening
 
-module _ {J T : Type 0} (terms : Terms) (old : CoreView J) (job : JobOut J) (time done : ℕ) (queues : QueuesView J) (journal : Journal T)
-    (kept : IsKept terms old journal) (at : old.out ≡ Some job) where
-  abbrev new : CoreView J
-  new = settled_view old job time done queues
-
+module _ {J T : Type 0} (terms : Terms) (old : CoreView J) (job : JobOut J) (time : ℕ) (journal : Journal T) (kept : IsKept terms old journal) (at : old.out ≡ Some job) where
   is_out : (jobs_out journal ≡ job.name ∷ []) × (queue_of job.name journal ≡ Some job.queue)
   is_out = subst (λ out. IsJobOut out journal) at kept.agrees.out
 
   exists : job.queue < queue_count old.queues
   exists = kept.agrees.out_exists job at
 
-  within : job.queue < length old.tallies
-  within = omega (arith, exists, kept.agrees.tallied)
+  -- the core with its poll settled, by which so many jobs are done
+  module _ (done : ℕ) (queues : QueuesView J) where
+    abbrev new : CoreView J
+    new = settled_view old job time done queues
 
-  abbrev settled_tally : Tally
-  settled_tally = record (tally_of job.queue old) {
-    runtime = (tally_of job.queue old).runtime + charge time (shares_of job.queue old.queues);
-    time = (tally_of job.queue old).time + clamped time;
-    finished = (tally_of job.queue old).finished + done;
-  }
+    abbrev settled_tally : Tally
+    settled_tally = record (tally_of job.queue old) {
+      runtime = (tally_of job.queue old).runtime + charge time (shares_of job.queue old.queues);
+      time = (tally_of job.queue old).time + clamped time;
+      finished = (tally_of job.queue old).finished + done;
+    }
 
-  -- the queue of the job is charged, and no other
-  runtime_charged : runtime_of job.queue new ≡ virtual_runtime job.queue journal + charge time (shares job.queue journal)
-  runtime_charged = grind (arith, get_or-set_same old.tallies job.queue, kept.agrees.runtimes job.queue, kept.agrees.weights job.queue exists, exists, kept.agrees.tallied)
+    -- the queue of the job is charged, and no other
+    runtime_charged : runtime_of job.queue new ≡ virtual_runtime job.queue journal + charge time (shares job.queue journal)
+    runtime_charged = grind (arith, get_or-set_same old.tallies job.queue, kept.agrees.runtimes job.queue, kept.agrees.weights job.queue exists, exists, kept.agrees.tallied)
 
-  runtime_same : (other : ℕ) → (other ≡ job.queue → ⊥) → runtime_of other new ≡ virtual_runtime other journal
-  runtime_same other away = grind (arith, get_or-set_other old.tallies job.queue other, kept.agrees.runtimes other)
+    runtime_same : (other : ℕ) → (other ≡ job.queue → ⊥) → runtime_of other new ≡ virtual_runtime other journal
+    runtime_same other away = grind (arith, get_or-set_other old.tallies job.queue other, kept.agrees.runtimes other)
 
-  -- the core with its poll settled agrees with the note of that, which adds so much to the figures of the queue
-  agrees_settled : (note : Note T) (plain : IsPlain note journal) (adds : Figures) → figures_in settled_tally ≡ plus (figures_of job.queue old) adds →
-      ((other : ℕ) → figures_told other (note ∷ journal) ≡ plus (figures_told other journal) (cond (other == job.queue) adds no_figures)) →
-      queue_count queues ≡ queue_count old.queues → ((other : ℕ) → shares_of other queues ≡ shares_of other old.queues) → ((other : ℕ) → mode_of other queues ≡ mode_of other old.queues) →
-      ((other : ℕ) → names_of (waiting_of other queues) ≡ line other (note ∷ journal)) → ((other : ℕ) → AreMarked (note ∷ journal) (waiting_of other queues)) →
-      virtual_runtime job.queue (note ∷ journal) ≡ virtual_runtime job.queue journal + charge time (shares job.queue journal) →
-      ((other : ℕ) → (other ≡ job.queue → ⊥) → virtual_runtime other (note ∷ journal) ≡ virtual_runtime other journal) → jobs_out (note ∷ journal) ≡ [] → Agrees new (note ∷ journal)
-  agrees_settled note plain adds counts told same_count same_shares same_modes lines marks charged elsewhere nobody =
-      let tallied = length-set old.tallies job.queue settled_tally ∙ (kept.agrees.tallied ∙ sym same_count) in
-      let last = same_count ∙ (kept.agrees.last ∙ ap (λ count. count + 1) (sym plain.created)) in
-      let weights = λ (other : ℕ) (there : other < queue_count queues).
-      same_shares other ∙ (kept.agrees.weights other (subst (λ count. other < count) same_count there) ∙ sym (plain.weighs other)) in
-      let runtimes = everywhere (λ at. runtime_of at new ≡ virtual_runtime at (note ∷ journal)) job.queue (runtime_charged ∙ sym charged) (λ other away. runtime_same other away ∙ sym (elsewhere other away)) in
-      let floor_now = kept.agrees.the_floor ∙ sym (floor-stays note journal plain.picks) in
-      let turns_now = kept.agrees.turns ∙ sym (turns-stays note journal plain.turns_made) in
-      let none : (out : JobOut J) → None ≡ Some out → out.queue < queue_count queues = λ out none. absurd (none-some out none) in
-      let delivered = λ (sender : ℕ) (known : sender ≤ old.cores). kept.agrees.delivered sender known ∙ ap length (sym (plain.delivered sender)) in
-      let closing = closing-stays old new note journal (record { modes = same_modes; mode = refl; gates = refl; cores = refl }) plain.opens kept.agrees.closing in
-      assumption (figures-grow old new job.queue settled_tally within refl journal (note ∷ journal) adds counts kept.agrees.figures told, nobody)
-
-  abbrev is_marked : JobId × Bool × J → Type 0
-  is_marked entry = entry.1 ≡ is_told name_started entry.0 journal
+    -- it agrees with the note of that
+    agrees_settled : (note : Note T) (plain : IsPlain note journal) →
+        ((other : ℕ) → figures_told other (note ∷ journal) ≡ cond (other == job.queue) (one_poll time done (figures_told other journal)) (figures_told other journal)) →
+        queue_count queues ≡ queue_count old.queues → ((other : ℕ) → shares_of other queues ≡ shares_of other old.queues) → ((other : ℕ) → mode_of other queues ≡ mode_of other old.queues) →
+        ((other : ℕ) → names_of (waiting_of other queues) ≡ line other (note ∷ journal)) → ((other : ℕ) → AreMarked (note ∷ journal) (waiting_of other queues)) →
+        virtual_runtime job.queue (note ∷ journal) ≡ virtual_runtime job.queue journal + charge time (shares job.queue journal) →
+        ((other : ℕ) → (other ≡ job.queue → ⊥) → virtual_runtime other (note ∷ journal) ≡ virtual_runtime other journal) → jobs_out (note ∷ journal) ≡ [] → Agrees new (note ∷ journal)
+    agrees_settled note plain told same_count same_shares same_modes lines marks charged elsewhere nobody =
+        let tallied = length-set old.tallies job.queue settled_tally ∙ (kept.agrees.tallied ∙ sym same_count) in
+        let last = same_count ∙ (kept.agrees.last ∙ ap (λ count. count + 1) (sym plain.created)) in
+        let weights = λ (other : ℕ) (there : other < queue_count queues).
+        same_shares other ∙ (kept.agrees.weights other (subst (λ count. other < count) same_count there) ∙ sym (plain.weighs other)) in
+        let runtimes = everywhere (λ at. runtime_of at new ≡ virtual_runtime at (note ∷ journal)) job.queue (runtime_charged ∙ sym charged) (λ other away. runtime_same other away ∙ sym (elsewhere other away)) in
+        let floor_now = kept.agrees.the_floor ∙ sym (floor-stays note journal plain.picks) in
+        let turns_now = kept.agrees.turns ∙ sym (turns-stays note journal plain.turns_made) in
+        let none : (out : JobOut J) → None ≡ Some out → out.queue < queue_count queues = λ out none. absurd (none-some out none) in
+        let delivered = λ (sender : ℕ) (known : sender ≤ old.cores). kept.agrees.delivered sender known ∙ ap length (sym (plain.delivered sender)) in
+        let closing = closing-stays old new note journal same_modes refl refl refl plain.opens kept.agrees.closing in
+        let within : job.queue < length old.tallies = omega (arith, exists, kept.agrees.tallied) in
+        assumption (figures-grow old new job.queue settled_tally within refl journal (note ∷ journal) (one_poll time done) refl kept.agrees.figures told, nobody)
 
   -- the job goes to the end of its line
-  pub kept-yield : done ≡ 0 → (back : J) → ChangesLine old.queues queues job.queue (waiting_of job.queue old.queues ++ (job.name, true, back) ∷ []) → IsKept terms new (writes.Yield job.name time ∷ journal)
-  kept-yield none back changes =
+  pub kept-yield : (queues : QueuesView J) (back : J) → ChangesLine old.queues queues job.queue (waiting_of job.queue old.queues ++ (job.name, true, back) ∷ []) →
+      IsKept terms (settled_view old job time 0 queues) (writes.Yield job.name time ∷ journal)
+  kept-yield queues back changes =
       kept_after terms (writes.Yield job.name time) kept
-      (agrees_settled (writes.Yield job.name time) (assumption) (one_yield time) (counts-yield (tally_of job.queue old) settled_tally.runtime time done none) (λ other. told-yield other job.queue journal job.name is_out.1 time)
-      changes.same_count changes.same_shares changes.same_modes lines marks (virtual_runtime-yield job.queue journal job.name time is_out.1)
+      (agrees_settled 0 queues (writes.Yield job.name time) (assumption) (λ other. told-yield other job.queue journal job.name is_out.1 time)
+      changes.same_count changes.same_shares changes.same_modes lines (marks_longer journal job.name true back (sym (is_told-alone terms job.name journal kept.notes is_out.0)) changes kept.agrees.marks) (virtual_runtime-yield job.queue journal job.name time is_out.1)
       (λ other away. virtual_runtime-yield_elsewhere other journal job.name time job.queue is_out.1 away) (jobs_out-yield job.name time journal is_out.0)) kept.is_core is_out.0 refl tt refl refl
     where
       lines : (other : ℕ) → names_of (waiting_of other queues) ≡ line other (writes.Yield job.name time ∷ journal)
@@ -332,20 +275,11 @@ module _ {J T : Type 0} (terms : Terms) (old : CoreView J) (job : JobOut J) (tim
           let here = line-yield job.queue time job.name journal is_out.1 in
           grind (arith, longer, here, kept.agrees.lines other, changes.others other, line-yield_elsewhere other job.queue time job.name journal is_out.1)
 
-      marks : (other : ℕ) → AreMarked (writes.Yield job.name time ∷ journal) (waiting_of other queues)
-      marks = everywhere (λ at. AreMarked (writes.Yield job.name time ∷ journal) (waiting_of at queues)) job.queue
-          (subst (AreMarked (writes.Yield job.name time ∷ journal)) (sym changes.changed)
-          (All-append is_marked (waiting_of job.queue old.queues) ((job.name, true, back) ∷ []) (kept.agrees.marks job.queue)
-          (All-cons is_marked (job.name, true, back) [] (sym (is_told-alone terms job.name journal kept.notes is_out.0)) (All-nil is_marked))))
-          (λ other away. subst (AreMarked (writes.Yield job.name time ∷ journal)) (sym (changes.others other away)) (kept.agrees.marks other))
-
   -- the job is gone
-  pub kept-done : done ≡ 1 → (value : T) → queues ≡ old.queues → IsKept terms new (writes.Done job.name time value ∷ journal)
-  kept-done one value same =
+  pub kept-done : (value : T) → IsKept terms (settled_view old job time 1 old.queues) (writes.Done job.name time value ∷ journal)
+  kept-done value =
       kept_after terms (writes.Done job.name time value) kept
-      (agrees_settled (writes.Done job.name time value) (assumption) (one_done time) (counts-done (tally_of job.queue old) settled_tally.runtime time done one) (λ other. told-done other job.queue journal job.name is_out.1 time value)
-      (ap queue_count same) (λ other. ap (shares_of other) same) (λ other. ap (mode_of other) same)
-      (λ other. ap (λ queues. names_of (waiting_of other queues)) same ∙ (kept.agrees.lines other ∙ sym (line-done terms journal kept.notes other time value job.name is_out.0)))
-      (λ other. subst (λ queues. AreMarked (writes.Done job.name time value ∷ journal) (waiting_of other queues)) (sym same) (kept.agrees.marks other))
+      (agrees_settled 1 old.queues (writes.Done job.name time value) (assumption) (λ other. told-done other job.queue journal job.name is_out.1 time value) refl (λ other. refl) (λ other. refl)
+      (λ other. kept.agrees.lines other ∙ sym (line-done terms journal kept.notes other time value job.name is_out.0)) kept.agrees.marks
       (virtual_runtime-done job.queue journal job.name time value is_out.1) (λ other away. virtual_runtime-done_elsewhere other journal job.name time value job.queue is_out.1 away)
       (jobs_out-done job.name time value journal is_out.0)) kept.is_core is_out.0 refl tt refl refl

@@ -1,27 +1,23 @@
 -- What a core tells of itself stays what its journal says, as a submission is delivered: a job enters or goes back, a command is answered, creates, weighs or closes; and as a gate is shut.
-use Rattle.rt_journal.proofs.Names.{◌≡◌, ℕ, ◌+◌, ◌<◌, ◌≤◌, Bool, true, false, [], ◌∷◌, ◌++◌, length, refl, sym, ◌∙◌}
-use Rattle.rt_journal.proofs.Names.{ap, subst, arith, get_or, set, get_or-set_same, get_or-set_other, cond, ◌==◌}
-use Rattle.rt_journal.proofs.Names.{Option, Some, None, is_some, max, true≢false, map-append, All-append, All-cons}
-use Rattle.rt_journal.proofs.Names.{All-nil, Terms, JobId, same_name, Journal, EachNote, is_told, with_last}
-use Rattle.rt_journal.proofs.Names.{delivered_names, name_started, if_from, has_work, queue_of, virtual_runtime, line}
-use Rattle.rt_journal.proofs.Names.{refusal, MayStand, IsNextDelivered, known_of, not_old, started_of, line-took}
-use Rattle.rt_journal.proofs.Names.{line-took_elsewhere, false_from_ne_true, same_as_itself, virtual_runtime-took_idle}
-use Rattle.rt_journal.proofs.Names.{virtual_runtime-took_busy, virtual_runtime-took_elsewhere, floor-stays, waiting_of}
-use Rattle.rt_journal.proofs.Names.{CoreView, JobOut, no_tally, tally_of, runtime_of, is_working, entry_runtime}
-use Rattle.rt_journal.proofs.Names.{counted, Agrees, IsJobOut, AreMarked, Note, Order, Reason, Answer, shares}
-use Rattle.rt_journal.proofs.Names.{created_count, IsAnswer, has_effect, CountsAlone, queue_just_picked}
-use Rattle.rt_journal.proofs.Names.{effect_awaited, inr, List, nat_le, le-leb, lt-leb, length-append, InRange}
-use Rattle.rt_journal.proofs.Names.{list_told, core_mode, IsCreationAnswer, queue_created, shares-created}
-use Rattle.rt_journal.proofs.Names.{shares-created_elsewhere, shares-set, shares-set_elsewhere, queue_count, shares_of}
-use Rattle.rt_journal.proofs.Names.{Creates, Weighs, slice_set, Mode, or_else, queue_mode, final_count, mode_of}
-use Rattle.rt_journal.proofs.Names.{HasClosed, ChangesLine, QueuesView, Tally, slice_index_or}
-use Rattle.std.proofs.Common.{length-set}
+use Rattle.rt_journal.proofs.Names.{is_working, has_work, max, ◌≡◌, ℕ, ◌+◌, ◌<◌, ◌≤◌, Bool, true, false, [], ◌∷◌}
+use Rattle.rt_journal.proofs.Names.{◌++◌, length, refl, sym, ◌∙◌, ap, subst, arith, get_or, set, get_or-set_same}
+use Rattle.rt_journal.proofs.Names.{get_or-set_other, cond, ◌==◌, Option, Some, None, is_some, true≢false, map-append}
+use Rattle.rt_journal.proofs.Names.{Terms, JobId, same_name, Journal, EachNote, is_told, with_last, delivered_names}
+use Rattle.rt_journal.proofs.Names.{name_started, if_from, queue_of, virtual_runtime, line, refusal, MayStand}
+use Rattle.rt_journal.proofs.Names.{IsNextDelivered, known_of, not_old, started_of, line-took, line-took_elsewhere}
+use Rattle.rt_journal.proofs.Names.{false_from_ne_true, same_as_itself, virtual_runtime-took_idle}
+use Rattle.rt_journal.proofs.Names.{virtual_runtime-took_busy, virtual_runtime-took_elsewhere, floor-stays}
+use Rattle.rt_journal.proofs.Names.{waiting_of, CoreView, JobOut, no_tally, tally_of, runtime_of, entry_runtime}
+use Rattle.rt_journal.proofs.Names.{counted, Agrees, IsJobOut, Note, Order, Reason, Answer, shares, created_count}
+use Rattle.rt_journal.proofs.Names.{IsAnswer, has_effect, CountsAlone, queue_just_picked, effect_awaited, inr, List}
+use Rattle.rt_journal.proofs.Names.{nat_le, le-leb, lt-leb, length-append, InRange, list_told, queue_created}
+use Rattle.rt_journal.proofs.Names.{shares-created, shares-created_elsewhere, shares-set, shares-set_elsewhere}
+use Rattle.rt_journal.proofs.Names.{queue_count, shares_of, Creates, Weighs, slice_set, Mode, or_else, queue_mode}
+use Rattle.rt_journal.proofs.Names.{final_count, mode_of, HasClosed, ChangesLine, QueuesView, Tally, slice_index_or}
+use Rattle.rt_journal.proofs.Names.{length-set, names_of, plainly_stands}
 use Rattle.rt_ids.specs.declared.note.Note.TheVariants as writes
-use Rattle.rt_journal.specs.Agreement.{names_of}
-use Rattle.rt_journal.proofs.Sums.{everywhere}
-use Rattle.rt_journal.proofs.Kept.{figures-same, figures-stays, IsKept, turns-stays, working, kept_after, SameModes}
+use Rattle.rt_journal.proofs.Kept.{marks_longer, figures-same, figures-stays, IsKept, turns-stays, working, kept_after}
 use Rattle.rt_journal.proofs.Kept.{closing-stays, agrees_unmoved, IsCalm, IsOpenNote, agrees_steady}
-use Rattle.rt_recorded_desk.proofs.LaneNotes.{plainly_stands}
 use Rattle.rt_ids.specs.declared.order.Order.TheVariants as orders
 use Rattle.rt_ids.specs.declared.order.Answer.TheVariants as answers
 
@@ -41,13 +37,13 @@ module _ {T : Type 0} (terms : Terms) (journal : Journal T) (notes : EachNote (M
   not_entered name other next entered = not_old terms other name journal next ((known_of terms journal notes).entered_old other entered)
 
   pub not_started : (name : JobId) → IsNextDelivered terms name journal → is_told name_started name journal ≡ false
-  not_started name next =
-      false_from_ne_true _
-      (
-      λ started.
-      let entered = (started_of terms journal notes).started_entered name started in
-      true≢false (sym (same_as_itself name) ∙ not_entered name name next entered)
-      )
+  not_started name next = false_from_ne_true _
+      (λ started. true≢false (sym (same_as_itself name) ∙ not_entered name name next ((started_of terms journal notes).started_entered name started)))
+
+-- a queue that works keeps its runtime, and one that doesn't is placed at the floor at least
+entering : (works busy : Bool) (runtime told floor_now floor_told entered : ℕ) → works ≡ busy → runtime ≡ told → floor_now ≡ floor_told →
+    (busy ≡ true → entered ≡ told) → (busy ≡ false → entered ≡ max told floor_told) → cond works runtime (max runtime floor_now) ≡ entered
+entering works busy runtime told floor_now floor_told entered same_work same_runtime same_floor at_work at_rest = grind arith
 
 -- a job that isn't refused enters its queue
 module _ {J T : Type 0} (terms : Terms) (old : CoreView J) (name : JobId) (queue : ℕ) (job : J) (journal : Journal T) (kept : IsKept terms old journal) (next : IsNextDelivered terms name journal) (sender : name.from ≤ old.cores)
@@ -62,33 +58,13 @@ module _ {J T : Type 0} (terms : Terms) (old : CoreView J) (name : JobId) (queue
   took_lines other =
       grind (arith, line-took queue name journal, line-took_elsewhere other queue name journal, changes.others other, kept.agrees.lines other, map-append (λ (entry : JobId × Bool × J). entry.0) (waiting_of queue old.queues) ((name, false, job) ∷ []))
 
-  abbrev is_marked : JobId × Bool × J → Type 0
-  is_marked entry = entry.1 ≡ is_told name_started entry.0 journal
-
-  took_marks : (other : ℕ) → AreMarked (writes.Took name queue ∷ journal) (waiting_of other queues)
-  took_marks = everywhere (λ at. AreMarked (writes.Took name queue ∷ journal) (waiting_of at queues)) queue
-      (subst (AreMarked (writes.Took name queue ∷ journal)) (sym changes.changed)
-      (All-append is_marked (waiting_of queue old.queues) ((name, false, job) ∷ []) (kept.agrees.marks queue)
-      (All-cons is_marked (name, false, job) [] (sym (not_started terms journal kept.notes name next)) (All-nil is_marked))))
-      (λ other away. subst (AreMarked (writes.Took name queue ∷ journal)) (sym (changes.others other away)) (kept.agrees.marks other))
-
   there : queue < length old.tallies
   there = omega (arith, exists, kept.agrees.tallied)
 
   entry_is : entry_runtime queue old ≡ virtual_runtime queue (writes.Took name queue ∷ journal)
-  entry_is = by_work (has_work queue journal) refl
-    where
-      work : is_working queue old ≡ has_work queue journal
-      work = working old journal terms queue kept.notes kept.agrees
-
-      by_work : (test : Bool) → has_work queue journal ≡ test → entry_runtime queue old ≡ virtual_runtime queue (writes.Took name queue ∷ journal)
-      by_work true busy =
-          ap (λ works. cond works (runtime_of queue old) (max (runtime_of queue old) old.floor)) (work ∙ busy)
-          ∙ (kept.agrees.runtimes queue ∙ sym (virtual_runtime-took_busy queue journal name busy))
-      by_work false idle =
-          ap (λ works. cond works (runtime_of queue old) (max (runtime_of queue old) old.floor)) (work ∙ idle)
-          ∙ (ap (λ runtime. max runtime old.floor) (kept.agrees.runtimes queue)
-          ∙ (ap (λ at. max (virtual_runtime queue journal) at) kept.agrees.the_floor ∙ sym (virtual_runtime-took_idle queue journal name idle)))
+  entry_is =
+      entering (is_working queue old) (has_work queue journal) _ _ _ _ _ (working old journal terms queue kept.notes kept.agrees) (kept.agrees.runtimes queue) kept.agrees.the_floor
+      (virtual_runtime-took_busy queue journal name) (virtual_runtime-took_idle queue journal name)
 
   took_runtimes : (other : ℕ) → runtime_of other entered ≡ virtual_runtime other (writes.Took name queue ∷ journal)
   took_runtimes other =
@@ -111,7 +87,7 @@ module _ {J T : Type 0} (terms : Terms) (old : CoreView J) (name : JobId) (queue
       let agrees : Agrees entered (writes.Took name queue ∷ journal) = assumption (
         senders_counted terms old name journal sender next kept.agrees,
         took_lines,
-        took_marks,
+        marks_longer journal name false job (sym (not_started terms journal kept.notes name next)) changes kept.agrees.marks,
         took_runtimes,
         took_out old.out kept.agrees.out,
         delivered_counted terms old name journal sender next kept.agrees,
@@ -129,28 +105,23 @@ module _ {J T : Type 0} (terms : Terms) (old new : CoreView J) (name : JobId) (j
       (agrees_unmoved old journal note kept.agrees calm creates weighs (counted name old)
       (senders_counted terms old name journal sender next kept.agrees)
       (λ from known. delivered_counted terms old name journal sender next kept.agrees from known ∙ ap length (sym (delivers from))) old.gates old.mode
-      (closing-stays old (record old { delivered = counted name old }) note journal (assumption) opens kept.agrees.closing))
-
-  pub agrees-back : (reason : Reason) → Agrees new (writes.Back name reason ∷ journal)
-  agrees-back reason = agrees-counted (writes.Back name reason) refl refl (λ queue. refl) (record { queues = λ queue. refl; core = refl; gates = λ sender. refl }) (λ sender. refl)
+      (closing-stays old (record old { delivered = counted name old }) note journal (λ queue. refl) refl refl refl opens kept.agrees.closing))
 
   pub agrees-answered : (answer : Answer) → Agrees new (writes.Answered name answer ∷ journal)
-  agrees-answered answer = agrees-counted (writes.Answered name answer) refl refl (λ queue. refl) (record { queues = λ queue. refl; core = refl; gates = λ sender. refl }) (λ sender. refl)
+  agrees-answered answer = agrees-counted (writes.Answered name answer) (assumption) refl (λ queue. refl) (assumption) (λ sender. refl)
 
   -- a job that is refused goes back
   pub kept-back : (queue : ℕ) (reason : Reason) → refusal queue journal ≡ Some reason → IsKept terms new (writes.Back name reason ∷ journal)
-  kept-back queue reason refused = kept_after terms (writes.Back name reason) kept (agrees-back reason) kept.is_core (next, (queue, refused)) refl tt refl refl
+  kept-back queue reason refused =
+      let agrees = agrees-counted (writes.Back name reason) (assumption) refl (λ queue. refl) (assumption) (λ sender. refl) in
+      kept_after terms (writes.Back name reason) kept agrees kept.is_core (next, (queue, refused)) refl tt refl refl
 
-  -- a command is answered
-  pub answered_stands : (order : Order (Unit {0})) (answer : Answer) → IsAnswer order answer journal → MayStand terms (writes.Answered name answer) journal
-  answered_stands order answer right =
-      plainly_stands terms (writes.Answered name answer) journal kept.is_core (next, (order, right)) kept.no_pick kept.no_answer refl tt
-
-  -- and the note of its effect follows
+  -- a command is answered, and the note of its effect follows
   pub kept-effect : (order : Order (Unit {0})) (answer : Answer) → IsAnswer order answer journal → (note : Note T) {core : CoreView J} → Agrees core (note ∷ writes.Answered name answer ∷ journal) →
       MayStand terms note (writes.Answered name answer ∷ journal) → queue_just_picked (note ∷ writes.Answered name answer ∷ journal) ≡ None → effect_awaited (note ∷ writes.Answered name answer ∷ journal) ≡ None →
       IsKept terms core (note ∷ writes.Answered name answer ∷ journal)
-  kept-effect order answer right note agrees stands no_pick no_answer = assumption (answered_stands order answer right)
+  kept-effect order answer right note agrees stands no_pick no_answer =
+      assumption (plainly_stands terms (writes.Answered name answer) journal kept.is_core (next, (order, right)) kept.no_pick kept.no_answer refl tt)
 
   pub kept-answered : (order : Order (Unit {0})) (answer : Answer) → IsAnswer order answer journal → has_effect answer ≡ false →
       IsKept terms new (writes.Answered name answer ∷ journal)
@@ -166,7 +137,7 @@ module _ {J T : Type 0} (old new : CoreView J) (queue weight : ℕ) (journal : J
   -- a queue is created
   pub agrees-created : queue ≡ queue_count old.queues → Creates old weight new → new.delivered ≡ old.delivered → Agrees new (writes.Created queue weight ∷ journal)
   agrees-created next creates same =
-      agrees_steady old new journal (writes.Created queue weight) agrees refl new.queues (old.tallies ++ no_tally ∷ [])
+      agrees_steady old new journal (writes.Created queue weight) agrees (assumption) new.queues (old.tallies ++ no_tally ∷ [])
       (creates.rest ∙ ap (λ delivered. record old { queues = new.queues; tallies = old.tallies ++ no_tally ∷ []; delivered = delivered }) same)
       creates.added.same_lines (get_or-append_default old.tallies no_tally) (length-append old.tallies (no_tally ∷ []) ∙ (ap (λ count. count + 1) agrees.tallied ∙ sym creates.added.count))
       (creates.added.count ∙ ap (λ count. count + 1) (agrees.last ∙ sym (length-append (list_told queue_created journal) (queue ∷ [])))) (omega (arith, creates.added.count)) weights (λ sender. refl)
@@ -179,7 +150,7 @@ module _ {J T : Type 0} (old new : CoreView J) (queue weight : ℕ) (journal : J
   -- a queue gets shares
   pub agrees-weighed : Weighs old queue weight new → new.delivered ≡ old.delivered → Agrees new (writes.SharesSet queue weight ∷ journal)
   agrees-weighed weighs same =
-      agrees_steady old new journal (writes.SharesSet queue weight) agrees refl new.queues old.tallies (weighs.rest ∙ ap (λ delivered. record old { queues = new.queues; delivered = delivered }) same)
+      agrees_steady old new journal (writes.SharesSet queue weight) agrees (assumption) new.queues old.tallies (weighs.rest ∙ ap (λ delivered. record old { queues = new.queues; delivered = delivered }) same)
       weighs.shares.same_lines (λ other. refl) (agrees.tallied ∙ sym weighs.shares.same_count) (weighs.shares.same_count ∙ agrees.last) (omega (arith, weighs.shares.same_count)) weights (λ sender. refl)
       (assumption (λ (other : ℕ). weighs.shares.same_modes other ∙ agrees.closing.modes other))
     where
@@ -194,50 +165,38 @@ module _ {J T : Type 0} (terms : Terms) (old new : CoreView J) (name : JobId) (q
   middle = record old { delivered = counted name old }
 
   -- a creation finds a core that isn't closed, and room for one more queue
-  pub creation_answer : core_mode journal ≡ None → (full : Bool) → nat_le 255 (created_count journal) ≡ full → (answer : Answer) → IsCreationAnswer None full (created_count journal + 1) answer →
-      IsAnswer (orders.Create weight) answer journal
-  creation_answer never full at answer right = rw (never, at) right
-
   pub kept-created : queue ≡ queue_count old.queues → Creates old weight new →
       IsAnswer (orders.Create weight) (answers.Created queue) journal
       × IsKept terms new (writes.Created queue weight ∷ writes.Answered name (answers.Created queue) ∷ journal)
-  kept-created number creates = (
-    right,
-    kept-effect terms old middle name journal kept next sender refl (orders.Create weight) (answers.Created queue) right (writes.Created queue weight)
-        (agrees-created middle new queue weight _ (agrees-answered terms old middle name journal kept next sender refl (answers.Created queue)) number
-        (record { is_open = creates.is_open; few = creates.few; added = creates.added; rest = creates.rest }) now)
-        (record { may_follow = record { next = number ∙ kept.agrees.last; in_range = rw number creates.few; shares = in_range }; turn = refl; effect = refl; writer = kept.is_core }) refl refl,
-  )
-    where
-      few : nat_le 255 (created_count journal) ≡ false
-      few = lt-leb 255 (created_count journal) (omega (arith, creates.few, kept.agrees.last))
-
-      right : IsAnswer (orders.Create weight) (answers.Created queue) journal
-      right = creation_answer (sym kept.agrees.closing.mode ∙ creates.is_open) false few (answers.Created queue) (inr (ap answers.Created (number ∙ kept.agrees.last)))
+  kept-created number creates =
+      let few : nat_le 255 (created_count journal) ≡ false = lt-leb 255 (created_count journal) (omega (arith, creates.few, kept.agrees.last)) in
+      let right : IsAnswer (orders.Create weight) (answers.Created queue) journal = rw (sym kept.agrees.closing.mode ∙ creates.is_open, few) (inr (ap answers.Created (number ∙ kept.agrees.last))) in (
+        right,
+        kept-effect terms old middle name journal kept next sender refl (orders.Create weight) (answers.Created queue) right (writes.Created queue weight)
+            (agrees-created middle new queue weight _ (agrees-answered terms old middle name journal kept next sender refl (answers.Created queue)) number
+            (record { is_open = creates.is_open; few = creates.few; added = creates.added; rest = creates.rest }) now)
+            (record { may_follow = record { next = number ∙ kept.agrees.last; in_range = rw number creates.few; shares = in_range }; turn = refl; effect = refl; writer = kept.is_core }) refl refl,
+      )
 
   pub kept-weighed : Weighs old queue weight new →
       IsAnswer (orders.SetShares queue weight) answers.SharesSet journal
       × IsKept terms new (writes.SharesSet queue weight ∷ writes.Answered name answers.SharesSet ∷ journal)
-  kept-weighed weighs = (
-    right,
-    kept-effect terms old middle name journal kept next sender refl (orders.SetShares queue weight) answers.SharesSet right (writes.SharesSet queue weight)
-        (agrees-weighed middle new queue weight _ (agrees-answered terms old middle name journal kept next sender refl answers.SharesSet)
-        (record { exists = weighs.exists; shares = weighs.shares; rest = weighs.rest }) now)
-        (record { may_follow = (exists, in_range); turn = refl; effect = refl; writer = kept.is_core }) refl refl,
-  )
-    where
-      exists : queue ≤ created_count journal
-      exists = omega (arith, weighs.exists, kept.agrees.last)
-
-      right : IsAnswer (orders.SetShares queue weight) answers.SharesSet journal
-      right = rw (le-leb queue (created_count journal) exists)
+  kept-weighed weighs =
+      let exists : queue ≤ created_count journal = omega (arith, weighs.exists, kept.agrees.last) in
+      let right : IsAnswer (orders.SetShares queue weight) answers.SharesSet journal = rw (le-leb queue (created_count journal) exists) refl in (
+        right,
+        kept-effect terms old middle name journal kept next sender refl (orders.SetShares queue weight) answers.SharesSet right (writes.SharesSet queue weight)
+            (agrees-weighed middle new queue weight _ (agrees-answered terms old middle name journal kept next sender refl answers.SharesSet)
+            (record { exists = weighs.exists; shares = weighs.shares; rest = weighs.rest }) now)
+            (record { may_follow = (exists, in_range); turn = refl; effect = refl; writer = kept.is_core }) refl refl,
+      )
 
 module _ {J T : Type 0} (old new : CoreView J) (journal : Journal T) (agrees : Agrees old journal) where
   -- the core is closed
   pub agrees-core_closed : (mode : Mode) → new ≡ record old { mode = Some mode } → Agrees new (writes.CoreClosed mode ∷ journal)
   agrees-core_closed mode is =
       subst (λ core. Agrees core (writes.CoreClosed mode ∷ journal)) (sym is)
-      (agrees_unmoved old journal (writes.CoreClosed mode) agrees refl refl (λ queue. refl) old.delivered agrees.senders agrees.delivered old.gates (Some mode)
+      (agrees_unmoved old journal (writes.CoreClosed mode) agrees (assumption) refl (λ queue. refl) old.delivered agrees.senders agrees.delivered old.gates (Some mode)
       (record { modes = agrees.closing.modes; mode = refl; gate_places = agrees.closing.gate_places; gates = agrees.closing.gates }))
 
   -- a gate is shut
@@ -247,7 +206,7 @@ module _ {J T : Type 0} (old new : CoreView J) (journal : Journal T) (agrees : A
       let gates : (sender : ℕ) → get_or (slice_set old.gates from (Some count)) sender None ≡ or_else (cond (sender == from) (Some count) None) (final_count sender journal) =
       λ sender. grind (arith, get_or-set_same old.gates from (Some count) None, get_or-set_other old.gates from sender (Some count) None, agrees.closing.gates sender) in
       subst (λ core. Agrees core (writes.Shut from count ∷ journal)) (sym is)
-      (agrees_unmoved old journal (writes.Shut from count) agrees refl refl (λ queue. refl) old.delivered agrees.senders agrees.delivered
+      (agrees_unmoved old journal (writes.Shut from count) agrees (assumption) refl (λ queue. refl) old.delivered agrees.senders agrees.delivered
       (slice_set old.gates from (Some count)) old.mode (assumption (places, gates)))
 
   -- a queue is closed
@@ -255,6 +214,6 @@ module _ {J T : Type 0} (old new : CoreView J) (journal : Journal T) (agrees : A
   agrees-queue_closed queue mode has =
       let modes : (other : ℕ) → mode_of other new.queues ≡ or_else (cond (other == queue) (Some mode) None) (queue_mode other journal) =
       λ other. grind (arith, has.closed.changed, has.closed.others other, agrees.closing.modes other) in
-      agrees_steady old new journal (writes.QueueClosed queue mode) agrees refl new.queues old.tallies has.rest has.closed.same_lines (λ other. refl) (agrees.tallied ∙ sym has.closed.same_count)
+      agrees_steady old new journal (writes.QueueClosed queue mode) agrees (assumption) new.queues old.tallies has.rest has.closed.same_lines (λ other. refl) (agrees.tallied ∙ sym has.closed.same_count)
       (has.closed.same_count ∙ agrees.last) (omega (arith, has.closed.same_count))
       (λ other there. has.closed.same_shares other ∙ agrees.weights other (rw (← has.closed.same_count) there)) (λ sender. refl) (assumption modes)

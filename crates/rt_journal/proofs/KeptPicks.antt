@@ -1,29 +1,25 @@
 -- What a core tells of itself stays what its journal says, as a pick takes a job out or hands it back; the pick is right, and its notes may stand.
-use Rattle.rt_journal.proofs.Names.{◌≡◌, Bool, true, false, List, [], ◌∷◌, sym, ◌∙◌, subst, false_from_ne_true}
-use Rattle.rt_journal.proofs.Names.{true≢false, or_parts, All-cons, All-nil, All-head, All-tail, JobId, same_name}
-use Rattle.rt_journal.proofs.Names.{Journal, is_told, name_started, among, one_name, same_as_itself}
-use Rattle.rt_journal.proofs.Names.{is_told-start_elsewhere, AreMarked, Note, queue_joined, charge_noted, no_figures}
-use Rattle.rt_journal.proofs.Names.{ℕ, ◌+◌, ◌<◌, ◌≤◌, length, refl, ap, arith, get_or_past, Some, None, max, same_Some}
-use Rattle.rt_journal.proofs.Names.{Terms, most_turns, KeyAtMost, queue_of, virtual_runtime, line, jobs_out}
-use Rattle.rt_journal.proofs.Names.{IsRightPick, turns, queue_just_picked, effect_awaited, MayStand, IsTurnOf}
-use Rattle.rt_journal.proofs.Names.{jobs_out-start, jobs_out-resume, known_of, Distinct, apart_of, line-turn}
-use Rattle.rt_journal.proofs.Names.{line-turn_elsewhere, virtual_runtime-stays, floor-stays, right_pick_of_lines}
-use Rattle.rt_journal.proofs.Names.{queue_count, waiting_of, no_queue, CoreView, JobOut, tally_of, runtime_of}
-use Rattle.rt_journal.proofs.Names.{AgreesOnClosing, IsJobOut, figures_of, figures_told, poll_note, set, Reason}
+use Rattle.rt_journal.proofs.Names.{reason_if_returning, or_else, ◌≡◌, Bool, true, false, List, [], ◌∷◌, sym, ◌∙◌}
+use Rattle.rt_journal.proofs.Names.{subst, false_from_ne_true, true≢false, or_parts, All-cons, All-nil, All-head}
+use Rattle.rt_journal.proofs.Names.{All-tail, JobId, same_name, Journal, is_told, name_started, among, one_name}
+use Rattle.rt_journal.proofs.Names.{same_as_itself, is_told-start_elsewhere, AreMarked, Note, queue_joined}
+use Rattle.rt_journal.proofs.Names.{charge_noted, ℕ, ◌+◌, ◌<◌, length, refl, ap, arith, get_or_past, Some, None, max}
+use Rattle.rt_journal.proofs.Names.{same_Some, Terms, most_turns, KeyAtMost, queue_of, virtual_runtime, line}
+use Rattle.rt_journal.proofs.Names.{jobs_out, IsRightPick, turns, queue_just_picked, effect_awaited, MayStand}
+use Rattle.rt_journal.proofs.Names.{IsTurnOf, jobs_out-start, jobs_out-resume, known_of, Distinct, apart_of}
+use Rattle.rt_journal.proofs.Names.{line-turn, line-turn_elsewhere, virtual_runtime-stays, floor-stays}
+use Rattle.rt_journal.proofs.Names.{right_pick_of_lines, queue_count, waiting_of, no_queue, CoreView, JobOut}
+use Rattle.rt_journal.proofs.Names.{tally_of, runtime_of, IsJobOut, figures_of, figures_told, poll_note, set, Reason}
 use Rattle.rt_journal.proofs.Names.{Agrees, ⊎_elim, cases_lt, name_leaving, name_joining, with_last, QueuesView}
-use Rattle.rt_journal.proofs.Names.{ChangesLine, Tally, Figures, plus, figures_in, cond, ◌==◌, none-some, Option}
+use Rattle.rt_journal.proofs.Names.{ChangesLine, Tally, Figures, figures_in, cond, ◌==◌, none-some, Option, names_of}
+use Rattle.rt_journal.proofs.Names.{length-set, return_reason, names_but_for, IsNext, plainly_stands}
 use Rattle.rt_ids.specs.declared.note.Note.TheVariants as writes
-use Rattle.rt_journal.specs.Agreement.{names_of}
-use Rattle.std.proofs.Common.{length-set}
-use Rattle.rt_ids.specs.Commands.{return_reason}
-use Rattle.rt_ids.specs.Lines.{names_but_for}
 use Rattle.rt_core.specs.Closing as core
-use Rattle.rt_core.specs.Turns.{IsNext}
-use Rattle.rt_journal.proofs.Sums.{everywhere}
-use Rattle.rt_journal.proofs.Kept.{set_runtime, figures-grow, one_pick, counts-pick, told-polled, IsPlain}
-use Rattle.rt_journal.proofs.Kept.{same_modes, closing-stays, return_reason-agrees, IsKept}
-use Rattle.rt_recorded_desk.proofs.LaneNotes.{plainly_stands}
-use Rattle.rt_journal.proofs.Kept.{turns-stays, one_return, counts-return, told-returned}
+use Rattle.rt_ids.specs.declared.order.Reason.TheVariants as why
+use Rattle.rt_journal.proofs.Sums.{each_line, everywhere}
+use Rattle.rt_journal.proofs.Kept.{is_marked, set_runtime, figures-grow, one_pick, told-polled, IsPlain}
+use Rattle.rt_journal.proofs.Kept.{closing-stays, IsKept}
+use Rattle.rt_journal.proofs.Kept.{turns-stays, one_return, told-returned}
 
 -- a name that isn't among some is none of them
 pub other_way : (name other : JobId) → same_name name other ≡ false → same_name other name ≡ false
@@ -31,9 +27,6 @@ other_way name other apart =
     false_from_ne_true _ (λ same. true≢false (sym (subst (λ one. same_name name one ≡ true) (sym (one_name other name same)) (same_as_itself name)) ∙ apart))
 
 module _ {J T : Type 0} (name : JobId) (before : Journal T) where
-  abbrev pub is_marked : Journal T → JobId × Bool × J → Type 0
-  is_marked journal entry = entry.1 ≡ is_told name_started entry.0 journal
-
   -- who is another than the one that starts is marked as before
   pub marks-start : (waiting : List (JobId × Bool × J)) → among name (names_of waiting) ≡ false → AreMarked before waiting →
       AreMarked (writes.Start name ∷ before) waiting
@@ -86,10 +79,6 @@ returned_view old queue queues = record old {
   turns = old.turns + 1;
 }
 
--- a line is empty where there is no such queue
-no_line : {J : Type 0} (queue : ℕ) (core : CoreView J) → queue_count core.queues ≤ queue → waiting_of queue core.queues ≡ []
-no_line queue core past = ap (λ view. view.waiting) (get_or_past core.queues.queues queue no_queue past)
-
 module _ {J T : Type 0} (terms : Terms) (old : CoreView J) (name : JobId) (queue : ℕ) (was_started : Bool) (job : J) (queues : QueuesView J) (journal : Journal T)
     (kept : IsKept terms old journal) (front : LeavesFront old name queue was_started job queues) where
   abbrev runtime : ℕ
@@ -106,7 +95,7 @@ module _ {J T : Type 0} (terms : Terms) (old : CoreView J) (name : JobId) (queue
 
   -- it was started before exactly where the journal says so
   pub start_told : was_started ≡ is_told name_started name journal
-  start_told = All-head (is_marked name journal journal) (name, was_started, job) front.others (subst (AreMarked journal) front.first (kept.agrees.marks queue))
+  start_told = All-head (is_marked journal) (name, was_started, job) front.others (subst (AreMarked journal) front.first (kept.agrees.marks queue))
 
   least : (other : ℕ) (first : JobId) (rest : List JobId) → line other journal ≡ first ∷ rest → KeyAtMost (virtual_runtime queue journal) queue (virtual_runtime other journal) other
   least other first rest there = grind (arith, front.next.least other, kept.agrees.runtimes other, kept.agrees.runtimes queue, kept.agrees.lines other)
@@ -118,7 +107,7 @@ module _ {J T : Type 0} (terms : Terms) (old : CoreView J) (name : JobId) (queue
 
   -- it goes back for the reason that the journal gives, if there is one
   pub reason_told : return_reason queue journal ≡ core.return_reason queue old
-  reason_told = sym (return_reason-agrees old journal kept.agrees.closing queue)
+  reason_told = λ i. or_else (reason_if_returning (sym (kept.agrees.closing.modes queue) i) why.QueueReturned) (reason_if_returning (sym kept.agrees.closing.mode i) why.CoreReturned)
 
   turn : IsTurnOf name queue picked
   turn = record { picked = refl; others = names_of front.others; first = first_in_line }
@@ -128,7 +117,7 @@ module _ {J T : Type 0} (terms : Terms) (old : CoreView J) (name : JobId) (queue
 
   exists : queue < queue_count old.queues
   exists = ⊎_elim (λ within. within)
-      (λ past. absurd (let same : (name, was_started, job) ∷ front.others ≡ [] = sym front.first ∙ no_line queue old past in cc)) (cases_lt queue (queue_count old.queues))
+      (λ past. absurd (let same : (name, was_started, job) ∷ front.others ≡ [] = sym front.first ∙ ap (λ view. view.waiting) (get_or_past old.queues.queues queue no_queue past) in cc)) (cases_lt queue (queue_count old.queues))
 
   lines_now : (other : ℕ) → names_of (waiting_of other queues) ≡ line other (writes.Start name ∷ picked)
   lines_now other =
@@ -146,22 +135,16 @@ module _ {J T : Type 0} (terms : Terms) (old : CoreView J) (name : JobId) (queue
       ∙ false_from_ne_true _ (λ there. away (same_Some other queue (sym ((known_of terms journal kept.notes).line_queue other name there) ∙ its_queue)))))
 
   marks_then : (other : ℕ) → AreMarked journal (waiting_of other queues)
-  marks_then = everywhere (λ at. AreMarked journal (waiting_of at queues)) queue
-      (subst (AreMarked journal) (sym front.line.changed)
-      (All-tail (is_marked name journal journal) (name, was_started, job) front.others (subst (AreMarked journal) front.first (kept.agrees.marks queue))))
-      (λ other away. subst (AreMarked journal) (sym (front.line.others other away)) (kept.agrees.marks other))
+  marks_then = each_line (λ at. AreMarked journal) front.line
+      (All-tail (is_marked journal) (name, was_started, job) front.others (subst (AreMarked journal) front.first (kept.agrees.marks queue))) kept.agrees.marks
 
   -- the core after the pick and the note behind it: the queue has this tally, and this job is out
-  module _ (note : Note T) (follows : FollowsPick name note picked) (tally : Tally) (adds : Figures) (out : Option (JobOut J)) where
+  module _ (note : Note T) (follows : FollowsPick name note picked) (tally : Tally) (grow : Figures → Figures) (out : Option (JobOut J)) where
     abbrev turned : CoreView J
     turned = record old { queues = queues; tallies = set old.tallies queue tally; floor = max old.floor runtime; turns = old.turns + 1; out = out }
 
-    closing_now : AgreesOnClosing turned (note ∷ picked)
-    closing_now = closing-stays turned turned note picked (same_modes turned) follows.plain.opens
-        (closing-stays old turned (writes.Pick queue runtime) journal (record { modes = front.line.same_modes; mode = refl; gates = refl; cores = refl }) (assumption) kept.agrees.closing)
-
-    kept-turned : tally.runtime ≡ runtime → figures_in tally ≡ plus (figures_of queue old) adds →
-        ((other : ℕ) → figures_told other (note ∷ picked) ≡ plus (figures_told other journal) (cond (other == queue) adds no_figures)) → ((other : ℕ) → AreMarked (note ∷ picked) (waiting_of other queues)) →
+    kept-turned : tally.runtime ≡ runtime → figures_in tally ≡ grow (figures_of queue old) →
+        ((other : ℕ) → figures_told other (note ∷ picked) ≡ cond (other == queue) (grow (figures_told other journal)) (figures_told other journal)) → ((other : ℕ) → AreMarked (note ∷ picked) (waiting_of other queues)) →
         IsJobOut out (note ∷ picked) → ((job : JobOut J) → out ≡ Some job → job.queue < queue_count queues) → turns journal < most_turns → MayStand terms note picked → IsKept terms turned (note ∷ picked)
     kept-turned same counts told marks out_is out_exists left stands =
         let within : queue < length old.tallies = omega (arith, exists, kept.agrees.tallied) in
@@ -181,39 +164,37 @@ module _ {J T : Type 0} (terms : Terms) (old : CoreView J) (name : JobId) (queue
           out = out_is;
           out_exists = out_exists;
           delivered = λ sender known. kept.agrees.delivered sender known ∙ ap length (sym (follows.plain.delivered sender));
-          figures = figures-grow old turned queue tally within refl journal (note ∷ picked) adds counts kept.agrees.figures told;
-          closing = closing_now;
+          figures = figures-grow old turned queue tally within refl journal (note ∷ picked) grow counts kept.agrees.figures told;
+          closing = closing-stays turned turned note picked (λ queue. refl) refl refl refl follows.plain.opens
+              (closing-stays old turned (writes.Pick queue runtime) journal front.line.same_modes refl refl refl (assumption) kept.agrees.closing);
         } in
         let pick_stands = plainly_stands terms (writes.Pick queue runtime) journal kept.is_core (record { right = right_pick; turn_left = left }) kept.no_pick kept.no_answer refl tt in
         assumption (agrees, stands, pick_stands, follows)
 
+  abbrev its_out : Option (JobOut J)
+  its_out = Some (record { name = name; queue = queue; job = job })
+
+  out_exists : (out : JobOut J) → its_out ≡ Some out → out.queue < queue_count queues
+  out_exists out at = subst (λ from. from < queue_count queues) (ap (λ job. job.queue) (same_Some _ out at)) (rw front.line.same_count exists)
+
   -- the job is polled
-  polls_it : (before : Bool) → FollowsPick name (poll_note name before) picked
-  polls_it false = assumption
-  polls_it true = assumption
+  polled : (before : Bool) → return_reason queue journal ≡ None → is_told name_started name journal ≡ before → turns journal < most_turns → IsKept terms (picked_view old name queue job queues) (poll_note name before ∷ picked)
+  polled false keeps told left =
+      kept-turned (writes.Start name) (assumption) (tally_picked queue old) one_pick its_out refl refl (λ other. told-polled other queue journal name runtime false)
+      (λ other. marks-start name picked (waiting_of other queues) (apart_in other) (marks_then other)) (jobs_out-start name picked nobody, its_queue) out_exists left
+      (record { may_follow = (queue, turn, keeps, told); turn = refl; effect = tt; writer = kept.is_core })
+  polled true keeps told left =
+      kept-turned (writes.Resume name) (assumption) (tally_picked queue old) one_pick its_out refl refl (λ other. told-polled other queue journal name runtime true)
+      marks_then (jobs_out-resume name picked nobody, its_queue) out_exists left
+      (record { may_follow = (queue, turn, keeps, told); turn = refl; effect = tt; writer = kept.is_core })
 
-  poll_stands : return_reason queue journal ≡ None → (before : Bool) → is_told name_started name journal ≡ before → MayStand terms (poll_note name before) picked
-  poll_stands keeps false told = record { may_follow = (queue, turn, keeps, told); turn = refl; effect = tt; writer = kept.is_core }
-  poll_stands keeps true told = record { may_follow = (queue, turn, keeps, told); turn = refl; effect = tt; writer = kept.is_core }
-
-  marks_now : (before : Bool) (other : ℕ) → AreMarked (poll_note name before ∷ picked) (waiting_of other queues)
-  marks_now false other = marks-start name picked (waiting_of other queues) (apart_in other) (marks_then other)
-  marks_now true other = marks_then other
-
-  out_now : (before : Bool) → IsJobOut (Some (record { name = name; queue = queue; job = job })) (poll_note name before ∷ picked)
-  out_now false = (jobs_out-start name picked nobody, its_queue)
-  out_now true = (jobs_out-resume name picked nobody, its_queue)
-
-  pub kept-picked : core.return_reason queue old ≡ None → turns journal < most_turns → {new : CoreView J} → new ≡ picked_view old name queue job queues → IsKept terms new (poll_note name was_started ∷ picked)
-  kept-picked keeps left is = subst (λ core. IsKept terms core (poll_note name was_started ∷ picked)) (sym is)
-      (kept-turned (poll_note name was_started) (polls_it was_started) (tally_picked queue old) one_pick (Some (record { name = name; queue = queue; job = job })) refl (counts-pick (tally_of queue old)) (λ other. told-polled other queue journal name runtime was_started)
-      (marks_now was_started) (out_now was_started) (λ out at. subst (λ from. from < queue_count queues) (ap (λ job. job.queue) (same_Some _ out at)) (rw front.line.same_count exists)) left
-      (poll_stands (reason_told ∙ keeps) was_started (sym start_told)))
+  pub kept-picked : core.return_reason queue old ≡ None → turns journal < most_turns → IsKept terms (picked_view old name queue job queues) (poll_note name was_started ∷ picked)
+  kept-picked keeps left = polled was_started (reason_told ∙ keeps) (sym start_told) left
 
   -- the job goes back
-  pub kept-returned : (reason : Reason) → core.return_reason queue old ≡ Some reason → turns journal < most_turns → {new : CoreView J} → new ≡ returned_view old queue queues → IsKept terms new (writes.Returned name reason ∷ picked)
-  kept-returned reason returns left is = subst (λ core. IsKept terms core (writes.Returned name reason ∷ picked)) (sym is)
-      (subst (λ out. IsKept terms (record (returned_view old queue queues) { out = out }) (writes.Returned name reason ∷ picked)) (sym front.next.free)
-      (kept-turned (writes.Returned name reason) (assumption) (tally_returned queue old) one_return None refl (counts-return (tally_of queue old)) (λ other. told-returned other queue journal name its_queue runtime reason)
+  pub kept-returned : (reason : Reason) → core.return_reason queue old ≡ Some reason → turns journal < most_turns → IsKept terms (returned_view old queue queues) (writes.Returned name reason ∷ picked)
+  kept-returned reason returns left =
+      subst (λ out. IsKept terms (record (returned_view old queue queues) { out = out }) (writes.Returned name reason ∷ picked)) (sym front.next.free)
+      (kept-turned (writes.Returned name reason) (assumption) (tally_returned queue old) one_return None refl refl (λ other. told-returned other queue journal name its_queue runtime reason)
       marks_then nobody (λ out none. absurd (none-some out none)) left
-      (record { may_follow = (queue, turn, reason_told ∙ returns); turn = refl; effect = tt; writer = kept.is_core })))
+      (record { may_follow = (queue, turn, reason_told ∙ returns); turn = refl; effect = tt; writer = kept.is_core }))

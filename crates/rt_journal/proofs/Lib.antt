@@ -1,6 +1,5 @@
 pub mod Names
 pub mod Sums
-pub mod DeliveredNumbers
 pub mod Kept
 pub mod KeptDeliveries
 pub mod KeptPicks

@@ -1,10 +1,9 @@
 -- A core that was just opened, beside a journal without a note.
 use Rattle.rt_journal.proofs.Names.{◌≡◌, ℕ, zero, suc, ◌+◌, ◌*◌, ◌<◌, [], refl, sym, ap, subst, arith, None, All}
-use Rattle.rt_journal.proofs.Names.{length-replicate, get_or-replicate, All-nil, Owed, waiting_of, shares_of, mode_of}
-use Rattle.rt_journal.proofs.Names.{CoreView, runtime_of, opened, Agrees, AreMarked, no_figures, figures_of}
-use Rattle.rt_journal.proofs.Names.{IsRecorded, HasTask, sum_upto, given_count, opened_beside, none-some}
+use Rattle.rt_journal.proofs.Names.{length-replicate, get_or-replicate, All-nil, Owed, waiting_of, mode_of, CoreView}
+use Rattle.rt_journal.proofs.Names.{runtime_of, opened, Agrees, AreMarked, no_figures, figures_of, IsRecorded}
+use Rattle.rt_journal.proofs.Names.{HasTask, sum_upto, given_count, opened_beside, none-some, names_of}
 use Rattle.rt_stats.proofs.Tables.{all_alike}
-use Rattle.rt_journal.specs.Agreement.{names_of}
 
 module _ (J : Type 0) (core cores cap : ℕ) where
   abbrev new_core : CoreView J
@@ -16,9 +15,6 @@ module _ (J : Type 0) (core cores cap : ℕ) where
   at_first (suc zero) = (refl, refl, refl, refl)
   at_first (suc (suc queue)) = (refl, refl, refl, refl)
 
-  first_shares : (queue : ℕ) → queue < 1 → shares_of queue new_core.queues ≡ 1000
-  first_shares queue there = grind arith
-
   -- it agrees with a journal without a note
   pub agrees-opened : (T : Type 0) → Agrees {J = J} {T = T} new_core []
   agrees-opened T = record {
@@ -28,7 +24,7 @@ module _ (J : Type 0) (core cores cap : ℕ) where
     lines = λ queue. ap names_of (at_first queue).0;
     marks = λ queue. subst (AreMarked {J = J} {T = T} []) (sym (at_first queue).0) (All-nil _);
     runtimes = λ queue. (at_first queue).1;
-    weights = first_shares;
+    weights = λ queue there. grind arith;
     the_floor = refl;
     turns = refl;
     out = refl;

@@ -1,18 +1,16 @@
 -- A whole turn with posts, beside its journal: the notes of the pick are written behind the old ones, then what is posted, then the note of the settling.
-use Rattle.rt_journal.proofs.Names.{Some, Ok, Option, slice_get, ◌≡◌, refl, ℕ, ◌+◌, ◌<◌, Bool, true, false, List, ◌++◌}
-use Rattle.rt_journal.proofs.Names.{length, reverse, sym, ◌∙◌, ap, subst, arith, most_turns, JobId, Note, Envelope}
-use Rattle.rt_journal.proofs.Names.{Order, Outcome, turns, Step, Owed, Start, Resume, CoreView, IsAhead, goes_out}
-use Rattle.rt_journal.proofs.Names.{pick_notes, settle_notes, ahead_picks, Outward, DeskView, IsWritten, terms_of_desk}
-use Rattle.rt_journal.proofs.Names.{desk_with, RecordedView, IsRecorded, desk_of, KeepsIn, LeavesOwed, AreOutsOf}
-use Rattle.rt_journal.proofs.Names.{IsPick, StaysPut, option_map, ◌*◌, ◌≤◌, same_Some, outcome_note, Call, Doing}
-use Rattle.rt_journal.proofs.Names.{Makes, IsSameTask, JobOut, TurnsWhole, settled_of, IsSameSeat, told_under}
-use Rattle.rt_journal.proofs.Names.{OwesSettled, outcome_settled, PostView, HasPosted, lends, Does, IsPolled, Settles}
-use Rattle.rt_journal.proofs.Names.{post_of, IsPostingTurn, MayAnswer, TurnsNoted, OutcomeNote}
-use Rattle.rt_core.specs.Turns.{Picks as CorePicks}
+use Rattle.rt_journal.proofs.Names.{Ok, slice_get, ◌≡◌, refl, ℕ, ◌+◌, ◌<◌, Bool, true, false, List, length, reverse}
+use Rattle.rt_journal.proofs.Names.{sym, ◌∙◌, ap, subst, arith, most_turns, JobId, Note, Envelope, Order, Outcome}
+use Rattle.rt_journal.proofs.Names.{turns, Step, Owed, Start, Resume, CoreView, IsAhead, goes_out, pick_notes}
+use Rattle.rt_journal.proofs.Names.{settle_notes, ahead_picks, Outward, DeskView, IsWritten, terms_of_desk, desk_with}
+use Rattle.rt_journal.proofs.Names.{RecordedView, IsRecorded, desk_of, LeavesOwed, AreOutsOf, IsPick, StaysPut}
+use Rattle.rt_journal.proofs.Names.{option_map, ◌*◌, ◌≤◌, same_Some, outcome_note, Call, Doing, Makes, IsSameTask}
+use Rattle.rt_journal.proofs.Names.{JobOut, TurnsWhole, settled_of, IsSameSeat, told_under, OwesSettled}
+use Rattle.rt_journal.proofs.Names.{outcome_settled, PostView, HasPosted, lends, Does, IsPolled, Settles, post_of}
+use Rattle.rt_journal.proofs.Names.{IsPostingTurn, MayAnswer, TurnsNoted, CorePicks, posted_rest}
 use Rattle.rt_journal.proofs.Ahead.{picked_did}
 use Rattle.rt_journal.proofs.QuietSteps.{nobody, everyone, HasDone, view_of, quiet_invariant, quiet_now, given_settled}
 use Rattle.rt_journal.proofs.QuietSteps.{HasStepped, MayNote, quiet_noted}
-use Rattle.rt_recorded_desk.proofs.Posting.{posted_rest}
 use Rattle.rt_journal.proofs.SentNotes.{HasSaid, SaysNoMore, all_posted, has_said}
 use Rattle.rt_journal.proofs.SettledPolls.{owes_settled, its_answer, settled_did}
 
@@ -24,20 +22,6 @@ outs_kept old new stays ends outs = record {
   beside = λ core end there. (stays.outs core).each _ _ (outs.beside core end there);
   lanes = λ core end there. let had = outs.lanes core end there in record { lane = had.lane; is = ap (λ lanes. slice_get lanes core) stays.lanes ∙ had.is; lane_of = had.lane_of };
 }
-
--- what was posted says no more of the core, of what was delivered and given, of gates and of polls
-posted_silent : {J T E : Type 0} {out : E → Outward J T} {untouched : E → List ℕ} (said now : DeskView J T) (ends later : List E) → HasPosted out untouched (record { desk = said; ends = ends }) (record { desk = now; ends = later }) →
-    SaysNoMore said.journal.notes now.journal.notes
-posted_silent said now ends later posted = subst (SaysNoMore said.journal.notes) (sym (ap (λ desk. desk.journal.notes) posted.desk)) (all_posted posted.notes said.journal.notes posted.posts)
-
--- a quiet step leaves the seat, the ends on which this actor sends, and its lanes
-stays_put : {J T : Type 0} {same : J → J → Type 0} {made : J → ℕ} {polls : Owed J T} {keeps : ℕ → Type 0} {gives : ℕ → Option (JobId × OutcomeNote T)} {does : RecordedView J T → RecordedView J T → Type 0} {old new : RecordedView J T} →
-    HasStepped same made polls keeps gives does old new → StaysPut old new
-stays_put now = record { seat = now.seat; outs = now.outs; lanes = now.lanes }
-
--- one step after another leaves owed what the last one leaves
-pub owes_then : {J T : Type 0} (old pick_told left new : RecordedView J T) (sender : ℕ) {owed : Option (JobId × _)} → KeepsIn sender old pick_told → KeepsIn sender pick_told left → LeavesOwed sender owed left new → LeavesOwed sender owed old new
-owes_then old pick_told left new sender one two three = record { each = λ inward is. three.each inward (two.each inward (one.each inward is)) }
 
 -- the notes of the pick of the job that is told ahead, whatever core the pick comes to
 module _ {J T : Type 0} {same : J → J → Type 0} {made : J → ℕ} {polls : Owed J T}
@@ -52,14 +36,7 @@ module _ {J T : Type 0} {same : J → J → Type 0} {made : J → ℕ} {polls : 
   did false notes picks = picked_did (view_of core took said) invariant.0 left mid (Ok (Start name queue job)) notes picks
   did true notes picks = picked_did (view_of core took said) invariant.0 left mid (Ok (Resume name queue job)) notes picks
 
-  pub went_out : (marked : Bool) (notes : List (Note T)) → CorePicks core (Ok (goes_out name queue marked job)) mid notes → mid.out ≡ Some (record { name = name; queue = queue; job = job })
-  went_out false notes picks = ap (λ (view : CoreView J). view.out) picks.0.rest
-  went_out true notes picks = ap (λ (view : CoreView J). view.out) picks.0.rest
-
   module _ (picks : CorePicks core (Ok (goes_out name queue started job)) mid pick_told) (slice : List (Note T)) (slice_is : slice ≡ pick_told) where
-    note_pick : {before : RecordedView J T} → view_of core took said ≡ before → length before.journal.notes + 2 ≤ before.journal.room → MayNote said slice
-    note_pick = quiet_noted core took said invariant slice_is (did started pick_told picks)
-
     module _ (noted : DeskView J T) (wrote : noted ≡ desk_with (reverse slice) said) where
       pub is_picked : IsRecorded same made polls (view_of mid took noted) × (noted ≡ desk_of (view_of mid took noted))
       is_picked = quiet_invariant core took said invariant slice_is (did started pick_told picks) wrote
@@ -67,30 +44,25 @@ module _ {J T : Type 0} {same : J → J → Type 0} {made : J → ℕ} {polls : 
       pub has_picked : HasStepped same made polls everyone nobody (λ old new. IsPick old name queue started job new) (view_of core took said) (view_of mid took noted)
       has_picked = quiet_now core took said invariant slice_is (did started pick_told picks) wrote refl
 
-      outs_picked : {E : Type 0} {fits : Order J → Outcome J T → Type 0} {out : E → Outward J T} {credited : E → ℕ} (ends : List E) → AreOutsOf fits out credited (desk_of (view_of core took said)) ends → AreOutsOf fits out credited noted ends
-      outs_picked {E} {fits} {out} {credited} ends outs =
-          subst (λ desk. AreOutsOf fits out credited desk ends) (sym is_picked.1)
-          (outs_kept (view_of core took said) (view_of mid took noted) (stays_put has_picked) ends outs)
-
 -- the same, told before the pick
 module _ {J T : Type 0} {same : J → J → Type 0} {made : J → ℕ} {polls : Owed J T}
     (core : CoreView J) (took : List (Envelope J)) (said : DeskView J T)
     (invariant : IsRecorded same made polls (view_of core took said) × (said ≡ desk_of (view_of core took said))) (left : turns said.journal.notes < most_turns)
     (queue vr : ℕ) (name : JobId) (started : Bool) (ahead : IsAhead core queue vr name started) (slice : List (Note T)) (slice_is : slice ≡ pick_notes queue vr name started) where
   pub may_note_pick : {before : RecordedView J T} → view_of core took said ≡ before → length before.journal.notes + 2 ≤ before.journal.room → MayNote said slice
-  may_note_pick = let picks = ahead_picks T core queue vr name started ahead in note_pick core took said invariant left queue vr name started picks.0 picks.1 picks.2 slice slice_is
+  may_note_pick =
+      let picks = ahead_picks T core queue vr name started ahead in
+      quiet_noted core took said invariant slice_is (did core took said invariant left queue vr name started picks.0 picks.1 started (pick_notes queue vr name started) picks.2)
 
   pub outs_note_pick : {E : Type 0} {fits : Order J → Outcome J T → Type 0} {out : E → Outward J T} {credited : E → ℕ} (ends : List E) → AreOutsOf fits out credited (desk_of (view_of core took said)) ends →
       (noted : DeskView J T) → noted ≡ desk_with (reverse slice) said → AreOutsOf fits out credited noted ends
-  outs_note_pick ends outs noted wrote =
+  outs_note_pick {fits = fits} {out = out} {credited = credited} ends outs noted wrote =
       let picks = ahead_picks T core queue vr name started ahead in
-      outs_picked core took said invariant left queue vr name started picks.0 picks.1 picks.2 slice slice_is noted wrote ends outs
+      subst (λ desk. AreOutsOf fits out credited desk ends) (sym (is_picked core took said invariant left queue vr name started picks.0 picks.1 picks.2 slice slice_is noted wrote).1)
+      (outs_kept (view_of core took said) (view_of picks.1 took noted) (assumption (has_picked core took said invariant left queue vr name started picks.0 picks.1 picks.2 slice slice_is noted wrote)) ends outs)
 
 -- the notes of a pick are two, and that of a settling is one
 module _ {J T : Type 0} (said noted : DeskView J T) (slice : List (Note T)) (wrote : noted ≡ desk_with (reverse slice) said) where
-  written_length : length noted.journal.notes ≡ length (reverse slice ++ said.journal.notes)
-  written_length = ap (λ (desk : DeskView J T). length desk.journal.notes) wrote
-
   pub noted_pick : (queue vr : ℕ) (name : JobId) (started : Bool) → slice ≡ pick_notes queue vr name started → length noted.journal.notes ≡ length said.journal.notes + 2
   noted_pick queue vr name started slice_is = grind arith
 
@@ -121,11 +93,14 @@ module _ {J T E : Type 0} {same : J → J → Type 0} {done : J → Bool} {can_p
   at_pick : IsRecorded same made polls picked × (noted ≡ desk_of picked)
   at_pick = is_picked core took said invariant few_turns queue vr name started whole.ran.before whole.mid whole.picks slice slice_is noted wrote
 
+  picks_it : HasStepped same made polls everyone nobody (λ old new. IsPick old name queue started whole.ran.before new) old picked
+  picks_it = has_picked core took said invariant few_turns queue vr name started whole.ran.before whole.mid whole.picks slice slice_is noted wrote
+
   rest : left ≡ record noted { journal = record noted.journal { notes = left.journal.notes }; lanes = left.lanes }
   rest = posted_rest noted left ends later posted
 
   said_left : HasSaid same made polls left picked polled_view
-  said_left = has_said whole.mid took noted at_pick refl rest written (posted_silent noted left ends later posted)
+  said_left = has_said whole.mid took noted at_pick refl rest written (subst (SaysNoMore noted.journal.notes) (sym (ap (λ desk. desk.journal.notes) posted.desk)) (all_posted posted.notes noted.journal.notes posted.posts))
 
   at_poll : IsRecorded same made polls polled_view × (left ≡ desk_of polled_view)
   at_poll = (said_left.sound, said_left.is_its)
@@ -133,18 +108,14 @@ module _ {J T E : Type 0} {same : J → J → Type 0} {done : J → Bool} {can_p
   polled : IsPolled same made polls answers whole.ran
   polled = record { answered = whole.polled.answered; same_task = whole.polled.task; later = whole.polled.later }
 
-  its_job : whole.settles.0.job ≡ whole.ran.before
-  its_job =
-      ap (λ (job : JobOut J). job.job)
-      (same_Some _ _ (sym whole.settles.1 ∙ went_out core took said invariant few_turns queue vr name started whole.ran.before whole.mid started (pick_notes queue vr name started) whole.picks))
+  abbrev its_out : JobOut J
+  its_out = record { name = name; queue = queue; job = whole.ran.before }
 
-  its_name : whole.settles.0.name ≡ name
-  its_name =
-      ap (λ (job : JobOut J). job.name)
-      (same_Some _ _ (sym whole.settles.1 ∙ went_out core took said invariant few_turns queue vr name started whole.ran.before whole.mid started (pick_notes queue vr name started) whole.picks))
+  it_is : whole.settles.0 ≡ its_out
+  it_is = same_Some _ _ (sym whole.settles.1 ∙ picks_it.does_so.out)
 
   last_step : HasDone same made polls polled_view core_now everyone (given_settled whole.settles.0.name whole.ran.step) 1 (λ old new. Settles made polls answers old whole.ran spent (settled_of step) new) told
-  last_step = settled_did is_same answers_same polled_view at_poll.0 whole.settles.0 whole.settles.1 core_now whole.ran its_job polled spent (settled_of step) told whole.settles.2
+  last_step = settled_did is_same answers_same polled_view at_poll.0 whole.settles.0 whole.settles.1 core_now whole.ran (ap (λ job. job.job) it_is) polled spent (settled_of step) told whole.settles.2
 
   -- the desk and its ends are those of the core between pick and settling
   posts_of : (P : PostView J T E → PostView J T E → Type 0) → P (record { desk = noted; ends = ends }) (record { desk = left; ends = later }) → P (post_of picked ends) (post_of polled_view later)
@@ -172,9 +143,6 @@ module _ {J T E : Type 0} {same : J → J → Type 0} {done : J → Bool} {can_p
       owes_it : OwesSettled polled_view (settled_of step) new
       owes_it = owes_settled polled_view _ whole.settles.0 whole.settles.1 whole.ran.step (settled_of step) settles_it.tells (λ sender. has_settled.ins sender tt)
 
-      picks_it : HasStepped same made polls everyone nobody (λ old new. IsPick old name queue started whole.ran.before new) old picked
-      picks_it = has_picked core took said invariant few_turns queue vr name started whole.ran.before whole.mid whole.picks slice slice_is noted wrote
-
       turned : {does : Doing (PostView J T E) J T} {tells : ℕ → Type 0} → tells spent → Makes does calls (record { desk = noted; ends = ends }) (record { desk = left; ends = later }) →
           IsPostingTurn same made polls answers does out untouched tells old ends name queue started (settled_of step) new later
       turned {does} told_it makes = record {
@@ -185,7 +153,7 @@ module _ {J T E : Type 0} {same : J → J → Type 0} {done : J → Bool} {can_p
         told = told_it;
         picks = picks_it.does_so;
         sound = at_pick.0;
-        stays = stays_put picks_it;
+        stays = assumption picks_it;
         keeps = λ sender. picks_it.ins sender tt;
         owed = record { calls = calls; owed = whole.polled.owed; makes = posts_of (Makes does calls) makes };
         posted = posts_of (HasPosted out untouched) posted;
@@ -193,31 +161,20 @@ module _ {J T E : Type 0} {same : J → J → Type 0} {done : J → Bool} {can_p
         silent = said_left.ins;
         polled = polled;
         settles = settles_it;
-        stays_settled = stays_put has_settled;
+        stays_settled = assumption has_settled;
         owes = owes_it;
       }
-
-      turned_owes : (sender : ℕ) → LeavesOwed sender (told_under name (option_map outcome_note (outcome_settled {J = J} (settled_of step))) sender) old new
-      turned_owes sender =
-          subst (λ name. LeavesOwed sender (told_under name (option_map outcome_note (outcome_settled {J = J} (settled_of step))) sender) old new) its_name
-          (owes_then old picked polled_view new sender (picks_it.ins sender tt) (said_left.ins sender) (owes_it whole.settles.0 whole.settles.1 sender))
-
-      turned_answer : MayAnswer answers took name (settled_of step)
-      turned_answer =
-          let job_is = same_Some _ _ (sym settles_it.was_out ∙ went_out core took said invariant few_turns queue vr name started whole.ran.before whole.mid started (pick_notes queue vr name started) whole.picks) in
-          subst (λ name. MayAnswer answers took name (settled_of step)) (ap (λ (job : JobOut J). job.name) job_is)
-          (its_answer answers took settles_it.out.name settles_it.out.queue settles_it.sent settles_it.task whole.ran.step (settled_of step) settles_it.tells settles_it.answered)
-
-      turned_outs : {fits : Order J → Outcome J T → Type 0} {credited : E → ℕ} → AreOutsOf fits out credited left later → AreOutsOf fits out credited (desk_of new) later
-      turned_outs {fits} {credited} outs = outs_kept polled_view new (stays_put has_settled) later (subst (λ desk. AreOutsOf fits out credited desk later) at_poll.1 outs)
-
-      turned_seat : IsSameSeat old new
-      turned_seat =
-          let one = picks_it.seat in
-          let other = has_settled.seat in
-          assumption (other.number ∙ one.number, other.cores ∙ one.cores, other.cap ∙ (ap (λ desk. desk.cap) rest ∙ one.cap), other.room ∙ (ap (λ desk. desk.journal.room) rest ∙ one.room))
 
       pub turned_noted : {fits : Order J → Outcome J T → Type 0} {credited : E → ℕ} {tells : ℕ → Type 0} → tells spent → Makes (Does fits out credited untouched) calls (lends noted ends) (lends left later) →
           AreOutsOf fits out credited left later → length said_now.journal.notes ≤ length said.journal.notes + core.cores * (3 * said.cap) + 3 →
           TurnsNoted same made polls answers fits out credited untouched tells old ends name queue started (settled_of step) new later
-      turned_noted {tells = tells} told_it makes outs few = assumption (turned {tells = tells} told_it makes, turned_owes, turned_answer, turned_outs outs, settles_it.out_now, turned_seat, turned_invariant)
+      turned_noted {fits = fits} {credited = credited} {tells = tells} told_it makes outs few =
+          let owes = λ (sender : ℕ). subst (λ name. LeavesOwed sender (told_under name (option_map outcome_note (outcome_settled {J = J} (settled_of step))) sender) old new) (ap (λ job. job.name) it_is)
+          (record { each = λ inward is. (owes_it whole.settles.0 whole.settles.1 sender).each inward ((said_left.ins sender).each inward ((picks_it.ins sender tt).each inward is)) }) in
+          let may_answer = subst (λ name. MayAnswer answers took name (settled_of step)) (ap (λ job. job.name) (same_Some settles_it.out its_out (sym settles_it.was_out ∙ picks_it.does_so.out)))
+          (its_answer answers took settles_it.out.name settles_it.out.queue settles_it.sent settles_it.task whole.ran.step (settled_of step) settles_it.tells settles_it.answered) in
+          let outs_now = outs_kept polled_view new (assumption has_settled) later (subst (λ desk. AreOutsOf fits out credited desk later) at_poll.1 outs) in
+          let one = picks_it.seat in
+          let other = has_settled.seat in
+          let seat : IsSameSeat old new = assumption (other.number ∙ one.number, other.cores ∙ one.cores, other.cap ∙ (ap (λ desk. desk.cap) rest ∙ one.cap), other.room ∙ (ap (λ desk. desk.journal.room) rest ∙ one.room)) in
+          assumption (turned {tells = tells} told_it makes, settles_it.out_now, turned_invariant)

@@ -2,23 +2,28 @@
 use Rattle.rt_journal.proofs.Names.{◌≡◌, ℕ, ◌+◌, ◌≤◌, Bool, true, false, ◌∷◌, length, refl, ap, arith, Option, None}
 use Rattle.rt_journal.proofs.Names.{JobId, Order, final_count, Journal, EachNote, if_from, delivered_names}
 use Rattle.rt_journal.proofs.Names.{given_outcomes, Step, DeliversAs, poll_note, settle_note, RecordedView, IsHeld}
-use Rattle.rt_journal.proofs.Names.{IsTaken, sum_upto, delivered_count, given_count, IsInOf, LeavesOwed, GivesMore}
-use Rattle.rt_journal.proofs.Names.{IsUngiven, KeepsSent, IsSameSeat, grows, OutcomeNote, Inward, ◌*◌, List, [], ◌++◌}
-use Rattle.rt_journal.proofs.Names.{sym, ◌∙◌, subst, Some, All, Note, Owed, waiting_of, CoreView, JobOut, inside_count}
-use Rattle.rt_journal.proofs.Names.{IsKept, IsWritten, terms_at, desk_of, IsRecorded, HasTask, note_taken, KeepsOuts}
-use Rattle.rt_journal.proofs.Names.{with_notes, reverse, Envelope, DeskView, terms_of_desk, desk_with}
+use Rattle.rt_journal.proofs.Names.{sum_upto, delivered_count, given_count, IsInOf, LeavesOwed, GivesMore, IsUngiven}
+use Rattle.rt_journal.proofs.Names.{KeepsSent, IsSameSeat, grows, OutcomeNote, Inward, ◌*◌, List, [], ◌++◌, sym, ◌∙◌}
+use Rattle.rt_journal.proofs.Names.{subst, Some, All, Note, Owed, waiting_of, CoreView, JobOut, inside_count, IsKept}
+use Rattle.rt_journal.proofs.Names.{IsWritten, terms_at, desk_of, IsRecorded, HasTask, KeepsOuts, with_notes, reverse}
+use Rattle.rt_journal.proofs.Names.{Envelope, DeskView, terms_of_desk, desk_with, keeps_outs}
 use Rattle.rt_ids.specs.declared.note.Note.TheVariants as writes
 use Rattle.rt_jobs.specs.declared.job.Step.TheVariants as steps
 use Rattle.rt_ids.specs.declared.note.OutcomeNote.TheVariants as outcomes
 use Rattle.rt_journal.proofs.EndsKept.{keeps_in}
-use Rattle.rt_recorded_desk.proofs.OutEnds.{keeps_outs}
 use Rattle.rt_journal.proofs.Sums.{sum_upto-same}
 
--- nothing is sent, collected or delivered by the notes; one outcome is given more to each sender who is given one
-pub record IsQuiet {T : Type 0} (gives : ℕ → Option (JobId × OutcomeNote T)) (old new : Journal T) : Type 0 where
+-- nothing is sent, collected or delivered by the notes; one outcome is given more to each sender who is given one; the gates of these senders aren't shut; and each delivery stays as sent
+pub record IsQuiet {T : Type 0} (keeps : ℕ → Type 0) (gives : ℕ → Option (JobId × OutcomeNote T)) (old new : Journal T) : Type 0 where
   pub sent : KeepsSent old new
   pub given : GivesMore gives old new
   pub delivered : (sender : ℕ) → delivered_names sender new ≡ delivered_names sender old
+  pub gates : (sender : ℕ) → keeps sender → final_count sender new ≡ final_count sender old
+  pub as_sent : (under : JobId → Option (Order (Unit {0}))) → EachNote (DeliversAs under) old → EachNote (DeliversAs under) new
+
+-- each sender there is
+abbrev pub everyone : ℕ → Type 0
+everyone sender = Unit {0}
 
 -- to nobody
 abbrev pub nobody : {T : Type 0} → ℕ → Option (JobId × OutcomeNote T)
@@ -29,63 +34,24 @@ abbrev pub given_settled : {T : Type 0} → JobId → Step T → ℕ → Option 
 given_settled name steps.Yield sender = None
 given_settled name (steps.Done value) sender = if_from sender name (name, outcomes.Finished value)
 
--- no gate is shut by the notes
-abbrev pub KeepsGates : {T : Type 0} → Journal T → Journal T → Type 0
-KeepsGates old new = (sender : ℕ) → final_count sender new ≡ final_count sender old
-
 module _ {T : Type 0} (notes : Journal T) where
   -- a pick, and the note of the poll that begins
-  pub quiet-picked : (name : JobId) (queue runtime : ℕ) (was_started : Bool) → IsQuiet nobody notes (poll_note name was_started ∷ writes.Pick queue runtime ∷ notes)
+  pub quiet-picked : (name : JobId) (queue runtime : ℕ) (was_started : Bool) → IsQuiet everyone nobody notes (poll_note name was_started ∷ writes.Pick queue runtime ∷ notes)
   quiet-picked name queue runtime false = assumption
   quiet-picked name queue runtime true = assumption
 
-  pub gates-picked : (name : JobId) (queue runtime : ℕ) (was_started : Bool) → KeepsGates notes (poll_note name was_started ∷ writes.Pick queue runtime ∷ notes)
-  gates-picked name queue runtime was_started sender = grind arith
-
   -- a poll that is settled
-  pub quiet-settled : (name : JobId) (time : ℕ) (step : Step T) → IsQuiet (given_settled name step) notes (settle_note name time step ∷ notes)
+  pub quiet-settled : (name : JobId) (time : ℕ) (step : Step T) → IsQuiet everyone (given_settled name step) notes (settle_note name time step ∷ notes)
   quiet-settled name time (steps.Done out) = assumption
   quiet-settled name time steps.Yield = assumption
 
-  pub gates-settled : (name : JobId) (time : ℕ) (step : Step T) → KeepsGates notes (settle_note name time step ∷ notes)
-  gates-settled name time step sender = grind arith
-
-  -- deliveries stay as sent behind the notes of a poll
-  pub as_sent-picked : (under : JobId → Option (Order (Unit {0}))) (name : JobId) (queue runtime : ℕ) (was_started : Bool) → EachNote (DeliversAs under) notes →
-      EachNote (DeliversAs under) (poll_note name was_started ∷ writes.Pick queue runtime ∷ notes)
-  as_sent-picked under name queue runtime false before = (tt, (tt, before))
-  as_sent-picked under name queue runtime true before = (tt, (tt, before))
-
-  pub as_sent-settled : (under : JobId → Option (Order (Unit {0}))) (name : JobId) (time : ℕ) (step : Step T) → EachNote (DeliversAs under) notes → EachNote (DeliversAs under) (settle_note name time step ∷ notes)
-  as_sent-settled under name time (steps.Done out) before = (tt, before)
-  as_sent-settled under name time steps.Yield before = (tt, before)
-
--- places and names stay where nothing is delivered
-module _ {T : Type 0} {gives : ℕ → Option (JobId × OutcomeNote T)} (old new : Journal T) (quiet : IsQuiet gives old new) (cores cap : ℕ) where
-  delivered_same : (sender : ℕ) → delivered_count new sender ≡ delivered_count old sender
-  delivered_same sender = ap length (quiet.delivered sender)
-
-  pub held-quiet : (jobs now : ℕ) → IsHeld cores cap jobs old → now + sum_upto (given_count new) cores ≤ jobs + sum_upto (given_count old) cores → IsHeld cores cap now new
-  held-quiet jobs now held fewer = record {
-    each = λ sender there.
-        let was : delivered_count old sender ≤ given_count old sender + cap = held.each sender there in
-        omega (arith, was, delivered_same sender, ap length (quiet.given sender), grows (given_outcomes sender old) (gives sender));
-    inside = omega (arith, held.inside, fewer, sum_upto-same (delivered_count new) (delivered_count old) cores delivered_same);
-  }
-
-  pub taken-quiet : (name : JobId) → IsTaken cores old name → IsTaken cores new name
-  taken-quiet name taken = record { sender = taken.sender; old = omega (arith, taken.old, delivered_same name.from) }
-
--- the end of a sender owes what is given, and stays else, where its gate isn't shut
-pub ins-quiet : {J T : Type 0} {gives : ℕ → Option (JobId × OutcomeNote T)} (old new : RecordedView J T) → IsSameSeat old new → IsQuiet gives old.journal.notes new.journal.notes → new.took ≡ old.took →
-    (sender : ℕ) → final_count sender new.journal.notes ≡ final_count sender old.journal.notes → ((inward : Inward J T) → IsInOf sender old inward → IsUngiven (gives sender) inward.given) →
-    LeavesOwed sender (gives sender) old new
-ins-quiet old new seat quiet took sender gates ungiven =
-    keeps_in old new seat sender _ (quiet.given sender) gates ungiven (ap length (quiet.delivered sender)) (λ name order from at. rw (← took) at)
-
--- each sender there is
-abbrev pub everyone : ℕ → Type 0
-everyone sender = Unit {0}
+-- where nothing is delivered, places stay, and no more jobs are inside than orders wait
+pub held_on : {T : Type 0} (gives : ℕ → Option (JobId × OutcomeNote T)) (old new : Journal T) → ((sender : ℕ) → delivered_names sender new ≡ delivered_names sender old) → GivesMore gives old new →
+    (cores cap jobs now : ℕ) → now + sum_upto (given_count new) cores ≤ jobs + sum_upto (given_count old) cores → IsHeld cores cap jobs old → IsHeld cores cap now new
+held_on gives old new delivered given cores cap jobs now fewer held = record {
+  each = λ sender there. omega (arith, held.each sender there, ap length (delivered sender), ap length (given sender), grows (given_outcomes sender old) (gives sender));
+  inside = omega (arith, held.inside, fewer, sum_upto-same (delivered_count new) (delivered_count old) cores (λ sender. ap length (delivered sender)));
+}
 
 module _ {J T : Type 0} (old : RecordedView J T) (core : CoreView J) (written : List (Note T)) where
   -- the core as it is now, beside a journal that is longer by these notes, the newest first
@@ -96,17 +62,14 @@ module _ {J T : Type 0} (old : RecordedView J T) (core : CoreView J) (written : 
   longer = written ++ old.journal.notes
 
   module _ (same : J → J → Type 0) (made : J → ℕ) (polls : Owed J T) where
-    -- the gates of these senders aren't shut by it
     pub record IsQuietStep (keeps : ℕ → Type 0) (gives : ℕ → Option (JobId × OutcomeNote T)) : Type 0 where
       pub kept : IsKept (terms_at old) core longer
       pub number : core.core ≡ old.core.core
       pub cores : core.cores ≡ old.core.cores
       pub room : core.queues.room ≡ old.core.queues.room
-      pub quiet : IsQuiet gives old.journal.notes longer
+      pub quiet : IsQuiet keeps gives old.journal.notes longer
       pub ungiven : (sender : ℕ) (inward : Inward J T) → IsInOf sender old inward → IsUngiven (gives sender) inward.given
-      pub gates : (sender : ℕ) → keeps sender → final_count sender longer ≡ final_count sender old.journal.notes
       pub fewer : inside_count core + sum_upto (given_count longer) old.core.cores ≤ inside_count old.core + sum_upto (given_count old.journal.notes) old.core.cores
-      pub as_sent : EachNote (DeliversAs (note_taken old.took)) longer
       pub waiting : (queue : ℕ) → All (λ entry. HasTask same made polls old.took longer queue entry.0 entry.2) (waiting_of queue core.queues)
       pub out : (job : JobOut J) → core.out ≡ Some job → HasTask same made polls old.took longer job.queue job.name job.job
 
@@ -123,11 +86,10 @@ module _ {J T : Type 0} {same : J → J → Type 0} {made : J → ℕ} {polls : 
     kept = subst (λ terms. IsKept terms core (written ++ old.journal.notes)) terms_now step.kept;
     room = step.room ∙ (recorded.room ∙ ap (λ cores. (cores + 1) * old.cap) (sym step.cores));
     held = subst (λ cores. IsHeld cores old.cap (inside_count core) (written ++ old.journal.notes)) (sym step.cores)
-        (held-quiet old.journal.notes (written ++ old.journal.notes) step.quiet old.core.cores old.cap (inside_count old.core) (inside_count core) recorded.held step.fewer);
+        (held_on gives old.journal.notes (written ++ old.journal.notes) step.quiet.delivered step.quiet.given old.core.cores old.cap (inside_count old.core) (inside_count core) step.fewer recorded.held);
     taken = λ name order at.
-        let was = taken-quiet old.journal.notes (written ++ old.journal.notes) step.quiet old.core.cores old.cap name (recorded.taken name order at) in
-        record { sender = rw step.cores was.sender; old = was.old };
-    as_sent = step.as_sent;
+        let was = recorded.taken name order at in record { sender = rw step.cores was.sender; old = omega (arith, was.old, ap length (step.quiet.delivered name.from)) };
+    as_sent = step.quiet.as_sent _ recorded.as_sent;
     waiting = step.waiting;
     out = step.out;
   }
@@ -136,21 +98,7 @@ module _ {J T : Type 0} {same : J → J → Type 0} {made : J → ℕ} {polls : 
   seat_step = record { number = step.number; cores = step.cores; cap = refl; room = refl }
 
   pub ins_step : (sender : ℕ) → keeps sender → LeavesOwed sender (gives sender) old new
-  ins_step sender kept = ins-quiet old new seat_step step.quiet refl sender (step.gates sender kept) (step.ungiven sender)
-
-  pub outs_step : KeepsOuts (desk_of old) (desk_of new)
-  outs_step = keeps_outs (desk_of old) (desk_of new) (λ i. record { actor = step.number i; cores = step.cores i; cap = old.cap; journal = new.journal; lanes = old.lanes }) step.quiet.sent
-
-  pub written_step : IsWritten (terms_at old) (written ++ old.journal.notes)
-  written_step = record { notes = step.kept.notes; no_pick = step.kept.no_pick; no_answer = step.kept.no_answer }
-
--- where a call did nothing, all is as it was
-module _ {J T : Type 0} {same : J → J → Type 0} {made : J → ℕ} {polls : Owed J T}
-    (old : RecordedView J T) (recorded : IsRecorded same made polls old) where
-  pub nothing_done : IsQuietStep old old.core [] same made polls everyone nobody
-  nothing_done =
-      let fewer : inside_count old.core + sum_upto (given_count old.journal.notes) old.core.cores ≤ inside_count old.core + sum_upto (given_count old.journal.notes) old.core.cores = omega arith in
-      assumption
+  ins_step sender kept = keeps_in old new seat_step sender _ (step.quiet.given sender) (step.quiet.gates sender kept) (step.ungiven sender) (ap length (step.quiet.delivered sender)) (λ name order from at. at)
 
 module _ {J T : Type 0} (same : J → J → Type 0) (made : J → ℕ) (polls : Owed J T) (old : RecordedView J T) (core : CoreView J) where
   -- what a call of the core did: a quiet step of few notes, and what its caller is told of it
@@ -165,9 +113,13 @@ module _ {J T : Type 0} {same : J → J → Type 0} {made : J → ℕ} {polls : 
       length written ≤ most → does old (stepped old core (reverse written)) → HasDone same made polls old core keeps gives most does notes
   done_so {keeps = keeps} {gives = gives} is step few does_so = subst (HasDone same made polls old core keeps gives most does) (sym is) (record { step = step; few = few; does_so = does_so })
 
+  -- where a call did nothing, all is as it was
   pub nothing_did : IsRecorded same made polls old → core ≡ old.core → notes ≡ [] → does old old → HasDone same made polls old core everyone nobody most does notes
-  nothing_did recorded core_is is does_so = subst (HasDone same made polls old core everyone nobody most does) (sym is)
-      (subst (λ core. HasDone same made polls old core everyone nobody most does []) (sym core_is) (record { step = nothing_done old recorded; few = omega arith; does_so = does_so }))
+  nothing_did recorded core_is is does_so =
+      let fewer : inside_count old.core + sum_upto (given_count old.journal.notes) old.core.cores ≤ inside_count old.core + sum_upto (given_count old.journal.notes) old.core.cores = omega arith in
+      let nothing : IsQuietStep old old.core [] same made polls everyone nobody = assumption in
+      subst (HasDone same made polls old core everyone nobody most does) (sym is)
+      (subst (λ core. HasDone same made polls old core everyone nobody most does []) (sym core_is) (record { step = nothing; few = omega arith; does_so = does_so }))
 
 module _ {J T : Type 0} where
   -- the view of these parts
@@ -213,7 +165,7 @@ module _ {J T : Type 0} {same : J → J → Type 0} {made : J → ℕ} {polls : 
   old = view_of core took said
 
   pub quiet_noted : {before : RecordedView J T} → old ≡ before → length before.journal.notes + most ≤ before.journal.room → MayNote said slice
-  quiet_noted = may_note core took said invariant.1 slice_is (written_step old invariant.0 after (reverse notes) did.step) did.step.quiet.sent did.few
+  quiet_noted = may_note core took said invariant.1 slice_is (record { notes = did.step.kept.notes; no_pick = did.step.kept.no_pick; no_answer = did.step.kept.no_answer }) did.step.quiet.sent did.few
 
   module _ {said_now : DeskView J T} (wrote : said_now ≡ desk_with (reverse slice) said) where
     now_written : said_now ≡ desk_with (reverse notes) said
@@ -240,6 +192,7 @@ module _ {J T : Type 0} {same : J → J → Type 0} {made : J → ℕ} {polls : 
         sound = recorded_step old invariant.0 after (reverse notes) did.step;
         seat = seat_step old invariant.0 after (reverse notes) did.step;
         ins = ins_step old invariant.0 after (reverse notes) did.step;
-        outs = outs_step old invariant.0 after (reverse notes) did.step;
+        outs = keeps_outs (desk_of old) (desk_of (stepped old after (reverse notes)))
+            (λ i. record { actor = did.step.number i; cores = did.step.cores i; cap = old.cap; journal = with_notes (reverse notes) old.journal; lanes = old.lanes }) did.step.quiet.sent;
         lanes = refl;
       })

@@ -1,32 +1,25 @@
 -- A core beside its journal stays recorded as an order is delivered to it: the orders by their names, the polls of a new job, and all else.
-use Rattle.rt_journal.proofs.Names.{◌≡◌, Bool, true, false, List, [], ◌∷◌, ◌++◌, refl, ◌∙◌, ap, ◌⊎◌, Option, Some}
-use Rattle.rt_journal.proofs.Names.{None, option_map, JobId, Note, Envelope, Order, Job, Journal, EachNote, IsOpening}
-use Rattle.rt_journal.proofs.Names.{one_name, same_as_itself, without_job, CarriesOut, DeliversAs, order_taken}
-use Rattle.rt_journal.proofs.Names.{note_taken, ◌+◌, sym, subst, arith, true≢false, false_from_ne_true, Terms, Yield}
-use Rattle.rt_journal.proofs.Names.{Done, is_name, delivered_names, name_delivered, number_if, name_settled, MayFollow}
-use Rattle.rt_journal.proofs.Names.{MayStand, grows, alone_out, IsOld, known_of, polls_made, ℕ, ◌*◌, ◌<◌, ◌≤◌, length}
-use Rattle.rt_journal.proofs.Names.{⊎_elim, get_or, zero-add, ◌==◌, All, reverse, eq-eqb, ne_eqb, cases_eq}
-use Rattle.rt_journal.proofs.Names.{length-reverse, All-append, given_outcomes, Owed, IsSameTask, waiting_of, CoreView}
-use Rattle.rt_journal.proofs.Names.{inside_count, delivered_of, Delivered, IsNextDelivered, IsSpelledOrder, IsKept}
-use Rattle.rt_journal.proofs.Names.{IsWritten, RecordedView, terms_at, IsRecorded, IsHeld, IsTaken, HasTask, OwesAfter}
-use Rattle.rt_journal.proofs.Names.{sum_upto, delivered_count, given_count, IsSameSeat, KeepsSent, GivesMore}
+use Rattle.rt_journal.proofs.Names.{same_name, cond, or_else, ◌==◌, ne_eqb, ◌≡◌, Bool, true, false, List, [], ◌∷◌}
+use Rattle.rt_journal.proofs.Names.{◌++◌, refl, ◌∙◌, ap, ◌⊎◌, Option, Some, None, option_map, JobId, Note, Envelope}
+use Rattle.rt_journal.proofs.Names.{Order, Job, Journal, EachNote, one_name, same_as_itself, without_job, CarriesOut}
+use Rattle.rt_journal.proofs.Names.{DeliversAs, order_taken, note_taken, ◌+◌, sym, subst, arith, true≢false}
+use Rattle.rt_journal.proofs.Names.{false_from_ne_true, Terms, Yield, Done, is_name, delivered_names, name_delivered}
+use Rattle.rt_journal.proofs.Names.{number_if, name_settled, MayFollow, MayStand, grows, alone_out, IsOld, known_of}
+use Rattle.rt_journal.proofs.Names.{polls_made, ℕ, ◌*◌, ◌<◌, ◌≤◌, length, ⊎_elim, zero-add, All, reverse, eq-eqb}
+use Rattle.rt_journal.proofs.Names.{given_outcomes, Owed, IsSameTask, waiting_of, CoreView, inside_count, Delivered}
+use Rattle.rt_journal.proofs.Names.{IsSpelledOrder, IsKept, RecordedView, terms_at, IsRecorded, IsHeld, IsTaken}
+use Rattle.rt_journal.proofs.Names.{HasTask, OwesAfter, sum_upto, delivered_count, given_count, IsSameSeat, GivesMore}
 use Rattle.rt_journal.proofs.Names.{told_under, outcome_delivered, OutcomeNote, outcome_note, IsNextIn, Receives}
-use Rattle.rt_journal.proofs.Names.{JobOut}
+use Rattle.rt_journal.proofs.Names.{CoreDelivers}
 use Rattle.rt_ids.specs.declared.note.Note.TheVariants as writes
-use Rattle.rt_core.specs.Deliveries.{Delivers as CoreDelivers}
-use Rattle.rt_journal.proofs.Sums.{sum_upto-one_more, sum_upto-room}
+use Rattle.rt_journal.proofs.Sums.{everywhere, sum_upto-one_more, sum_upto-room}
 use Rattle.rt_journal.proofs.CarriedOut.{IsCarriedOut, IsOf, carries_out}
 
 module _ {J : Type 0} (last : Envelope J) where
-  -- an order stays under its name
-  pub order_taken-longer : (took : List (Envelope J)) (name : JobId) (order : Order J) → order_taken took name ≡ Some order → order_taken (took ++ last ∷ []) name ≡ Some order
-  order_taken-longer [] name order at = cc
-  order_taken-longer (envelope ∷ later) name order at = grind (arith, order_taken-longer later name order)
-
-  -- the last one stands under its name, if that is new
-  pub order_taken-last : (took : List (Envelope J)) → order_taken took last.name ≡ None → order_taken (took ++ last ∷ []) last.name ≡ Some last.order
-  order_taken-last [] none = rw (same_as_itself last.name)
-  order_taken-last (envelope ∷ later) none = grind (arith, order_taken-last later)
+  -- under a name stands what stood there, and else the last one, if it has that name
+  pub order_taken-with : (took : List (Envelope J)) (name : JobId) → order_taken (took ++ last ∷ []) name ≡ or_else (order_taken took name) (cond (same_name name last.name) (Some last.order) None)
+  order_taken-with [] name = grind arith
+  order_taken-with (envelope ∷ later) name = grind (arith, order_taken-with later name)
 
   -- what stands under a name stood there, or is the last one
   pub order_taken-parts : (took : List (Envelope J)) (name : JobId) (order : Order J) → order_taken (took ++ last ∷ []) name ≡ Some order →
@@ -61,12 +54,6 @@ as_sent-stays {T} old new stays (note ∷ before) each = (by_note note each.0, a
     by_note (writes.QueueClosed queue mode) sent = carried (writes.QueueClosed queue mode) before sent
     by_note (writes.CoreClosed mode) sent = carried (writes.CoreClosed mode) before sent
     by_note _ sent = tt
-
--- a creation at the opening carries out no order
-pub carries_out-opening : {T : Type 0} (under : JobId → Option (Order (Unit {0}))) (note : Note T) (before : Journal T) → IsOpening before → CarriesOut under note before
-carries_out-opening under note [] opening = tt
-carries_out-opening under note (writes.Created queue weight ∷ before) opening = tt
-carries_out-opening under note (_ ∷ before) opening = absurd opening
 
 module _ {T : Type 0} (terms : Terms) where
   -- whose poll is settled was delivered before
@@ -108,9 +95,6 @@ module _ {J T : Type 0} {same : J → J → Type 0} {made : J → ℕ} {polls : 
   pub waiting_stays : (queue : ℕ) → All (λ entry. HasTask same made polls old.took (written ++ old.journal.notes) queue entry.0 entry.2) (waiting_of queue old.core.queues)
   waiting_stays queue place default within = task_stays (λ order at. at) (unpolled _) (recorded.waiting queue place default within)
 
-  pub out_stays : (job : JobOut J) → old.core.out ≡ Some job → HasTask same made polls old.took (written ++ old.journal.notes) job.queue job.name job.job
-  out_stays job at = task_stays (λ order at. at) (unpolled job.name) (recorded.out job at)
-
 module _ {J T : Type 0} {same : J → J → Type 0} {made : J → ℕ} {polls : Owed J T} (is_same : IsSameTask same)
     (old : RecordedView J T) (recorded : IsRecorded same made polls old) (envelope : Envelope J) (told : Option (OutcomeNote T)) (core : CoreView J) (written : List (Note T))
     (done : IsCarriedOut old envelope.name envelope.order told core written) (next : IsNextIn old envelope.name) where
@@ -123,9 +107,6 @@ module _ {J T : Type 0} {same : J → J → Type 0} {made : J → ℕ} {polls : 
   abbrev pub received : RecordedView J T
   received = record { cap = old.cap; core = core; journal = record old.journal { notes = longer }; took = old.took ++ envelope ∷ []; lanes = old.lanes }
 
-  pub same_seat : IsSameSeat old received
-  same_seat = record { number = done.number; cores = done.cores; cap = refl; room = refl }
-
   counted_here : delivered_count longer name.from ≡ delivered_count old.journal.notes name.from + 1
   counted_here = done.delivered name.from ∙ ap (λ test. delivered_count old.journal.notes name.from + number_if test) (eq-eqb name.from name.from refl)
 
@@ -133,10 +114,10 @@ module _ {J T : Type 0} {same : J → J → Type 0} {made : J → ℕ} {polls : 
   fresh = grind (arith, recorded.taken name)
 
   pub here : order_taken received.took name ≡ Some envelope.order
-  here = order_taken-last envelope old.took fresh
+  here = order_taken-with envelope old.took name ∙ (λ i. or_else (fresh i) (cond (same_as_itself name i) (Some envelope.order) None))
 
   stays : (which : JobId) (order : Order J) → order_taken old.took which ≡ Some order → order_taken received.took which ≡ Some order
-  stays which order at = order_taken-longer envelope old.took which order at
+  stays which order at = order_taken-with envelope old.took which ∙ ap (λ found. or_else found (cond (same_name which name) (Some envelope.order) None)) at
 
   held_now : IsHeld core.cores old.cap (inside_count core) longer
   held_now = record { each = each; inside = subst (λ cores. inside_count core + sum_upto (given_count longer) cores ≤ sum_upto (delivered_count longer) cores) (sym done.cores) inside }
@@ -145,14 +126,10 @@ module _ {J T : Type 0} {same : J → J → Type 0} {made : J → ℕ} {polls : 
       given_more from = omega (arith, ap length (done.given from), grows (given_outcomes from old.journal.notes) (told_under name told from))
 
       each : (from : ℕ) → from ≤ core.cores → delivered_count longer from ≤ given_count longer from + old.cap
-      each from there =
-          ⊎_elim
-          (λ one. subst (λ at. delivered_count longer at ≤ given_count longer at + old.cap) (sym one) (omega (arith, counted_here, next.place, given_more name.from)))
-          (λ other.
-          let was : delivered_count old.journal.notes from ≤ given_count old.journal.notes from + old.cap = recorded.held.each from (omega (arith, there, done.cores)) in
-          let none : number_if (name.from == from) ≡ 0 = ap number_if (ne_eqb name.from from (λ one. other (sym one))) in
-          omega (arith, was, none, done.delivered from, given_more from))
-          (cases_eq from name.from)
+      each = everywhere (λ at. at ≤ core.cores → delivered_count longer at ≤ given_count longer at + old.cap) name.from (λ there. omega (arith, counted_here, next.place, given_more name.from))
+          (λ other away there.
+          let none : number_if (name.from == other) ≡ 0 = ap number_if (ne_eqb name.from other (λ one. away (sym one))) in
+          omega (arith, recorded.held.each other (omega (arith, there, done.cores)), none, done.delivered other, given_more other))
 
       inside : inside_count core + sum_upto (given_count longer) old.core.cores ≤ sum_upto (delivered_count longer) old.core.cores
       inside =
@@ -170,26 +147,19 @@ module _ {J T : Type 0} {same : J → J → Type 0} {made : J → ℕ} {polls : 
   abbrev Task : ℕ → JobId × Bool × J → Type 0
   Task queue entry = HasTask same made polls received.took longer queue entry.0 entry.2
 
-  came_tasks : (queue : ℕ) → All (Task queue) (done.entered.more queue)
-  came_tasks queue place default within = let is = done.entered.came queue place default within in by_entry (get_or (done.entered.more queue) place default) is
-    where
-      never : polls_made name longer ≡ 0
-      never = done.polls name ∙ polls_made-fresh (terms_at old) name old.journal.notes recorded.kept.notes (λ late. omega (arith, late, next.next))
-
-      by_entry : (entry : JobId × Bool × J) → IsOf name envelope.order queue entry → Task queue entry
-      by_entry entry is = record {
-        sent = entry.2;
-        task = ap (order_taken received.took) is.0 ∙ (here ∙ ap Some is.1);
-        same_task = is_same.itself entry.2;
-        owes = subst (λ count. OwesAfter same made polls entry.2 count entry.2) (sym (ap (λ which. polls_made which longer) is.0 ∙ never))
-            (λ more calls step told owed. subst (λ place. polls entry.2 (made entry.2 + place) calls step told) (sym (zero-add more)) owed);
-      }
-
   waiting_now : (queue : ℕ) → All (Task queue) (waiting_of queue core.queues)
-  waiting_now queue =
-      subst (All (Task queue)) (sym (done.entered.lines queue))
-      (All-append (Task queue) (waiting_of queue old.core.queues) (done.entered.more queue)
-      (λ place default within. task_stays (stays _) (done.polls _) (recorded.waiting queue place default within)) (came_tasks queue))
+  waiting_now = done.entered Task (λ queue place default within. task_stays (stays _) (done.polls _) (recorded.waiting queue place default within)) came
+    where
+      came : (queue : ℕ) (entry : JobId × Bool × J) → IsOf name envelope.order queue entry → Task queue entry
+      came queue entry is =
+          let never = done.polls name ∙ polls_made-fresh (terms_at old) name old.journal.notes recorded.kept.notes (λ late. omega (arith, late, next.next)) in
+          record {
+            sent = entry.2;
+            task = ap (order_taken received.took) is.0 ∙ (here ∙ ap Some is.1);
+            same_task = is_same.itself entry.2;
+            owes = subst (λ count. OwesAfter same made polls entry.2 count entry.2) (sym (ap (λ which. polls_made which longer) is.0 ∙ never))
+                (λ more calls step told owed. subst (λ place. polls entry.2 (made entry.2 + place) calls step told) (sym (zero-add more)) owed);
+          }
 
   terms_now : terms_at old ≡ terms_at received
   terms_now = λ i. record { actor = sym done.number i; cores = sym done.cores i; cap = old.cap }
@@ -214,15 +184,6 @@ room_in view name recorded next =
     sum_upto-room (delivered_count view.journal.notes) (given_count view.journal.notes) view.cap name.from view.core.cores next.sender recorded.held.each next.place in
     omega (arith, left, recorded.held.inside, recorded.room)
 
-module _ {J T : Type 0} {same : J → J → Type 0} {made : J → ℕ} {polls : Owed J T} (old : RecordedView J T) (name : JobId)
-    (recorded : IsRecorded same made polls old) (next : IsNextIn old name) where
-  pub next_delivered : IsNextDelivered (terms_at old) name old.journal.notes
-  next_delivered = record { sender = next.sender; receiver = next.receiver; next = next.next; in_range = next.in_range; gate = next.gate }
-
-  -- the core counts as its journal does
-  pub next_for_core : name.number ≡ delivered_of name.from old.core + 1
-  next_for_core = let counted = recorded.kept.agrees.delivered name.from next.sender in omega (arith, next.next, counted)
-
 -- what a call leaves that received an order
 pub record HasReceived {J T : Type 0} (same : J → J → Type 0) (made : J → ℕ) (polls : Owed J T) (envelope : Envelope J) (told : Option (OutcomeNote T)) (old new : RecordedView J T) : Type 0 where
   pub sound : IsRecorded same made polls new
@@ -240,17 +201,13 @@ module _ {J T : Type 0} {same : J → J → Type 0} {made : J → ℕ} {polls : 
   told = option_map outcome_note (outcome_delivered {T = T} delivered)
 
   pub done : IsCarriedOut old envelope.name envelope.order told core (reverse written)
-  done = carries_out old envelope.name recorded.kept (next_delivered old envelope.name recorded next) next.sender core envelope.order spelled delivered written does
-
-  -- what the desk asks of the notes
-  pub notes_fit : IsWritten (terms_at old) (reverse written ++ old.journal.notes) × KeepsSent old.journal.notes (reverse written ++ old.journal.notes) × (length written ≤ 2)
-  notes_fit = (record { notes = done.kept.notes; no_pick = done.kept.no_pick; no_answer = done.kept.no_answer }, done.lists.sent, omega (arith, done.few, length-reverse written))
+  done = carries_out old envelope.name recorded.kept (assumption next) next.sender core envelope.order spelled delivered written does
 
   module _ (new : RecordedView J T) (is : new ≡ record { cap = old.cap; core = core; journal = record old.journal { notes = reverse written ++ old.journal.notes }; took = old.took ++ envelope ∷ []; lanes = old.lanes }) where
     pub received_now : HasReceived same made polls envelope told old new
     received_now = subst (HasReceived same made polls envelope told old) (sym is) (record {
       sound = recorded_now is_same old recorded envelope told core (reverse written) done next;
-      seat = same_seat is_same old recorded envelope told core (reverse written) done next;
+      seat = record { number = done.number; cores = done.cores; cap = refl; room = refl };
       receives = record { notes = reverse written; delivery = done.delivery; journal = refl; took = refl; out = done.out; lists = done.lists; delivered = done.delivered };
       gives = done.given;
       stands = here is_same old recorded envelope told core (reverse written) done next;

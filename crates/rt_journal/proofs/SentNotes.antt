@@ -1,20 +1,19 @@
 -- A core beside its journal stays recorded as its actor submits, collects, redeems or detaches, and the ends that it receives from stay beside it.
-use Rattle.rt_journal.proofs.Names.{◌≡◌, ℕ, List, [], ◌∷◌, ◌++◌, length, refl, sym, ◌∙◌, ap, subst, arith, add-zero}
-use Rattle.rt_journal.proofs.Names.{Result, Ok, Err, None, JobId, TicketError, Unknown, Gone, Note, OutcomeNote, Order}
-use Rattle.rt_journal.proofs.Names.{Outcome, Envelope, SendError, Closed, Full, NoCore, final_count, created_count}
-use Rattle.rt_journal.proofs.Names.{shares, delivered_names, given_outcomes, DeliversAs, Journal, EachNote, or_else}
-use Rattle.rt_journal.proofs.Names.{without_job, outcome_note, Owed, CoreView, Lane, Agrees, polls_made, DeskView}
-use Rattle.rt_journal.proofs.Names.{IsWritten, Submits, terms_of_desk, RecordedView, IsRecorded, desk_of, terms_at}
-use Rattle.rt_journal.proofs.Names.{delivered_count, given_count, KeepsIn, ArePosts, AreCollected, CollectsFrom}
-use Rattle.rt_journal.proofs.Names.{RedeemsTicket, DetachesTicket, StaysBeside, Outward}
-use Rattle.rt_ids.specs.declared.names.TicketError.TheVariants.{Pending}
+use Rattle.rt_journal.proofs.Names.{inside_count, ◌≡◌, ℕ, List, [], ◌∷◌, ◌++◌, length, refl, sym, ◌∙◌, ap, subst}
+use Rattle.rt_journal.proofs.Names.{arith, add-zero, Result, Ok, Err, None, JobId, TicketError, Unknown, Gone, Note}
+use Rattle.rt_journal.proofs.Names.{OutcomeNote, Order, Outcome, Envelope, SendError, Closed, Full, NoCore}
+use Rattle.rt_journal.proofs.Names.{final_count, created_count, shares, delivered_names, given_outcomes, DeliversAs}
+use Rattle.rt_journal.proofs.Names.{Journal, EachNote, or_else, without_job, outcome_note, Owed, CoreView, Lane}
+use Rattle.rt_journal.proofs.Names.{Agrees, polls_made, DeskView, IsWritten, Submits, terms_of_desk, RecordedView}
+use Rattle.rt_journal.proofs.Names.{IsRecorded, desk_of, terms_at, given_count, KeepsIn, ArePosts, AreCollected}
+use Rattle.rt_journal.proofs.Names.{CollectsFrom, RedeemsTicket, DetachesTicket, Pending}
 use Rattle.rt_ids.specs.declared.note.Note.TheVariants as writes
 use Rattle.rt_ids.specs.declared.order.SendError.TheVariants.{Spent}
-use Rattle.rt_journal.proofs.Kept.{IsOpenNote, same_modes, closing-stays, agrees_unmoved, IsCalm}
+use Rattle.rt_journal.proofs.Kept.{IsOpenNote, closing-stays, agrees_unmoved, IsCalm}
 use Rattle.rt_journal.proofs.EndsKept.{keeps_in}
 use Rattle.rt_journal.proofs.Received.{task_stays}
 use Rattle.rt_journal.proofs.Sums.{sum_upto-same}
-use Rattle.rt_journal.proofs.QuietSteps.{view_of, desk_is}
+use Rattle.rt_journal.proofs.QuietSteps.{nobody, held_on, view_of, desk_is}
 
 -- the longer journal says no more of the core, of what was delivered and given, of gates and of polls
 pub record SaysNoMore {T : Type 0} (old new : Journal T) : Type 1 where
@@ -29,55 +28,46 @@ module _ {T : Type 0} where
   pub no_more : (journal : Journal T) → SaysNoMore journal journal
   no_more journal = assumption
 
-  no_more_then : (old mid new : Journal T) → SaysNoMore old mid → SaysNoMore mid new → SaysNoMore old new
-  no_more_then old mid new one two = record {
-    agrees = λ core agrees. two.agrees core (one.agrees core agrees);
-    delivered = λ sender. two.delivered sender ∙ one.delivered sender;
-    given = λ sender. two.given sender ∙ one.given sender;
-    gates = λ sender. two.gates sender ∙ one.gates sender;
-    as_sent = λ under is. two.as_sent under (one.as_sent under is);
-    polls = λ name. two.polls name ∙ one.polls name;
-  }
-
-  module _ (before : Journal T) where
+  -- so does one that is longer by one more note
+  module _ {old before : Journal T} (was : SaysNoMore old before) where
     -- a calm note by which nothing is delivered or given, and nothing is created, weighed or closed
     silent_note : (note : Note T) → IsCalm note before → created_count (note ∷ before) ≡ created_count before → ((queue : ℕ) → shares queue (note ∷ before) ≡ shares queue before) → IsOpenNote note →
         ((sender : ℕ) → delivered_names sender (note ∷ before) ≡ delivered_names sender before) → ((sender : ℕ) → given_outcomes sender (note ∷ before) ≡ given_outcomes sender before) →
-        ((under : _) → EachNote (DeliversAs under) before → EachNote (DeliversAs under) (note ∷ before)) → ((name : JobId) → polls_made name (note ∷ before) ≡ polls_made name before) → SaysNoMore before (note ∷ before)
+        ((under : _) → EachNote (DeliversAs under) before → EachNote (DeliversAs under) (note ∷ before)) → ((name : JobId) → polls_made name (note ∷ before) ≡ polls_made name before) → SaysNoMore old (note ∷ before)
     silent_note note calm creates weighs opens delivered given as_sent polls = record {
-      agrees = λ core was. agrees_unmoved core before note was calm creates weighs core.delivered was.senders (λ sender known. was.delivered sender known ∙ ap length (sym (delivered sender))) core.gates core.mode
-          (closing-stays core core note before (same_modes core) opens was.closing);
-      delivered = delivered;
-      given = given;
-      gates = λ sender. ap (λ told. or_else told (final_count sender before)) (opens.gates sender);
-      as_sent = as_sent;
-      polls = polls;
+      agrees = λ core agreed.
+          let agrees = was.agrees core agreed in
+          agrees_unmoved core before note agrees calm creates weighs core.delivered agrees.senders (λ sender known. agrees.delivered sender known ∙ ap length (sym (delivered sender))) core.gates core.mode
+          (closing-stays core core note before (λ queue. refl) refl refl refl opens agrees.closing);
+      delivered = λ sender. delivered sender ∙ was.delivered sender;
+      given = λ sender. given sender ∙ was.given sender;
+      gates = λ sender. ap (λ told. or_else told (final_count sender before)) (opens.gates sender) ∙ was.gates sender;
+      as_sent = λ under is. as_sent under (was.as_sent under is);
+      polls = λ name. polls name ∙ was.polls name;
     }
 
-    sent_no_more : (name : JobId) (order : Order (Unit {0})) → SaysNoMore before (writes.Sent name order ∷ before)
-    sent_no_more name order = silent_note (writes.Sent name order) refl refl (λ queue. refl) (record { queues = λ queue. refl; core = refl; gates = λ sender. refl }) (λ sender. refl) (λ sender. refl) (λ under is. (tt, is)) (λ name. add-zero (polls_made name before))
+    sent_no_more : (name : JobId) (order : Order (Unit {0})) → SaysNoMore old (writes.Sent name order ∷ before)
+    sent_no_more name order = silent_note (writes.Sent name order) (assumption) refl (λ queue. refl) (assumption) (λ sender. refl) (λ sender. refl) (λ under is. (tt, is)) (λ name. add-zero (polls_made name before))
 
-    collected_no_more : (name : JobId) (outcome : OutcomeNote T) → SaysNoMore before (writes.Collected name outcome ∷ before)
-    collected_no_more name outcome = silent_note (writes.Collected name outcome) refl refl (λ queue. refl) (record { queues = λ queue. refl; core = refl; gates = λ sender. refl }) (λ sender. refl) (λ sender. refl) (λ under is. (tt, is)) (λ name. add-zero (polls_made name before))
+    collected_no_more : (name : JobId) (outcome : OutcomeNote T) → SaysNoMore old (writes.Collected name outcome ∷ before)
+    collected_no_more name outcome = silent_note (writes.Collected name outcome) (assumption) refl (λ queue. refl) (assumption) (λ sender. refl) (λ sender. refl) (λ under is. (tt, is)) (λ name. add-zero (polls_made name before))
 
-    redeemed_no_more : (name : JobId) (outcome : OutcomeNote T) → SaysNoMore before (writes.Redeemed name outcome ∷ before)
-    redeemed_no_more name outcome = silent_note (writes.Redeemed name outcome) refl refl (λ queue. refl) (record { queues = λ queue. refl; core = refl; gates = λ sender. refl }) (λ sender. refl) (λ sender. refl) (λ under is. (tt, is)) (λ name. add-zero (polls_made name before))
+    redeemed_no_more : (name : JobId) (outcome : OutcomeNote T) → SaysNoMore old (writes.Redeemed name outcome ∷ before)
+    redeemed_no_more name outcome = silent_note (writes.Redeemed name outcome) (assumption) refl (λ queue. refl) (assumption) (λ sender. refl) (λ sender. refl) (λ under is. (tt, is)) (λ name. add-zero (polls_made name before))
 
-    detached_no_more : (name : JobId) → SaysNoMore before (writes.Detached name ∷ before)
-    detached_no_more name = silent_note (writes.Detached name) refl refl (λ queue. refl) (record { queues = λ queue. refl; core = refl; gates = λ sender. refl }) (λ sender. refl) (λ sender. refl) (λ under is. (tt, is)) (λ name. add-zero (polls_made name before))
+    detached_no_more : (name : JobId) → SaysNoMore old (writes.Detached name ∷ before)
+    detached_no_more name = silent_note (writes.Detached name) (assumption) refl (λ queue. refl) (assumption) (λ sender. refl) (λ sender. refl) (λ under is. (tt, is)) (λ name. add-zero (polls_made name before))
 
   pub all_collected : (core : ℕ) (notes before : Journal T) → AreCollected core notes → SaysNoMore before (notes ++ before)
   all_collected core [] before are = no_more before
-  all_collected core (writes.Collected name outcome ∷ notes) before are =
-      no_more_then before (notes ++ before) (writes.Collected name outcome ∷ notes ++ before) (all_collected core notes before are.1) (collected_no_more (notes ++ before) name outcome)
+  all_collected core (writes.Collected name outcome ∷ notes) before are = collected_no_more (all_collected core notes before are.1) name outcome
   all_collected core (_ ∷ notes) before are = absurd are
 
-module _ {T : Type 0} where
   pub all_posted : (notes before : Journal T) → ArePosts notes → SaysNoMore before (notes ++ before)
   all_posted [] before are = no_more before
-  all_posted (writes.Sent name order ∷ notes) before are = no_more_then before (notes ++ before) (writes.Sent name order ∷ notes ++ before) (all_posted notes before are) (sent_no_more (notes ++ before) name order)
-  all_posted (writes.Redeemed name outcome ∷ notes) before are = no_more_then before (notes ++ before) (writes.Redeemed name outcome ∷ notes ++ before) (all_posted notes before are) (redeemed_no_more (notes ++ before) name outcome)
-  all_posted (writes.Detached name ∷ notes) before are = no_more_then before (notes ++ before) (writes.Detached name ∷ notes ++ before) (all_posted notes before are) (detached_no_more (notes ++ before) name)
+  all_posted (writes.Sent name order ∷ notes) before are = sent_no_more (all_posted notes before are) name order
+  all_posted (writes.Redeemed name outcome ∷ notes) before are = redeemed_no_more (all_posted notes before are) name outcome
+  all_posted (writes.Detached name ∷ notes) before are = detached_no_more (all_posted notes before are) name
   all_posted (_ ∷ notes) before are = absurd are
 
 module _ {J T : Type 0} (old : RecordedView J T) (longer : Journal T) (lanes : List (Lane J T)) where
@@ -89,15 +79,8 @@ module _ {J T : Type 0} (old : RecordedView J T) (longer : Journal T) (lanes : L
     recorded_silent recorded written = record {
       kept = record { is_core = recorded.kept.is_core; agrees = silent.agrees old.core recorded.kept.agrees; notes = written.notes; no_pick = written.no_pick; no_answer = written.no_answer };
       room = recorded.room;
-      held = record {
-        each = λ sender known. omega (arith, recorded.held.each sender known, ap length (silent.delivered sender), ap length (silent.given sender));
-        inside = omega (
-          arith,
-          recorded.held.inside,
-          sum_upto-same (delivered_count longer) (delivered_count old.journal.notes) old.core.cores (λ sender. ap length (silent.delivered sender)),
-          sum_upto-same (given_count longer) (given_count old.journal.notes) old.core.cores (λ sender. ap length (silent.given sender)),
-        );
-      };
+      held = held_on nobody old.journal.notes longer silent.delivered silent.given old.core.cores old.cap (inside_count old.core) (inside_count old.core)
+          (omega (arith, sum_upto-same (given_count longer) (given_count old.journal.notes) old.core.cores (λ sender. ap length (silent.given sender)))) recorded.held;
       taken = λ which order at.
           let was = recorded.taken which order at in record { sender = was.sender; old = omega (arith, was.old, ap length (silent.delivered which.from)) };
       as_sent = silent.as_sent _ recorded.as_sent;
@@ -118,7 +101,7 @@ module _ {J T : Type 0} (said now : DeskView J T) where
   nothing is = subst (λ now. SaysNoMore said.journal.notes now.journal.notes) (sym is) (no_more said.journal.notes)
 
   pub submitted_silent : (core : ℕ) (order : Order J) (answer : Result JobId (SendError J)) → Submits core order said answer now → SaysNoMore said.journal.notes now.journal.notes
-  submitted_silent core order (Ok name) submits = along (writes.Sent name (without_job order) ∷ []) submits.2 (sent_no_more said.journal.notes name (without_job order))
+  submitted_silent core order (Ok name) submits = along (writes.Sent name (without_job order) ∷ []) submits.2 (sent_no_more (no_more said.journal.notes) name (without_job order))
   submitted_silent core order (Err (Closed back final)) submits = nothing submits.2
   submitted_silent core order (Err (Full back)) submits = nothing submits.2
   submitted_silent core order (Err (Spent back)) submits = nothing submits.3
@@ -128,11 +111,11 @@ module _ {J T : Type 0} (said now : DeskView J T) where
   collected_silent core count collects = along collects.0 collects.3 (all_collected core collects.0 said.journal.notes collects.1)
 
   pub redeemed_silent : (name : JobId) (answer : Result (Outcome J T) TicketError) → RedeemsTicket name said answer now → SaysNoMore said.journal.notes now.journal.notes
-  redeemed_silent name (Ok outcome) redeems = along (writes.Redeemed name (outcome_note outcome) ∷ []) redeems.2 (redeemed_no_more said.journal.notes name (outcome_note outcome))
+  redeemed_silent name (Ok outcome) redeems = along (writes.Redeemed name (outcome_note outcome) ∷ []) redeems.2 (redeemed_no_more (no_more said.journal.notes) name (outcome_note outcome))
   redeemed_silent name (Err error) redeems = nothing redeems.1
 
   pub detached_silent : (name : JobId) (answer : Result (Unit {0}) TicketError) → DetachesTicket name said answer now → SaysNoMore said.journal.notes now.journal.notes
-  detached_silent name (Ok done) detaches = along (writes.Detached name ∷ []) detaches.1 (detached_no_more said.journal.notes name)
+  detached_silent name (Ok done) detaches = along (writes.Detached name ∷ []) detaches.1 (detached_no_more (no_more said.journal.notes) name)
   detached_silent name (Err Pending) detaches = absurd detaches
   detached_silent name (Err Unknown) detaches = nothing detaches.1
   detached_silent name (Err Gone) detaches = nothing detaches.1
@@ -147,10 +130,6 @@ pub record HasSaid {J T : Type 0} (same : J → J → Type 0) (made : J → ℕ)
 module _ {J T : Type 0} {same : J → J → Type 0} {made : J → ℕ} {polls : Owed J T}
     (inside : CoreView J) (took : List (Envelope J)) (said : DeskView J T)
     (invariant : IsRecorded same made polls (view_of inside took said) × (said ≡ desk_of (view_of inside took said))) {before : RecordedView J T} (view_is : view_of inside took said ≡ before) where
-  -- what the caller says of the desk holds of this one
-  pub of_desk : (P : DeskView J T → Type 0) → P (desk_of before) → P said
-  of_desk P = subst P (sym (invariant.1 ∙ ap desk_of view_is))
-
   pub has_said : {now : DeskView J T} → now ≡ record said { journal = record said.journal { notes = now.journal.notes }; lanes = now.lanes } →
       IsWritten (terms_of_desk now) now.journal.notes → SaysNoMore said.journal.notes now.journal.notes → HasSaid same made polls now before (view_of inside took now)
   has_said {now} rest written silent =
@@ -162,20 +141,3 @@ module _ {J T : Type 0} {same : J → J → Type 0} {made : J → ℕ} {polls : 
         is_its = desk_is now inside took (ap (λ desk. desk.actor) rest ∙ ap (λ desk. desk.actor) invariant.1) (ap (λ desk. desk.cores) rest ∙ ap (λ desk. desk.cores) invariant.1);
         ins = λ sender. subst (λ before. KeepsIn sender before (view_of inside took now)) view_is (subst (KeepsIn sender old) (sym now_is) (ins_silent old now.journal.notes now.lanes silent sender));
       }
-
-  -- what each call of the desk leaves
-  module _ {now : DeskView J T} {fits : Order J → Outcome J T → Type 0} {to : ℕ} {end : Outward J T} {credited : ℕ} (stays : StaysBeside fits to said now end credited) where
-    abbrev Said : Type 0
-    Said = HasSaid same made polls now before (view_of inside took now)
-
-    pub submitted_said : (core : ℕ) (order : Order J) (answer : Result JobId (SendError J)) → Submits core order said answer now → Said
-    submitted_said core order answer submits = has_said stays.rest stays.written (submitted_silent said now core order answer submits)
-
-    pub collected_said : (core count : ℕ) → CollectsFrom core said count now → Said
-    collected_said core count collects = has_said stays.rest stays.written (collected_silent said now core count collects)
-
-    pub redeemed_said : (name : JobId) (answer : Result (Outcome J T) TicketError) → RedeemsTicket name said answer now → Said
-    redeemed_said name answer redeems = has_said stays.rest stays.written (redeemed_silent said now name answer redeems)
-
-    pub detached_said : (name : JobId) (answer : Result (Unit {0}) TicketError) → DetachesTicket name said answer now → Said
-    detached_said name answer detaches = has_said stays.rest stays.written (detached_silent said now name answer detaches)

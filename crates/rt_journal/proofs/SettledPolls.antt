@@ -1,33 +1,29 @@
 -- A core beside its journal settles the poll of the job that is out, and the end of the job's sender gets the outcome.
 use Rattle.rt_journal.proofs.Names.{◌≡◌, ℕ, ◌+◌, ◌<◌, ◌≤◌, Bool, true, false, List, [], ◌∷◌, ◌++◌, length, refl, sym}
 use Rattle.rt_journal.proofs.Names.{◌∙◌, ap, subst, arith, add-zero, get_or, ◌==◌, Option, Some, None, All, is_some}
-use Rattle.rt_journal.proofs.Names.{unwrap_or, false_from_ne_true, length-append, All-append, All-cons, All-nil, JobId}
-use Rattle.rt_journal.proofs.Names.{Note, same_name, is_name, Journal, is_told, jobs_out, name_settled, number_if}
-use Rattle.rt_journal.proofs.Names.{alone_out, apart_of, among, same_as_itself, Step, Call, Owed, AfterPoll}
-use Rattle.rt_journal.proofs.Names.{IsSameTask, IfDone, OnYield, OwesOn, waiting_of, held_count, ChangesLine, Settled}
-use Rattle.rt_journal.proofs.Names.{Yielded, CoreView, JobOut, inside_count, IsTaskOut, settled_view, IsJobOut}
-use Rattle.rt_journal.proofs.Names.{polls_made, settle_note, RecordedView, terms_at, IsRecorded, HasTask, note_taken}
-use Rattle.rt_journal.proofs.Names.{OwesAfter, sum_upto, given_count, IsOut, IsPolled, Settles, TellsStep, Job}
-use Rattle.rt_journal.proofs.Names.{name_ended, without_job, known_of, option_map, Inward, IsInOf, IsUngiven}
-use Rattle.rt_journal.proofs.Names.{told_under, outcome_note, outcome_settled, length-with_last_if, given_outcomes}
-use Rattle.rt_journal.proofs.Names.{IfSome, same_Some, Envelope, Outcome, MayGive, Fits, order_taken, IsInOwing}
-use Rattle.rt_journal.proofs.Names.{KeepsIn, LeavesOwed, Gives, IsOutUnder, OwesSettled, MayAnswer, QueuesView}
-use Rattle.rt_journal.proofs.Names.{none-some}
+use Rattle.rt_journal.proofs.Names.{unwrap_or, false_from_ne_true, length-append, All-append, All-cons, All-nil}
+use Rattle.rt_journal.proofs.Names.{JobId, Note, same_name, Journal, jobs_out, number_if, alone_out, apart_of, among}
+use Rattle.rt_journal.proofs.Names.{same_as_itself, Step, Call, Owed, AfterPoll, IsSameTask, IfDone, OnYield, OwesOn}
+use Rattle.rt_journal.proofs.Names.{waiting_of, held_count, ChangesLine, Settled, Yielded, CoreView, JobOut}
+use Rattle.rt_journal.proofs.Names.{inside_count, IsTaskOut, settled_view, IsJobOut, polls_made, settle_note}
+use Rattle.rt_journal.proofs.Names.{RecordedView, terms_at, IsRecorded, HasTask, note_taken, OwesAfter, sum_upto}
+use Rattle.rt_journal.proofs.Names.{given_count, IsOut, IsPolled, Settles, TellsStep, Job, without_job, known_of}
+use Rattle.rt_journal.proofs.Names.{option_map, Inward, IsInOf, IsUngiven, told_under, outcome_note, outcome_settled}
+use Rattle.rt_journal.proofs.Names.{length-with_last_if, given_outcomes, IfSome, same_Some, Envelope, Outcome}
+use Rattle.rt_journal.proofs.Names.{MayGive, Fits, order_taken, KeepsIn, LeavesOwed, Gives, IsOutUnder, OwesSettled}
+use Rattle.rt_journal.proofs.Names.{MayAnswer, QueuesView, none-some, Finished, CoreSettles, names_of}
 use Rattle.rt_ids.specs.declared.note.Note.TheVariants as writes
 use Rattle.rt_jobs.specs.declared.job.Step.TheVariants as steps
-use Rattle.rt_core.specs.declared.turn.Settled.TheVariants.{Finished}
-use Rattle.rt_core.specs.Turns.{Settles as CoreSettles}
-use Rattle.rt_journal.specs.Agreement.{names_of}
-use Rattle.rt_journal.proofs.Sums.{everywhere, sum_upto-at_most_one}
+use Rattle.rt_journal.proofs.Sums.{each_line, sum_upto-at_most_one}
 use Rattle.rt_journal.proofs.Kept.{IsKept, kept-yield, kept-done}
 use Rattle.rt_journal.proofs.KeptPicks.{other_way}
 use Rattle.rt_ids.specs.declared.note.OutcomeNote.TheVariants as outcomes
 use Rattle.rt_journal.proofs.EndsKept.{ungiven_if, not_given}
 use Rattle.rt_journal.proofs.Received.{task_stays}
-use Rattle.rt_journal.proofs.QuietSteps.{given_settled, quiet-settled, gates-settled, as_sent-settled, IsQuietStep}
+use Rattle.rt_journal.proofs.QuietSteps.{given_settled, quiet-settled, IsQuietStep}
 use Rattle.rt_journal.proofs.QuietSteps.{everyone, HasDone, done_so}
 use Rattle.rt_journal.proofs.DeliveredEnds.{told_elsewhere}
-use Rattle.rt_journal.proofs.GivenEnds.{may_give_done, gave_done}
+use Rattle.rt_journal.proofs.GivenEnds.{given_done}
 
 -- whoever waits is another than one who isn't among them
 among-place : {J : Type 0} (name : JobId) (waiting : List (JobId × Bool × J)) → among name (names_of waiting) ≡ false →
@@ -35,17 +31,10 @@ among-place : {J : Type 0} (name : JobId) (waiting : List (JobId × Bool × J)) 
 among-place name [] apart place default within = absurd (omega arith)
 among-place name (entry ∷ rest) apart place default within = grind (arith, among-place name rest)
 
-settled_name : {T : Type 0} (name : JobId) (time : ℕ) (step : Step T) → name_settled (settle_note name time step) ≡ Some name
-settled_name name time step = grind arith
-
 -- what is given by the note is the outcome that the caller is told
 pub given_told : (J : Type 0) {T : Type 0} (name : JobId) (step : Step T) (settled : Settled T) → TellsStep step settled → (sender : ℕ) →
     given_settled name step sender ≡ told_under name (option_map outcome_note (outcome_settled {J = J} settled)) sender
 given_told J name step settled tells sender = grind arith
-
--- the job that is out is the one that was polled
-pub its_job_out : {J : Type 0} (who : Option (JobOut J)) (out : JobOut J) → who ≡ Some out → (job : J) → IsOut who job → out.job ≡ job
-its_job_out who out at job is = subst (λ who. IsOut who job) at is
 
 pub task_out : {J : Type 0} {same : J → J → Type 0} → IsSameTask same → (who : Option (JobOut J)) (job : J) → IsOut who job → IsTaskOut same who job
 task_out is_same None job is = absurd is
@@ -58,12 +47,6 @@ module _ {J T : Type 0} {same : J → J → Type 0} {made : J → ℕ} {polls : 
   abbrev time : ℕ
   time = unwrap_or ran.told spent
 
-  abbrev written : List (Note T)
-  written = settle_note out.name time ran.step ∷ []
-
-  abbrev longer : Journal T
-  longer = written ++ old.journal.notes
-
   is_out : jobs_out old.journal.notes ≡ out.name ∷ []
   is_out = (subst (λ job. IsJobOut job old.journal.notes) was_out recorded.kept.agrees.out).0
 
@@ -73,110 +56,90 @@ module _ {J T : Type 0} {same : J → J → Type 0} {made : J → ℕ} {polls : 
       ap (among out.name) (recorded.kept.agrees.lines queue)
       ∙ false_from_ne_true _ ((apart_of (terms_at old) old.journal.notes recorded.kept.notes).not_waiting queue out.name (alone_out out.name old.journal.notes is_out))
 
-  polls_now : (which : JobId) → polls_made which longer ≡ polls_made which old.journal.notes + number_if (same_name which out.name)
-  polls_now which = ap (λ settled. polls_made which old.journal.notes + number_if (is_name which settled)) (settled_name out.name time ran.step)
-
-  -- who wasn't polled keeps its task and its count
-  still_waiting : (queue : ℕ) → All (λ entry. HasTask same made polls old.took longer queue entry.0 entry.2) (waiting_of queue old.core.queues)
-  still_waiting queue place default within =
-      let entry = get_or (waiting_of queue old.core.queues) place default in
-      let other : same_name entry.0 out.name ≡ false = other_way out.name entry.0 (among-place out.name (waiting_of queue old.core.queues) (apart queue) place default within) in
-      task_stays (λ order at. at) (polls_now entry.0 ∙ (ap (λ test. polls_made entry.0 old.journal.notes + number_if test) other ∙ add-zero (polls_made entry.0 old.journal.notes)))
-      (recorded.waiting queue place default within)
-
   its_task : HasTask same made polls old.took old.journal.notes out.queue out.name out.job
   its_task = recorded.out out was_out
-
-  -- the job that was polled has its task still, with one more poll
-  task_now : ran.step ≡ steps.Yield → HasTask same made polls old.took longer out.queue out.name ran.job
-  task_now yields = record {
-    sent = its_task.sent;
-    task = its_task.task;
-    same_task = is_same.along its_task.sent out.job ran.job its_task.same_task (subst (λ job. same job ran.job) (sym its_job) (subst (λ step. OnYield step (same ran.before ran.job)) yields polled.same_task));
-    owes = subst (λ count. OwesAfter same made polls its_task.sent count ran.job) (sym one_more) owes_on;
-  }
-    where
-      one_more : polls_made out.name longer ≡ polls_made out.name old.journal.notes + 1
-      one_more = polls_now out.name ∙ ap (λ test. polls_made out.name old.journal.notes + number_if test) (same_as_itself out.name)
-
-      assoc : (a b : ℕ) → a + 1 + b ≡ a + (1 + b)
-      assoc a b = omega arith
-
-      on : OwesOn made polls out.job ran.job
-      on = subst (λ job. OwesOn made polls job ran.job) (sym its_job) (subst (λ step. OnYield step (OwesOn made polls ran.before ran.job)) yields polled.later)
-
-      owes_on : OwesAfter same made polls its_task.sent (polls_made out.name old.journal.notes + 1) ran.job
-      owes_on more calls step told owed_now =
-          let first : polls out.job (made out.job + (1 + more)) calls step told = subst (λ place. polls out.job place calls step told) (assoc (made out.job) more) (on more calls step told owed_now) in
-          subst (λ place. polls its_task.sent (made its_task.sent + place) calls step told) (sym (assoc (polls_made out.name old.journal.notes) more)) (its_task.owes (1 + more) calls step told first)
-
-  -- the job that is out was given nothing yet
-  ungiven_settled : (sender : ℕ) (inward : Inward J T) → IsInOf sender old inward → (step : Step T) → IsUngiven (given_settled out.name step sender) inward.given
-  ungiven_settled sender inward is steps.Yield = tt
-  ungiven_settled sender inward is (steps.Done value) =
-      ungiven_if old sender inward is out.name (Job out.queue its_task.sent) its_task.task
-      (not_given (note_taken old.took) out.name out.queue (ap (option_map without_job) its_task.task) sender old.journal.notes recorded.as_sent going_on) (outcomes.Finished value)
-    where
-      going_on : is_told name_ended out.name old.journal.notes ≡ false
-      going_on = ((known_of (terms_at old) old.journal.notes recorded.kept.notes).out_inside out.name (alone_out out.name old.journal.notes is_out)).going_on
 
   inside_old : inside_count old.core ≡ held_count old.core.queues + 1
   inside_old = ap (λ job. held_count old.core.queues + number_if (is_some job)) was_out
 
-  -- the core that settled the poll: no job is out, and so many more of this queue are done
-  settled_step : (done : ℕ) (queues : QueuesView J) → IsKept (terms_at old) (settled_view old.core out time done queues) longer → queues.room ≡ old.core.queues.room →
-      held_count queues + 0 + sum_upto (given_count longer) old.core.cores ≤ inside_count old.core + sum_upto (given_count old.journal.notes) old.core.cores →
-      ((queue : ℕ) → All (λ entry. HasTask same made polls old.took longer queue entry.0 entry.2) (waiting_of queue queues)) →
-      IsQuietStep old (settled_view old.core out time done queues) written same made polls everyone (given_settled out.name ran.step)
-  settled_step done queues kept room fewer waiting =
-      let ungiven = λ (sender : ℕ) (inward : Inward J T) (is : IsInOf sender old inward). ungiven_settled sender inward is ran.step in
-      let gates = λ (sender : ℕ) (there : everyone sender). gates-settled old.journal.notes out.name time ran.step sender in
-      let nobody : (job : JobOut J) → None ≡ Some job → HasTask same made polls old.took longer job.queue job.name job.job = λ job none. absurd (none-some job none) in
-      assumption (quiet-settled old.journal.notes out.name time ran.step, as_sent-settled old.journal.notes _ out.name time ran.step recorded.as_sent)
+  module _ (step : Step T) where
+    abbrev longer : Journal T
+    longer = settle_note out.name time step ∷ old.journal.notes
 
-  -- the job yields
-  module _ (yields : ran.step ≡ steps.Yield) (changes : ChangesLine old.core.queues core.queues out.queue (waiting_of out.queue old.core.queues ++ (out.name, true, ran.job) ∷ []))
-      (is : core ≡ settled_view old.core out time 0 core.queues) where
-    abbrev TaskNow : ℕ → JobId × Bool × J → Type 0
-    TaskNow queue entry = HasTask same made polls old.took longer queue entry.0 entry.2
+    abbrev Task : ℕ → JobId × Bool × J → Type 0
+    Task queue entry = HasTask same made polls old.took longer queue entry.0 entry.2
 
-    waiting_now : (queue : ℕ) → All (TaskNow queue) (waiting_of queue core.queues)
-    waiting_now = everywhere (λ at. All (TaskNow at) (waiting_of at core.queues)) out.queue
-        (subst (All (TaskNow out.queue)) (sym changes.changed)
-        (All-append (TaskNow out.queue) (waiting_of out.queue old.core.queues) ((out.name, true, ran.job) ∷ []) (still_waiting out.queue)
-        (All-cons (TaskNow out.queue) (out.name, true, ran.job) [] (task_now yields) (All-nil (TaskNow out.queue)))))
-        (λ queue away. subst (All (TaskNow queue)) (sym (changes.others queue away)) (still_waiting queue))
+    polls_now : (which : JobId) → polls_made which longer ≡ polls_made which old.journal.notes + number_if (same_name which out.name)
+    polls_now which = grind arith
 
-    pub yielded : IsQuietStep old core written same made polls everyone (given_settled out.name ran.step)
-    yielded = subst (λ core. IsQuietStep old core written same made polls everyone (given_settled out.name ran.step)) (sym is)
-        (settled_step 0 core.queues
-        (subst (λ step. IsKept (terms_at old) (settled_view old.core out time 0 core.queues) (settle_note out.name time step ∷ old.journal.notes)) (sym yields)
-        (kept-yield (terms_at old) old.core out time 0 core.queues old.journal.notes recorded.kept was_out refl ran.job changes))
-        changes.same_room
-        (subst (λ step. held_count core.queues + 0 + sum_upto (given_count (settle_note out.name time step ∷ old.journal.notes)) old.core.cores
-        ≤ inside_count old.core + sum_upto (given_count old.journal.notes) old.core.cores) (sym yields)
-        (omega (arith, inside_old, changes.held, length-append (waiting_of out.queue old.core.queues) ((out.name, true, ran.job) ∷ []))))
-        waiting_now)
+    -- who wasn't polled keeps its task and its count
+    still_waiting : (queue : ℕ) → All (Task queue) (waiting_of queue old.core.queues)
+    still_waiting queue place default within =
+        let entry = get_or (waiting_of queue old.core.queues) place default in
+        let other : same_name entry.0 out.name ≡ false = other_way out.name entry.0 (among-place out.name (waiting_of queue old.core.queues) (apart queue) place default within) in
+        task_stays (λ order at. at) (polls_now entry.0 ∙ (ap (λ test. polls_made entry.0 old.journal.notes + number_if test) other ∙ add-zero (polls_made entry.0 old.journal.notes)))
+        (recorded.waiting queue place default within)
+
+    abbrev SettlesIt : CoreView J → Type 0
+    SettlesIt core = IsQuietStep old core (settle_note out.name time step ∷ []) same made polls everyone (given_settled out.name step)
+
+    -- the core that settled the poll: no job is out, and so many more of this queue are done
+    settled_step : (done : ℕ) (queues : QueuesView J) → IsKept (terms_at old) (settled_view old.core out time done queues) longer → queues.room ≡ old.core.queues.room →
+        held_count queues + 0 + sum_upto (given_count longer) old.core.cores ≤ inside_count old.core + sum_upto (given_count old.journal.notes) old.core.cores →
+        ((queue : ℕ) → All (Task queue) (waiting_of queue queues)) → SettlesIt (settled_view old.core out time done queues)
+    settled_step done queues kept room fewer waiting =
+        let ungiven = λ (sender : ℕ) (inward : Inward J T) (is : IsInOf sender old inward). ungiven_settled sender inward is step in
+        let nobody : (job : JobOut J) → None ≡ Some job → HasTask same made polls old.took longer job.queue job.name job.job = λ job none. absurd (none-some job none) in
+        assumption (quiet-settled old.journal.notes out.name time step)
+      where
+        -- the job that is out was given nothing yet
+        ungiven_settled : (sender : ℕ) (inward : Inward J T) → IsInOf sender old inward → (step : Step T) → IsUngiven (given_settled out.name step sender) inward.given
+        ungiven_settled sender inward is steps.Yield = tt
+        ungiven_settled sender inward is (steps.Done value) =
+            let going_on = ((known_of (terms_at old) old.journal.notes recorded.kept.notes).out_inside out.name (alone_out out.name old.journal.notes is_out)).going_on in
+            ungiven_if old sender inward is out.name (Job out.queue its_task.sent) its_task.task
+            (not_given (note_taken old.took) out.name out.queue (ap (option_map without_job) its_task.task) sender old.journal.notes recorded.as_sent going_on) (outcomes.Finished value)
+
+  -- the job yields: it has its task still, with one more poll, and goes to the end of its line
+  module _ (same_task : same out.job ran.job) (later : OwesOn made polls out.job ran.job) where
+    task_now : Task steps.Yield out.queue (out.name, true, ran.job)
+    task_now = record {
+      sent = its_task.sent;
+      task = its_task.task;
+      same_task = is_same.along its_task.sent out.job ran.job its_task.same_task same_task;
+      owes = subst (λ count. OwesAfter same made polls its_task.sent count ran.job) (sym one_more) owes_on;
+    }
+      where
+        one_more : polls_made out.name (longer steps.Yield) ≡ polls_made out.name old.journal.notes + 1
+        one_more = polls_now steps.Yield out.name ∙ ap (λ test. polls_made out.name old.journal.notes + number_if test) (same_as_itself out.name)
+
+        assoc : (a b : ℕ) → a + 1 + b ≡ a + (1 + b)
+        assoc a b = omega arith
+
+        owes_on : OwesAfter same made polls its_task.sent (polls_made out.name old.journal.notes + 1) ran.job
+        owes_on more calls step told owed_now =
+            let first : polls out.job (made out.job + (1 + more)) calls step told = subst (λ place. polls out.job place calls step told) (assoc (made out.job) more) (later more calls step told owed_now) in
+            subst (λ place. polls its_task.sent (made its_task.sent + place) calls step told) (sym (assoc (polls_made out.name old.journal.notes) more)) (its_task.owes (1 + more) calls step told first)
+
+    yielded : ChangesLine old.core.queues core.queues out.queue (waiting_of out.queue old.core.queues ++ (out.name, true, ran.job) ∷ []) → SettlesIt steps.Yield (settled_view old.core out time 0 core.queues)
+    yielded changes =
+        let waiting = each_line (λ at. All (Task steps.Yield at)) changes
+        (All-append (Task steps.Yield out.queue) (waiting_of out.queue old.core.queues) ((out.name, true, ran.job) ∷ []) (still_waiting steps.Yield out.queue)
+        (All-cons (Task steps.Yield out.queue) (out.name, true, ran.job) [] task_now (All-nil (Task steps.Yield out.queue)))) (still_waiting steps.Yield) in
+        settled_step steps.Yield 0 core.queues (kept-yield (terms_at old) old.core out time old.journal.notes recorded.kept was_out core.queues ran.job changes) changes.same_room
+        (omega (arith, inside_old, changes.held, length-append (waiting_of out.queue old.core.queues) ((out.name, true, ran.job) ∷ []))) waiting
 
   -- the job is done
-  module _ (answer : T) (ends : ran.step ≡ steps.Done answer) (is : core ≡ settled_view old.core out time 1 old.core.queues) where
-    given_more : sum_upto (given_count (writes.Done out.name time answer ∷ old.journal.notes)) old.core.cores ≤ sum_upto (given_count old.journal.notes) old.core.cores + 1
-    given_more = sum_upto-at_most_one (given_count old.journal.notes) (given_count (writes.Done out.name time answer ∷ old.journal.notes)) out.name.from
-        (λ from. length-with_last_if (given_outcomes from old.journal.notes) _ (out.name.from == from)) old.core.cores
-
-    pub ended : IsQuietStep old core written same made polls everyone (given_settled out.name ran.step)
-    ended = subst (λ core. IsQuietStep old core written same made polls everyone (given_settled out.name ran.step)) (sym is)
-        (settled_step 1 old.core.queues
-        (subst (λ step. IsKept (terms_at old) (settled_view old.core out time 1 old.core.queues) (settle_note out.name time step ∷ old.journal.notes)) (sym ends)
-        (kept-done (terms_at old) old.core out time 1 old.core.queues old.journal.notes recorded.kept was_out refl answer refl))
-        refl
-        (subst (λ step. held_count old.core.queues + 0 + sum_upto (given_count (settle_note out.name time step ∷ old.journal.notes)) old.core.cores
-        ≤ inside_count old.core + sum_upto (given_count old.journal.notes) old.core.cores) (sym ends) (omega (arith, inside_old, given_more)))
-        still_waiting)
+  ended : (value : T) → SettlesIt (steps.Done value) (settled_view old.core out time 1 old.core.queues)
+  ended value =
+      let given_more = sum_upto-at_most_one (given_count old.journal.notes) (given_count (longer (steps.Done value))) out.name.from
+      (λ from. length-with_last_if (given_outcomes from old.journal.notes) _ (out.name.from == from)) old.core.cores in
+      settled_step (steps.Done value) 1 old.core.queues (kept-done (terms_at old) old.core out time old.journal.notes recorded.kept was_out value) refl
+      (omega (arith, inside_old, given_more)) (still_waiting (steps.Done value))
 
   -- whatever the step
   module _ (settled : Settled T) (notes : List (Note T)) (settles : CoreSettles old.core out ran spent ran.step settled core notes) where
-    its_step : (notes ≡ written) × (core.out ≡ None) × TellsStep ran.step settled
+    its_step : (notes ≡ settle_note out.name time ran.step ∷ []) × (core.out ≡ None) × TellsStep ran.step settled
     its_step = grind arith
 
     answered : IfDone ran.step (answers its_task.sent)
@@ -189,24 +152,26 @@ module _ {J T : Type 0} {same : J → J → Type 0} {made : J → ℕ} {polls : 
         (subst (λ job. polls job (made job) calls ran.step ran.told) (sym its_job) owes)))
 
     pub settled_did : HasDone same made polls old core everyone (given_settled out.name ran.step) 1 (λ old new. Settles made polls answers old ran spent settled new) notes
-    settled_did = done_so its_step.0 (by_step ran.step refl settled settles) (omega arith) (record {
-      out = out;
-      was_out = was_out;
-      sent = its_task.sent;
-      task = its_task.task;
-      owed = owed;
-      answered = answered;
-      tells = its_step.2;
-      journal = refl;
-      out_now = its_step.1;
-      took = refl;
-    })
+    settled_did = done_so its_step.0
+        (by_step ran.step (subst (λ job. OnYield ran.step (same job ran.job)) (sym its_job) polled.same_task) (subst (λ job. OnYield ran.step (OwesOn made polls job ran.job)) (sym its_job) polled.later) settled settles)
+        (omega arith) (record {
+          out = out;
+          was_out = was_out;
+          sent = its_task.sent;
+          task = its_task.task;
+          owed = owed;
+          answered = answered;
+          tells = its_step.2;
+          journal = refl;
+          out_now = its_step.1;
+          took = refl;
+        })
       where
-        by_step : (step : Step T) → ran.step ≡ step → (settled : Settled T) → CoreSettles old.core out ran spent step settled core notes → IsQuietStep old core written same made polls everyone (given_settled out.name ran.step)
-        by_step (steps.Done value) ends (Finished answer) settles = ended value ends settles.1
-        by_step (steps.Done value) ends Yielded settles = absurd settles
-        by_step steps.Yield yields (Finished answer) settles = absurd settles
-        by_step steps.Yield yields Yielded settles = yielded yields settles.0 settles.1
+        by_step : (step : Step T) → OnYield step (same out.job ran.job) → OnYield step (OwesOn made polls out.job ran.job) → (settled : Settled T) → CoreSettles old.core out ran spent step settled core notes → SettlesIt step core
+        by_step (steps.Done value) task later (Finished answer) settles = subst (SettlesIt (steps.Done value)) (sym settles.1) (ended value)
+        by_step (steps.Done value) task later Yielded settles = absurd settles
+        by_step steps.Yield task later (Finished answer) settles = absurd settles
+        by_step steps.Yield task later Yielded settles = subst (SettlesIt steps.Yield) (sym settles.1) (yielded task later settles.0)
 
 -- what is owed by the note is owed by what the caller is told
 pub owes_settled : {J T : Type 0} (old new : RecordedView J T) (out : JobOut J) → old.core.out ≡ Some out → (step : Step T) (settled : Settled T) → TellsStep step settled →
@@ -214,9 +179,6 @@ pub owes_settled : {J T : Type 0} (old new : RecordedView J T) (out : JobOut J) 
 owes_settled {J} old new out was_out step settled tells owes other at sender =
     subst (λ job. LeavesOwed sender (told_under job.name (option_map outcome_note (outcome_settled {J = J} settled)) sender) old new) (same_Some out other (sym was_out ∙ at))
     (subst (λ owed. LeavesOwed sender owed old new) (given_told J out.name step settled tells sender) (owes sender))
-
-its_name : {J : Type 0} (who : Option (JobOut J)) (out : JobOut J) → who ≡ Some out → (name : JobId) → IsOutUnder who name → out.name ≡ name
-its_name who out at name is = subst (λ who. IsOutUnder who name) at is
 
 -- what the caller is told may be answered by the job that was sent
 pub its_answer : {J T : Type 0} (answers : J → T → Type 0) (took : List (Envelope J)) (name : JobId) (queue : ℕ) (sent : J) → order_taken took name ≡ Some (Job queue sent) →
@@ -230,26 +192,17 @@ module _ {J T : Type 0} {same : J → J → Type 0} {made : J → ℕ} {polls : 
   outcome = outcome_settled settled
 
   name_is : settles.out.name ≡ name
-  name_is = its_name old.core.out settles.out settles.was_out name named
+  name_is = subst (λ who. IsOutUnder who name) settles.was_out named
 
   owes_it : (sender : ℕ) → LeavesOwed sender (told_under name (option_map outcome_note outcome) sender) old new
   owes_it sender = subst (λ name. LeavesOwed sender (told_under name (option_map outcome_note outcome) sender) old new) name_is (owes settles.out settles.was_out sender)
 
-  took_now : order_taken new.took name ≡ Some (Job settles.out.queue settles.sent)
-  took_now = (λ i. order_taken (settles.took i) (sym name_is i)) ∙ settles.task
-
-  module _ (before : Inward J T) (beside : IsInOf name.from old before) where
-    owing : IsInOwing name.from (told_under name (option_map outcome_note outcome) name.from) new before
-    owing = (owes_it name.from).each before beside
-
-    answer : MayAnswer answers new.took name settled
-    answer = its_answer answers new.took name settles.out.queue settles.sent took_now ran.step settled settles.tells settles.answered
-
-    pub may_give_settled : IfSome outcome (λ outcome. MayGive (Fits same answers) before name.number outcome)
-    may_give_settled = may_give_done answers new recorded name before settled answer owing
-
-    pub gave_settled : (after : Inward J T) → Gives before name.number outcome after → IsInOf name.from new after
-    gave_settled = gave_done answers new recorded name before settled answer owing
+  -- it may be given, and is owed no more then
+  pub settled_given : (before : Inward J T) → IsInOf name.from old before →
+      IfSome outcome (λ outcome. MayGive (Fits same answers) before name.number outcome) × ((after : Inward J T) → Gives before name.number outcome after → IsInOf name.from new after)
+  settled_given before beside = given_done answers new recorded name before settled
+      (its_answer answers new.took name settles.out.queue settles.sent ((λ i. order_taken (settles.took i) (sym name_is i)) ∙ settles.task) ran.step settled settles.tells settles.answered)
+      ((owes_it name.from).each before beside)
 
   pub others_settled : (sender : ℕ) → (sender ≡ name.from → ⊥) → KeepsIn sender old new
   others_settled sender away = subst (λ owed. LeavesOwed sender owed old new) (told_elsewhere name (option_map outcome_note outcome) sender away) (owes_it sender)

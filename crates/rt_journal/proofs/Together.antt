@@ -1,4 +1,4 @@
--- Actors that are recorded each by itself are joined, where the ends of their links are.
+-- Actors that are recorded each by itself are joined, where the ends of their links are: the names that were delivered from one sender are numbered without gaps.
 use Rattle.rt_journal.proofs.Names.{◌≡◌, ℕ, ◌+◌, ◌<◌, ◌≤◌, List, [], ◌∷◌, length, refl, sym, ◌∙◌, ap, subst, ⊎_elim}
 use Rattle.rt_journal.proofs.Names.{arith, Option, Some, None, take, drop, slice_get, option_map, cases_lt}
 use Rattle.rt_journal.proofs.Names.{length-append, map-append, take-append-drop, Terms, terms_of, JobId, Note, Order}
@@ -8,12 +8,59 @@ use Rattle.rt_journal.proofs.Names.{LinksAgree, DeliversAs, DeliversAsSent, Jour
 use Rattle.rt_journal.proofs.Names.{MayWrite, jobs_out, without_job, Owed, Outward, Inward, Joined, IsJobOut}
 use Rattle.rt_journal.proofs.Names.{numbered_orders, DeskView, terms_of_desk, RecordedView, terms_at, note_taken}
 use Rattle.rt_journal.proofs.Names.{order_taken, IsOutOf, IsInOf, name_of, named_outcomes, AreTogether, IsAssemblyOf}
+use Rattle.rt_journal.proofs.Names.{suc, zero, ◌++◌, ◌-◌, if_from, with_last, IsNextDelivered, MayFollow}
 use Rattle.rt_ids.specs.declared.note.Note.TheVariants as writes
 use Rattle.rt_ids.specs.Assembly.{names_of}
-use Rattle.rt_journal.proofs.DeliveredNumbers.{names_from, names_from-prefix, names_of-numbered, delivered_numbered}
 use Rattle.rt_recorded_desk.proofs.NumberedOrders.{length-numbered, first_under-numbered}
 use Rattle.rt_journal.proofs.EndsKept.{prefix-along, slice_get-seen}
 use Rattle.rt_journal.proofs.Received.{as_sent-stays}
+
+-- so many names of one link, which count from the number behind this one
+abbrev pub names_from : ℕ → ℕ → ℕ → ℕ → List JobId
+names_from sender core before zero = []
+names_from sender core before (suc count) = name_of sender core (before + 1) ∷ names_from sender core (before + 1) count
+
+module _ (sender core : ℕ) where
+  pub names_from-add : (before count more : ℕ) → names_from sender core before (count + more) ≡ names_from sender core before count ++ names_from sender core (before + count) more
+  names_from-add before zero more = grind arith
+  names_from-add before (suc count) more =
+      let one_more : suc count + more ≡ suc (count + more) = omega arith in
+      let later : before + 1 + count ≡ before + suc count = omega arith in
+      ap (names_from sender core before) one_more
+      ∙ ap (λ rest. name_of sender core (before + 1) ∷ rest)
+      (names_from-add (before + 1) count more ∙ ap (λ at. names_from sender core (before + 1) count ++ names_from sender core at more) later)
+
+  -- fewer names are the beginning of more
+  pub names_from-prefix : (count whole : ℕ) → count ≤ whole → IsPrefix (names_from sender core 0 count) (names_from sender core 0 whole)
+  names_from-prefix count whole within = (names_from sender core count (whole - count), grind (arith, names_from-add 0 count (whole - count)))
+
+  pub names_of-numbered : {J : Type 0} (before : ℕ) (orders : List (Order J)) → names_of (numbered_orders sender core before orders) ≡ names_from sender core before (length orders)
+  names_of-numbered before [] = refl
+  names_of-numbered before (order ∷ orders) = ap (λ rest. name_of sender core (before + 1) ∷ rest) (names_of-numbered (before + 1) orders)
+
+module _ (terms : Terms) (sender : ℕ) where
+  abbrev names : ℕ → List JobId
+  names count = names_from sender terms.actor 0 count
+
+module _ {T : Type 0} (terms : Terms) (sender : ℕ) where
+  -- one more is delivered, or none
+  one_more : (name : JobId) (before : Journal T) → IsNextDelivered terms name before → delivered_names sender before ≡ names terms sender (length (delivered_names sender before)) →
+      with_last (delivered_names sender before) (if_from sender name name) ≡ names terms sender (length (with_last (delivered_names sender before) (if_from sender name name)))
+  one_more name before next was =
+      let longer = names_from-add sender terms.actor 0 (length (delivered_names sender before)) 1 in
+      grind (arith, longer, next.next, next.receiver, length-append (delivered_names sender before) (name ∷ []))
+
+  -- what a lawful journal says was delivered from a sender is numbered without gaps
+  pub delivered_numbered : (journal : Journal T) → EachNote (MayStand terms) journal → delivered_names sender journal ≡ names terms sender (length (delivered_names sender journal))
+  delivered_numbered [] notes = refl
+  delivered_numbered (note ∷ before) notes = by_note note notes.0.may_follow (delivered_numbered before notes.1)
+    where
+      by_note : (note : Note T) → MayFollow terms note before → delivered_names sender before ≡ names terms sender (length (delivered_names sender before)) →
+          delivered_names sender (note ∷ before) ≡ names terms sender (length (delivered_names sender (note ∷ before)))
+      by_note (writes.Took name queue) law was = one_more name before law.0 was
+      by_note (writes.Back name reason) law was = one_more name before law.0 was
+      by_note (writes.Answered name answer) law was = one_more name before law.0 was
+      by_note _ law was = was
 
 -- an actor that is no core polls nothing and carries nothing out
 module _ {T : Type 0} (terms : Terms) (outside : terms.cores ≤ terms.actor) where
@@ -24,13 +71,10 @@ module _ {T : Type 0} (terms : Terms) (outside : terms.cores ≤ terms.actor) wh
   by_note under (writes.Detached name) before writer = (tt, λ rest. rest)
   by_note under _ before writer = absurd (omega (arith, writer, outside))
 
-  nobody_out : (journal : Journal T) → EachNote (MayStand terms) journal → jobs_out journal ≡ []
-  nobody_out [] notes = refl
-  nobody_out (note ∷ before) notes = (by_note (λ name. None) note before notes.0.writer).1 (nobody_out before notes.1)
-
-  nothing_delivered : (under : JobId → Option (Order (Unit {0}))) (journal : Journal T) → EachNote (MayStand terms) journal → EachNote (DeliversAs under) journal
-  nothing_delivered under [] notes = tt
-  nothing_delivered under (note ∷ before) notes = ((by_note under note before notes.0.writer).0, nothing_delivered under before notes.1)
+  by_notes : (under : JobId → Option (Order (Unit {0}))) (journal : Journal T) → EachNote (MayStand terms) journal → EachNote (DeliversAs under) journal × (jobs_out journal ≡ [])
+  by_notes under [] notes = (tt, refl)
+  by_notes under (note ∷ before) notes =
+      let rest = by_notes under before notes.1 in let now = by_note under note before notes.0.writer in ((now.0, rest.0), now.1 rest.1)
 
 -- outcomes that are the beginning of others are so under their names
 named-prefix : {J T : Type 0} (sender core : ℕ) (front whole : List (ℕ × Outcome J T)) → IsPrefix front whole → IsPrefix (named_outcomes sender core front) (named_outcomes sender core whole)
@@ -66,17 +110,19 @@ module _ {J T : Type 0} {same : J → J → Type 0} {made : J → ℕ} {polls : 
             notes = are.outside.notes;
             no_pick = are.outside.no_pick;
             no_answer = are.outside.no_answer;
-            nobody_out = nobody_out (terms_of_desk (desk cores)) (omega (arith, ap (λ terms. terms.actor) (are.actors cores (omega arith)), ap (λ terms. terms.cores) (are.actors cores (omega arith)))) (notes_at cores) are.outside.notes;
+            nobody_out = (by_notes (terms_of_desk (desk cores)) (omega (arith, ap (λ terms. terms.actor) (are.actors cores (omega arith)), ap (λ terms. terms.cores) (are.actors cores (omega arith)))) (λ name. None) (notes_at cores) are.outside.notes).1;
           })
 
   terms_are : (actor : ℕ) → actor ≤ cores → terms_of actor assembly ≡ terms_of_desk (desk actor)
   terms_are actor there = (λ i. record { actor = actor; cores = is.cores_are i; cap = is.cap_is i }) ∙ sym (are.actors actor there)
 
+  within : {actor : ℕ} → actor ≤ assembly.cores → actor ≤ cores
+  within known = omega (arith, known, is.cores_are)
+
   lawful : (actor : ℕ) → actor ≤ assembly.cores → IsLawful (terms_of actor assembly) (journal_of actor assembly)
   lawful actor known =
-      let there : actor ≤ cores = omega (arith, known, is.cores_are) in
-      subst (λ terms. IsLawful terms (journal_of actor assembly)) (sym (terms_are actor there))
-      (subst (IsLawful (terms_of_desk (desk actor))) (sym (is.each actor there)) (lawful_at actor there))
+      subst (λ terms. IsLawful terms (journal_of actor assembly)) (sym (terms_are actor (within known)))
+      (subst (IsLawful (terms_of_desk (desk actor))) (sym (is.each actor (within known))) (lawful_at actor (within known)))
 
   module _ (sender d : ℕ) (there : sender ≤ cores) (d_there : d < cores) where
     outs : IsOutOf d (desk sender) (out sender d) (credited sender d)
@@ -94,12 +140,6 @@ module _ {J T : Type 0} {same : J → J → Type 0} {made : J → ℕ} {polls : 
     accepted_are : accepted_orders d (notes_at sender) ≡ numbered_orders sender d 0 (out sender d).sent
     accepted_are = outs.accepted ∙ ap (λ at. numbered_orders at d 0 (out sender d).sent) sender_is
 
-    accepted_count : length (accepted_orders d (notes_at sender)) ≡ length (out sender d).sent
-    accepted_count = ap length accepted_are ∙ length-numbered sender d 0 (out sender d).sent
-
-    seen_within : length (inward sender d).seen ≤ length (out sender d).sent
-    seen_within = omega (arith, ap length link.orders.1, length-append (inward sender d).seen link.orders.0)
-
     delivered_are : delivered_names sender (core d).journal.notes ≡ names_from sender d 0 (inward sender d).taken
     delivered_are =
         delivered_numbered (terms_at (core d)) sender (core d).journal.notes (are.recorded d d_there).kept.notes
@@ -110,23 +150,22 @@ module _ {J T : Type 0} {same : J → J → Type 0} {made : J → ℕ} {polls : 
         subst (λ notes. IsPrefix (delivered_names sender notes) (names_of (accepted_orders d (notes_at sender)))) (sym (notes_are d d_there))
         (subst (λ front. IsPrefix front (names_of (accepted_orders d (notes_at sender)))) (sym delivered_are)
         (subst (IsPrefix (names_from sender d 0 (inward sender d).taken)) (sym (ap names_of accepted_are ∙ names_of-numbered sender d 0 (out sender d).sent))
-        (names_from-prefix sender d (inward sender d).taken (length (out sender d).sent) (omega (arith, ins.behind, seen_within)))))
+        (names_from-prefix sender d (inward sender d).taken (length (out sender d).sent) (omega (arith, ins.behind, ap length link.orders.1, length-append (inward sender d).seen link.orders.0)))))
 
     collection : IsPrefix (collected_outcomes d (notes_at sender)) (given_outcomes sender (notes_at d))
     collection =
         subst (λ notes. IsPrefix (collected_outcomes d (notes_at sender)) (given_outcomes sender notes)) (sym (notes_are d d_there))
         (subst (λ front. IsPrefix front (given_outcomes sender (core d).journal.notes)) (sym (outs.collected ∙ ap (λ at. named_outcomes at d got) sender_is))
         (subst (IsPrefix (named_outcomes sender d got)) (sym (ins.given ∙ ap (λ at. named_outcomes sender at (inward sender d).given) (numbers d d_there)))
-        (named-prefix sender d got (inward sender d).given (prefix-along got (out sender d).seen (inward sender d).given seen_got (link.outcomes.0, sym link.outcomes.1)))))
+        (named-prefix sender d got (inward sender d).given (prefix-along got (out sender d).seen (inward sender d).given (drop (out sender d).got (out sender d).seen, take-append-drop (out sender d).got (out sender d).seen) (link.outcomes.0, sym link.outcomes.1)))))
       where
         got : List (ℕ × Outcome J T)
         got = take (out sender d).got (out sender d).seen
 
-        seen_got : IsPrefix got (out sender d).seen
-        seen_got = (drop (out sender d).got (out sender d).seen, take-append-drop (out sender d).got (out sender d).seen)
-
     gate : (count : ℕ) → final_count sender (notes_at d) ≡ Some count → count ≡ length (accepted_orders d (notes_at sender))
-    gate count told = grind (arith, ins.gate, notes_are d d_there, link.final, accepted_count, ins.base)
+    gate count told =
+        let accepted_count = ap length accepted_are ∙ length-numbered sender d 0 (out sender d).sent in
+        grind (arith, ins.gate, notes_are d d_there, link.final, accepted_count, ins.base)
 
   -- what a core took under a name is what was accepted under it
   sent_under : (d : ℕ) → d < cores → (name : JobId) (what : Order (Unit {0})) → note_taken (core d).took name ≡ Some what → order_of name assembly ≡ Some what
@@ -159,25 +198,16 @@ module _ {J T : Type 0} {same : J → J → Type 0} {made : J → ℕ} {polls : 
       outside : cores ≤ actor → EachNote (DeliversAsSent assembly) (notes_at actor)
       outside past =
           let terms = are.actors actor there in
-          nothing_delivered (terms_of_desk (desk actor)) (omega (arith, past, ap (λ terms. terms.actor) terms, ap (λ terms. terms.cores) terms)) (λ name. order_of name assembly) (notes_at actor) (lawful_at actor there).notes
+          (by_notes (terms_of_desk (desk actor)) (omega (arith, past, ap (λ terms. terms.actor) terms, ap (λ terms. terms.cores) terms)) (λ name. order_of name assembly) (notes_at actor) (lawful_at actor there).notes).0
 
   links : LinksAgree assembly
   links = record {
-    deliveries = λ sender d known d_known.
-        let there : sender ≤ cores = omega (arith, known, is.cores_are) in
-        let d_there : d < cores = omega (arith, d_known, is.cores_are) in
-        rw (is.each d (omega (arith, d_there)), is.each sender there) (delivery sender d there d_there);
-    collections = λ sender d known d_known.
-        let there : sender ≤ cores = omega (arith, known, is.cores_are) in
-        let d_there : d < cores = omega (arith, d_known, is.cores_are) in
-        rw (is.each d (omega (arith, d_there)), is.each sender there) (collection sender d there d_there);
-    gates = λ sender d known d_known count told.
-        let there : sender ≤ cores = omega (arith, known, is.cores_are) in
-        let d_there : d < cores = omega (arith, d_known, is.cores_are) in
-        gate sender d there d_there count (ap (final_count sender) (sym (is.each d (omega (arith, d_there)))) ∙ told) ∙ ap (λ notes. length (accepted_orders d notes)) (sym (is.each sender there));
-    as_sent = λ actor known.
-        let there : actor ≤ cores = omega (arith, known, is.cores_are) in
-        rw (is.each actor there) (as_sent actor there);
+    deliveries = λ sender d known below. rw (is.each d (within (omega (arith, below))), is.each sender (within known)) (delivery sender d (within known) (omega (arith, below, is.cores_are)));
+    collections = λ sender d known below. rw (is.each d (within (omega (arith, below))), is.each sender (within known)) (collection sender d (within known) (omega (arith, below, is.cores_are)));
+    gates = λ sender d known below count told.
+        gate sender d (within known) (omega (arith, below, is.cores_are)) count (ap (final_count sender) (sym (is.each d (within (omega (arith, below))))) ∙ told)
+        ∙ ap (λ notes. length (accepted_orders d notes)) (sym (is.each sender (within known)));
+    as_sent = λ actor known. rw (is.each actor (within known)) (as_sent actor (within known));
   }
 
   pub together_joined : AreJoined assembly

@@ -12,8 +12,7 @@ create-created-requires g c =
 pub write-requires : goal.write-requires
 write-requires g c =
     let opening = subst (λ view. IsOpening view.journal.notes) (sym c.self.view_is) c.requires.opening in
-    let shares = c.get-in_range.ensures in
-    let in_range : InRange c.args.shares = record { positive = omega (arith, shares.value, shares.positive); bounded = omega (arith, shares.value, shares.bounded) } in
+    let in_range : InRange c.args.shares = omega (arith, c.get-in_range.ensures) in
     let did = created_did (view_of c.self.inside.core c.self.inside.took.items c.self.inside.said) c.self.invariant.0 opening c.args.shares in_range c.create-created.new.self c.create-created.result.0 c.create-created.result.1.items c.create-created.ensures.creates in
     let may = quiet_noted c.self.inside.core c.self.inside.took.items c.self.inside.said c.self.invariant c.as_slice.ensures.value did c.self.view_is (omega (arith, c.requires.room)) in
     assumption
@@ -21,16 +20,14 @@ write-requires g c =
 pub invariant_of-self : goal.invariant_of-self
 invariant_of-self g c =
     let opening = subst (λ view. IsOpening view.journal.notes) (sym c.self.view_is) c.requires.opening in
-    let shares = c.get-in_range.ensures in
-    let in_range : InRange c.args.shares = record { positive = omega (arith, shares.value, shares.positive); bounded = omega (arith, shares.value, shares.bounded) } in
+    let in_range : InRange c.args.shares = omega (arith, c.get-in_range.ensures) in
     let did = created_did (view_of c.self.inside.core c.self.inside.took.items c.self.inside.said) c.self.invariant.0 opening c.args.shares in_range c.create-created.new.self c.create-created.result.0 c.create-created.result.1.items c.create-created.ensures.creates in
     quiet_invariant c.self.inside.core c.self.inside.took.items c.self.inside.said c.self.invariant c.as_slice.ensures.value did c.write.ensures
 
 pub returns : goal.returns
 returns g c =
     let opening = subst (λ view. IsOpening view.journal.notes) (sym c.self.view_is) c.requires.opening in
-    let shares = c.get-in_range.ensures in
-    let in_range : InRange c.args.shares = record { positive = omega (arith, shares.value, shares.positive); bounded = omega (arith, shares.value, shares.bounded) } in
+    let in_range : InRange c.args.shares = omega (arith, c.get-in_range.ensures) in
     let did = created_did (view_of c.self.inside.core c.self.inside.took.items c.self.inside.said) c.self.invariant.0 opening c.args.shares in_range c.create-created.new.self c.create-created.result.0 c.create-created.result.1.items c.create-created.ensures.creates in
     let now = quiet_now c.self.inside.core c.self.inside.took.items c.self.inside.said c.self.invariant c.as_slice.ensures.value did c.write.ensures c.self.view_is in
     let ins = λ (sender : ℕ). now.ins sender tt in

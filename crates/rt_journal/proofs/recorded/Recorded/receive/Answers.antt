@@ -1,5 +1,6 @@
-use Rattle.rt_journal.proofs.Names.{sym, ◌∙◌, ap, subst, reverse, arith, IsSpelledOrder, IsNextIn, desk_with}
-use Rattle.rt_journal.proofs.Received.{next_for_core, notes_fit, room_in, received_now}
+use Rattle.rt_journal.proofs.Names.{◌≤◌, length, length-reverse, sym, ◌∙◌, ap, subst, reverse, arith, IsSpelledOrder}
+use Rattle.rt_journal.proofs.Names.{IsNextIn, desk_with}
+use Rattle.rt_journal.proofs.Received.{done, room_in, received_now}
 use Rattle.rt_journal.proofs.CarriedOut.{fits_delivered}
 use Rattle.rt_journal.proofs.QuietSteps.{view_of, may_note, desk_is}
 use Rattle.rt_journal.proofs.recorded.Recorded.receive.Goals as goal
@@ -7,14 +8,15 @@ use Rattle.rt_journal.proofs.recorded.Recorded.receive.Goals as goal
 pub deliver-delivered-requires : goal.deliver-delivered-requires
 deliver-delivered-requires g c =
     let next = subst (λ view. IsNextIn view c.args.envelope.name) (sym c.self.view_is) c.requires.next in
-    (omega arith, (room_in (view_of c.self.inside.core c.self.inside.took.items c.self.inside.said) _ c.self.invariant.0 next, (next.sender, (next_for_core (view_of c.self.inside.core c.self.inside.took.items c.self.inside.said) _ c.self.invariant.0 next, c.requires.ready))))
+    (omega arith, (room_in (view_of c.self.inside.core c.self.inside.took.items c.self.inside.said) _ c.self.invariant.0 next, (next.sender, (omega (arith, next.next, c.self.invariant.0.kept.agrees.delivered c.args.envelope.name.from next.sender), c.requires.ready))))
 
 pub write-requires : goal.write-requires
 write-requires g c =
     let next = subst (λ view. IsNextIn view c.args.envelope.name) (sym c.self.view_is) c.requires.next in
     let spelled = subst IsSpelledOrder c.without_job-within_ranges.ensures.same c.without_job-within_ranges.ensures.spelled in
-    let fit = notes_fit g.met.J.Task.same_task (view_of c.self.inside.core c.self.inside.took.items c.self.inside.said) c.self.invariant.0 c.args.envelope next spelled c.deliver-delivered.new.self c.deliver-delivered.result.0 c.deliver-delivered.result.1.items c.deliver-delivered.ensures.delivers in
-    let may = may_note c.self.inside.core c.self.inside.took.items c.self.inside.said c.self.invariant.1 c.as_slice.ensures.value fit.0 fit.1 fit.2 c.self.view_is (omega (arith, c.requires.room)) in
+    let did = done g.met.J.Task.same_task (view_of c.self.inside.core c.self.inside.took.items c.self.inside.said) c.self.invariant.0 c.args.envelope next spelled c.deliver-delivered.new.self c.deliver-delivered.result.0 c.deliver-delivered.result.1.items c.deliver-delivered.ensures.delivers in
+    let few : length c.deliver-delivered.result.1.items ≤ 2 = omega (arith, did.few, length-reverse c.deliver-delivered.result.1.items) in
+    let may = may_note c.self.inside.core c.self.inside.took.items c.self.inside.said c.self.invariant.1 c.as_slice.ensures.value (record { notes = did.kept.notes; no_pick = did.kept.no_pick; no_answer = did.kept.no_answer }) did.lists.sent few c.self.view_is (omega (arith, c.requires.room)) in
     assumption
 
 pub invariant_of-self : goal.invariant_of-self

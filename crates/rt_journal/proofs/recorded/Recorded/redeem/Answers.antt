@@ -1,21 +1,15 @@
-use Rattle.rt_journal.proofs.Names.{◌<◌, length, Fits, IsOutOf, HoldsSome, HasLane}
-use Rattle.rt_journal.proofs.SentNotes.{of_desk, redeemed_said}
+use Rattle.rt_journal.proofs.Names.{◌∙◌, ap, desk_of}
+use Rattle.rt_journal.proofs.SentNotes.{has_said, redeemed_silent}
 use Rattle.rt_journal.proofs.recorded.Recorded.redeem.Goals as goal
 
-pub redeem-requires-clause-beside : goal.redeem-requires-clause-beside
-redeem-requires-clause-beside g c = of_desk c.self.inside.core c.self.inside.took.items c.self.inside.said c.self.invariant c.self.view_is (λ desk. IsOutOf c.args.ticket.to desk (g.O.OutEnd.out c.args.end.now) (g.O.OutEnd.credited c.args.end.now)) c.requires.beside
-
-pub redeem-requires-clause-lane : goal.redeem-requires-clause-lane
-redeem-requires-clause-lane g c = of_desk c.self.inside.core c.self.inside.took.items c.self.inside.said c.self.invariant c.self.view_is (λ desk. HasLane (Fits g.J.Task.SameTask g.J.Task.Answers) c.args.ticket.to desk (g.O.OutEnd.out c.args.end.now) (g.O.OutEnd.credited c.args.end.now)) c.requires.lane
-
-pub redeem-requires-clause-room : goal.redeem-requires-clause-room
-redeem-requires-clause-room g c = of_desk c.self.inside.core c.self.inside.took.items c.self.inside.said c.self.invariant c.self.view_is (λ desk. HoldsSome c.args.ticket desk → length desk.journal.notes < desk.journal.room) c.requires.room
+pub redeem-requires : goal.redeem-requires
+redeem-requires g c = rw (c.self.invariant.1 ∙ ap desk_of c.self.view_is) (assumption c.requires)
 
 pub invariant_of-self : goal.invariant_of-self
-invariant_of-self g c = let now = redeemed_said c.self.inside.core c.self.inside.took.items c.self.inside.said c.self.invariant c.self.view_is c.redeem.ensures.stays c.args.ticket c.redeem.result c.redeem.ensures.redeems in (now.sound, now.is_its)
+invariant_of-self g c = let now = has_said c.self.inside.core c.self.inside.took.items c.self.inside.said c.self.invariant c.self.view_is c.redeem.ensures.stays.rest c.redeem.ensures.stays.written (redeemed_silent c.self.inside.said c.redeem.new.self c.args.ticket c.redeem.result c.redeem.ensures.redeems) in (now.sound, now.is_its)
 
 pub returns-clause-ins : goal.returns-clause-ins
-returns-clause-ins g c = (redeemed_said c.self.inside.core c.self.inside.took.items c.self.inside.said c.self.invariant c.self.view_is c.redeem.ensures.stays c.args.ticket c.redeem.result c.redeem.ensures.redeems).ins
+returns-clause-ins g c = (has_said c.self.inside.core c.self.inside.took.items c.self.inside.said c.self.invariant c.self.view_is c.redeem.ensures.stays.rest c.redeem.ensures.stays.written (redeemed_silent c.self.inside.said c.redeem.new.self c.args.ticket c.redeem.result c.redeem.ensures.redeems)).ins
 
 pub returns-clause-sound : goal.returns-clause-sound
-returns-clause-sound g c = (redeemed_said c.self.inside.core c.self.inside.took.items c.self.inside.said c.self.invariant c.self.view_is c.redeem.ensures.stays c.args.ticket c.redeem.result c.redeem.ensures.redeems).sound
+returns-clause-sound g c = (has_said c.self.inside.core c.self.inside.took.items c.self.inside.said c.self.invariant c.self.view_is c.redeem.ensures.stays.rest c.redeem.ensures.stays.written (redeemed_silent c.self.inside.said c.redeem.new.self c.args.ticket c.redeem.result c.redeem.ensures.redeems)).sound

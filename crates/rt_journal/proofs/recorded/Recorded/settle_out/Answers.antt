@@ -1,12 +1,12 @@
 use Rattle.rt_journal.proofs.Names.{sym, subst, arith, IsOut, OwesSettled}
-use Rattle.rt_journal.proofs.SettledPolls.{its_job_out, task_out, settled_did, owes_settled}
+use Rattle.rt_journal.proofs.SettledPolls.{task_out, settled_did, owes_settled}
 use Rattle.rt_journal.proofs.QuietSteps.{view_of, quiet_invariant, seen_so, quiet_now, quiet_noted, ins_step}
 use Rattle.rt_journal.proofs.recorded.Recorded.settle_out.Goals as goal
 
 pub write-requires : goal.write-requires
 write-requires g c =
     let out = c.settle-settled.ensures.settles in
-    let its_job = its_job_out c.self.inside.core.out out.0 out.1 c.args.ran.before (subst (λ view. IsOut view.core.out c.args.ran.before) (sym c.self.view_is) c.requires.out) in
+    let its_job = subst (λ who. IsOut who c.args.ran.before) out.1 (subst (λ view. IsOut view.core.out c.args.ran.before) (sym c.self.view_is) c.requires.out) in
     let did = settled_did g.met.J.Task.same_task g.met.J.Task.answers_same (view_of c.self.inside.core c.self.inside.took.items c.self.inside.said) c.self.invariant.0 out.0 out.1 c.settle-settled.new.self c.args.ran its_job c.requires.polled c.args.spent c.settle-settled.result.0 c.settle-settled.result.1.items out.2 in
     let may = quiet_noted c.self.inside.core c.self.inside.took.items c.self.inside.said c.self.invariant c.as_slice.ensures.value did c.self.view_is (omega (arith, c.requires.room)) in
     assumption
@@ -14,14 +14,14 @@ write-requires g c =
 pub invariant_of-self : goal.invariant_of-self
 invariant_of-self g c =
     let out = c.settle-settled.ensures.settles in
-    let its_job = its_job_out c.self.inside.core.out out.0 out.1 c.args.ran.before (subst (λ view. IsOut view.core.out c.args.ran.before) (sym c.self.view_is) c.requires.out) in
+    let its_job = subst (λ who. IsOut who c.args.ran.before) out.1 (subst (λ view. IsOut view.core.out c.args.ran.before) (sym c.self.view_is) c.requires.out) in
     let did = settled_did g.met.J.Task.same_task g.met.J.Task.answers_same (view_of c.self.inside.core c.self.inside.took.items c.self.inside.said) c.self.invariant.0 out.0 out.1 c.settle-settled.new.self c.args.ran its_job c.requires.polled c.args.spent c.settle-settled.result.0 c.settle-settled.result.1.items out.2 in
     quiet_invariant c.self.inside.core c.self.inside.took.items c.self.inside.said c.self.invariant c.as_slice.ensures.value did c.write.ensures
 
 pub returns : goal.returns
 returns g c =
     let out = c.settle-settled.ensures.settles in
-    let its_job = its_job_out c.self.inside.core.out out.0 out.1 c.args.ran.before (subst (λ view. IsOut view.core.out c.args.ran.before) (sym c.self.view_is) c.requires.out) in
+    let its_job = subst (λ who. IsOut who c.args.ran.before) out.1 (subst (λ view. IsOut view.core.out c.args.ran.before) (sym c.self.view_is) c.requires.out) in
     let did = settled_did g.met.J.Task.same_task g.met.J.Task.answers_same (view_of c.self.inside.core c.self.inside.took.items c.self.inside.said) c.self.invariant.0 out.0 out.1 c.settle-settled.new.self c.args.ran its_job c.requires.polled c.args.spent c.settle-settled.result.0 c.settle-settled.result.1.items out.2 in
     let now = quiet_now c.self.inside.core c.self.inside.took.items c.self.inside.said c.self.invariant c.as_slice.ensures.value did c.write.ensures c.self.view_is in
     let owes = seen_so c.self.inside.core c.self.inside.took.items c.self.inside.said c.self.invariant c.as_slice.ensures.value did c.write.ensures c.self.view_is (λ old new. OwesSettled old c.settle-settled.result.0 new)

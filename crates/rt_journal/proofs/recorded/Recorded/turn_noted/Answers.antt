@@ -1,7 +1,7 @@
 use Rattle.rt_journal.proofs.Names.{◌+◌, ◌*◌, ◌<◌, ◌≤◌, length, reverse, sym, ◌∙◌, ap, subst, arith, length-append}
 use Rattle.rt_journal.proofs.Names.{most_turns, turns, IsAhead, Fits, DeskView, desk_with, desk_of, AreOutsOf, lends}
+use Rattle.rt_journal.proofs.Names.{posted_made}
 use Rattle.rt_journal.proofs.Ahead.{turns-within}
-use Rattle.rt_recorded_desk.proofs.Posting.{posted_made}
 use Rattle.rt_journal.proofs.PostingTurn.{may_note_pick, outs_note_pick, noted_pick, noted_settled, may_settle}
 use Rattle.rt_journal.proofs.PostingTurn.{turned_invariant, turned_noted}
 use Rattle.rt_journal.proofs.recorded.Recorded.turn_noted.Goals as goal

@@ -1,6 +1,5 @@
 use Rattle.rt_journal.proofs.Names.{◌≡◌, ◌<◌, length, arith, sym, ◌∙◌, ap, subst, Fits, PostView, AreOutsOf, lends}
-use Rattle.rt_journal.proofs.Names.{Does}
-use Rattle.rt_recorded_desk.proofs.Posting.{made_parts}
+use Rattle.rt_journal.proofs.Names.{Does, made_parts}
 use Rattle.rt_journal.proofs.recorded.whole.turn_lent.Goals as goal
 
 pub lend-post-requires-clause-outs : goal.lend-post-requires-clause-outs
