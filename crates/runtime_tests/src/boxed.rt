@@ -45,29 +45,6 @@ impl Polled for Countdown {
     }
 }
 
-/// A box that yields so often.
-fn boxed_job(alloc: Global, yields: u32) -> Result<AnyJob, AllocError> {
-    let work = Countdown {
-        yields,
-        ended: false,
-    };
-    let inside: Box<dyn Polled + Send> = Box::new(alloc, work)?;
-    Ok(polled_job(inside))
-}
-
-/// Whether the core takes the job.
-fn submits(house: &mut House<AnyJob>, job: AnyJob) -> bool {
-    house.submit(CoreNo(0), Order::Job(QueueNo(0), job)).is_ok()
-}
-
-/// Closes the core, and tells the journals.
-fn journals_of<R: Threads + Wait>(rt: &R, house: House<AnyJob>) -> Option<Assembly> {
-    let mut house = house;
-    // The core may have closed by itself, and shut its gates: then this is refused.
-    let _closed = house.close_core(CoreNo(0), Mode::Finish);
-    house.finish(rt).ok()
-}
-
 /// Submits a box that yields so often, and closes its core. What the journals are then, and how often the gate was asked. None if no house
 /// was started, or the box was refused.
 fn run_box<R>(
@@ -80,17 +57,24 @@ where
     R: Threads + Wait + Copy + Drop + Send + 'static,
 {
     let asked = new_mark(alloc)?;
-    let job = boxed_job(alloc, yields)?;
     let config = plain(alloc, 1, 2, room);
     let Ok(mut house) = begin::<AnyJob, R>(rt, alloc, config, 1, &asked)? else {
         return Ok(None);
     };
-    if !submits(&mut house, job) {
+    let work = Countdown {
+        yields,
+        ended: false,
+    };
+    let inside: Box<dyn Polled + Send> = Box::new(alloc, work)?;
+    let sent = house.submit(CoreNo(0), Order::Job(QueueNo(0), polled_job(inside)));
+    if sent.is_err() {
         return Ok(None);
     }
-    match journals_of(&rt, house) {
-        Some(assembly) => Ok(Some((assembly, asked.load(Ordering::SeqCst)))),
-        None => Ok(None),
+    // Its core may have closed by itself, and shut its gates: then this is refused.
+    let _closed = house.close_core(CoreNo(0), Mode::Finish);
+    match house.finish(&rt) {
+        Ok(assembly) => Ok(Some((assembly, asked.load(Ordering::SeqCst)))),
+        Err(_) => Ok(None),
     }
 }
 
