@@ -2,7 +2,7 @@
 
 ghost use Rattle.std.specs.Prelude.{◌≡◌, ◌<◌, ◌^◌};
 ghost use Rattle.rt_jobs.specs.Ready.{HasReadyJob};
-ghost use Rattle.rt_link.specs.Ends.{StartsWith};
+ghost use Rattle.rt_ids.specs.Assembly.{IsPrefix};
 ghost use Rattle.rt_link.specs.Fits.{Fits};
 ghost use Rattle.rt_link.specs.Whole.{IsLink, out_of};
 ghost use Rattle.rt_desk.specs.Desks.{AreEndsOf};
@@ -20,7 +20,7 @@ use std::marker::Model;
 /// Takes an order, polls its job to its end and gives the answer, or hands it back unpolled.
 fn answer(link: &mut PlainLink<ScriptJob>, most: u32) -> Came
     ensures same { link.new ≡ record link.old { taken = link.new.taken; given = link.new.given; shut = link.new.shut } }
-    ensures more { StartsWith link.new.given link.old.given }
+    ensures more { IsPrefix link.old.given link.new.given }
     ensures law { IsLink (Fits ⟦<ScriptJob as Task>⟧.SameTask ⟦<ScriptJob as Task>⟧.Answers) (HasReadyJob ⟦<ScriptJob as Task>⟧.done ⟦<ScriptJob as Task>⟧.CanPoll) link.new }
 {
     let Some(Envelope { name, order }) = link.take() else {

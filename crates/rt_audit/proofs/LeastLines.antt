@@ -1,11 +1,12 @@
 -- The least line of a fault.
-use Rattle.std.proofs.Common.{◌≡◌, ℕ, ◌+◌, ◌-◌, ◌<◌, ◌≤◌, ◌⊎◌, inl, inr, List, ◌++◌, length, drop, min, refl, sym, ◌∙◌, ap, subst, arith, append_assoc, length-drop}
+use Rattle.std.proofs.Common.{◌≡◌, ℕ, ◌-◌, ◌<◌, ◌≤◌, ◌⊎◌, inl, inr, List, length, drop, min, refl, sym, ◌∙◌, ap, subst, arith, length-drop}
 use Rattle.std.specs.Prelude.{Option, Some, None, IfSome}
 use Rattle.std.proofs.lemmas.Bool.{cases_lt}
 use Rattle.std.proofs.lemmas.List.{drop-drop}
 use Rattle.rt_ids.specs.declared.names.JobId.{JobId}
 use Rattle.rt_ids.specs.declared.note.Note.{Note}
 use Rattle.rt_ids.specs.Assembly.{IsPrefix}
+use Rattle.rt_ids.proofs.Prefixes.{IsPrefix-along}
 use Rattle.rt_ids.specs.Journal.{Journal, EachNote, at_place}
 use Rattle.rt_prefixes.specs.Sides.{TurnsOff}
 use Rattle.rt_tables.specs.Faults.{IsFirstFault}
@@ -50,10 +51,6 @@ pub least_some : (F : ℕ → Type 0) (line : Option ℕ) → IsLeast F line →
 least_some F None least = tt
 least_some F (Some line) least = least
 
-prefix_along : {A : Type 0} (front middle whole : List A) → IsPrefix front middle → IsPrefix middle whole → IsPrefix front whole
-prefix_along front middle whole first second =
-    (first.0 ++ second.0, sym (append_assoc front first.0 second.0) ∙ (ap (λ items. items ++ second.0) first.1 ∙ second.1))
-
 module _ {T : Type 0} where
   -- what stood at a place stood there at each later place
   pub at_within : (journal : Journal T) (place later : ℕ) → place ≤ later → later ≤ length journal → at_place place (at_place later journal) ≡ at_place place journal
@@ -91,7 +88,7 @@ module _ (told : Journal ℕ → List JobId) (part : (place : ℕ) (journal : Jo
     (whole : List JobId) where
   -- what turns off is no prefix in all
   pub prefix_breaks : (line : ℕ) → TurnsOff told journal whole line → IsPrefix (told journal) whole → ⊥
-  prefix_breaks line off begins = off.broken (prefix_along (told (at_place line journal)) (told journal) whole (part line journal) begins)
+  prefix_breaks line off begins = off.broken (IsPrefix-along (told (at_place line journal)) (told journal) whole (part line journal) begins)
 
   -- the line that turns off is the least
   pub prefix_least : (line : Option ℕ) → (line ≡ None → IsPrefix (told journal) whole) → IfSome line (TurnsOff told journal whole) →
@@ -105,4 +102,4 @@ module _ (told : Journal ℕ → List JobId) (part : (place : ℕ) (journal : Jo
       by_order at other (inl less) =
           let here = at_within journal at off.place (omega (arith, less, off.counted)) (omega (arith, off.counted, off.within)) in
           let front = subst (λ (read : Journal ℕ). IsPrefix (told read) (told (at_place off.place journal))) here (part at (at_place off.place journal)) in
-          absurd (other.broken (prefix_along (told (at_place at journal)) (told (at_place off.place journal)) whole front off.kept))
+          absurd (other.broken (IsPrefix-along (told (at_place at journal)) (told (at_place off.place journal)) whole front off.kept))

@@ -10,7 +10,7 @@ use rt_taskqueue::Queues;
 use rt_timeline::{Slip, Timeline};
 use std::alloc::Allocator;
 
-/// Puts a queue into the timeline at this virtual runtime, by its slip. Takes no memory, so it can't fail.
+/// Puts a queue into the timeline at this virtual runtime, by its slip. That can't fail.
 pub(crate) fn enter<J: Drop, A: Allocator + Clone>(
     queues: &mut Queues<J, A>,
     ready: &mut Timeline<A>,
@@ -30,7 +30,7 @@ pub(crate) fn enter<J: Drop, A: Allocator + Clone>(
 }
 
 /// Puts the slip of a queue into the timeline at this virtual runtime if a job waits in the queue, else back to the queue. The head of
-/// the queue has had its turn. Takes no memory.
+/// the queue has had its turn.
 pub(crate) fn relist<J: Drop, A: Allocator + Clone>(
     queues: &mut Queues<J, A>,
     ready: &mut Timeline<A>,

@@ -27,7 +27,7 @@ impl Sender {
     }
 }
 
-/// The senders of a core, by number. Only `open` takes memory.
+/// The senders of a core, by number. Only `open` asks for memory; no clause says so.
 #[derive(Drop)]
 pub struct Senders<A: Allocator> {
     senders: SealedVec<Sender, A>,

@@ -5,7 +5,8 @@ use Rattle.std.proofs.lemmas.Bool.Decides.{eqb_tells, leb_tells}
 use Rattle.rt_ids.specs.declared.order.Order.{Order}
 use Rattle.rt_ids.specs.declared.order.Outcome.{Outcome}
 use Rattle.rt_link.specs.declared.ends.Outward.{Outward}
-use Rattle.rt_link.specs.Ends.{StartsWith, AreOf, SoundOut}
+use Rattle.rt_ids.specs.Assembly.{IsPrefix}
+use Rattle.rt_link.specs.Ends.{AreOf, SoundOut}
 use Rattle.rt_link.proofs.EndFacts.{SoundOut-credit}
 use Rattle.rt_link.proofs.Lists.{slice_get-starts}
 use Rattle.rt_desk.specs.Held.{at, Removes}
@@ -72,7 +73,7 @@ module _ {J T : Type 0} (fits : Order J → Outcome J T → Type 0) (lane : Lane
   }
 
   -- a collection that finds nothing may still see more
-  module _ (seen : List (ℕ × Outcome J T)) (longer : StartsWith seen out.seen) (named : AreOf fits out.base out.sent seen) where
+  module _ (seen : List (ℕ × Outcome J T)) (longer : IsPrefix out.seen seen) (named : AreOf fits out.base out.sent seen) where
     seen_is : (i : ℕ) → i < out.got → slice_get seen i ≡ slice_get out.seen i
     seen_is i low = slice_get-starts seen out.seen i longer (omega (arith, l.sound.behind))
 

@@ -1,28 +1,21 @@
 -- One outcome after another: what a lane is after all of them.
 use Rattle.std.proofs.Common.{◌≡◌, ◌≢◌, inl, inr, ℕ, ◌+◌, ◌<◌, ◌≤◌, Bool, true, false, List, [], ◌∷◌, ◌++◌, length, take, get_or, Option, Some, None, refl, sym, ap, subst, ◌∙◌, arith, append_assoc, append-nil, length-append}
 use Rattle.std.specs.Prelude.{slice_get, is_some, All, Contains}
-use Rattle.std.proofs.lemmas.List.{take-append-le, take_more, get_or-take, length-take-le, length-take}
+use Rattle.std.proofs.lemmas.List.{take_more, get_or-take, length-take-le, length-take}
 use Rattle.std.proofs.lemmas.List.Elements.{All-nil, All-push, All-pop, Contains-append_right, Contains-get_or}
 use Rattle.std.proofs.lemmas.Option.{slice_get_within, slice_get-get_or, get_or_from_slice_get}
 use Rattle.rt_ids.specs.declared.order.Order.{Order}
 use Rattle.rt_ids.specs.declared.order.Outcome.{Outcome}
 use Rattle.rt_link.specs.declared.ends.Outward.{Outward}
 use Rattle.rt_link.specs.Calls.{Collects}
-use Rattle.rt_link.specs.Ends.{StartsWith, AreDistinct}
-use Rattle.rt_link.proofs.Lists.{StartsWith-self, slice_get-starts}
+use Rattle.rt_link.specs.Ends.{AreDistinct}
+use Rattle.rt_ids.proofs.Prefixes.{IsPrefix-self, IsPrefix-along}
+use Rattle.rt_link.proofs.Lists.{slice_get-starts, take-starts}
 use Rattle.rt_desk.specs.Held.{at, tally}
 use Rattle.rt_desk.specs.Lanes.{Lane, is_detached, IsLaneOf}
 use Rattle.rt_desk.specs.Steps.{Keeps, CollectsNext, Settles, CollectsThese, CollectsMany, CollectsAll}
 use Rattle.rt_desk.specs.declared.entry.Entry.{Entry}
 use Rattle.rt_desk.proofs.Taken.{taken-get}
-
--- a list that goes on behind another goes on behind its beginning
-StartsWith-trans : {A : Type 0} (whole front first : List A) → StartsWith whole front → StartsWith front first → StartsWith whole first
-StartsWith-trans whole front first along before = (before.0 ++ along.0, along.1 ∙ (ap (λ z. z ++ along.0) before.1 ∙ append_assoc first before.0 along.0))
-
--- the beginning of a longer list
-take-starts : {A : Type 0} (whole front : List A) (n : ℕ) → StartsWith whole front → n ≤ length front → take n whole ≡ take n front
-take-starts whole front n starts low = ap (take n) starts.1 ∙ take-append-le n front starts.0 low
 
 -- one more
 take-next : {A : Type 0} (items : List A) (n : ℕ) (found : A) → slice_get items n ≡ Some found → take (n + 1) items ≡ take n items ++ found ∷ []
@@ -65,7 +58,7 @@ module _ {J T : Type 0} where
     [],
     record {
       end = refl;
-      longer = StartsWith-self out.seen;
+      longer = IsPrefix-self out.seen;
       in_order = sym (append-nil (take out.got out.seen));
       settled = All-nil (λ found. Settles (at lane.entries found.0) found.1 (at lane.entries found.0));
       others = λ number _. refl;
@@ -96,7 +89,7 @@ module _ {J T : Type 0} where
         (subst (λ n. CollectsThese old mid out later credited n outcomes) (sym next.2)
         record {
           end = end_is;
-          longer = StartsWith-trans later.seen shown.seen out.seen next.0.1 these.longer;
+          longer = IsPrefix-along out.seen shown.seen later.seen these.longer next.0.1;
           in_order = whole;
           settled = these.settled;
           others = these.others;
@@ -143,7 +136,7 @@ module _ {J T : Type 0} where
       pub CollectsThese-next : CollectsThese old new out later credited after (outcomes ++ found ∷ [])
       CollectsThese-next = record {
         end = subst (λ n. later ≡ record shown { seen = later.seen; got = n }) (sym got) next.0.0 ∙ ap (λ (o : Outward J T). record o { seen = later.seen; got = later.got }) these.end;
-        longer = StartsWith-trans later.seen shown.seen out.seen next.0.1 these.longer;
+        longer = IsPrefix-along out.seen shown.seen later.seen these.longer next.0.1;
         in_order =
             ap (λ n. take n later.seen) got
             ∙ (take-next later.seen shown.got found next.0.2

@@ -9,9 +9,11 @@ use Rattle.rt_ids.specs.declared.order.SendError.{SendError}
 use Rattle.rt_ids.specs.declared.order.SendError.TheVariants.{Closed, Full, Spent, NoCore}
 use Rattle.rt_link.specs.declared.ends.Outward.{Outward}
 use Rattle.rt_link.specs.Calls.{Sends}
-use Rattle.rt_link.specs.Ends.{StartsWith, AreOf, SoundOut}
+use Rattle.rt_ids.specs.Assembly.{IsPrefix}
+use Rattle.rt_link.specs.Ends.{AreOf, SoundOut}
 use Rattle.rt_link.proofs.EndFacts.{SoundOut-Sends}
-use Rattle.rt_link.proofs.Lists.{StartsWith-self, slice_get-starts}
+use Rattle.rt_ids.proofs.Prefixes.{IsPrefix-self}
+use Rattle.rt_link.proofs.Lists.{slice_get-starts}
 use Rattle.rt_link.proofs.Numbers.{AreOf-starts}
 use Rattle.rt_desk.specs.Held.{at, Adds}
 use Rattle.rt_desk.specs.Lanes.{Lane, is_collected, IsSent, IsGot, Stands, IsLaneOf, IsUnused, fresh_lane}
@@ -92,7 +94,7 @@ module _ {J T : Type 0} (fits : Order J → Outcome J T → Type 0) where
       subst (λ k. IsLaneOf fits new later k) (sym same) (IsLaneOf-sent lane new out later credited order number l sends adds room count last)
 
   -- to see more outcomes, or the gate shut, changes nothing of a lane
-  pub IsLaneOf-more : (lane : Lane J T) (out : Outward J T) (credited : ℕ) (seen : List (ℕ × Outcome J T)) (closed : Bool) → StartsWith seen out.seen
+  pub IsLaneOf-more : (lane : Lane J T) (out : Outward J T) (credited : ℕ) (seen : List (ℕ × Outcome J T)) (closed : Bool) → IsPrefix out.seen seen
       → IsLaneOf fits lane out credited → IsLaneOf fits lane (record out { seen = seen; closed = closed }) credited
   IsLaneOf-more lane out credited seen closed longer l = record {
     room = l.room;
@@ -127,7 +129,7 @@ module _ {J T : Type 0} (fits : Order J → Outcome J T → Type 0) where
   pub IsLaneOf-refused : (lane : Lane J T) (out later : Outward J T) (credited : ℕ) (order : Order J) (error : SendError J) → IsLaneOf fits lane out credited
       → Sends out credited order later (Err error) → IsLaneOf fits lane later credited
   IsLaneOf-refused lane out later credited order (Closed back final) l sends =
-      subst (λ o. IsLaneOf fits lane o credited) (sym sends.2) (IsLaneOf-more lane out credited out.seen true (StartsWith-self out.seen) l)
+      subst (λ o. IsLaneOf fits lane o credited) (sym sends.2) (IsLaneOf-more lane out credited out.seen true (IsPrefix-self out.seen) l)
   IsLaneOf-refused lane out later credited order (Full back) l sends = subst (λ o. IsLaneOf fits lane o credited) (sym sends.3) l
   IsLaneOf-refused lane out later credited order (Spent back) l sends = subst (λ o. IsLaneOf fits lane o credited) (sym sends.4) l
   IsLaneOf-refused lane out later credited order (NoCore back) l sends = absurd sends

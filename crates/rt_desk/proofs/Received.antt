@@ -6,7 +6,7 @@ use Rattle.std.proofs.lemmas.Bool.Decides.{eqb_tells}
 use Rattle.rt_ids.specs.declared.order.Order.{Order}
 use Rattle.rt_ids.specs.declared.order.Outcome.{Outcome}
 use Rattle.rt_link.specs.declared.plain.Whole.{Whole}
-use Rattle.rt_link.specs.Ends.{StartsWith}
+use Rattle.rt_ids.specs.Assembly.{IsPrefix}
 use Rattle.rt_link.specs.Whole.{out_of, IsLink}
 use Rattle.rt_desk.specs.Lanes.{Lane, IsLaneOf}
 use Rattle.rt_desk.specs.Desks.{Desk, AreEndsOf}
@@ -16,7 +16,7 @@ use Rattle.rt_desk.proofs.Cores.{found, changed, unchanged}
 module _ {J T : Type 0} (fits : Order J → Outcome J T → Type 0) (ready : Order J → Type 0) where
   -- the receiver took orders, gave outcomes, or shut the gate
   pub IsLaneOf-received : (lane : Lane J T) (old new : Whole J T) → IsLaneOf fits lane (out_of old) old.credited → IsLink fits ready new
-      → new ≡ record old { taken = new.taken; given = new.given; shut = new.shut } → StartsWith new.given old.given → IsLaneOf fits lane (out_of new) new.credited
+      → new ≡ record old { taken = new.taken; given = new.given; shut = new.shut } → IsPrefix old.given new.given → IsLaneOf fits lane (out_of new) new.credited
   IsLaneOf-received lane old new l law is more =
       subst (λ (link : Whole J T). IsLaneOf fits lane (out_of link) link.credited) (sym is)
       (IsLaneOf-more fits lane (out_of old) old.credited new.given new.shut more l)
@@ -24,7 +24,7 @@ module _ {J T : Type 0} (fits : Order J → Outcome J T → Type 0) (ready : Ord
   -- the same of a desk over plain links
   pub AreEndsOf-received : (desk : Desk J T) (ends : List (Whole J T)) (core : ℕ) (old new : Whole J T) → AreEndsOf fits out_of (λ link. link.credited) desk ends
       → core < length ends → old ≡ get_or ends core old → IsLink fits ready new
-      → new ≡ record old { taken = new.taken; given = new.given; shut = new.shut } → StartsWith new.given old.given → AreEndsOf fits out_of (λ link. link.credited) desk (set ends core new)
+      → new ≡ record old { taken = new.taken; given = new.given; shut = new.shut } → IsPrefix old.given new.given → AreEndsOf fits out_of (λ link. link.credited) desk (set ends core new)
   AreEndsOf-received desk ends core old new are low old_is law is more = record {
     count = length-set ends core new ∙ are.count;
     each = λ i. λ lane. λ end. λ lane_there. λ end_there. elim (eqb_tells i core) [

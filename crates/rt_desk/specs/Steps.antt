@@ -7,7 +7,7 @@ use Rattle.rt_ids.specs.declared.names.TicketError.{TicketError}
 use Rattle.rt_ids.specs.declared.names.TicketError.TheVariants as refusal
 use Rattle.rt_link.specs.declared.ends.Outward.{Outward}
 use Rattle.rt_link.specs.Calls.{Collects}
-use Rattle.rt_link.specs.Ends.{StartsWith}
+use Rattle.rt_ids.specs.Assembly.{IsPrefix}
 use Rattle.rt_desk.specs.Held.{at, tally, Adds, Removes}
 use Rattle.rt_desk.specs.Lanes.{Lane, is_detached, IsGiven, IsGone}
 use Rattle.rt_desk.specs.declared.entry.Standing.{Standing}
@@ -47,7 +47,7 @@ module _ {J T : Type 0} where
   -- These outcomes are collected, in this order, each under its number. No other entry changes. As many places of the link are free as detached ones are gone.
   pub record CollectsThese (old new : Lane J T) (out later : Outward J T) (credited after : ℕ) (outcomes : List (ℕ × Outcome J T)) : Type 0 where
     pub end : later ≡ record out { seen = later.seen; got = later.got }
-    pub longer : StartsWith later.seen out.seen
+    pub longer : IsPrefix out.seen later.seen
     pub in_order : take later.got later.seen ≡ take out.got out.seen ++ outcomes
     pub settled : All (λ found. Settles (at old.entries found.0) found.1 (at new.entries found.0)) outcomes
     pub others : (number : ℕ) → All (λ found. found.0 ≢ number) outcomes → at new.entries number ≡ at old.entries number

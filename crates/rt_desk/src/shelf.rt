@@ -57,7 +57,7 @@ impl<J: Drop, T: Drop> Slip<J, T> {
     }
 }
 
-/// Entries by number. It has room for so many, and takes no memory after its opening.
+/// Entries by number. It has room for so many. The other calls ask for no memory; no clause says so.
 #[derive(Drop)]
 pub(crate) struct Shelf<J: Drop, T: Drop> {
     held: Rows<Entry<J, T>>,

@@ -38,7 +38,7 @@ fn reunite_row<J: Task>(all: &mut Vec<Ends<J>>, cores: u8, sender: usize)
 /// Ends all links of a house. The orders and outcomes that are still in their slots are dropped.
 ///
 /// For each sender and each core both ends are of one link, however each actor used its own: what was taken is the beginning of what was
-/// sent, and what was got is the beginning of what was given. No memory is taken.
+/// sent, and what was got is the beginning of what was given. The body asks for no memory; no clause says so.
 pub fn reunite_all<J: Task>(all: Vec<Ends<J>>, cores: u8)
     requires { IsGrid cores all.items }
     ensures { AreReunited (Fits J.SameTask J.Answers) cores all.items }

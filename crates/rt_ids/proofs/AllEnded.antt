@@ -1,12 +1,12 @@
 -- If a core is drained among joined journals, all that was accepted for it has ended.
-use Rattle.std.proofs.Common.{◌≡◌, ℕ, ◌<◌, ◌≤◌, inl, inr, Bool, true, false, List, [], ◌∷◌, ◌++◌, length, refl, sym, ◌∙◌, ap, subst, arith, append-nil}
+use Rattle.std.proofs.Common.{◌≡◌, ℕ, ◌<◌, ◌≤◌, inl, inr, Bool, true, false, List, [], ◌∷◌, refl, sym, ◌∙◌, ap, subst, arith}
 use Rattle.std.specs.Prelude.{Option, Some, None, nat_le, slice_get, is_some}
 use Rattle.std.proofs.lemmas.Bool.{leb-true, leb-false, true≢false}
-use Rattle.std.proofs.lemmas.List.{length-map, length-append}
+use Rattle.std.proofs.lemmas.List.{length-map}
 use Rattle.std.proofs.lemmas.Option.{slice_get_past}
 use Rattle.rt_ids.specs.declared.names.JobId.{JobId}
 use Rattle.rt_ids.specs.declared.order.Order.{Order}
-use Rattle.rt_ids.specs.Assembly.{Assembly, IsPrefix, journal_of, names_of, order_of, is_command, IsAcceptedJob, IsAcceptedCommand}
+use Rattle.rt_ids.specs.Assembly.{Assembly, journal_of, names_of, order_of, is_command, IsAcceptedJob, IsAcceptedCommand}
 use Rattle.rt_ids.specs.Clauses.{OutcomesRight, StandsInOrder}
 use Rattle.rt_ids.specs.Closing.{IsDrained}
 use Rattle.rt_ids.specs.Filters.{accepted_orders, delivered_names, name_ended}
@@ -18,17 +18,10 @@ use Rattle.rt_ids.specs.Terms.{terms_of}
 use Rattle.rt_ids.specs.Work.{queue_of}
 use Rattle.rt_ids.proofs.Ended.{IsMet, delivered_met, ended_job, answered_command, not_both, entered_somewhere}
 use Rattle.rt_ids.proofs.NameLemmas.{among}
+use Rattle.rt_ids.proofs.Prefixes.{IsPrefix-same}
 use Rattle.rt_ids.proofs.StartsOnce.{is_some-some, sent_there}
 use Rattle.rt_ids.proofs.Under.{first_under-among}
 use Rattle.rt_ids.proofs.WorkOfLines.{work_of_line}
-
--- a beginning as long as the whole is the whole
-whole_prefix : {A : Type 0} (front whole : List A) → IsPrefix front whole → length front ≡ length whole → front ≡ whole
-whole_prefix {A} front whole begins long = by_rest begins.0 begins.1
-  where
-    by_rest : (rest : List A) → front ++ rest ≡ whole → front ≡ whole
-    by_rest [] is = sym (append-nil front) ∙ is
-    by_rest (first ∷ rest) is = absurd (omega (arith, ap length is, length-append front (first ∷ rest)))
 
 module _ {T : Type 0} (assembly : Assembly T) (joined : AreJoined assembly) where
   -- an order was accepted of an actor that there is
@@ -48,8 +41,7 @@ module _ {T : Type 0} (assembly : Assembly T) (joined : AreJoined assembly) wher
     all_delivered : (sender : ℕ) → sender ≤ assembly.cores → delivered_names sender (journal_of core assembly) ≡ names_of (accepted_orders core (journal_of sender assembly))
     all_delivered sender known =
         let count = joined.links.gates sender core known within _ (drained.delivered_all sender known) in
-        whole_prefix _ _ (joined.links.deliveries sender core known within)
-        (count ∙ sym (length-map _ _))
+        sym (IsPrefix-same _ _ (joined.links.deliveries sender core known within) (length-map _ _ ∙ sym count))
 
     -- so it is met
     met : (name : JobId) (order : Order (Unit {0})) → name.to ≡ core → order_of name assembly ≡ Some order → IsMet name (journal_of core assembly)

@@ -75,7 +75,7 @@ links_refused = record {
   core = λ agree. let sent = (agree.as_sent 0 (omega arith)).0 refl in let effect = not_other_effect sent.0 (notes.CoreClosed Finish) sent.1 sent.2 in cc;
   again = λ agree. let sent = (agree.as_sent 0 (omega arith)).0 in let answer = answers_sent (CloseCore Finish) sent.0 answers.Closed closed sent.1 sent.2 in cc;
   stricter = λ agree. let sent = (agree.as_sent 0 (omega arith)).0 in let answer = answers_sent (CloseCore Return) sent.0 answers.AlreadyClosed closed sent.1 sent.2 in cc;
-  delivered = λ agree. let first : 2 ≡ 1 = ap first_number (agree.deliveries 1 0 (omega arith) (omega arith)).1 in cc;
+  delivered = λ agree. let first : 1 ≡ 2 = ap first_number (agree.deliveries 1 0 (omega arith) (omega arith)).1 in cc;
   count = λ agree. let count : 0 ≡ 1 = agree.gates 1 0 (omega arith) (omega arith) 0 refl in omega arith;
-  outcome = λ agree. let given = (agree.collections 1 0 (omega arith) (omega arith)).1 in let value : 8 ≡ 7 = ap first_value given in cc;
+  outcome = λ agree. let given = (agree.collections 1 0 (omega arith) (omega arith)).1 in let value : 7 ≡ 8 = ap first_value given in cc;
 }

@@ -13,7 +13,7 @@ order_refused = record {
   command = λ sound. let sent = (sound.notes 0 (omega arith)).0 in cc;
   unsent = λ sound. let begins = (sound.deliveries 1 0 (omega arith) (omega arith)).1 in cc;
   twice = λ sound. let begins = (sound.deliveries 1 0 (omega arith) (omega arith)).1 in cc;
-  delivered = λ sound. let first : 2 ≡ 1 = ap first_number (sound.deliveries 1 0 (omega arith) (omega arith)).1 in cc;
+  delivered = λ sound. let first : 1 ≡ 2 = ap first_number (sound.deliveries 1 0 (omega arith) (omega arith)).1 in cc;
   ungiven = λ sound. let begins = (sound.collections 1 0 (omega arith) (omega arith)).1 in cc;
-  collected = λ sound. let first : 2 ≡ 1 = ap first_number (sound.collections 1 0 (omega arith) (omega arith)).1 in cc;
+  collected = λ sound. let first : 1 ≡ 2 = ap first_number (sound.collections 1 0 (omega arith) (omega arith)).1 in cc;
 }

@@ -1,5 +1,5 @@
 -- What stands first under a name, where a list grows at its end.
-use Rattle.std.proofs.Common.{◌≡◌, ◌⊎◌, inl, inr, Bool, true, false, List, [], ◌∷◌, ◌++◌, refl, subst, cond}
+use Rattle.std.proofs.Common.{◌≡◌, ◌⊎◌, inl, inr, Bool, true, false, List, [], ◌∷◌, ◌++◌, refl, sym, subst, cond}
 use Rattle.std.specs.Prelude.{◌||◌, Option, Some, None}
 use Rattle.rt_ids.specs.declared.names.JobId.{JobId}
 use Rattle.rt_ids.specs.Assembly.{IsPrefix, names_of, first_under}
@@ -21,7 +21,7 @@ module _ {A : Type 0} (name : JobId) where
   -- so in each list that begins so
   pub first_under-prefix : (front whole : List (JobId × A)) (item : A) → IsPrefix front whole → first_under name front ≡ Some item → first_under name whole ≡ Some item
   first_under-prefix front whole item begins found =
-      subst (λ entries. first_under name entries ≡ Some item) begins.1 (first_under-longer front begins.0 item found)
+      subst (λ entries. first_under name entries ≡ Some item) (sym begins.1) (first_under-longer front begins.0 item found)
 
   -- if one more comes at all
   pub first_under-stays : (entries : List (JobId × A)) (more : Option (JobId × A)) (item : A) → first_under name entries ≡ Some item →

@@ -19,7 +19,7 @@ journal_of actor assembly = unwrap_or (slice_get assembly.journals actor) []
 
 -- the first list is the beginning of the second
 abbrev pub IsPrefix : {A : Type 0} → List A → List A → Type 0
-IsPrefix {A} front whole = (rest : List A) × (front ++ rest ≡ whole)
+IsPrefix {A} front whole = (rest : List A) × (whole ≡ front ++ rest)
 
 -- the names of what stands under names
 abbrev pub names_of : {A : Type 0} → List (JobId × A) → List JobId

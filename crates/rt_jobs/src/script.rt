@@ -22,7 +22,7 @@ const MOST_YIELDS: usize = 63;
 /// A job whose polls are written down: some that yield, then one that is done with a number.
 ///
 /// A contract sees the list of its polls, and how many of them were made. Each poll tells its own time.
-/// The last poll stands by itself, so that the answer is stored once. A job takes no memory but its own bytes.
+/// The last poll stands by itself, so that the answer is stored once.
 #[derive(PartialEq, Eq, Drop)]
 pub struct ScriptJob {
     yields: ArrayVec<Yielding, MOST_YIELDS>,

@@ -6,7 +6,8 @@ use Rattle.rt_journal.proofs.Names.{number_if, Inward, SoundIn, AreNamed, Takes,
 use Rattle.rt_journal.proofs.Names.{delivered_count, IsInOf, IsInOwing, GivesMore, told_under, KeepsIn, IsSameSeat}
 use Rattle.rt_journal.proofs.Names.{named_outcomes, IsNextIn, Receives}
 use Rattle.rt_journal.proofs.Received.{order_taken-parts}
-use Rattle.rt_journal.proofs.EndsKept.{keeps_in, slice_get-seen, final_of-more}
+use Rattle.rt_link.proofs.Lists.{slice_get-seen}
+use Rattle.rt_journal.proofs.EndsKept.{keeps_in, final_of-more}
 
 -- what is told under a name is told to its sender alone
 pub told_elsewhere : {T : Type 0} (name : JobId) (what : Option (OutcomeNote T)) (sender : ℕ) → (sender ≡ name.from → ⊥) → told_under name what sender ≡ None

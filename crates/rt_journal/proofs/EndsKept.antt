@@ -1,22 +1,15 @@
 -- The ends of links beside a journal that grows; and a job that is inside was given no outcome, neither by its journal nor on its end.
-use Rattle.rt_journal.proofs.Names.{◌≡◌, ℕ, ◌+◌, List, [], ◌∷◌, ◌++◌, length, append_assoc, refl, sym, ◌∙◌, ap, arith}
+use Rattle.rt_journal.proofs.Names.{◌≡◌, ℕ, ◌+◌, List, [], ◌∷◌, length, refl, sym, ◌∙◌, ap, arith}
 use Rattle.rt_journal.proofs.Names.{Option, Some, slice_get, Bool, true, false, length-append, JobId, OutcomeNote}
-use Rattle.rt_journal.proofs.Names.{with_last, Order, IsPrefix, given_outcomes, Inward, final_count, StartsWith}
+use Rattle.rt_journal.proofs.Names.{with_last, Order, given_outcomes, Inward, final_count}
 use Rattle.rt_journal.proofs.Names.{SeesMore, final_of, RecordedView, order_taken, delivered_count, IsInOf}
 use Rattle.rt_journal.proofs.Names.{LeavesOwed, IsUngiven, IsSameSeat, named_outcomes, subst, ◌⊎◌, ⊎_elim, inl, inr}
 use Rattle.rt_journal.proofs.Names.{cond, ◌==◌, None, or_parts, eqb-true, true≢false, option_map, none-some}
 use Rattle.rt_journal.proofs.Names.{same_Some, slice_get-map, Note, Job, IsAnswer, if_from, name_ended, outcome_given}
 use Rattle.rt_journal.proofs.Names.{DeliversAs, Journal, EachNote, is_told, same_name, is_name, outcome_note}
 use Rattle.rt_journal.proofs.Names.{same_as_itself, name_of, ◌≤◌, slice_get_within, ◌<◌}
-use Rattle.rt_link.proofs.Lists.{slice_get-starts, slice_get-with_last}
+use Rattle.rt_link.proofs.Lists.{slice_get-seen, slice_get-with_last}
 use Rattle.rt_ids.specs.declared.note.Note.TheVariants as writes
-
-pub prefix-along : {A : Type 0} (a b c : List A) → IsPrefix a b → IsPrefix b c → IsPrefix a c
-prefix-along a b c one two = (one.0 ++ two.0, sym (append_assoc a one.0 two.0) ∙ (ap (λ front. front ++ two.0) one.1 ∙ two.1))
-
--- an item stays at its place in a list that sees more
-pub slice_get-seen : {A : Type 0} (whole front : List A) → StartsWith whole front → (place : ℕ) (item : A) → slice_get front place ≡ Some item → slice_get whole place ≡ Some item
-slice_get-seen whole front starts place item at = slice_get-starts whole front place starts (slice_get_within front place item at) ∙ at
 
 module _ {J T : Type 0} (old new : RecordedView J T) (seat : IsSameSeat old new) (sender : ℕ)
     (owed : Option (JobId × OutcomeNote T)) (given : given_outcomes sender new.journal.notes ≡ with_last (given_outcomes sender old.journal.notes) owed)

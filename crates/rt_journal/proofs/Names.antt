@@ -95,7 +95,7 @@ pub use Rattle.rt_recorded_desk.proofs.Names.{DetachesTicket, Does, Doing, EachN
 pub use Rattle.rt_recorded_desk.proofs.Names.{IfSome, IsEffectDue, IsOutOf, IsSome, IsSpelledOrder, IsWritten, JobId}
 pub use Rattle.rt_recorded_desk.proofs.Names.{Journal, KeepsOuts, KeepsSent, Lane, List, Makes, MayFollow, MayStand}
 pub use Rattle.rt_recorded_desk.proofs.Names.{MayWrite, NoCore, None, Note, Ok, Option, Order, Outcome, OutcomeNote}
-pub use Rattle.rt_recorded_desk.proofs.Names.{Outward, PostView, RedeemsTicket, Result, SendError, Some, StartsWith}
+pub use Rattle.rt_recorded_desk.proofs.Names.{Outward, PostView, RedeemsTicket, Result, SendError, Some}
 pub use Rattle.rt_recorded_desk.proofs.Names.{Submits, Terms, TicketError, Unknown, [], accepted_orders, ap}
 pub use Rattle.rt_recorded_desk.proofs.Names.{append_assoc, arith, booked, collected_outcomes, cond, effect_awaited}
 pub use Rattle.rt_recorded_desk.proofs.Names.{eq-eqb, eqb_tells, false, false_from_ne_true, first_under, get_or}

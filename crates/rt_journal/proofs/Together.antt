@@ -1,7 +1,7 @@
 -- Actors that are recorded each by itself are joined, where the ends of their links are: the names that were delivered from one sender are numbered without gaps.
 use Rattle.rt_journal.proofs.Names.{◌≡◌, ℕ, ◌+◌, ◌<◌, ◌≤◌, List, [], ◌∷◌, length, refl, sym, ◌∙◌, ap, subst, ⊎_elim}
-use Rattle.rt_journal.proofs.Names.{arith, Option, Some, None, take, drop, slice_get, option_map, cases_lt}
-use Rattle.rt_journal.proofs.Names.{length-append, map-append, take-append-drop, Terms, terms_of, JobId, Note, Order}
+use Rattle.rt_journal.proofs.Names.{arith, Option, Some, None, take, slice_get, option_map, cases_lt}
+use Rattle.rt_journal.proofs.Names.{length-append, map-append, Terms, terms_of, JobId, Note, Order}
 use Rattle.rt_journal.proofs.Names.{Outcome, Assembly, IsPrefix, journal_of, first_under, order_of, final_count}
 use Rattle.rt_journal.proofs.Names.{accepted_orders, delivered_names, given_outcomes, collected_outcomes, AreJoined}
 use Rattle.rt_journal.proofs.Names.{LinksAgree, DeliversAs, DeliversAsSent, Journal, EachNote, IsLawful, MayStand}
@@ -12,7 +12,8 @@ use Rattle.rt_journal.proofs.Names.{suc, zero, ◌++◌, ◌-◌, if_from, with_
 use Rattle.rt_ids.specs.declared.note.Note.TheVariants as writes
 use Rattle.rt_ids.specs.Assembly.{names_of}
 use Rattle.rt_recorded_desk.proofs.NumberedOrders.{length-numbered, first_under-numbered}
-use Rattle.rt_journal.proofs.EndsKept.{prefix-along, slice_get-seen}
+use Rattle.rt_ids.proofs.Prefixes.{IsPrefix-along, IsPrefix-take}
+use Rattle.rt_link.proofs.Lists.{slice_get-seen}
 use Rattle.rt_journal.proofs.Received.{as_sent-stays}
 
 -- so many names of one link, which count from the number behind this one
@@ -78,7 +79,7 @@ module _ {T : Type 0} (terms : Terms) (outside : terms.cores ≤ terms.actor) wh
 
 -- outcomes that are the beginning of others are so under their names
 named-prefix : {J T : Type 0} (sender core : ℕ) (front whole : List (ℕ × Outcome J T)) → IsPrefix front whole → IsPrefix (named_outcomes sender core front) (named_outcomes sender core whole)
-named-prefix sender core front whole starts = (named_outcomes sender core starts.0, sym (map-append _ front starts.0) ∙ ap (named_outcomes sender core) starts.1)
+named-prefix sender core front whole starts = (named_outcomes sender core starts.0, ap (named_outcomes sender core) starts.1 ∙ map-append _ front starts.0)
 
 module _ {J T : Type 0} {same : J → J → Type 0} {made : J → ℕ} {polls : Owed J T}
     (cores cap : ℕ) (desk : ℕ → DeskView J T) (core : ℕ → RecordedView J T) (out : ℕ → ℕ → Outward J T) (credited : ℕ → ℕ → ℕ) (inward : ℕ → ℕ → Inward J T) (assembly : Assembly T)
@@ -157,7 +158,7 @@ module _ {J T : Type 0} {same : J → J → Type 0} {made : J → ℕ} {polls : 
         subst (λ notes. IsPrefix (collected_outcomes d (notes_at sender)) (given_outcomes sender notes)) (sym (notes_are d d_there))
         (subst (λ front. IsPrefix front (given_outcomes sender (core d).journal.notes)) (sym (outs.collected ∙ ap (λ at. named_outcomes at d got) sender_is))
         (subst (IsPrefix (named_outcomes sender d got)) (sym (ins.given ∙ ap (λ at. named_outcomes sender at (inward sender d).given) (numbers d d_there)))
-        (named-prefix sender d got (inward sender d).given (prefix-along got (out sender d).seen (inward sender d).given (drop (out sender d).got (out sender d).seen, take-append-drop (out sender d).got (out sender d).seen) (link.outcomes.0, sym link.outcomes.1)))))
+        (named-prefix sender d got (inward sender d).given (IsPrefix-along got (out sender d).seen (inward sender d).given (IsPrefix-take (out sender d).got (out sender d).seen) link.outcomes))))
       where
         got : List (ℕ × Outcome J T)
         got = take (out sender d).got (out sender d).seen

@@ -6,10 +6,11 @@ use Rattle.rt_ids.specs.declared.order.SendError.{SendError}
 use Rattle.rt_ids.specs.declared.order.SendError.TheVariants.{Closed, Full, Spent, NoCore}
 use Rattle.rt_link.specs.declared.ends.Outward.{Outward}
 use Rattle.rt_link.specs.declared.plain.Whole.{Whole}
-use Rattle.rt_link.specs.Ends.{StartsWith, SoundOut, SoundIn, Joined}
+use Rattle.rt_ids.specs.Assembly.{IsPrefix}
+use Rattle.rt_link.specs.Ends.{SoundOut, SoundIn, Joined}
 use Rattle.rt_link.specs.Calls.{Sends}
 use Rattle.rt_link.specs.Whole.{out_of, inward_of, IsLink}
-use Rattle.rt_link.proofs.Lists.{StartsWith-self, StartsWith-take}
+use Rattle.rt_ids.proofs.Prefixes.{IsPrefix-self, IsPrefix-take}
 
 module _ {J T : Type 0} {fits : Order J → Outcome J T → Type 0} {ready : Order J → Type 0} {link : Whole J T} (l : IsLink fits ready link) where
   pub SoundOut-IsLink : SoundOut (out_of link) link.credited
@@ -36,8 +37,8 @@ module _ {J T : Type 0} {fits : Order J → Outcome J T → Type 0} {ready : Ord
     to = refl;
     base = refl;
     capacity = refl;
-    orders = StartsWith-self link.sent;
-    outcomes = StartsWith-self link.given;
+    orders = IsPrefix-self link.sent;
+    outcomes = IsPrefix-self link.given;
     gate = λ h. h;
     final = λ h. refl;
   }
@@ -51,12 +52,12 @@ module _ {J T : Type 0} {fits : Order J → Outcome J T → Type 0} {ready : Ord
   room-IsLink = omega (arith, l.room, l.credited_got, l.got_given, l.taken_sent)
 
   -- what was taken is a beginning of what was sent
-  pub taken-IsLink : StartsWith link.sent (take link.taken link.sent) × (length (take link.taken link.sent) ≡ link.taken)
-  taken-IsLink = (StartsWith-take link.taken link.sent, omega (arith, l.taken_sent, length-take link.taken link.sent))
+  pub taken-IsLink : IsPrefix (take link.taken link.sent) link.sent × (length (take link.taken link.sent) ≡ link.taken)
+  taken-IsLink = (IsPrefix-take link.taken link.sent, omega (arith, l.taken_sent, length-take link.taken link.sent))
 
   -- what was got is a beginning of what was given
-  pub got-IsLink : StartsWith link.given (take link.got link.given) × (length (take link.got link.given) ≡ link.got)
-  got-IsLink = (StartsWith-take link.got link.given, omega (arith, l.got_given, length-take link.got link.given))
+  pub got-IsLink : IsPrefix (take link.got link.given) link.given × (length (take link.got link.given) ≡ link.got)
+  got-IsLink = (IsPrefix-take link.got link.given, omega (arith, l.got_given, length-take link.got link.given))
 
 module _ {J T : Type 0} where
   -- a send keeps what is true of a sender's end

@@ -12,7 +12,7 @@ use Rattle.rt_link.specs.declared.ends.Outward.{Outward}
 use Rattle.rt_link.specs.declared.plain.Whole.{Whole}
 use Rattle.rt_link.specs.Calls.{Sends, Collects, Takes, Shuts}
 use Rattle.rt_link.specs.Whole.{out_of, inward_of, gate_number, kept_by_sender, kept_by_receiver}
-use Rattle.rt_link.proofs.Lists.{StartsWith-same}
+use Rattle.rt_ids.proofs.Prefixes.{IsPrefix-same}
 
 gate_number-same : (a b : Bool) → gate_number a ≡ gate_number b → a ≡ b
 gate_number-same true true e = refl
@@ -88,7 +88,7 @@ module _ {J T : Type 0} where
     pub Collects-whole : (result : Option (ℕ × Outcome J T)) → Collects (out_of old) (out_of new) result
         → (new ≡ record old { got = new.got }) × (result ≡ slice_get old.given old.got)
     Collects-whole None collects =
-        let given : new.given ≡ old.given = StartsWith-same new.given old.given collects.1 cc in
+        let given : new.given ≡ old.given = IsPrefix-same new.given old.given collects.1 cc in
         let end : length new.given ≡ old.got = collects.2 in
         let got : new.got ≡ old.got = ap (λ (o : Outward J T). o.got) collects.0 in (
           same_by_out new (record old { got = new.got })
@@ -96,7 +96,7 @@ module _ {J T : Type 0} where
           sym (slice_get_past old.given old.got (omega (arith, ap length given))),
         )
     Collects-whole (Some outcome) collects =
-        let given : new.given ≡ old.given = StartsWith-same new.given old.given collects.1 cc in
+        let given : new.given ≡ old.given = IsPrefix-same new.given old.given collects.1 cc in
         let got : new.got ≡ old.got + 1 = ap (λ (o : Outward J T). o.got) collects.0 in (
           same_by_out new (record old { got = new.got })
               (collects.0 ∙ (ap (λ l. record (out_of old) { seen = l; got = old.got + 1 }) given ∙ ap (λ g. record (out_of old) { got = g }) (sym got))) credits taken,
@@ -114,7 +114,7 @@ module _ {J T : Type 0} where
     pub Takes-some : (envelope : Envelope J) → Takes (inward_of old) (inward_of new) (Some envelope)
         → (new ≡ record old { taken = old.taken + 1 }) × (slice_get old.sent old.taken ≡ Some envelope.order)
     Takes-some envelope takes =
-        let sent : new.sent ≡ old.sent = StartsWith-same new.sent old.sent takes.1.0 cc in (
+        let sent : new.sent ≡ old.sent = IsPrefix-same new.sent old.sent takes.1.0 cc in (
           same_by_inward new (record old { taken = old.taken + 1 })
               (takes.0 ∙ ap (λ l. record (inward_of old) { seen = l; taken = old.taken + 1 }) sent) got_same redeemed_same,
           ap (λ l. slice_get l old.taken) (sym sent) ∙ takes.3,
@@ -123,7 +123,7 @@ module _ {J T : Type 0} where
     -- only where all that was sent is taken is nothing found
     pub Takes-nothing : Takes (inward_of old) (inward_of new) None → (new ≡ old) × (length old.sent ≡ old.taken)
     Takes-nothing takes =
-        let sent : new.sent ≡ old.sent = StartsWith-same new.sent old.sent takes.1.0 cc in (
+        let sent : new.sent ≡ old.sent = IsPrefix-same new.sent old.sent takes.1.0 cc in (
           same_by_inward new old (takes.0 ∙ ap (λ l. record (inward_of old) { seen = l }) sent) got_same redeemed_same,
           ap length (sym sent) ∙ takes.2,
         )
@@ -136,7 +136,7 @@ module _ {J T : Type 0} where
     -- the gate is shut behind all that was sent, and nothing else changes
     pub Shuts-whole : (final : ℕ) → Shuts (inward_of old) (inward_of new) final → (new ≡ record old { shut = true }) × (final ≡ old.base + length old.sent)
     Shuts-whole final shuts =
-        let sent : new.sent ≡ old.sent = StartsWith-same new.sent old.sent shuts.1.0 cc in
+        let sent : new.sent ≡ old.sent = IsPrefix-same new.sent old.sent shuts.1.0 cc in
         let base : new.base ≡ old.base = ap (λ (i : Inward J T). i.base) shuts.0 in (
           same_by_inward new (record old { shut = true }) (shuts.0 ∙ ap (λ l. record (inward_of old) { seen = l; shut = true }) sent) got_same redeemed_same,
           (let long : length new.sent ≡ length old.sent = ap length sent in let e : final ≡ new.base + length new.sent = shuts.2 in cc),

@@ -10,7 +10,8 @@ use Rattle.rt_ids.specs.declared.order.Outcome.TheVariants.{Finished, Returned}
 use Rattle.rt_ids.specs.declared.order.Reason.{Reason}
 use Rattle.rt_link.specs.declared.ends.Inward.{Inward}
 use Rattle.rt_link.specs.Calls.{MayGive, Takes}
-use Rattle.rt_link.specs.Ends.{StartsWith, AreNamed}
+use Rattle.rt_ids.specs.Assembly.{IsPrefix}
+use Rattle.rt_link.specs.Ends.{AreNamed}
 use Rattle.rt_link.specs.Fits.{Fits}
 use Rattle.rt_link.proofs.Lists.{slice_get-starts, slice_get-with_last}
 
@@ -34,7 +35,7 @@ module _ {J T : Type 0} (fits : Order J → Outcome J T → Type 0) where
 
   -- it may be given still where more was seen and taken, and nothing given
   pub MayGive-more : (old new : Inward J T) (number : ℕ) (outcome : Outcome J T) → new.base ≡ old.base → new.given ≡ old.given
-      → old.taken ≤ new.taken → old.taken ≤ length old.seen → StartsWith new.seen old.seen → MayGive fits old number outcome → MayGive fits new number outcome
+      → old.taken ≤ new.taken → old.taken ≤ length old.seen → IsPrefix old.seen new.seen → MayGive fits old number outcome → MayGive fits new number outcome
   MayGive-more old new number outcome base given more behind starts may =
       let low : old.base < number = may.0 in let high : number ≤ old.base + old.taken = may.1 in
       let place : number - old.base - 1 ≡ number - new.base - 1 = omega arith in (

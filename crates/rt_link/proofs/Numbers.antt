@@ -3,9 +3,11 @@ use Rattle.std.proofs.Common.{◌≡◌, ℕ, ◌+◌, ◌-◌, ◌<◌, ◌≤�
 use Rattle.std.specs.Prelude.{slice_get, IfSome}
 use Rattle.rt_ids.specs.declared.order.Order.{Order}
 use Rattle.rt_ids.specs.declared.order.Outcome.{Outcome}
-use Rattle.rt_link.specs.Ends.{StartsWith, AreDistinct, AreNamed, AreOf, AreReady}
+use Rattle.rt_ids.specs.Assembly.{IsPrefix}
+use Rattle.rt_link.specs.Ends.{AreDistinct, AreNamed, AreOf, AreReady}
 use Rattle.circular_buffer.proofs.Places.{slice_get-some}
-use Rattle.rt_link.proofs.Lists.{slice_get-with_last, slice_get-starts, StartsWith-length}
+use Rattle.rt_ids.proofs.Prefixes.{IsPrefix-length}
+use Rattle.rt_link.proofs.Lists.{slice_get-with_last, slice_get-starts}
 use Rattle.rt_link.proofs.Pigeonhole.{pigeonhole}
 
 module _ {J T : Type 0} where
@@ -71,10 +73,10 @@ module _ {J T : Type 0} where
       let e : length (outcomes ++ (number, outcome) ∷ []) ≡ length outcomes + 1 = length-append outcomes ((number, outcome) ∷ []) in omega arith
 
 module _ {J T : Type 0} (fits : Order J → Outcome J T → Type 0) (base : ℕ) where
-  pub AreOf-starts : (orders more : List (Order J)) (outcomes : List (ℕ × Outcome J T)) → StartsWith more orders → AreOf fits base orders outcomes → AreOf fits base more outcomes
+  pub AreOf-starts : (orders more : List (Order J)) (outcomes : List (ℕ × Outcome J T)) → IsPrefix orders more → AreOf fits base orders outcomes → AreOf fits base more outcomes
   AreOf-starts orders more outcomes s a = (
     λ i x e. let h = a.0 i x e in let low : base < x.0 = h.0 in let high : x.0 ≤ base + length orders = h.2 in
-        let longer : length orders ≤ length more = StartsWith-length more orders s in
+        let longer : length orders ≤ length more = IsPrefix-length more orders s in
         (low, subst (λ (z : Option (Order J)). IfSome z (λ o. fits o x.1)) (sym (slice_get-starts more orders (x.0 - base - 1) s (omega arith))) h.1, omega arith),
     a.1,
   )

@@ -7,7 +7,7 @@ use Rattle.rt_ids.specs.declared.order.SendError.{SendError}
 use Rattle.rt_ids.specs.declared.order.SendError.TheVariants.{Closed, Full, Spent, NoCore}
 use Rattle.rt_link.specs.declared.ends.Outward.{Outward}
 use Rattle.rt_link.specs.declared.ends.Inward.{Inward}
-use Rattle.rt_link.specs.Ends.{StartsWith}
+use Rattle.rt_ids.specs.Assembly.{IsPrefix}
 
 module _ {J T : Type 0} where
   -- a send is accepted under the next number, or refused in this order: the gate is shut, as many as may be are outstanding, the last number was given
@@ -27,14 +27,14 @@ module _ {J T : Type 0} where
 
   -- a collection gets the next outcome, or finds that all it sees is got
   abbrev pub Collects : Outward J T → Outward J T → Option (ℕ × Outcome J T) → Type 0
-  Collects old new None = (new ≡ record old { seen = new.seen }) × StartsWith new.seen old.seen × (length new.seen ≡ old.got)
+  Collects old new None = (new ≡ record old { seen = new.seen }) × IsPrefix old.seen new.seen × (length new.seen ≡ old.got)
   Collects old new (Some outcome) =
-      (new ≡ record old { seen = new.seen; got = old.got + 1 }) × StartsWith new.seen old.seen
+      (new ≡ record old { seen = new.seen; got = old.got + 1 }) × IsPrefix old.seen new.seen
       × (slice_get new.seen old.got ≡ Some outcome)
 
   -- the receiver sees as much as before or more, and no more once the gate is shut
   abbrev pub SeesMore : Inward J T → Inward J T → Type 0
-  SeesMore old new = StartsWith new.seen old.seen × (old.shut ≡ true → new.seen ≡ old.seen)
+  SeesMore old new = IsPrefix old.seen new.seen × (old.shut ≡ true → new.seen ≡ old.seen)
 
   -- a take answers the next order under its name, or finds that all it sees is taken
   abbrev pub Takes : Inward J T → Inward J T → Option (Envelope J) → Type 0

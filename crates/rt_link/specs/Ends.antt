@@ -5,10 +5,6 @@ use Rattle.rt_ids.specs.declared.order.Outcome.{Outcome}
 use Rattle.rt_link.specs.declared.ends.Outward.{Outward}
 use Rattle.rt_link.specs.declared.ends.Inward.{Inward}
 
--- the second list is the beginning of the first
-abbrev pub StartsWith : {A : Type 0} → List A → List A → Type 0
-StartsWith {A} whole front = (rest : List A) × (whole ≡ front ++ rest)
-
 -- each of these orders is ready
 abbrev pub AreReady : {J : Type 0} → (Order J → Type 0) → List (Order J) → Type 0
 AreReady {J} ready orders = (i : ℕ) (order : Order J) → slice_get orders i ≡ Some order → ready order
@@ -53,7 +49,7 @@ module _ {J T : Type 0} where
     pub to : inward.to ≡ out.to
     pub base : inward.base ≡ out.base
     pub capacity : inward.capacity ≡ out.capacity
-    pub orders : StartsWith out.sent inward.seen
-    pub outcomes : StartsWith inward.given out.seen
+    pub orders : IsPrefix inward.seen out.sent
+    pub outcomes : IsPrefix out.seen inward.given
     pub gate : out.closed ≡ true → inward.shut ≡ true
     pub final : inward.shut ≡ true → inward.seen ≡ out.sent

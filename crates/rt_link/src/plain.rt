@@ -42,7 +42,8 @@ pub struct Whole<J, T> {
 
 /// A link whose two ends are one value, for one thread. Both ends see all.
 ///
-/// Its memory is taken at the opening: a place of each buffer for each submission that may be outstanding.
+/// The opening asks for a place of each buffer for each submission that may be outstanding. The other calls ask for no memory; no
+/// clause says so.
 #[derive(Drop)]
 pub struct PlainLink<J: Task> {
     /// What was sent and not taken.

@@ -1,6 +1,6 @@
 -- What one end of a plain link does, as the other end sees it.
 use Rattle.rt_linked_core.proofs.Words.{◌≡◌, ℕ, Bool, true, List, [], ◌++◌, refl, sym, ◌∙◌, ap, subst, get_or, append-nil, Order, Whole, out_of, inward_of}
-use Rattle.rt_linked_core.proofs.Words.{slice_get, RecordedView, IsOutOf, IsInOf, link_at, Outcome, StartsWith, kept_by_sender, DeskView, HasLane}
+use Rattle.rt_linked_core.proofs.Words.{slice_get, RecordedView, IsOutOf, IsInOf, link_at, Outcome, IsPrefix, kept_by_sender, DeskView, HasLane}
 use Rattle.rt_linked_core.proofs.Words.{ChangesLink, arith, false}
 use Rattle.rt_desk.specs.Lanes.{IsLaneOf}
 use Rattle.rt_link.specs.Ends.{Joined}
@@ -21,12 +21,12 @@ module _ {J T : Type 0} where
   -- the receiver alone did something on the link: what the sender has seen is as much or more
   pub record OnlyReceived (old new : Whole J T) : Type 0 where
     pub rest : new ≡ record old { taken = new.taken; given = new.given; shut = new.shut }
-    pub given : StartsWith new.given old.given
+    pub given : IsPrefix old.given new.given
 
   -- the sender alone did something on the link: what the receiver has seen is as much or more, and the same where the gate is shut
   pub record OnlySent (old new : Whole J T) : Type 0 where
     pub rest : new ≡ record old { sent = new.sent; got = new.got; credited = new.credited }
-    pub sent : StartsWith new.sent old.sent
+    pub sent : IsPrefix old.sent new.sent
     pub gate : old.shut ≡ true → new.sent ≡ old.sent
 
   pub received-same : (link : Whole J T) → OnlyReceived link link

@@ -1,5 +1,5 @@
 -- What a sender's call does on its link: it sent an order, got outcomes, or gave a credit back.
-use Rattle.rt_linked_core.proofs.Words.{DeskView, Err, JobId, List, Ok, Order, Result, SendError, StartsWith, StartsWith-same, Whole, [], ap, append-nil}
+use Rattle.rt_linked_core.proofs.Words.{DeskView, Err, JobId, List, Ok, Order, Result, SendError, IsPrefix, IsPrefix-same, Whole, [], ap, append-nil}
 use Rattle.rt_linked_core.proofs.Words.{get_or, kept_by_sender, out_of, sym, true, true≢false, ℕ, ◌++◌, ◌+◌, ◌-◌, ◌∙◌, ◌∷◌, ◌≡◌}
 use Rattle.rt_link.specs.Calls.{Sends as SendsOn}
 use Rattle.rt_recorded_desk.specs.Submissions.{Submits, numbered}
@@ -49,9 +49,9 @@ module _ {J T : Type 0} (core : ℕ) (order : Order J) (desk : DeskView J T) (li
 
 -- a sender that got outcomes, or gave a credit back, sees what it saw
 module _ {J T : Type 0} (link after : Whole J T) (untouched : kept_by_sender after ≡ kept_by_sender link) where
-  module _ (seen : StartsWith after.given link.given) (rest : out_of after ≡ record (out_of link) { seen = after.given; got = after.got }) where
+  module _ (seen : IsPrefix link.given after.given) (rest : out_of after ≡ record (out_of link) { seen = after.given; got = after.got }) where
     pub same_given : after.given ≡ link.given
-    same_given = StartsWith-same after.given link.given seen (ap (λ kept. get_or kept 1 0) untouched)
+    same_given = IsPrefix-same after.given link.given seen (ap (λ kept. get_or kept 1 0) untouched)
 
     pub got_more : OnlySent link after
     got_more = record {

@@ -19,8 +19,8 @@ pub use Rattle.rt_journal.specs.Steps.{CreatesQueue, opened_beside}
 pub use Rattle.rt_recorded_desk.specs.Submissions.{DeskView, opened_desk}
 pub use Rattle.rt_recorded_desk.specs.Tickets.{HasLane}
 pub use Rattle.rt_journal.specs.Whole.{post_of}
-pub use Rattle.rt_link.proofs.Lists.{StartsWith-same}
-pub use Rattle.rt_link.specs.Ends.{StartsWith}
+pub use Rattle.rt_ids.proofs.Prefixes.{IsPrefix-same}
+pub use Rattle.rt_ids.specs.Assembly.{IsPrefix}
 pub use Rattle.rt_link.specs.Fits.{Fits}
 pub use Rattle.rt_link.specs.Whole.{inward_of, kept_by_receiver, kept_by_sender, out_of}
 pub use Rattle.rt_link.specs.declared.ends.Inward.{Inward}

@@ -8,7 +8,7 @@ use rt_ids::Note;
 use std::alloc::{AllocError, Global};
 use std::marker::Model;
 
-/// The notes of one actor. Only the opening and `try_push` take memory.
+/// The notes of one actor. The opening and `try_push` ask for memory, and no other call does; no clause says so.
 ///
 /// A contract sees the list of the notes, the newest first, and how many there may be in all.
 #[derive(Drop)]

@@ -1,12 +1,13 @@
 -- The lists of a link as names, and the beginnings of lists that are told.
 use Rattle.std.proofs.Common.{◌≡◌, ℕ, zero, suc, ◌-◌, Bool, true, false, List, [], ◌∷◌, ◌++◌, length, drop, refl, sym, ◌∙◌, ap, subst, cond}
 use Rattle.std.specs.Prelude.{Option, Some, None, IfSome, ◌==◌}
-use Rattle.std.proofs.lemmas.List.{map-append, append_assoc, append-nil}
+use Rattle.std.proofs.lemmas.List.{map-append}
 use Rattle.rt_ids.specs.declared.names.JobId.{JobId}
 use Rattle.rt_ids.specs.declared.note.Note.{Note}
 use Rattle.rt_ids.specs.declared.note.Note.TheVariants.{Sent, Back, Answered, Done, Returned, Collected}
 use Rattle.rt_ids.specs.Assembly.{IsPrefix, names_of}
 use Rattle.rt_ids.specs.Filters.{order_sent, outcome_given, outcome_collected, accepted_orders, given_outcomes, collected_outcomes}
+use Rattle.rt_ids.proofs.Prefixes.{IsPrefix-along, IsPrefix-append, IsPrefix-self}
 use Rattle.rt_ids.specs.Journal.{Journal, list_told, with_last, at_place}
 use Rattle.rt_prefixes.specs.Sides.{name_sent, name_given, name_collected, TurnsOff}
 
@@ -23,11 +24,6 @@ name_in-if : {A : Type 0} (test : Bool) (name : JobId) (item : A) → name_in (c
 name_in-if true name item = refl
 name_in-if false name item = refl
 
--- a list with one more item isn't the beginning of that list
-pub no_more : {A : Type 0} (items : List A) (item : A) (rest : List A) → (items ++ item ∷ []) ++ rest ≡ items → ⊥
-no_more [] item rest same = cc
-no_more (first ∷ items) item rest same = let fewer : (items ++ item ∷ []) ++ rest ≡ items = cc in no_more items item rest fewer
-
 -- behind the same beginning stands the same item
 pub same_next : {A : Type 0} (items : List A) (item other : A) (rest more : List A) → (items ++ item ∷ []) ++ rest ≡ (items ++ other ∷ []) ++ more → item ≡ other
 same_next [] item other rest more same = cc
@@ -37,7 +33,7 @@ same_next (first ∷ items) item other rest more same =
 one_longer : {A : Type 0} (front whole : List A) (more : Option A) → IsPrefix front whole → IsPrefix front (with_last whole more)
 one_longer front whole None begins = begins
 one_longer front whole (Some item) begins =
-    (begins.0 ++ item ∷ [], sym (append_assoc front begins.0 (item ∷ [])) ∙ ap (λ items. items ++ item ∷ []) begins.1)
+    IsPrefix-append whole front (item ∷ []) begins
 
 module _ {T : Type 0} where
   names_told : {A : Type 0} (says : Note T → Option (JobId × A)) (name_says : Note T → Option JobId) → ((note : Note T) → name_in (says note) ≡ name_says note) →
@@ -73,7 +69,7 @@ module _ {T : Type 0} where
   names_collected core journal = names_told (outcome_collected core) (name_collected core) (same_collected core) journal
 
   dropped : {A : Type 0} (says : Note T → Option A) (count : ℕ) (journal : Journal T) → IsPrefix (list_told says (drop count journal)) (list_told says journal)
-  dropped says zero journal = ([], append-nil (list_told says journal))
+  dropped says zero journal = IsPrefix-self (list_told says journal)
   dropped says (suc count) [] = ([], refl)
   dropped says (suc count) (note ∷ before) =
       one_longer (list_told says (drop count before)) (list_told says before) (says note) (dropped says count before)
@@ -101,13 +97,7 @@ pub none_off : (told : Journal ℕ → List JobId) → ((place : ℕ) (journal :
 none_off told part journal whole None off begins = refl
 none_off told part journal whole (Some line) off begins =
     let front = part line journal in
-    absurd
-    (
-    off.broken (
-      front.0 ++ begins.0,
-      sym (append_assoc (told (at_place line journal)) front.0 begins.0) ∙ (ap (λ items. items ++ begins.0) front.1 ∙ begins.1),
-    )
-    )
+    absurd (off.broken (IsPrefix-along (told (at_place line journal)) (told journal) whole front begins))
 
 -- what was collected at a place is the beginning of what is collected
 pub collected_at_place : (core place : ℕ) (journal : Journal ℕ) → IsPrefix (names_of (collected_outcomes core (at_place place journal))) (names_of (collected_outcomes core journal))

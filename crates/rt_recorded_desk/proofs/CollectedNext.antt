@@ -7,10 +7,10 @@ use Rattle.rt_recorded_desk.proofs.Names.{get_or_from_slice_get, JobId, OutcomeN
 use Rattle.rt_recorded_desk.proofs.Names.{collected_outcomes, Journal, is_told, with_last, without_job, outcome_note}
 use Rattle.rt_recorded_desk.proofs.Names.{FitsOrder, IsSpelledOutcome, outstanding_count, is_gone, is_outstanding}
 use Rattle.rt_recorded_desk.proofs.Names.{name_redeemed, name_detached, name_collected, same_as_itself, Outward}
-use Rattle.rt_recorded_desk.proofs.Names.{StartsWith, Fits, JournalView, at, Lane, IsLaneOf, IsAwaited, IsSent}
+use Rattle.rt_recorded_desk.proofs.Names.{IsPrefix, Fits, JournalView, at, Lane, IsLaneOf, IsAwaited, IsSent}
 use Rattle.rt_recorded_desk.proofs.Names.{CollectsNext, told_of, taken-get, DeskView, IsWritten, terms_of_desk}
 use Rattle.rt_recorded_desk.proofs.Names.{IsOutOf, ShowsMore, name_of, named_outcomes, KnowsLane, KnowsLanes}
-use Rattle.rt_recorded_desk.proofs.Names.{StaysBeside, is_let_go, booked, append_assoc, CollectsFrom, GetsAll}
+use Rattle.rt_recorded_desk.proofs.Names.{StaysBeside, is_let_go, booked, CollectsFrom, GetsAll}
 use Rattle.rt_recorded_desk.proofs.Names.{GetsNext}
 use Rattle.rt_ids.specs.declared.note.Note.TheVariants as writes
 use Rattle.rt_desk.specs.declared.entry.Entry.TheVariants as entry
@@ -26,7 +26,7 @@ module _ {J T : Type 0} (same : J → J → Type 0) (answers : J → T → Type 
   fits_noted order outcome fits spelled = grind arith
 
 -- what was got of a list that sees more, and the next item
-take-one_more : {A : Type 0} (seen front : List A) (got : ℕ) (item : A) → StartsWith seen front → got ≤ length front → slice_get seen got ≡ Some item → take (got + 1) seen ≡ take got front ++ item ∷ []
+take-one_more : {A : Type 0} (seen front : List A) (got : ℕ) (item : A) → IsPrefix front seen → got ≤ length front → slice_get seen got ≡ Some item → take (got + 1) seen ≡ take got front ++ item ∷ []
 take-one_more seen front got item longer behind there =
     take_more seen got item (slice_get_within seen got item there)
     ∙ (ap (λ last. take got seen ++ last ∷ []) (get_or_from_slice_get seen got item item there)
@@ -158,10 +158,6 @@ module _ {J T : Type 0} (same : J → J → Type 0) (answers : J → T → Type 
       )
   gets_none (Some found) next is = absurd cc
 
--- what begins a beginning
-pub starts_then : {A : Type 0} (whole middle front : List A) → StartsWith whole middle → StartsWith middle front → StartsWith whole front
-starts_then whole middle front along before = (before.0 ++ along.0, along.1 ∙ (ap (λ list. list ++ along.0) before.1 ∙ append_assoc front before.0 along.0))
-
 module _ {J T : Type 0} {fits : Order J → Outcome J T → Type 0} (core : ℕ) (old mid new : DeskView J T) where
   -- two steps on the link to one core are one
   pub stays_then : {between out : Outward J T} {had after : ℕ} → StaysBeside fits core old mid between had → StaysBeside fits core mid new out after → StaysBeside fits core old new out after
@@ -176,7 +172,7 @@ module _ {J T : Type 0} {fits : Order J → Outcome J T → Type 0} (core : ℕ)
   }
 
 module _ {J T : Type 0} (core : ℕ) (old mid new : DeskView J T) (first out later : Outward J T) (count : ℕ) (from : CollectsFrom core old count mid)
-    (end : out ≡ record first { seen = out.seen; got = out.got }) (longer : StartsWith out.seen first.seen) where
+    (end : out ≡ record first { seen = out.seen; got = out.got }) (longer : IsPrefix first.seen out.seen) where
   pub gathers_more : GetsNext core mid new out later true → CollectsFrom core old (count + 1) new
   gathers_more gets =
       let name = gets.0.0 in let outcome = gets.0.1 in (
@@ -186,10 +182,10 @@ module _ {J T : Type 0} (core : ℕ) (old mid new : DeskView J T) (first out lat
         gets.0.3 ∙ ap (λ (journal : JournalView T). record journal { notes = writes.Collected name outcome ∷ journal.notes }) from.3,
       )
 
-  pub end_more : GetsNext core mid new out later true → (later ≡ record first { seen = later.seen; got = later.got }) × StartsWith later.seen first.seen
+  pub end_more : GetsNext core mid new out later true → (later ≡ record first { seen = later.seen; got = later.got }) × IsPrefix first.seen later.seen
   end_more gets = (
     gets.1 ∙ (ap (λ (end : Outward J T). record end { seen = later.seen; got = out.got + 1 }) end ∙ ap (λ got. record first { seen = later.seen; got = got }) (sym (ap (λ end. end.got) gets.1))),
-    starts_then later.seen out.seen first.seen gets.2 longer,
+    IsPrefix-along first.seen out.seen later.seen longer gets.2,
   )
 
   pub gathers_no_more : GetsNext core mid new out later false → CollectsFrom core old count new
@@ -198,6 +194,6 @@ module _ {J T : Type 0} (core : ℕ) (old mid new : DeskView J T) (first out lat
   pub gets_all : GetsNext core mid new out later false → GetsAll first later
   gets_all gets = (
     gets.1 ∙ (ap (λ (end : Outward J T). record end { seen = later.seen }) end ∙ ap (λ got. record first { seen = later.seen; got = got }) (sym (ap (λ end. end.got) gets.1))),
-    starts_then later.seen out.seen first.seen gets.2 longer,
+    IsPrefix-along first.seen out.seen later.seen longer gets.2,
     gets.3,
   )

@@ -22,8 +22,9 @@ pub use Rattle.rt_desk.specs.Told.{told_of}
 pub use Rattle.rt_desk.specs.declared.entry.Entry.{Entry}
 pub use Rattle.rt_ids.proofs.Collected.{nothing_collected_under}
 pub use Rattle.rt_ids.proofs.NameLemmas.{one_name, same_as_itself}
+pub use Rattle.rt_ids.proofs.Prefixes.{IsPrefix-along, IsPrefix-self}
 pub use Rattle.rt_ids.proofs.Under.{first_under-came, first_under-last, first_under-longer}
-pub use Rattle.rt_ids.specs.Assembly.{first_under}
+pub use Rattle.rt_ids.specs.Assembly.{IsPrefix, first_under}
 pub use Rattle.rt_ids.specs.Clauses.{queue_just_picked}
 pub use Rattle.rt_ids.specs.Collecting.{IsDetachable, IsNextCollected, IsRedeemable}
 pub use Rattle.rt_ids.specs.Commands.{effect_awaited}
@@ -48,9 +49,9 @@ pub use Rattle.rt_ids.specs.declared.order.SendError.{SendError}
 pub use Rattle.rt_ids.specs.declared.order.SendError.TheVariants.{Closed, Full, NoCore}
 pub use Rattle.rt_jobs.specs.Calls.{Call, Doing, Makes}
 pub use Rattle.rt_jobs.specs.Calls.Call.{Detach, Redeem, Submit}
-pub use Rattle.rt_link.proofs.Lists.{StartsWith-self, slice_get-behind}
+pub use Rattle.rt_link.proofs.Lists.{slice_get-behind, take-starts}
 pub use Rattle.rt_link.specs.Calls.{Sends}
-pub use Rattle.rt_link.specs.Ends.{AreDistinct, StartsWith}
+pub use Rattle.rt_link.specs.Ends.{AreDistinct}
 pub use Rattle.rt_link.specs.Fits.{Fits}
 pub use Rattle.rt_link.specs.declared.ends.Outward.{Outward}
 pub use Rattle.rt_notes.specs.Journals.{JournalView}

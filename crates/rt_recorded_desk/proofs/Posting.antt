@@ -3,7 +3,7 @@ use Rattle.rt_recorded_desk.proofs.Names.{◌≡◌, ◌⊎◌, inl, inr, ℕ, �
 use Rattle.rt_recorded_desk.proofs.Names.{append_assoc, Some, refl, sym, ◌∙◌, ap, subst, arith, set, get_or, sum_by}
 use Rattle.rt_recorded_desk.proofs.Names.{slice_get, eqb_tells, length-append, sum_by-le, sum_by-set, slice_get-get_or}
 use Rattle.rt_recorded_desk.proofs.Names.{slice_get_within, get_or_from_slice_get, Note, Sent, Redeemed, Order}
-use Rattle.rt_recorded_desk.proofs.Names.{Outcome, Outward, StartsWith-self, slice_get-behind, Lane, changed}
+use Rattle.rt_recorded_desk.proofs.Names.{Outcome, Outward, IsPrefix-along, IsPrefix-self, slice_get-behind, Lane, changed}
 use Rattle.rt_recorded_desk.proofs.Names.{unchanged, option_cases, DeskView, IsOutOf, KnowsLanes, HasLane, left_of}
 use Rattle.rt_recorded_desk.proofs.Names.{Spends, PostView, ArePosts, SendsMore, AreOutsOf, IsLent, HasPosted}
 use Rattle.rt_recorded_desk.proofs.Names.{LendsEnd, false, None, cond, Result, Ok, Err, IfOk, eq-eqb, true≢false}
@@ -15,7 +15,6 @@ use Rattle.rt_recorded_desk.proofs.Names.{StaysBeside, RedeemsTicket, DetachesTi
 use Rattle.rt_recorded_desk.proofs.Names.{DetachesOn, Does, Doing}
 use Rattle.std.proofs.lemmas.List.{length-set}
 use Rattle.rt_ids.specs.declared.note.Note.TheVariants.{Detached}
-use Rattle.rt_recorded_desk.proofs.CollectedNext.{starts_then}
 use Rattle.rt_recorded_desk.proofs.Spending.{left_within}
 use Rattle.rt_ids.specs.declared.names.TicketError.TheVariants.{Pending}
 use Rattle.rt_ids.specs.declared.note.Note.TheVariants as writes
@@ -26,13 +25,13 @@ use Rattle.rt_recorded_desk.proofs.NumberedOrders.{numbered-missing, length-numb
 sends_then : {J T : Type 0} (first middle last : Outward J T) → SendsMore first middle → SendsMore middle last → SendsMore first last
 sends_then first middle last one two = (
   two.0 ∙ ap (λ (end : Outward _ _). record end { sent = last.sent; closed = last.closed }) one.0,
-  starts_then last.sent middle.sent first.sent two.1 one.1,
+  IsPrefix-along first.sent middle.sent last.sent one.1 two.1,
   λ shut. let same = one.2 shut in two.2 (ap (λ (end : Outward _ _). end.closed) same ∙ shut) ∙ same,
 )
 
 -- an end that was not used
 pub sends_nothing : {J T : Type 0} (old new : Outward J T) → new ≡ old → SendsMore old new
-sends_nothing old new same = subst (SendsMore old) (sym same) (refl, StartsWith-self old.sent, λ shut. refl)
+sends_nothing old new same = subst (SendsMore old) (sym same) (refl, IsPrefix-self old.sent, λ shut. refl)
 
 -- there is an item at each place
 item_at : {A : Type 0} (items : List A) (place : ℕ) → place < length items → (item : A) × (slice_get items place ≡ Some item)
@@ -184,7 +183,7 @@ sends_order : {J T : Type 0} (old new : Outward J T) (credited : ℕ) (order : O
 sends_order old new credited order (Ok number) sends =
     subst (SendsMore old) (sym sends.4) (refl, (order ∷ [], refl), λ shut. absurd (true≢false (sym shut ∙ sends.0)))
 sends_order old new credited order (Err (Closed back final)) sends =
-    subst (SendsMore old) (sym sends.2) (refl, StartsWith-self old.sent, λ shut. ap (λ closed. record old { closed = closed }) (sym shut))
+    subst (SendsMore old) (sym sends.2) (refl, IsPrefix-self old.sent, λ shut. ap (λ closed. record old { closed = closed }) (sym shut))
 sends_order old new credited order (Err (Full back)) sends = sends_nothing old new sends.3
 sends_order old new credited order (Err (Spent back)) sends = sends_nothing old new sends.4
 sends_order old new credited order (Err (NoCore back)) sends = absurd sends

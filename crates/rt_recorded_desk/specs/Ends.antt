@@ -7,7 +7,7 @@ use Rattle.rt_ids.specs.Filters.{Outcomes, accepted_orders, collected_outcomes}
 use Rattle.rt_ids.specs.Outcomes.{outcome_note}
 use Rattle.rt_ids.specs.Outstanding.{outstanding_count, is_gone, is_outstanding}
 use Rattle.rt_link.specs.declared.ends.Outward.{Outward}
-use Rattle.rt_link.specs.Ends.{StartsWith}
+use Rattle.rt_ids.specs.Assembly.{IsPrefix}
 use Rattle.rt_recorded_desk.specs.Orders.{numbered_orders}
 use Rattle.rt_recorded_desk.specs.Submissions.{DeskView}
 
@@ -43,7 +43,7 @@ module _ {J T : Type 0} where
   -- the sender's end has seen as much of the other end as before, or more
   pub record ShowsMore (old new : Outward J T) : Type 0 where
     pub rest : new ≡ record old { seen = new.seen; closed = new.closed }
-    pub seen : StartsWith new.seen old.seen
+    pub seen : IsPrefix old.seen new.seen
 
   -- a step leaves the end on which this actor sends to that core as it is to its journal
   pub record KeepsOut (core : ℕ) (old new : DeskView J T) : Type 0 where

@@ -5,7 +5,7 @@ use Rattle.rt_ids.specs.declared.note.Note.TheVariants.{Sent, Redeemed, Detached
 use Rattle.rt_ids.specs.declared.order.Order.{Order}
 use Rattle.rt_ids.specs.declared.order.Outcome.{Outcome}
 use Rattle.rt_link.specs.declared.ends.Outward.{Outward}
-use Rattle.rt_link.specs.Ends.{StartsWith}
+use Rattle.rt_ids.specs.Assembly.{IsPrefix}
 use Rattle.rt_recorded_desk.specs.Submissions.{DeskView}
 use Rattle.rt_recorded_desk.specs.Ends.{IsOutOf}
 use Rattle.rt_recorded_desk.specs.Tickets.{HasLane}
@@ -30,7 +30,7 @@ ArePosts (_ ∷ notes) = ⊥
 
 -- an end has sent more, or has seen its gate shut, and has got nothing; where it saw the gate shut before, it sent nothing
 abbrev pub SendsMore : {J T : Type 0} → Outward J T → Outward J T → Type 0
-SendsMore old new = (new ≡ record old { sent = new.sent; closed = new.closed }) × StartsWith new.sent old.sent × (old.closed ≡ true → new ≡ old)
+SendsMore old new = (new ≡ record old { sent = new.sent; closed = new.closed }) × IsPrefix old.sent new.sent × (old.closed ≡ true → new ≡ old)
 
 module _ {J T E : Type 0} (fits : Order J → Outcome J T → Type 0) (out : E → Outward J T) (credited : E → ℕ) where
   -- there is an end for each core, beside the desk and its lane

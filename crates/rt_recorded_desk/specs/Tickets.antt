@@ -14,7 +14,7 @@ use Rattle.rt_ids.specs.Journal.{Journal, is_told}
 use Rattle.rt_ids.specs.Outcomes.{outcome_note}
 use Rattle.rt_ids.specs.Outstanding.{is_gone, name_collected}
 use Rattle.rt_link.specs.declared.ends.Outward.{Outward}
-use Rattle.rt_link.specs.Ends.{StartsWith}
+use Rattle.rt_ids.specs.Assembly.{IsPrefix}
 use Rattle.rt_recorded_desk.specs.Submissions.{DeskView, desk_with}
 pub use Rattle.rt_recorded_desk.specs.KnownLanes.{is_let_go, KnowsLane, KnowsLanes, HasLane, StaysBeside}
 
@@ -57,11 +57,11 @@ module _ {J T : Type 0} where
 
   -- an end has got all that it shows, and nothing else changes of it
   abbrev pub GetsAll : Outward J T → Outward J T → Type 0
-  GetsAll out later = (later ≡ record out { seen = later.seen; got = later.got }) × StartsWith later.seen out.seen × (later.got ≡ length later.seen)
+  GetsAll out later = (later ≡ record out { seen = later.seen; got = later.got }) × IsPrefix out.seen later.seen × (later.got ≡ length later.seen)
 
   -- the next outcome of this core is collected, and noted; or the end shows no more than it has got
   abbrev pub GetsNext : ℕ → DeskView J T → DeskView J T → Outward J T → Outward J T → Bool → Type 0
   GetsNext core old new out later true =
       ((name : JobId) × (outcome : OutcomeNote T) × (name.to ≡ core) × Notes old (writes.Collected name outcome ∷ []) new)
-      × (later ≡ record out { seen = later.seen; got = out.got + 1 }) × StartsWith later.seen out.seen × (later.got ≤ length later.sent)
-  GetsNext core old new out later false = (new ≡ old) × (later ≡ record out { seen = later.seen }) × StartsWith later.seen out.seen × (later.got ≡ length later.seen)
+      × (later ≡ record out { seen = later.seen; got = out.got + 1 }) × IsPrefix out.seen later.seen × (later.got ≤ length later.sent)
+  GetsNext core old new out later false = (new ≡ old) × (later ≡ record out { seen = later.seen }) × IsPrefix out.seen later.seen × (later.got ≡ length later.seen)

@@ -47,7 +47,7 @@ impl<J: Task<Out = u64>> Model for RecordedDesk<J> {
 }
 
 impl<J: Task<Out = u64>> RecordedDesk<J> {
-    /// Opens a journal of `room` notes for an actor, who may submit on links of this capacity to `cores` cores. No other call takes memory.
+    /// Opens a journal of `room` notes for an actor, who may submit on links of this capacity to `cores` cores. The other calls ask for no memory; no clause says so.
     pub fn open(
         alloc: Global,
         actor: ActorNo,
@@ -69,7 +69,7 @@ impl<J: Task<Out = u64>> RecordedDesk<J> {
         })
     }
 
-    /// A desk of no core and no note, which takes no memory. It stands where a desk was taken out, until that is put back.
+    /// A desk of no core and no note. It stands where a desk was taken out, until that is put back.
     pub fn nothing(alloc: Global) -> Self
         ensures { result ≡ opened_desk 0 0 0 0 }
     {

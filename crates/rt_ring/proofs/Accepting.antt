@@ -11,7 +11,7 @@ use Rattle.rt_ids.specs.declared.order.Outcome.{Outcome}
 use Rattle.rt_link.specs.declared.ends.Outward.{Outward}
 use Rattle.rt_link.specs.declared.ends.Inward.{Inward}
 use Rattle.rt_link.specs.declared.plain.Whole.{Whole}
-use Rattle.rt_link.proofs.Lists.{StartsWith-append}
+use Rattle.rt_ids.proofs.Prefixes.{IsPrefix-append}
 use Rattle.rt_link.proofs.WholeLaws.{IsLink-send}
 use Rattle.rt_ring.specs.Carried.{Place, spare}
 use Rattle.rt_ring.specs.Rule.{gate_bit}
@@ -45,7 +45,7 @@ module _ {J T : Type 0} where
       → KnowsInward (record link { sent = link.sent ++ order ∷ [] }) inward
   KnowsInward-sent link order ungated inward k = record {
     knows = k.knows;
-    sees = StartsWith-append link.sent inward.seen (order ∷ []) k.sees;
+    sees = IsPrefix-append link.sent inward.seen (order ∷ []) k.sees;
     taken_seen = k.taken_seen;
     final = λ shut. absurd cc;
   }

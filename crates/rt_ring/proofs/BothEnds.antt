@@ -7,9 +7,11 @@ use Rattle.rt_ids.specs.declared.order.Outcome.{Outcome}
 use Rattle.rt_link.specs.declared.ends.Outward.{Outward}
 use Rattle.rt_link.specs.declared.ends.Inward.{Inward}
 use Rattle.rt_link.specs.declared.plain.Whole.{Whole}
-use Rattle.rt_link.specs.Ends.{StartsWith, AreOf, AreNamed, Joined}
+use Rattle.rt_ids.specs.Assembly.{IsPrefix}
+use Rattle.rt_link.specs.Ends.{AreOf, AreNamed, Joined}
 use Rattle.rt_link.specs.Whole.{IsLink}
-use Rattle.rt_link.proofs.Lists.{StartsWith-take, slice_get-starts}
+use Rattle.rt_ids.proofs.Prefixes.{IsPrefix-take}
+use Rattle.rt_link.proofs.Lists.{slice_get-starts}
 use Rattle.rt_ring.specs.Carried.{Place}
 use Rattle.atomic_table.specs.Seated.{TableId}
 use Rattle.rt_ring.specs.Ends.{name_of}
@@ -26,7 +28,7 @@ AreOf-taken fits base taken orders outcomes within named are = (
   λ i x e. let low : base < x.0 = (named.0 i x e).0 in let high : x.0 ≤ base + taken = (named.0 i x e).1 in
       let long : length (take taken orders) ≡ min taken (length orders) = length-take taken orders in (
         low,
-        subst (λ (z : Option (Order _)). IfSome z (λ order. fits order x.1)) (slice_get-starts orders (take taken orders) (x.0 - base - 1) (StartsWith-take taken orders) (omega arith)) (are.0 i x e).1,
+        subst (λ (z : Option (Order _)). IfSome z (λ order. fits order x.1)) (slice_get-starts orders (take taken orders) (x.0 - base - 1) (IsPrefix-take taken orders) (omega arith)) (are.0 i x e).1,
         omega arith,
       ),
   are.1,
@@ -40,8 +42,8 @@ module _ {J T : Type 0} (link : Whole J T) (out : Outward J T) (inward : Inward 
     to = ap (λ (i : Inward J T). i.to) k.knows ∙ ap (λ (o : Outward J T). o.to) (sym o.knows);
     base = ap (λ (i : Inward J T). i.base) k.knows ∙ ap (λ (o : Outward J T). o.base) (sym o.knows);
     capacity = ap (λ (i : Inward J T). i.capacity) k.knows ∙ ap (λ (o : Outward J T). o.capacity) (sym o.knows);
-    orders = subst (λ (z : Outward J T). StartsWith z.sent inward.seen) (sym o.knows) k.sees;
-    outcomes = subst (λ (z : Inward J T). StartsWith z.given out.seen) (sym k.knows) o.sees;
+    orders = subst (λ (z : Outward J T). IsPrefix inward.seen z.sent) (sym o.knows) k.sees;
+    outcomes = subst (λ (z : Inward J T). IsPrefix out.seen z.given) (sym k.knows) o.sees;
     gate = λ closed. ap (λ (i : Inward J T). i.shut) k.knows ∙ o.gate closed;
     final = λ shut. k.final (ap (λ (i : Inward J T). i.shut) (sym k.knows) ∙ shut) ∙ ap (λ (o : Outward J T). o.sent) (sym o.knows);
   }

@@ -7,7 +7,7 @@ use Rattle.rt_ids.specs.declared.order.Order.{Order}
 use Rattle.rt_ids.specs.declared.order.Outcome.{Outcome}
 use Rattle.rt_link.specs.Calls.{MayGive, Shuts}
 use Rattle.rt_link.specs.Ends.{AreOf, SoundOut, SoundIn}
-use Rattle.rt_link.proofs.Lists.{StartsWith-self}
+use Rattle.rt_ids.proofs.Prefixes.{IsPrefix-self}
 use Rattle.rt_link.proofs.Numbers.{AreNamed-append, AreNamed-wider, AreNamed-room}
 use Rattle.rt_ring.specs.Carried.{Place, IsSender, IsReceiver}
 use Rattle.rt_ring.specs.Ends.{IsOut, IsInward}
@@ -135,7 +135,7 @@ module _ {J T : Type 0} (table board : TableId) (me : Place J T) (from to base c
   pub Shuts-again : gate ≢ 0 → Shuts me.0.inward me.0.inward last
   Shuts-again not_open =
       let shut : me.0.inward.shut ≡ true = is_shut me.0.inward.shut is.gate_is in
-      (ap (λ (s : Bool). record me.0.inward { shut = s }) shut, (StartsWith-self me.0.inward.seen, λ _. refl), is.last_is shut ∙ ap (λ (b : ℕ). b + length me.0.inward.seen) (sym is.base_is))
+      (ap (λ (s : Bool). record me.0.inward { shut = s }) shut, (IsPrefix-self me.0.inward.seen, λ _. refl), is.last_is shut ∙ ap (λ (b : ℕ). b + length me.0.inward.seen) (sym is.base_is))
     where
       is_shut : (b : Bool) → gate ≡ gate_bit b → b ≡ true
       is_shut true e = refl

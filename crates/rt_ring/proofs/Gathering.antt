@@ -11,7 +11,7 @@ use Rattle.rt_link.specs.declared.ends.Inward.{Inward}
 use Rattle.rt_link.specs.declared.plain.Whole.{Whole}
 use Rattle.rt_link.specs.Ends.{AreOf}
 use Rattle.rt_link.specs.Whole.{IsLink}
-use Rattle.rt_link.proofs.Lists.{StartsWith-self}
+use Rattle.rt_ids.proofs.Prefixes.{IsPrefix-self}
 use Rattle.rt_link.proofs.WholeLaws.{IsLink-collect, IsLink-credit}
 use Rattle.rt_ring.specs.Carried.{Place}
 use Rattle.rt_ring.specs.Slots.{order_slot, outcome_slot, outcome_at}
@@ -31,7 +31,7 @@ module _ {J T : Type 0} (link : Whole J T) (out : Outward J T) (k : KnowsOut lin
   KnowsOut-seen : link.got ≤ length link.given → KnowsOut link (record out { seen = link.given })
   KnowsOut-seen within = record {
     knows = ap (λ (o : Outward J T). record o { seen = link.given; closed = out.closed }) k.knows;
-    sees = StartsWith-self link.given;
+    sees = IsPrefix-self link.given;
     got_seen = within;
     gate = k.gate;
   }
@@ -39,7 +39,7 @@ module _ {J T : Type 0} (link : Whole J T) (out : Outward J T) (k : KnowsOut lin
   KnowsOut-got : link.got + 1 ≤ length link.given → KnowsOut (record link { got = link.got + 1; credited = link.credited + 1 }) (record out { seen = link.given; got = out.got + 1 })
   KnowsOut-got within = record {
     knows = ap (λ (o : Outward J T). record o { seen = link.given; got = o.got + 1; closed = out.closed }) k.knows;
-    sees = StartsWith-self link.given;
+    sees = IsPrefix-self link.given;
     got_seen = within;
     gate = k.gate;
   }

@@ -10,7 +10,8 @@ use Rattle.rt_link.specs.declared.ends.Inward.{Inward}
 use Rattle.rt_link.specs.declared.plain.Whole.{Whole}
 use Rattle.rt_link.specs.Calls.{MayGive}
 use Rattle.rt_link.specs.Whole.{inward_of}
-use Rattle.rt_link.proofs.Lists.{StartsWith-append, slice_get-starts}
+use Rattle.rt_ids.proofs.Prefixes.{IsPrefix-append}
+use Rattle.rt_link.proofs.Lists.{slice_get-starts}
 use Rattle.rt_link.proofs.WholeLaws.{IsLink-give, IsLink-awaits}
 use Rattle.rt_ring.specs.Carried.{Place}
 use Rattle.rt_ring.specs.Rule.{gate_bit}
@@ -41,7 +42,7 @@ module _ {J T : Type 0} where
   KnowsOut-given : (link : Whole J T) (number : ℕ) (outcome : Outcome J T) (out : Outward J T) → KnowsOut link out → KnowsOut (record link { given = link.given ++ (number, outcome) ∷ [] }) out
   KnowsOut-given link number outcome out k = record {
     knows = k.knows;
-    sees = StartsWith-append link.given out.seen ((number, outcome) ∷ []) k.sees;
+    sees = IsPrefix-append link.given out.seen ((number, outcome) ∷ []) k.sees;
     got_seen = k.got_seen;
     gate = k.gate;
   }

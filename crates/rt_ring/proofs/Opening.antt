@@ -8,7 +8,7 @@ use Rattle.atomic_table.proofs.Lists.{at_set}
 use Rattle.rt_ids.specs.declared.order.Order.{Order}
 use Rattle.rt_ids.specs.declared.order.Outcome.{Outcome}
 use Rattle.rt_link.specs.declared.ends.Outward.{Outward}
-use Rattle.rt_link.proofs.Lists.{StartsWith-self}
+use Rattle.rt_ids.proofs.Prefixes.{IsPrefix-self}
 use Rattle.rt_link.proofs.WholeLaws.{IsLink-fresh}
 use Rattle.rt_ring.specs.Carried.{Place, out_slots}
 use Rattle.rt_ring.specs.Slots.{Homes, order_slot, outcome_slot}
@@ -53,8 +53,8 @@ module _ {J T : Type 0} (fits : Order J → Outcome J T → Type 0) (ready : Ord
     };
     views = λ seat view here. let one = only_one (first_view terms) view seat here in
         subst (IsTold (fresh_link terms) (map some (replicate k Empty)) 0 0 seat) one.1 (record {
-          sends = λ _. (one.0, record { knows = refl; sees = StartsWith-self []; got_seen = omega arith; gate = λ shut. shut });
-          takes = λ _. (one.0, record { knows = refl; sees = StartsWith-self []; taken_seen = omega arith; final = λ _. refl });
+          sends = λ _. (one.0, record { knows = refl; sees = IsPrefix-self []; got_seen = omega arith; gate = λ shut. shut });
+          takes = λ _. (one.0, record { knows = refl; sees = IsPrefix-self []; taken_seen = omega arith; final = λ _. refl });
           fresh = λ _. (one.0, one.0, refl, λ i a b. let some_slot : 0 < terms.capacity = omega arith in let h : i % terms.capacity < terms.capacity = mod-lt i some_slot in home-replicate k (order_slot terms.capacity i) Empty (omega arith));
         });
   }

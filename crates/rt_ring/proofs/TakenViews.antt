@@ -3,7 +3,7 @@ use Rattle.std.proofs.Common.{◌+◌, ◌≤◌, true, length, refl, ap}
 use Rattle.rt_link.specs.declared.ends.Outward.{Outward}
 use Rattle.rt_link.specs.declared.ends.Inward.{Inward}
 use Rattle.rt_link.specs.declared.plain.Whole.{Whole}
-use Rattle.rt_link.proofs.Lists.{StartsWith-self}
+use Rattle.rt_ids.proofs.Prefixes.{IsPrefix-self}
 use Rattle.rt_ring.specs.Views.{KnowsOut, KnowsInward}
 
 module _ {J T : Type 0} (link : Whole J T) (inward : Inward J T) (k : KnowsInward link inward) where
@@ -11,7 +11,7 @@ module _ {J T : Type 0} (link : Whole J T) (inward : Inward J T) (k : KnowsInwar
   pub KnowsInward-seen : link.taken ≤ length link.sent → KnowsInward link (record inward { seen = link.sent })
   KnowsInward-seen within = record {
     knows = ap (λ (i : Inward J T). record i { seen = link.sent }) k.knows;
-    sees = StartsWith-self link.sent;
+    sees = IsPrefix-self link.sent;
     taken_seen = within;
     final = λ _. refl;
   }
@@ -19,7 +19,7 @@ module _ {J T : Type 0} (link : Whole J T) (inward : Inward J T) (k : KnowsInwar
   pub KnowsInward-taken : link.taken + 1 ≤ length link.sent → KnowsInward (record link { taken = link.taken + 1 }) (record inward { seen = link.sent; taken = inward.taken + 1 })
   KnowsInward-taken within = record {
     knows = ap (λ (i : Inward J T). record i { seen = link.sent; taken = i.taken + 1 }) k.knows;
-    sees = StartsWith-self link.sent;
+    sees = IsPrefix-self link.sent;
     taken_seen = within;
     final = λ _. refl;
   }
@@ -27,7 +27,7 @@ module _ {J T : Type 0} (link : Whole J T) (inward : Inward J T) (k : KnowsInwar
   pub KnowsInward-shut : link.taken ≤ length link.sent → KnowsInward (record link { shut = true }) (record inward { seen = link.sent; shut = true })
   KnowsInward-shut within = record {
     knows = ap (λ (i : Inward J T). record i { seen = link.sent; shut = true }) k.knows;
-    sees = StartsWith-self link.sent;
+    sees = IsPrefix-self link.sent;
     taken_seen = within;
     final = λ _. refl;
   }

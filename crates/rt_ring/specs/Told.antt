@@ -2,7 +2,8 @@
 use Rattle.std.specs.Prelude.{◌≡◌, ◌≢◌, ℕ, ◌+◌, ◌^◌, ◌<◌, ◌≤◌, true, false, List, [], ◌∷◌, ◌++◌, length, take}
 use Rattle.rt_ids.specs.declared.order.Order.{Order}
 use Rattle.rt_ids.specs.declared.order.Outcome.{Outcome}
-use Rattle.rt_link.specs.Ends.{StartsWith, AreOf, AreReady, Joined}
+use Rattle.rt_ids.specs.Assembly.{IsPrefix}
+use Rattle.rt_link.specs.Ends.{AreOf, AreReady, Joined}
 use Rattle.rt_link.specs.declared.ends.Outward.{Outward}
 use Rattle.rt_link.specs.declared.ends.Inward.{Inward}
 use Rattle.rt_ring.specs.After.{with_sent, with_closed, with_got, with_taken, with_shut, with_given}
@@ -28,7 +29,7 @@ module _ {J T : Type 0} where
 
   -- the receiver sees as many orders or more, and no more once the gate is shut
   pub record SeesOrders (ready : Order J → Type 0) (inward : Inward J T) (seen : List (Order J)) : Type 0 where
-    pub longer : StartsWith seen inward.seen
+    pub longer : IsPrefix inward.seen seen
     pub final : inward.shut ≡ true → seen ≡ inward.seen
     pub taken_seen : inward.taken ≤ length seen
     pub numbered : inward.base + length seen < 2 ^ 63
@@ -62,7 +63,7 @@ module _ {J T : Type 0} where
 
   -- the sender sees as many outcomes or more, each of an order that it sent
   pub record SeesOutcomes (fits : Order J → Outcome J T → Type 0) (out : Outward J T) (seen : List (ℕ × Outcome J T)) : Type 0 where
-    pub longer : StartsWith seen out.seen
+    pub longer : IsPrefix out.seen seen
     pub got_seen : out.got ≤ length seen
     pub few : length seen ≤ length out.sent
     pub named : AreOf fits out.base out.sent seen

@@ -2,7 +2,7 @@
 use Rattle.std.specs.Prelude.{◌≡◌, ℕ, ◌≤◌, true, false, List, length}
 use mathlib.Core.Option.{some}
 use lib.ListN.{get_elem?}
-use Rattle.rt_link.specs.Ends.{StartsWith}
+use Rattle.rt_ids.specs.Assembly.{IsPrefix}
 use Rattle.rt_link.specs.Whole.{fresh, out_of, inward_of}
 use Rattle.rt_link.specs.declared.ends.Outward.{Outward}
 use Rattle.rt_link.specs.declared.ends.Inward.{Inward}
@@ -15,14 +15,14 @@ module _ {J T : Type 0} where
   -- the sender knows its end, but of the outcomes given it has seen a beginning, and the gate may be shut without its knowing
   pub record KnowsOut (link : Whole J T) (out : Outward J T) : Type 0 where
     pub knows : out ≡ record (out_of link) { seen = out.seen; closed = out.closed }
-    pub sees : StartsWith link.given out.seen
+    pub sees : IsPrefix out.seen link.given
     pub got_seen : link.got ≤ length out.seen
     pub gate : out.closed ≡ true → link.shut ≡ true
 
   -- the receiver knows its end, but of the orders sent it has seen a beginning, until the gate is shut
   pub record KnowsInward (link : Whole J T) (inward : Inward J T) : Type 0 where
     pub knows : inward ≡ record (inward_of link) { seen = inward.seen }
-    pub sees : StartsWith link.sent inward.seen
+    pub sees : IsPrefix inward.seen link.sent
     pub taken_seen : link.taken ≤ length inward.seen
     pub final : link.shut ≡ true → inward.seen ≡ link.sent
 

@@ -32,7 +32,7 @@ pub struct RingLink;
 impl RingLink {
     /// Opens a link. At most `capacity` submissions are outstanding at any time.
     ///
-    /// All memory that the link ever takes is taken here.
+    /// The memory of the link is taken here. That its ends ask for none is said by no clause.
     ///
     /// # Errors
     ///

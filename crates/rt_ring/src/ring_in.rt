@@ -24,7 +24,7 @@ pub struct Receiving<J, T> {
 
 /// The end that takes orders and gives their outcomes. It may go to any thread.
 ///
-/// No call of it takes memory, a lock or waits.
+/// No body of its calls asks for memory, takes a lock or waits; no clause says so.
 #[derive(Drop)]
 pub struct RingIn<J: Task> {
     pub(crate) board: Arc<Board<J>, Global>,

@@ -26,7 +26,7 @@ pub struct Sending<J, T> {
 
 /// The end that sends orders and collects their outcomes. It may go to any thread.
 ///
-/// No call of it takes memory, a lock or waits.
+/// No body of its calls asks for memory, takes a lock or waits; no clause says so.
 #[derive(Drop)]
 pub struct RingOut<J: Task> {
     pub(crate) board: Arc<Board<J>, Global>,

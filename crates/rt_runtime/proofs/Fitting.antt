@@ -1,7 +1,6 @@
 -- What the journals of workers that have ended tell of a submission fits its order.
-use Rattle.std.proofs.Common.{◌≡◌, ℕ, suc, ◌+◌, ◌-◌, ◌<◌, ◌≤◌, Bool, true, false, cond, List, [], ◌∷◌, take, drop, refl, sym, ◌∙◌, ap, subst, arith}
+use Rattle.std.proofs.Common.{◌≡◌, ℕ, suc, ◌+◌, ◌-◌, ◌<◌, ◌≤◌, Bool, true, false, cond, List, [], ◌∷◌, take, refl, sym, ◌∙◌, ap, subst, arith}
 use Rattle.std.specs.Prelude.{Option, Some, None, IfSome, slice_get}
-use Rattle.std.proofs.lemmas.List.{take-append-drop}
 use Rattle.rt_ids.specs.declared.names.JobId.{JobId}
 use Rattle.rt_ids.specs.declared.note.OutcomeNote.{OutcomeNote}
 use Rattle.rt_ids.specs.declared.order.Order.{Order}
@@ -18,7 +17,8 @@ use Rattle.rt_recorded_desk.specs.Ends.{name_of, named_outcomes}
 use Rattle.rt_recorded_desk.specs.Orders.{numbered_orders}
 use Rattle.rt_recorded_desk.proofs.NumberedOrders.{first_under-numbered}
 use Rattle.rt_journal.specs.Together.{IsAssemblyOf}
-use Rattle.rt_journal.proofs.EndsKept.{slice_get-seen}
+use Rattle.rt_ids.proofs.Prefixes.{IsPrefix-take}
+use Rattle.rt_link.proofs.Lists.{slice_get-seen}
 use Rattle.rt_ring.specs.declared.ring_out.Sending.{Sending}
 use Rattle.rt_ring.specs.declared.ring_in.Receiving.{Receiving}
 use Rattle.rt_grid.specs.Ends.{in_at, out_at}
@@ -63,7 +63,7 @@ has_order {fits = fits} base taken sent given none are place outcome at =
     let here : slice_get (take taken sent) (outcome.0 - base - 1) ≡ Some order.0 = rw same order.1 in
     record {
       order = order.0;
-      at = slice_get-seen sent (take taken sent) (drop taken sent, sym (take-append-drop taken sent)) (outcome.0 - 1) order.0 order.1;
+      at = slice_get-seen sent (take taken sent) (IsPrefix-take taken sent) (outcome.0 - 1) order.0 order.1;
       fit = subst (λ found. IfSome found (λ order. fits order outcome.1)) here of.1;
       above = omega (arith, of.0, none);
     }

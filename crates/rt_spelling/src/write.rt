@@ -27,7 +27,7 @@ pub struct WriteError;
 /// Text that waits to be written.
 type Page = ArrayVec<u8, PAGE>;
 
-/// Writes the text of the journals, and takes no memory. After a fault a first part of the text is written.
+/// Writes the text of the journals, a page at a time. After a fault a first part of the text is written.
 pub fn write_journal<W: Write>(assembly: &Assembly, sink: &mut W) -> Result<(), WriteError>
     requires { IsSpelled assembly.now }
     ensures ok { OnOk result (Appends (W.contents sink.old) (W.contents sink.new) (spec.journal_text assembly.now)) }

@@ -32,7 +32,7 @@ pub enum CreateError {
 /// The task queues of a core, numbered from 0, with room for so many jobs in all of them together.
 ///
 /// A queue's slip is the node by which it stands in a timeline. It is made with the queue, and is with it while it stands in none.
-/// Only `open` and `try_create` take memory: no other call has an allocator in reach.
+/// Only `open` and `try_create` ask for memory: the bodies of the other calls have no allocator in reach. No clause says so.
 #[derive(Drop)]
 pub struct Queues<J, A: Allocator> {
     // The jobs of all queues, each with the key of the next in its line. A key names nothing outside this crate.
@@ -221,7 +221,7 @@ impl<J: Drop, A: Allocator + Clone> Queues<J, A> {
         self.lines[place].mode
     }
 
-    /// Gives the slip of this queue out, if it is with the queue. Takes no memory.
+    /// Gives the slip of this queue out, if it is with the queue.
     pub fn take_slip(&mut self, queue: QueueNo) -> Option<Slip<A>>
         requires exists { queue < queue_count self.old }
         ensures there { is_some result ≡ has_slip queue self.old }
@@ -232,7 +232,7 @@ impl<J: Drop, A: Allocator + Clone> Queues<J, A> {
         self.slips.at[queue.0 as usize].take()
     }
 
-    /// Takes the slip of its queue back. Takes no memory.
+    /// Takes the slip of its queue back.
     pub fn put_slip(&mut self, slip: Slip<A>)
         requires exists { slip < queue_count self.old }
         requires out { has_slip slip self.old ≡ false }

@@ -8,7 +8,7 @@ use std::alloc::{AllocError, Allocator};
 
 /// The slips of the queues, each at the place of its queue while it is with it.
 ///
-/// The allocator can be reached in this file alone. A call that asks it for memory leaves one more slip here for good.
+/// The allocator can be reached in this file alone. A call that asks it for memory leaves one more slip here.
 #[derive(Drop)]
 pub struct Slips<A: Allocator> {
     pub(crate) at: SealedVec<Option<Slip<A>>, A>,

@@ -1,5 +1,5 @@
 -- What the journals tell of each order of a script is what it asks.
-use Rattle.std.proofs.Common.{◌≡◌, ◌≢◌, ℕ, ◌-◌, ◌<◌, ◌≤◌, ◌++◌, List, [], ◌∷◌, Option, Some, None, Result, Ok, Err, sym, ap, subst, ◌∙◌, arith, append_assoc, ⊎_elim}
+use Rattle.std.proofs.Common.{◌≡◌, ◌≢◌, ℕ, ◌-◌, ◌<◌, ◌≤◌, ◌++◌, List, [], ◌∷◌, Option, Some, None, Result, Ok, Err, sym, ap, subst, ◌∙◌, arith, ⊎_elim}
 use Rattle.std.proofs.lemmas.Bool.{cases_eq}
 use Rattle.std.proofs.lemmas.List.{append-nil}
 use Rattle.std.specs.Prelude.{IfOk, IfSome}
@@ -9,8 +9,9 @@ use Rattle.rt_ids.specs.declared.order.Order.{Order}
 use Rattle.rt_ids.specs.declared.order.SendError.{SendError}
 use Rattle.rt_ids.specs.Assembly.{Assembly, outcome_of}
 use Rattle.rt_jobs.specs.Scripts.{Script}
-use Rattle.rt_journal.proofs.EndsKept.{slice_get-seen}
-use Rattle.rt_link.specs.Ends.{StartsWith}
+use Rattle.rt_ids.proofs.Prefixes.{IsPrefix-along}
+use Rattle.rt_link.proofs.Lists.{slice_get-seen}
+use Rattle.rt_ids.specs.Assembly.{IsPrefix}
 use Rattle.rt_recorded_desk.specs.Submissions.{DeskView, Submits}
 use Rattle.rt_runtime.specs.Calls.{IsStarted, HasFinished}
 use Rattle.rt_runtime.specs.Outcomes.{FitsItsOrder}
@@ -27,7 +28,7 @@ abbrev View : Type 0
 View = RuntimeView Script ℕ
 
 -- a send lets the orders stand that were submitted before
-sent_before : (core : ℕ) (order : Order Script) (old : View) (answer : Result JobId (SendError Script)) (new : View) → SendsTo core order old answer new → (to : ℕ) → StartsWith (submitted to new) (submitted to old)
+sent_before : (core : ℕ) (order : Order Script) (old : View) (answer : Result JobId (SendError Script)) (new : View) → SendsTo core order old answer new → (to : ℕ) → IsPrefix (submitted to old) (submitted to new)
 sent_before core order old answer new sends to =
     ⊎_elim
     (λ (same : to ≡ core). (accepted order answer, subst (λ to. submitted to new ≡ submitted to old ++ accepted order answer) (sym same) sends.orders))
@@ -35,12 +36,10 @@ sent_before core order old answer new sends to =
     (cases_eq to core)
 
 -- so do all
-all_before : (orders : List Told) (old new : View) → OffersAll orders old new → (to : ℕ) → StartsWith (submitted to new) (submitted to old)
+all_before : (orders : List Told) (old new : View) → OffersAll orders old new → (to : ℕ) → IsPrefix (submitted to old) (submitted to new)
 all_before [] old new same to = ([], ap (λ (view : View). submitted to view) same ∙ sym (append-nil (submitted to old)))
 all_before (told ∷ rest) old new (between, one, others) to =
-    let first = sent_before told.0 told.1 old one.answer between one.sends to in
-    let later = all_before rest between new others to in
-    (first.0 ++ later.0, later.1 ∙ (ap (λ front. front ++ later.0) first.1 ∙ append_assoc (submitted to old) first.0 later.0))
+    IsPrefix-along (submitted to old) (submitted to between) (submitted to new) (sent_before told.0 told.1 old one.answer between one.sends to) (all_before rest between new others to)
 
 one_order : (a b : Order Script) → Some a ≡ Some b → a ≡ b
 one_order a b same = cc

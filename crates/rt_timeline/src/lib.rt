@@ -1,7 +1,7 @@
 //! The timeline of a core: the keys of its active queues in rising order, in an AVL tree whose nodes are slips.
 //!
-//! A [`Slip`] is the one node that a queue has for its whole life. It is in the tree while the queue is active, and only making it
-//! takes memory.
+//! A [`Slip`] is the one node that a queue has for its whole life. It is in the tree while the queue is active. Only making it
+//! asks for memory; no clause says so.
 #![tactic(auto)]
 
 mod slip;

@@ -26,7 +26,7 @@ impl<A: Allocator> Model for Slip<A> {
 }
 
 impl<A: Allocator> Slip<A> {
-    /// The slip of a queue. It asks the allocator for one node, and nothing else of this crate ever asks for memory.
+    /// The slip of a queue. It asks the allocator for one node.
     ///
     /// # Errors
     ///

@@ -40,7 +40,7 @@ impl<A: Allocator> Timeline<A> {
         }
     }
 
-    /// Puts the slip's queue into the timeline at this virtual runtime. Takes no memory.
+    /// Puts the slip's queue into the timeline at this virtual runtime.
     pub fn insert(&mut self, slip: Slip<A>, vr: u128)
         requires absent { LacksQueue slip self.old.keys }
         ensures keys { self.new.keys ≡ inserted (record { vr = vr; queue = slip }) self.old.keys }
@@ -56,7 +56,7 @@ impl<A: Allocator> Timeline<A> {
         self.tree.first()
     }
 
-    /// Takes the queue of the least key out, with its slip. Takes no memory.
+    /// Takes the queue of the least key out, with its slip.
     pub fn take_least(&mut self) -> Option<(Key, Slip<A>)>
         ensures empty { IsNone result ↔ (self.old.keys ≡ []) }
         ensures unchanged { IfNone result (self.new ≡ self.old) }
@@ -74,7 +74,7 @@ impl<A: Allocator> Timeline<A> {
         Some((node.key(vr), Slip::from_node(node)))
     }
 
-    /// Takes the queue of this key out, if the key is there, and gives its slip. Takes no memory.
+    /// Takes the queue of this key out, if the key is there, and gives its slip.
     pub fn remove(&mut self, key: Key) -> Option<Slip<A>>
         ensures found { IsSome result ↔ Contains self.old.keys key }
         ensures unchanged { IfNone result (self.new ≡ self.old) }

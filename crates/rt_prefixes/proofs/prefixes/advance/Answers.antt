@@ -10,8 +10,8 @@ returns-else-is_same-clause-only c =
     λ none begins.
     let all = list_told (name_told c.args.whole.now) c.args.other.now.notes in
     let told = list_told (name_told c.args.whole.now) (at_place c.args.behind c.args.other.now.notes) in
-    let here = subst (λ name. with_last told name ++ begins.0 ≡ all) (sym c.name_told.ensures ∙ c.in-Some.is) begins.1 in
+    let here = subst (λ name. all ≡ with_last told name ++ begins.0) (sym c.name_told.ensures ∙ c.in-Some.is) begins.1 in
     let more = told_at_place (name_told c.args.whole.now) c.in-Some-next_told.found c.args.other.now.notes in
-    let there = subst (λ items. items ++ more.0 ≡ all) c.in-Some-next_told.ensures.next.next more.1 in
-    let one = same_next told c.in-Some.name c.in-Some-next_told.next begins.0 more.0 (here ∙ sym there) in
+    let there = subst (λ items. all ≡ items ++ more.0) c.in-Some-next_told.ensures.next.next more.1 in
+    let one = same_next told c.in-Some.name c.in-Some-next_told.next begins.0 more.0 (sym here ∙ there) in
     both_ways c.is_same.result c.if-is_same.false (c.is_same.ensures.only (sym one))

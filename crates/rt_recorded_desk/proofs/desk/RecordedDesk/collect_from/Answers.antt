@@ -1,4 +1,4 @@
-use Rattle.rt_recorded_desk.proofs.Names.{[], length, refl, ◌∙◌, ap, subst, arith, length-append, StartsWith-self}
+use Rattle.rt_recorded_desk.proofs.Names.{[], length, refl, ◌∙◌, ap, subst, arith, length-append, IsPrefix-self}
 use Rattle.rt_recorded_desk.proofs.Names.{DeskView, IsWritten, terms_of_desk, KnowsLanes, CollectsFrom, ◌≡◌, ◌+◌}
 use Rattle.rt_recorded_desk.proofs.Desked.{stays_nothing}
 use Rattle.rt_recorded_desk.proofs.CollectedNext.{stays_then, gathers_more, end_more, gathers_no_more, gets_all}
@@ -11,7 +11,7 @@ loop-core-init g c =
     let counted : 0 + (g.O.OutEnd.out c.args.end.now).got ≡ (g.O.OutEnd.out c.args.end.now).got = omega arith in
     assumption (
       stays_nothing c.args.self.now invariant.1 c.args.core (g.O.OutEnd.out c.args.end.now) (g.O.OutEnd.credited c.args.end.now) invariant.0 c.requires.beside c.requires.lane,
-      StartsWith-self (g.O.OutEnd.out c.args.end.now).seen,
+      IsPrefix-self (g.O.OutEnd.out c.args.end.now).seen,
     )
 
 pub collect_one-requires : goal.collect_one-requires

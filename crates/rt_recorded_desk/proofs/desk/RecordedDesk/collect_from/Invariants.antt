@@ -1,4 +1,4 @@
-use Rattle.rt_recorded_desk.proofs.Names.{◌≡◌, ◌+◌, ◌-◌, ◌≤◌, length, StartsWith, Fits, booked, StaysBeside}
+use Rattle.rt_recorded_desk.proofs.Names.{◌≡◌, ◌+◌, ◌-◌, ◌≤◌, length, IsPrefix, Fits, booked, StaysBeside}
 use Rattle.rt_recorded_desk.proofs.Names.{CollectsFrom}
 use Rattle.rt_recorded_desk.proofs.desk.RecordedDesk.collect_from.Given as goal
 
@@ -8,7 +8,7 @@ invariant-loop-core g l = record {
   stays : StaysBeside (Fits g.J.Task.SameTask g.J.Task.Answers) l.core l.initial.self l.self (g.O.OutEnd.out l.end) (g.O.OutEnd.credited l.end);
   gathered : CollectsFrom l.core l.initial.self l.count l.self;
   end : g.O.OutEnd.out l.end ≡ record (g.O.OutEnd.out l.initial.end) { seen = (g.O.OutEnd.out l.end).seen; got = (g.O.OutEnd.out l.end).got };
-  longer : StartsWith (g.O.OutEnd.out l.end).seen (g.O.OutEnd.out l.initial.end).seen;
+  longer : IsPrefix (g.O.OutEnd.out l.initial.end).seen (g.O.OutEnd.out l.end).seen;
   room : length l.self.journal.notes + length (g.O.OutEnd.out l.end).sent ≤ l.self.journal.room + (g.O.OutEnd.out l.end).got;
   counted : l.count + (g.O.OutEnd.out l.initial.end).got ≡ (g.O.OutEnd.out l.end).got;
   books : booked l.self ≡ booked l.initial.self;
