@@ -7,7 +7,7 @@ use Rattle.rt_recorded_desk.proofs.Names.{get_or_from_slice_get, JobId, OutcomeN
 use Rattle.rt_recorded_desk.proofs.Names.{collected_outcomes, Journal, is_told, with_last, without_job, outcome_note}
 use Rattle.rt_recorded_desk.proofs.Names.{FitsOrder, IsSpelledOutcome, outstanding_count, is_gone, is_outstanding}
 use Rattle.rt_recorded_desk.proofs.Names.{name_redeemed, name_detached, name_collected, same_as_itself, Outward}
-use Rattle.rt_recorded_desk.proofs.Names.{IsPrefix, Fits, JournalView, at, Lane, IsLaneOf, IsAwaited, IsSent}
+use Rattle.rt_recorded_desk.proofs.Names.{IsPrefix, IsPrefix-along, Fits, JournalView, at, Lane, IsLaneOf, IsAwaited, IsSent}
 use Rattle.rt_recorded_desk.proofs.Names.{CollectsNext, told_of, taken-get, DeskView, IsWritten, terms_of_desk}
 use Rattle.rt_recorded_desk.proofs.Names.{IsOutOf, ShowsMore, name_of, named_outcomes, KnowsLane, KnowsLanes}
 use Rattle.rt_recorded_desk.proofs.Names.{StaysBeside, is_let_go, booked, CollectsFrom, GetsAll}
