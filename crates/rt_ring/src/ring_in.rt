@@ -4,7 +4,7 @@ ghost use Rattle.std.specs.Prelude.{◌≡◌, ◌+◌, ◌-◌, ◌%◌, ◌^�
 ghost use Rattle.rt_link.specs.Calls.{MayGive};
 ghost use Rattle.rt_link.specs.Fits.{Fits};
 
-use crate::board::{Board, GATE, Place};
+use crate::board::{ACCEPT, Board, GATE, Place};
 use crate::receiver::{close, give, look};
 use crate::turns::following;
 use rt_ids::{ActorNo, CoreNo, Envelope, JobId, Outcome};
@@ -58,6 +58,15 @@ impl<J: Task> Model for RingIn<J> {
     ghost view = { λ s. record { link = name_of s.seat.table_id; inward = s.seat.me.0.inward } };
 
     ghost invariant = { λ s. IsInward s.seat.table_id (arc_value s.board).shared.table_id s.seat.me s.from s.to s.base s.capacity s.taken s.given s.gate s.last s.next_order s.next_outcome };
+}
+
+impl<J: Task> RingIn<J> {
+    /// Whether an order waits that wasn't taken. It is one load of a word, and neither end knows more by it.
+    ///
+    /// No clause says that the answer is right: who needs to know takes.
+    pub fn shows(&self) -> bool {
+        self.board.shared.peek(ACCEPT) != self.base + self.taken + self.gate
+    }
 }
 
 impl<J: Task> InEnd<J> for RingIn<J> {

@@ -4,7 +4,7 @@ ghost use Rattle.std.specs.Prelude.{◌≡◌, ◌+◌, ◌-◌, ◌%◌, ◌^�
 ghost use Rattle.rt_jobs.specs.Ready.{HasReadyJob};
 ghost use Rattle.rt_link.specs.Calls.{Sends};
 
-use crate::board::{Board, Place};
+use crate::board::{Board, Place, RETURN};
 use crate::sender::{gather, is_open, offer};
 use crate::turns::following;
 use rt_ids::{Order, Outcome, SendError};
@@ -55,6 +55,15 @@ impl<J: Task> Model for RingOut<J> {
     ghost view = { λ s. record { link = name_of s.seat.table_id; out = s.seat.me.0.out; credited = s.credited } };
 
     ghost invariant = { λ s. IsOut s.seat.table_id (arc_value s.board).shared.table_id s.seat.me s.base s.capacity s.count s.collected s.credited s.next_order s.next_outcome };
+}
+
+impl<J: Task> RingOut<J> {
+    /// Whether an outcome waits that wasn't collected. It is one load of a word, and neither end knows more by it.
+    ///
+    /// No clause says that the answer is right: who needs to know collects.
+    pub fn shows(&self) -> bool {
+        self.board.shared.peek(RETURN) != self.base + self.collected
+    }
 }
 
 impl<J: Task> OutEnd<J> for RingOut<J> {

@@ -90,6 +90,11 @@ impl<J: Task<Out = u64>> Linked<J> {
         self.recorded.is_drained()
     }
 
+    /// Whether a link shows an order or an outcome that wasn't seen yet: one load for each link. No clause says that the answer is right.
+    pub(crate) fn shows(&self) -> bool {
+        self.ends.ins.iter().any(|end| end.shows()) || self.ends.outs.iter().any(|end| end.shows())
+    }
+
     /// Whether fewer notes are free than a worker keeps for its end.
     pub fn is_short(&self) -> bool
         ensures { IsTrue result ↔ IsShort self.now.recorded }

@@ -147,6 +147,11 @@ impl<J: Task<Out = u64>> Served<J> {
         some
     }
 
+    /// Whether a link shows what wasn't seen yet. No clause says that the answer is right.
+    pub(crate) fn shows(&self) -> bool {
+        self.linked.shows()
+    }
+
     /// The notes of this worker.
     pub(crate) fn journal(&self) -> &Journal<u64>
         ensures { result.now ≡ self.now.linked.recorded.journal }

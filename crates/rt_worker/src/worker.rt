@@ -183,10 +183,13 @@ impl<J: Job + Task<Out = u64>, C: Clock + Drop, G: Gate + Drop> Worker<J, C, G> 
         ensures { StaysLinked self.old self.new }
     {
         if self.passes_links() && self.take_turn() {
-            true
-        } else {
-            self.look()
+            return true;
         }
+        // After a round in which nothing was done there is something to do only where a link shows it.
+        if self.idle > 0 && !self.served.shows() {
+            return false;
+        }
+        self.look()
     }
 
     /// Lies down, looks once more, and parks until its bell rings if there was nothing.
