@@ -1,6 +1,6 @@
 -- What a core tells ahead of a pick is what its journal says; and a core picks: the right pick takes a job out, or hands it back, or the core says why there is none.
 use Rattle.rt_journal.proofs.Names.{◌≡◌, ℕ, ◌-◌, ◌^◌, Bool, true, false, List, [], ◌∷◌, refl, sym, ◌∙◌, ap, subst}
-use Rattle.rt_journal.proofs.Names.{arith, None, Result, Ok, Err, JobId, Note, KeyAtMost, line, turns, has_work}
+use Rattle.rt_journal.proofs.Names.{arith, None, Result, Ok, Err, JobId, Note, KeyAtMost, turns, has_work}
 use Rattle.rt_journal.proofs.Names.{no_work, work_of_line, Owed, waiting_of, Turn, Start, Resume, Idle, PickError}
 use Rattle.rt_journal.proofs.Names.{Busy, CoreView, runtime_of, TakesOut, TellsAhead, some_front, IsJobOut}
 use Rattle.rt_journal.proofs.Names.{RecordedView, IsRecorded, terms_at, IsBack, ◌+◌, ◌<◌, ◌≤◌, ◌++◌, length, add-zero}
@@ -15,9 +15,11 @@ use Rattle.rt_core.specs.declared.turn.Turn.TheVariants.{Back}
 use Rattle.rt_core.specs.declared.turn.PickError.TheVariants.{Spent}
 use Rattle.rt_core.specs.Closing.{return_reason}
 use Rattle.rt_core.specs.Closing as core_says
-use Rattle.rt_journal.proofs.Sums.{each_line, sum_upto-at_most_one, sum_upto-same}
-use Rattle.rt_journal.proofs.KeptPicks.{LeavesFront, first_in_line, kept-picked, kept-returned, picked_view, reason_told, returned_view}
-use Rattle.rt_journal.proofs.KeptPicks.{right_pick, start_told}
+use Rattle.rt_agreement.proofs.Places.{each_line}
+use Rattle.rt_journal.proofs.Sums.{sum_upto-at_most_one, sum_upto-same}
+use Rattle.rt_agreement.proofs.KeptPicks.{LeavesFront, first_in_line, kept-picked, kept-returned, picked_view}
+use Rattle.rt_agreement.proofs.KeptPicks.{reason_told, returned_view}
+use Rattle.rt_agreement.proofs.KeptPicks.{right_pick, start_told}
 use Rattle.rt_journal.proofs.Received.{waiting_stays}
 use Rattle.rt_journal.proofs.EndsKept.{ungiven_if, not_given}
 use Rattle.rt_ids.specs.declared.note.OutcomeNote.TheVariants as outcomes

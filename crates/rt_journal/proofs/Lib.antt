@@ -1,8 +1,5 @@
 pub mod Names
 pub mod Sums
-pub mod Kept
-pub mod KeptDeliveries
-pub mod KeptPicks
 pub mod CarriedOut
 pub mod EndsKept
 pub mod GivenEnds

@@ -1,16 +1,6 @@
--- What holds at one place and at each other one, and counts of the first actors together, as the count of one of them grows.
-use Rattle.rt_journal.proofs.Names.{List, Bool, JobId, QueuesView, ChangesLine, waiting_of, ◌≡◌, ℕ, sym, subst, ◌==◌}
-use Rattle.rt_journal.proofs.Names.{zero, suc, ◌+◌, ◌*◌, ◌<◌, ◌≤◌, arith, number_if, sum_upto, eqb_tells, inl, inr}
-
--- it holds everywhere
-pub everywhere : (P : ℕ → Type 0) (place : ℕ) → P place → ((other : ℕ) → (other ≡ place → ⊥) → P other) → (other : ℕ) → P other
-everywhere P place here elsewhere other = elim (eqb_tells other place) [ inl same ↦ subst P (sym same.1) here | inr away ↦ elsewhere other away.1 ]
-
--- what holds of the lines as they were, and of the one that changed, holds of each line
-pub each_line : {J : Type 0} {old new : QueuesView J} {queue : ℕ} {line : List (JobId × Bool × J)} (P : ℕ → List (JobId × Bool × J) → Type 0) → ChangesLine old new queue line → P queue line →
-    ((other : ℕ) → P other (waiting_of other old)) → (other : ℕ) → P other (waiting_of other new)
-each_line {new = new} {queue = queue} P changes here stayed =
-    everywhere (λ at. P at (waiting_of at new)) queue (subst (P queue) (sym changes.changed) here) (λ other away. subst (P other) (sym (changes.others other away)) (stayed other))
+-- Counts of the first actors together, as the count of one of them grows.
+use Rattle.rt_journal.proofs.Names.{◌≡◌, ℕ, ◌==◌}
+use Rattle.rt_journal.proofs.Names.{zero, suc, ◌+◌, ◌*◌, ◌<◌, ◌≤◌, arith, number_if, sum_upto}
 
 pub sum_upto-same : (f g : ℕ → ℕ) (last : ℕ) → ((s : ℕ) → f s ≡ g s) → sum_upto f last ≡ sum_upto g last
 sum_upto-same f g zero same = same 0

@@ -1,7 +1,4 @@
-pub mod Polls
 pub mod Deliveries
-pub mod Figures
-pub mod Agreement
 pub mod Recorded
 pub mod Lists
 pub mod Ends

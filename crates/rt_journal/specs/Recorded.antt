@@ -17,8 +17,8 @@ use Rattle.rt_core.specs.State.{CoreView, JobOut, inside_count}
 use Rattle.rt_notes.specs.Journals.{JournalView}
 use Rattle.rt_desk.specs.Lanes.{Lane}
 use Rattle.rt_ids.specs.Orders.{without_job}
-use Rattle.rt_journal.specs.Polls.{polls_made}
-use Rattle.rt_journal.specs.Agreement.{IsKept}
+use Rattle.rt_agreement.specs.Polls.{polls_made}
+use Rattle.rt_agreement.specs.Agreement.{IsKept}
 use Rattle.rt_recorded_desk.specs.Submissions.{DeskView}
 use Rattle.rt_ids.specs.Joining.{DeliversAs}
 

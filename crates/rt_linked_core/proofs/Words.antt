@@ -13,7 +13,7 @@ pub use Rattle.rt_journal.proofs.DeliveredEnds.{told_elsewhere}
 pub use Rattle.rt_journal.specs.Ends.{Gives, IsInOf, IsInOwing, IsSameSeat, told_under}
 pub use Rattle.rt_recorded_desk.specs.Ends.{IsOutOf}
 pub use Rattle.rt_journal.specs.Owed.{owed_back}
-pub use Rattle.rt_journal.specs.Polls.{poll_note, polls_made}
+pub use Rattle.rt_agreement.specs.Polls.{poll_note, polls_made}
 pub use Rattle.rt_journal.specs.Recorded.{IsRecorded, RecordedView, desk_of, order_taken}
 pub use Rattle.rt_journal.specs.Steps.{CreatesQueue, opened_beside}
 pub use Rattle.rt_recorded_desk.specs.Submissions.{DeskView, opened_desk}

@@ -14,8 +14,8 @@ use Rattle.rt_ids.proofs.Counts.{counts_agree}
 use Rattle.rt_taskqueue.specs.Queues.{QueueView, no_queue, held_count}
 use Rattle.rt_core.specs.State as state
 use Rattle.rt_core.specs.State.{CoreView, JobOut, inside_count}
-use Rattle.rt_journal.specs.Agreement.{IsKept}
-use Rattle.rt_journal.proofs.Kept.{queue_out-agrees}
+use Rattle.rt_agreement.specs.Agreement.{IsKept}
+use Rattle.rt_agreement.proofs.Kept.{queue_out-agrees}
 use Rattle.std.proofs.Common.{min}
 use Rattle.rt_ids.specs.declared.note.Note.TheVariants.{Pick}
 use Rattle.rt_ids.specs.declared.stats.QueueStats.{QueueStats}

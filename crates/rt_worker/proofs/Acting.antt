@@ -8,7 +8,7 @@ use Rattle.rt_ids.specs.Journal.{Journal, EachNote}
 use Rattle.rt_ids.specs.Lines.{jobs_out, names_but}
 use Rattle.rt_jobs.specs.declared.job.Step.{Step}
 use Rattle.rt_jobs.specs.declared.job.Step.TheVariants as step
-use Rattle.rt_journal.specs.Polls.{poll_note, settle_note}
+use Rattle.rt_agreement.specs.Polls.{poll_note, settle_note}
 use Rattle.rt_recorded_desk.specs.Posts.{ArePosts}
 use Rattle.rt_recorded_desk.specs.Tickets.{AreCollected}
 use Rattle.rt_worker.specs.Rooms.{IsPolling, MayAct}

@@ -20,7 +20,7 @@ use Rattle.rt_link.specs.declared.ends.Inward.{Inward}
 use Rattle.rt_notes.specs.Journals.{JournalView}
 use Rattle.rt_ring.specs.declared.ring_out.Sending.{Sending}
 use Rattle.rt_journal.specs.Deliveries.{IsDelivery, entry_note, with_effect}
-use Rattle.rt_journal.specs.Polls.{poll_note, settle_note}
+use Rattle.rt_agreement.specs.Polls.{poll_note, settle_note}
 use Rattle.rt_recorded_desk.specs.Posts.{ArePosts, HasPosted}
 use Rattle.rt_journal.specs.Recorded.{RecordedView}
 use Rattle.rt_journal.specs.Steps.{Delivers, TellsShut}

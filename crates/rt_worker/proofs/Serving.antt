@@ -13,7 +13,7 @@ use Rattle.rt_ids.specs.Closing.{core_mode, final_count}
 use Rattle.rt_ids.specs.Lawful.{MayStand}
 use Rattle.rt_ids.proofs.Returning.{has_reason}
 use Rattle.rt_jobs.specs.Steps.{Owed}
-use Rattle.rt_journal.specs.Polls.{poll_note, settle_note}
+use Rattle.rt_agreement.specs.Polls.{poll_note, settle_note}
 use Rattle.rt_journal.specs.Recorded.{RecordedView, terms_at, sum_upto, given_count}
 use Rattle.rt_journal.specs.Ends.{IsSameSeat}
 use Rattle.rt_journal.specs.Steps.{Delivers, Receives}

@@ -5,7 +5,7 @@ use Rattle.rt_world.proofs.Words.{link_at, Parts, core_at, world_of, IsWorld, Is
 use Rattle.rt_world.proofs.Words.{turns, has_work, Makes, polls_made, poll_note, order_taken, opened_beside, with_notes, post_of, CallsAt, order_under}
 use Rattle.rt_world.proofs.Words.{pick_notes, IsPoll, Turns}
 use Rattle.rt_ids.specs.declared.note.Note.TheVariants as writes
-use Rattle.rt_journal.specs.Polls.{settle_note}
+use Rattle.rt_agreement.specs.Polls.{settle_note}
 use Rattle.rt_linked_core.specs.declared.turn.Turned.{Turned}
 use Rattle.rt_linked_core.specs.declared.turn.Turned.TheVariants.{Made, Idle, Spent}
 use Rattle.rt_world.specs.Turns.{turned_reply}

@@ -26,7 +26,7 @@ pub use Rattle.rt_jobs.specs.Calls.Call.{Detach, Redeem, Submit}
 pub use Rattle.rt_jobs.specs.Steps.{Owed}
 pub use Rattle.rt_recorded_desk.proofs.NumberedOrders.{get_or-map}
 pub use Rattle.rt_journal.specs.Ends.{IsInOf, IsSameSeat, KeepsIn}
-pub use Rattle.rt_journal.specs.Polls.{poll_note, polls_made}
+pub use Rattle.rt_agreement.specs.Polls.{poll_note, polls_made}
 pub use Rattle.rt_journal.specs.Recorded.{IsRecorded, RecordedView, desk_of, order_taken}
 pub use Rattle.rt_journal.specs.Steps.{CreatesQueue, opened_beside, with_notes}
 pub use Rattle.rt_recorded_desk.specs.Submissions.{DeskView, IsWritten, opened_desk, terms_of_desk}

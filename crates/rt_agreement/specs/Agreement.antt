@@ -14,7 +14,7 @@ use Rattle.rt_ids.specs.Lawful.{MayStand}
 use Rattle.rt_ids.specs.Picks.{turns}
 use Rattle.rt_taskqueue.specs.Queues.{queue_count, shares_of, mode_of, waiting_of}
 use Rattle.rt_core.specs.State.{CoreView, JobOut, runtime_of, delivered_of, gate_of}
-use Rattle.rt_journal.specs.Figures.{figures_of, figures_told}
+use Rattle.rt_agreement.specs.Figures.{figures_of, figures_told}
 
 module _ {J : Type 0} where
   abbrev pub names_of : List (JobId × Bool × J) → List JobId

@@ -1,25 +1,26 @@
 -- What a core tells of itself stays what its journal says, as a submission is delivered: a job enters or goes back, a command is answered, creates, weighs or closes; and as a gate is shut.
-use Rattle.rt_journal.proofs.Names.{is_working, has_work, max, ◌≡◌, ℕ, ◌+◌, ◌<◌, ◌≤◌, Bool, true, false, [], ◌∷◌}
-use Rattle.rt_journal.proofs.Names.{◌++◌, length, refl, sym, ◌∙◌, ap, subst, arith, get_or, set, get_or-set_same}
-use Rattle.rt_journal.proofs.Names.{get_or-set_other, cond, ◌==◌, Option, Some, None, is_some, true≢false, map-append}
-use Rattle.rt_journal.proofs.Names.{Terms, JobId, same_name, Journal, EachNote, is_told, with_last, delivered_names}
-use Rattle.rt_journal.proofs.Names.{name_started, if_from, queue_of, virtual_runtime, line, refusal, MayStand}
-use Rattle.rt_journal.proofs.Names.{IsNextDelivered, known_of, not_old, started_of, line-took, line-took_elsewhere}
-use Rattle.rt_journal.proofs.Names.{false_from_ne_true, same_as_itself, virtual_runtime-took_idle}
-use Rattle.rt_journal.proofs.Names.{virtual_runtime-took_busy, virtual_runtime-took_elsewhere, floor-stays}
-use Rattle.rt_journal.proofs.Names.{waiting_of, CoreView, JobOut, no_tally, tally_of, runtime_of, entry_runtime}
-use Rattle.rt_journal.proofs.Names.{counted, Agrees, IsJobOut, Note, Order, Reason, Answer, shares, created_count}
-use Rattle.rt_journal.proofs.Names.{IsAnswer, has_effect, CountsAlone, queue_just_picked, effect_awaited, inr, List}
-use Rattle.rt_journal.proofs.Names.{nat_le, le-leb, lt-leb, length-append, InRange, list_told, queue_created}
-use Rattle.rt_journal.proofs.Names.{shares-created, shares-created_elsewhere, shares-set, shares-set_elsewhere}
-use Rattle.rt_journal.proofs.Names.{queue_count, shares_of, Creates, Weighs, slice_set, Mode, or_else, queue_mode}
-use Rattle.rt_journal.proofs.Names.{final_count, mode_of, HasClosed, ChangesLine, QueuesView, Tally, slice_index_or}
-use Rattle.rt_journal.proofs.Names.{length-set, names_of, plainly_stands}
+use Rattle.rt_agreement.proofs.Names.{get_or-set_other, length-set, le-leb, lt-leb, max, nat_le, slice_index_or}
+use Rattle.rt_agreement.proofs.Names.{slice_set, HasClosed, CountsAlone, Creates, Weighs, counted, CoreView, JobOut}
+use Rattle.rt_agreement.proofs.Names.{entry_runtime, is_working, no_tally, runtime_of, tally_of, Tally, known_of}
+use Rattle.rt_agreement.proofs.Names.{not_old, line-took, line-took_elsewhere, floor-stays, shares-created}
+use Rattle.rt_agreement.proofs.Names.{shares-created_elsewhere, shares-set, shares-set_elsewhere}
+use Rattle.rt_agreement.proofs.Names.{virtual_runtime-took_busy, virtual_runtime-took_elsewhere}
+use Rattle.rt_agreement.proofs.Names.{virtual_runtime-took_idle, started_of, final_count, queue_mode, IsAnswer}
+use Rattle.rt_agreement.proofs.Names.{created_count, has_effect, queue_created, refusal, delivered_names, if_from}
+use Rattle.rt_agreement.proofs.Names.{name_started, list_told, or_else, IsNextDelivered, shares, virtual_runtime}
+use Rattle.rt_agreement.proofs.Names.{has_work, queue_of, Answer, Mode, Reason, Agrees, IsJobOut, IsKept, names_of}
+use Rattle.rt_agreement.proofs.Names.{Bool, EachNote, JobId, Journal, List, MayStand, None, Note, Option, Order, Some}
+use Rattle.rt_agreement.proofs.Names.{Terms, [], ap, arith, cond, effect_awaited, false, false_from_ne_true, get_or}
+use Rattle.rt_agreement.proofs.Names.{get_or-set_same, inr, is_some, is_told, length, length-append, map-append}
+use Rattle.rt_agreement.proofs.Names.{queue_just_picked, refl, same_as_itself, same_name, set, subst, sym, true}
+use Rattle.rt_agreement.proofs.Names.{true≢false, with_last, ℕ, ◌++◌, ◌+◌, ◌<◌, ◌==◌, ◌∙◌, ◌∷◌, ◌≡◌, ◌≤◌}
+use Rattle.rt_agreement.proofs.Names.{InRange, ChangesLine, QueuesView, mode_of, line, queue_count, shares_of, waiting_of}
 use Rattle.rt_ids.specs.declared.note.Note.TheVariants as writes
-use Rattle.rt_journal.proofs.Kept.{marks_longer, figures-same, figures-stays, IsKept, turns-stays, working, kept_after}
-use Rattle.rt_journal.proofs.Kept.{closing-stays, agrees_unmoved, IsCalm, IsOpenNote, agrees_steady}
 use Rattle.rt_ids.specs.declared.order.Order.TheVariants as orders
 use Rattle.rt_ids.specs.declared.order.Answer.TheVariants as answers
+use Rattle.rt_agreement.proofs.Figures.{figures-same, figures-stays}
+use Rattle.rt_agreement.proofs.Kept.{IsCalm, IsOpenNote, agrees_steady, agrees_unmoved, closing-stays, kept_after}
+use Rattle.rt_agreement.proofs.Kept.{marks_longer, stands_behind, turns-stays, working}
 
 -- the next name from its sender is counted
 module _ {J T : Type 0} (terms : Terms) (old : CoreView J) (name : JobId) (journal : Journal T) (known : name.from ≤ old.cores) (next : IsNextDelivered terms name journal) (agrees : Agrees old journal) where
@@ -121,7 +122,7 @@ module _ {J T : Type 0} (terms : Terms) (old new : CoreView J) (name : JobId) (j
       MayStand terms note (writes.Answered name answer ∷ journal) → queue_just_picked (note ∷ writes.Answered name answer ∷ journal) ≡ None → effect_awaited (note ∷ writes.Answered name answer ∷ journal) ≡ None →
       IsKept terms core (note ∷ writes.Answered name answer ∷ journal)
   kept-effect order answer right note agrees stands no_pick no_answer =
-      assumption (plainly_stands terms (writes.Answered name answer) journal kept.is_core (next, (order, right)) kept.no_pick kept.no_answer refl tt)
+      assumption (stands_behind terms (writes.Answered name answer) kept kept.is_core (next, (order, right)) refl tt)
 
   pub kept-answered : (order : Order (Unit {0})) (answer : Answer) → IsAnswer order answer journal → has_effect answer ≡ false →
       IsKept terms new (writes.Answered name answer ∷ journal)

@@ -1,25 +1,25 @@
 -- What a core tells of itself stays what its journal says, as a pick takes a job out or hands it back; the pick is right, and its notes may stand.
-use Rattle.rt_journal.proofs.Names.{reason_if_returning, or_else, ◌≡◌, Bool, true, false, List, [], ◌∷◌, sym, ◌∙◌}
-use Rattle.rt_journal.proofs.Names.{subst, false_from_ne_true, true≢false, or_parts, All-cons, All-nil, All-head}
-use Rattle.rt_journal.proofs.Names.{All-tail, JobId, same_name, Journal, is_told, name_started, among, one_name}
-use Rattle.rt_journal.proofs.Names.{same_as_itself, is_told-start_elsewhere, AreMarked, Note, queue_joined}
-use Rattle.rt_journal.proofs.Names.{charge_noted, ℕ, ◌+◌, ◌<◌, length, refl, ap, arith, get_or_past, Some, None, max}
-use Rattle.rt_journal.proofs.Names.{same_Some, Terms, most_turns, KeyAtMost, queue_of, virtual_runtime, line}
-use Rattle.rt_journal.proofs.Names.{jobs_out, IsRightPick, turns, queue_just_picked, effect_awaited, MayStand}
-use Rattle.rt_journal.proofs.Names.{IsTurnOf, jobs_out-start, jobs_out-resume, known_of, Distinct, apart_of}
-use Rattle.rt_journal.proofs.Names.{line-turn, line-turn_elsewhere, virtual_runtime-stays, floor-stays}
-use Rattle.rt_journal.proofs.Names.{right_pick_of_lines, queue_count, waiting_of, no_queue, CoreView, JobOut}
-use Rattle.rt_journal.proofs.Names.{tally_of, runtime_of, IsJobOut, figures_of, figures_told, poll_note, set, Reason}
-use Rattle.rt_journal.proofs.Names.{Agrees, ⊎_elim, cases_lt, name_leaving, name_joining, with_last, QueuesView}
-use Rattle.rt_journal.proofs.Names.{ChangesLine, Tally, Figures, figures_in, cond, ◌==◌, none-some, Option, names_of}
-use Rattle.rt_journal.proofs.Names.{length-set, return_reason, names_but_for, IsNext, plainly_stands}
+use Rattle.rt_agreement.proofs.Names.{length-set, ⊎_elim, cases_lt, or_parts, get_or_past, All-cons, All-head}
+use Rattle.rt_agreement.proofs.Names.{All-nil, All-tail, none-some, same_Some, max, CoreView, JobOut, runtime_of}
+use Rattle.rt_agreement.proofs.Names.{tally_of, IsNext, Tally, jobs_out-resume, jobs_out-start, known_of, Distinct}
+use Rattle.rt_agreement.proofs.Names.{apart_of, line-turn, line-turn_elsewhere, among, floor-stays}
+use Rattle.rt_agreement.proofs.Names.{virtual_runtime-stays, is_told-start_elsewhere, right_pick_of_lines}
+use Rattle.rt_agreement.proofs.Names.{reason_if_returning, return_reason, name_started, or_else, KeyAtMost, IsTurnOf}
+use Rattle.rt_agreement.proofs.Names.{most_turns, jobs_out, name_joining, name_leaving, names_but_for, IsRightPick}
+use Rattle.rt_agreement.proofs.Names.{turns, charge_noted, virtual_runtime, queue_joined, queue_of, Reason, Agrees}
+use Rattle.rt_agreement.proofs.Names.{AreMarked, IsJobOut, IsKept, names_of, Figures, figures_in, figures_of}
+use Rattle.rt_agreement.proofs.Names.{figures_told, poll_note, Bool, JobId, Journal, List, MayStand, None, Note}
+use Rattle.rt_agreement.proofs.Names.{Option, Some, Terms, [], ap, arith, cond, effect_awaited, false}
+use Rattle.rt_agreement.proofs.Names.{false_from_ne_true, is_told, length, one_name, queue_just_picked, refl}
+use Rattle.rt_agreement.proofs.Names.{same_as_itself, same_name, set, subst, sym, true, true≢false, with_last, ℕ, ◌+◌}
+use Rattle.rt_agreement.proofs.Names.{◌<◌, ◌==◌, ◌∙◌, ◌∷◌, ◌≡◌, ChangesLine, QueuesView, no_queue}
+use Rattle.rt_agreement.proofs.Names.{line, queue_count, waiting_of}
 use Rattle.rt_ids.specs.declared.note.Note.TheVariants as writes
 use Rattle.rt_core.specs.Closing as core
 use Rattle.rt_ids.specs.declared.order.Reason.TheVariants as why
-use Rattle.rt_journal.proofs.Sums.{each_line, everywhere}
-use Rattle.rt_journal.proofs.Kept.{is_marked, set_runtime, figures-grow, one_pick, told-polled, IsPlain}
-use Rattle.rt_journal.proofs.Kept.{closing-stays, IsKept}
-use Rattle.rt_journal.proofs.Kept.{turns-stays, one_return, told-returned}
+use Rattle.rt_agreement.proofs.Places.{each_line, everywhere}
+use Rattle.rt_agreement.proofs.Figures.{figures-grow, one_pick, one_return, set_runtime, told-polled, told-returned}
+use Rattle.rt_agreement.proofs.Kept.{IsPlain, closing-stays, is_marked, stands_behind, turns-stays}
 
 -- a name that isn't among some is none of them
 pub other_way : (name other : JobId) → same_name name other ≡ false → same_name other name ≡ false
@@ -168,7 +168,7 @@ module _ {J T : Type 0} (terms : Terms) (old : CoreView J) (name : JobId) (queue
           closing = closing-stays turned turned note picked (λ queue. refl) refl refl refl follows.plain.opens
               (closing-stays old turned (writes.Pick queue runtime) journal front.line.same_modes refl refl refl (assumption) kept.agrees.closing);
         } in
-        let pick_stands = plainly_stands terms (writes.Pick queue runtime) journal kept.is_core (record { right = right_pick; turn_left = left }) kept.no_pick kept.no_answer refl tt in
+        let pick_stands = stands_behind terms (writes.Pick queue runtime) kept kept.is_core (record { right = right_pick; turn_left = left }) refl tt in
         assumption (agrees, stands, pick_stands, follows)
 
   abbrev its_out : Option (JobOut J)

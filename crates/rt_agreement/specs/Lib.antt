@@ -1,0 +1,4 @@
+pub mod Polls
+pub mod Figures
+pub mod Agreement
+pub mod Laws
