@@ -1,6 +1,6 @@
 //! Audits that are refused for want of memory, and made again. tests/memory/again lets each growth fail.
 
-use crate::rows::{FAULTS, SOUND};
+use crate::rows::SOUND;
 use rt_audit::{AuditError, Verdict, audit};
 use rt_ids::ActorNo;
 use rt_notes::Assembly;
