@@ -61,10 +61,9 @@ impl<J: Task> Model for RingIn<J> {
 }
 
 impl<J: Task> RingIn<J> {
-    /// Whether an order waits that wasn't taken. It is one load of a word, and neither end knows more by it.
-    ///
-    /// No clause says that the answer is right: who needs to know takes.
+    /// Whether an order waits that wasn't taken. No clause says that the answer is right: who needs to know takes.
     pub fn shows(&self) -> bool {
+        // step: peek. Neither end knows more by it.
         self.board.shared.peek(ACCEPT) != self.base + self.taken + self.gate
     }
 }

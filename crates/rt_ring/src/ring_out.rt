@@ -58,10 +58,9 @@ impl<J: Task> Model for RingOut<J> {
 }
 
 impl<J: Task> RingOut<J> {
-    /// Whether an outcome waits that wasn't collected. It is one load of a word, and neither end knows more by it.
-    ///
-    /// No clause says that the answer is right: who needs to know collects.
+    /// Whether an outcome waits that wasn't collected. No clause says that the answer is right: who needs to know collects.
     pub fn shows(&self) -> bool {
+        // step: peek. Neither end knows more by it.
         self.board.shared.peek(RETURN) != self.base + self.collected
     }
 }
