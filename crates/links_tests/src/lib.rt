@@ -12,4 +12,6 @@ mod plain;
 #[cfg(test)]
 mod ring;
 #[cfg(test)]
+mod shows;
+#[cfg(test)]
 mod threads;
