@@ -45,6 +45,28 @@ impl Polled for Countdown {
     }
 }
 
+/// Submits a box that yields so often. Whether it was accepted.
+fn submits(house: &mut House<AnyJob>, alloc: Global, yields: u32) -> Result<bool, AllocError> {
+    let work = Countdown {
+        yields,
+        ended: false,
+    };
+    let inside: Box<dyn Polled + Send> = Box::new(alloc, work)?;
+    let order = Order::Job(QueueNo(0), polled_job(inside));
+    Ok(house.submit(CoreNo(0), order).is_ok())
+}
+
+/// Closes the core of a house, and waits for its end. What the journals are then.
+fn ends<R: Threads + Wait>(rt: &R, house: House<AnyJob>) -> Option<Assembly> {
+    let mut house = house;
+    // Its core may have closed by itself, and shut its gates: then this is refused.
+    let _closed = house.close_core(CoreNo(0), Mode::Finish);
+    match house.finish(rt) {
+        Ok(assembly) => Some(assembly),
+        Err(_) => None,
+    }
+}
+
 /// Submits a box that yields so often, and closes its core. What the journals are then, and how often the gate was asked. None if no house
 /// was started, or the box was refused.
 fn run_box<R>(
@@ -61,20 +83,12 @@ where
     let Ok(mut house) = begin::<AnyJob, R>(rt, alloc, config, 1, &asked)? else {
         return Ok(None);
     };
-    let work = Countdown {
-        yields,
-        ended: false,
-    };
-    let inside: Box<dyn Polled + Send> = Box::new(alloc, work)?;
-    let sent = house.submit(CoreNo(0), Order::Job(QueueNo(0), polled_job(inside)));
-    if sent.is_err() {
+    if !submits(&mut house, alloc, yields)? {
         return Ok(None);
     }
-    // Its core may have closed by itself, and shut its gates: then this is refused.
-    let _closed = house.close_core(CoreNo(0), Mode::Finish);
-    match house.finish(&rt) {
-        Ok(assembly) => Ok(Some((assembly, asked.load(Ordering::SeqCst)))),
-        Err(_) => Ok(None),
+    match ends(&rt, house) {
+        Some(assembly) => Ok(Some((assembly, asked.load(Ordering::SeqCst)))),
+        None => Ok(None),
     }
 }
 
