@@ -77,7 +77,8 @@ fn open_rows<J: Task>(alloc: Global, cores: u8, cap: u16) -> Result<Vec<Ends<J>>
 
 /// Opens a link from each actor to each core, and deals their ends to the actors. The outside actor is the last one.
 ///
-/// The memory of these links is taken here; that their ends ask for none is said by no clause. At most `cap` submissions are outstanding on each.
+/// At most `cap` submissions are outstanding on each.
+/// The memory of these links is taken here; that their ends ask for none is said by no clause.
 ///
 /// # Errors
 ///

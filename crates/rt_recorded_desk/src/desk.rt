@@ -47,7 +47,8 @@ impl<J: Task<Out = u64>> Model for RecordedDesk<J> {
 }
 
 impl<J: Task<Out = u64>> RecordedDesk<J> {
-    /// Opens a journal of `room` notes for an actor, who may submit on links of this capacity to `cores` cores. The other calls ask for no memory; no clause says so.
+    /// Opens a journal of `room` notes for an actor, who may submit on links of this capacity to `cores` cores.
+    /// The other calls ask for no memory; no clause says so.
     pub fn open(
         alloc: Global,
         actor: ActorNo,

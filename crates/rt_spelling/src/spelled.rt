@@ -22,7 +22,8 @@ pub struct Writer {
     pub cap: u16,
 }
 
-/// Whether the journals have a text: as many cores and places as there may be, a journal for each actor, and each note one that its actor may write, within its ranges.
+/// Whether the journals have a text.
+/// They have as many cores and places as there may be, a journal for each actor, and each note is one that its actor may write, within its ranges.
 pub fn is_spelled(assembly: &Assembly) -> bool
     ensures { IsTrue result ↔ spec.IsSpelled assembly.now }
 {

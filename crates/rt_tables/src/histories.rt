@@ -95,7 +95,8 @@ fn is_collected(past: &Past, note: &Note<u64>) -> bool
     }
 }
 
-/// A fact for each note of a journal, and what its notes tell in all. Its memory is taken when it is made; the other calls ask for none, and no clause says so.
+/// A fact for each note of a journal, and what its notes tell in all.
+/// Its memory is taken when it is made; the other calls ask for none, and no clause says so.
 #[derive(Drop)]
 pub struct History {
     facts: Vec<Fact>,
