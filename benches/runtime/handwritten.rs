@@ -20,7 +20,7 @@ const GATE: u64 = 1 << 63;
 const PLACES: usize = 64;
 
 // After so many idle rounds a worker parks, as the runtime's do.
-const PATIENCE: u64 = 256;
+const PATIENCE: u64 = 1024;
 
 // A worker that never parks.
 const NEVER: u64 = u64::MAX;

@@ -32,7 +32,9 @@ pub struct SystemClock<R> {
 
 impl<R> SystemClock<R> {
     /// A clock that has not been read.
-    pub fn new(clock: R) -> Self {
+    pub fn new(clock: R) -> Self
+        ensures { result.last ≡ 0 }
+    {
         SystemClock { clock, last: 0 }
     }
 

@@ -17,7 +17,7 @@ use std::marker::Model;
 use std::sync::Wait;
 
 /// How many rounds in which nothing was done a worker makes before it parks.
-const TRIES: u32 = 256;
+const TRIES: u32 = 1024;
 
 /// How many turns a worker makes at most before it looks at its links again, if they had nothing.
 const MOST_TURNS: u32 = 16;
