@@ -58,7 +58,13 @@ pub(crate) const STARTS: [Row; 7] = [
 ];
 
 /// Journals that break the rule of the order of each sender.
-pub(crate) const ORDER: [Row; 10] = [
+pub(crate) const ORDER: [Row; 11] = [
+    (
+        0,
+        2,
+        "a command is answered twice",
+        "journal 1\ncores 1 cap 4\n0 answered 1>0#1 alreadyclosed\n0 answered 1>0#1 alreadyclosed\n1 sent 1>0#1 closecore finish\nend\n",
+    ),
     (
         0,
         7,
