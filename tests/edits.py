@@ -1,4 +1,5 @@
 """Tries the edits of crates/NAME/edits/, which the gate does not try: the prover must refuse each.
+Those that begin with a line 'tests: CRATE' are left to tests/tested-edits: a test must refuse them.
 
   tests/edits [--jobs N] [--gate] [--alone] [NAME..]
   tests/edits --look [NAME..]
@@ -7,7 +8,7 @@ NAME..    these crates alone; without a name every crate that has edits
 --jobs N  this many crates side by side (1 if left out; a check takes up to 4 GB)
 --gate    the edits of must-fail/ too, which the gate tries
 --alone   each edit in a check of its own, of the whole crate
---look    proves nothing: names each edit, of must-fail/ and tested-edits/ too, that can't be applied, in a second for all.
+--look    proves nothing: names each edit, of must-fail/ too, that can't be applied, in a second for all.
           The last line is 'N passed, M failed', and the status is 0 if each can be.
 
 Edits of one crate that change different functions are tried together: one check proves all the functions that they change, and
@@ -44,6 +45,7 @@ class Edit:
         self.path = path
         self.name = path.stem
         self.compiler = None
+        self.tests = None
         self.pairs = []
         self.functions = set()
         self.said = None
@@ -51,6 +53,8 @@ class Edit:
         for line in path.read_text().split("\n"):
             if line.startswith("file: "):
                 file = line[6:].strip()
+            elif line.startswith("tests: "):
+                self.tests = line[7:].strip()
             elif line.startswith("compiler: "):
                 self.compiler = line[10:].strip()
             elif line.startswith("old: "):
@@ -80,7 +84,7 @@ def edits_of(crate, *kinds):
 def look(crates):
     passed, failed = 0, 0
     for crate in crates:
-        for edit in edits_of(crate, "edits", "must-fail", "tested-edits"):
+        for edit in edits_of(crate, "edits", "must-fail"):
             why = edit.apply(ROOT / "crates" / crate, {})
             passed, failed = passed + (not why), failed + bool(why)
             if why:
@@ -154,7 +158,7 @@ class Copy:
     def __init__(self, crate, room):
         self.crate = crate
         self.top = room / crate
-        leave = shutil.ignore_patterns(".git", "out", "benches", "edits", "must-fail", "tested-edits")
+        leave = shutil.ignore_patterns(".git", "out", "benches", "edits", "must-fail")
         shutil.copytree(ROOT, self.top, ignore=leave)
         self.folder = self.top / "crates" / crate
 

@@ -3,23 +3,23 @@
 
 ghost use Rattle.std.specs.Prelude.{◌≡◌, ◌≢◌, true, Err, IfOk};
 ghost use Rattle.std.specs.declared.io.ErrorKind.TheVariants as kinds;
-ghost use Rattle.rt_command_line.specs.declared.asked.Unasked.TheVariants as unasked;
-ghost use Rattle.rt_command_line.specs.declared.asked.What.TheVariants as whats;
-ghost use Rattle.rt_report.specs.Faults.{status_of as audit_status};
-ghost use Rattle.rt_report.specs.declared.fault.AuditFault.TheVariants as audit_faults;
+ghost use Rattle.fairexec_args.specs.declared.asked.Unasked.TheVariants as unasked;
+ghost use Rattle.fairexec_args.specs.declared.asked.What.TheVariants as whats;
+ghost use Rattle.fairexec_report.specs.Faults.{status_of as audit_status};
+ghost use Rattle.fairexec_report.specs.declared.fault.AuditFault.TheVariants as audit_faults;
 ghost use Rattle.rt_text.specs.Statuses.{status_of};
-ghost use Rattle.rt_threads_script.specs.Faults.{status_of as threads_code};
-ghost use Rattle.rt_threads_script.specs.declared.fault.ThreadsFault.TheVariants as threads_faults;
+ghost use Rattle.fairexec_threads_script.specs.Faults.{status_of as threads_code};
+ghost use Rattle.fairexec_threads_script.specs.declared.fault.ThreadsFault.TheVariants as threads_faults;
 ghost use Rattle.rt_text.specs.declared.status.Status.TheVariants as status;
 ghost use Rattle.rt_text.specs.declared.fault.EngineFault.TheVariants as faults;
 
-use rt_command_line::{Unasked, What, parse};
-use rt_engine::run_script;
-use rt_report::fault::status_of;
-use rt_report::{AuditFault, audit_text};
+use fairexec_args::{Unasked, What, parse};
+use fairexec_report::fault::status_of;
+use fairexec_report::{AuditFault, audit_text};
+use fairexec_run::run_script;
+use fairexec_threads::threads_script;
+use fairexec_threads_script::{ThreadsFault, status_of as threads_status};
 use rt_text::{EngineFault, Status};
-use rt_threads::threads_script;
-use rt_threads_script::{ThreadsFault, status_of as threads_status};
 use std::io::ErrorKind;
 use std::process::ExitCode;
 use std::rt::{Env, Files};

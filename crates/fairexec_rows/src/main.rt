@@ -15,9 +15,9 @@ ghost use Rattle.std.specs.declared.io.ErrorKind.TheVariants.{OutOfMemory};
 ghost use Rattle.rt_text.specs.Faults.{fault_text};
 ghost use Rattle.rt_text.specs.Statuses.{code_of, status_of};
 
-use rt_engine::run_script;
-use rt_report::fault::status_of;
-use rt_report::{AuditFault, audit_text};
+use fairexec_report::fault::status_of;
+use fairexec_report::{AuditFault, audit_text};
+use fairexec_run::run_script;
 use rt_text::{EngineFault, Status};
 use std::alloc::Global;
 use std::process::ExitCode;

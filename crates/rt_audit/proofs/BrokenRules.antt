@@ -3,8 +3,8 @@ use Rattle.std.proofs.Common.{◌≡◌, ℕ, ◌+◌, ◌≤◌, inl, inr, zero
 use Rattle.rt_ids.specs.Assembly.{Assembly, journal_of}
 use Rattle.rt_ids.specs.Clauses.{StartsRight, RespectsCloses, OutcomesRight}
 use Rattle.rt_ids.specs.Sound.{IsSound, OrderIsSound, OutcomesAreSound}
-use Rattle.rt_tables.proofs.FirstFaults.{fault_breaks}
-use Rattle.rt_turns.proofs.PickLines.{pick_breaks}
+use Rattle.rt_journal_facts.proofs.FirstFaults.{fault_breaks}
+use Rattle.rt_audit_picks.proofs.PickLines.{pick_breaks}
 use Rattle.rt_audit.proofs.LinksOff.{order_broken}
 use Rattle.rt_audit.specs.Faults.{IsFirstPlace, IsPlaceOf, StartsFault, OrderFault, ClosesFault, OutcomesFault, PicksFault}
 use Rattle.rt_audit.specs.Places.{StartsOf, IsInOrder, ClosesOf, OutcomesOf, PicksOf}

@@ -3,9 +3,9 @@ use Rattle.std.proofs.Common.{◌≡◌, ℕ, ◌+◌, ◌<◌, ◌⊎◌, inl, 
 use Rattle.std.specs.Prelude.{Some, slice_get}
 use Rattle.std.proofs.lemmas.List.{length-append}
 use Rattle.rt_ids.specs.Assembly.{Assembly, journal_of}
-use Rattle.rt_tables.specs.declared.histories.History.{History}
-use Rattle.rt_tables.specs.Histories.{IsHistory}
-use Rattle.rt_tables.proofs.Walks.{slice_get-seam}
+use Rattle.rt_journal_facts.specs.declared.histories.History.{History}
+use Rattle.rt_journal_facts.specs.Histories.{IsHistory}
+use Rattle.rt_journal_facts.proofs.Walks.{slice_get-seam}
 use Rattle.rt_audit.specs.Histories.{AreHistories}
 
 -- one more history is that of the next actor

@@ -8,9 +8,9 @@ use Rattle.rt_ids.specs.declared.note.Note.{Note}
 use Rattle.rt_ids.specs.Assembly.{IsPrefix}
 use Rattle.rt_ids.proofs.Prefixes.{IsPrefix-along}
 use Rattle.rt_ids.specs.Journal.{Journal, EachNote, at_place}
-use Rattle.rt_prefixes.specs.Sides.{TurnsOff}
-use Rattle.rt_tables.specs.Faults.{IsFirstFault}
-use Rattle.rt_tables.proofs.FirstFaults.{each_before, fault_breaks}
+use Rattle.rt_audit_rules.specs.Sides.{TurnsOff}
+use Rattle.rt_journal_facts.specs.Faults.{IsFirstFault}
+use Rattle.rt_journal_facts.proofs.FirstFaults.{each_before, fault_breaks}
 use Rattle.rt_audit.specs.OrderFaults.{lesser, IsLeast}
 
 module _ (F G : ℕ → Type 0) where

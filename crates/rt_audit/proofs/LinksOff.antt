@@ -6,9 +6,9 @@ use Rattle.rt_ids.specs.Assembly.{Assembly, journal_of, names_of}
 use Rattle.rt_ids.specs.Clauses.{StandsInOrder}
 use Rattle.rt_ids.specs.Filters.{accepted_orders, delivered_names, name_delivered, given_outcomes, collected_outcomes}
 use Rattle.rt_ids.specs.Journal.{Journal}
-use Rattle.rt_prefixes.specs.Sides.{TurnsOff}
-use Rattle.rt_prefixes.proofs.ToldNames.{told_at_place, collected_at_place}
-use Rattle.rt_tables.proofs.FirstFaults.{fault_breaks}
+use Rattle.rt_audit_rules.specs.Sides.{TurnsOff}
+use Rattle.rt_audit_rules.proofs.ToldNames.{told_at_place, collected_at_place}
+use Rattle.rt_journal_facts.proofs.FirstFaults.{fault_breaks}
 use Rattle.rt_audit.specs.OrderFaults.{lesser, IsLeast, DeliveriesOff, CollectionsOff, LinksOff, OrderOff}
 use Rattle.rt_audit.specs.Places.{IsInOrder}
 use Rattle.rt_audit.proofs.LeastLines.{both_least, same_least, prefix_breaks}

@@ -4,8 +4,8 @@ use Rattle.std.specs.Prelude.{Option, Some, None, IfSome, is_some}
 use Rattle.std.proofs.lemmas.Bool.{true≢false}
 use Rattle.rt_ids.specs.declared.note.Note.{Note}
 use Rattle.rt_ids.specs.Journal.{Journal, EachNote}
-use Rattle.rt_tables.specs.Faults.{IsFirstFault}
-use Rattle.rt_tables.proofs.FirstFaults.{fault_breaks}
+use Rattle.rt_journal_facts.specs.Faults.{IsFirstFault}
+use Rattle.rt_journal_facts.proofs.FirstFaults.{fault_breaks}
 
 -- what is there isn't `None`
 pub some_none : {A : Type 0} (there : Option A) → is_some there ≡ true → there ≡ None → ⊥

@@ -6,10 +6,10 @@ use Rattle.rt_ids.specs.declared.note.Note.{Note}
 use Rattle.rt_ids.specs.Clauses.{PicksRight}
 use Rattle.rt_ids.specs.Journal.{Journal, EachNote, at_place}
 use Rattle.rt_ids.specs.Picks.{queue_just_picked}
-use Rattle.rt_tables.specs.Faults.{IsFirstFault}
-use Rattle.rt_tables.proofs.FirstFaults.{each_before}
-use Rattle.rt_turns.specs.PickFaults.{IsCutOff, IsUnfollowed, IsWrongNote, IsPickFault}
-use Rattle.rt_turns.specs.Picks.{Follows}
+use Rattle.rt_journal_facts.specs.Faults.{IsFirstFault}
+use Rattle.rt_journal_facts.proofs.FirstFaults.{each_before}
+use Rattle.rt_audit_picks.specs.PickFaults.{IsCutOff, IsUnfollowed, IsWrongNote, IsPickFault}
+use Rattle.rt_audit_picks.specs.Picks.{Follows}
 use Rattle.rt_audit.specs.Faults.{IsFirstPlace}
 use Rattle.rt_audit.proofs.LeastLines.{at_within, fault_behind, no_earlier}
 

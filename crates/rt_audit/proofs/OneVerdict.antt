@@ -2,8 +2,8 @@
 use Rattle.std.proofs.Common.{◌≡◌, ℕ, ◌+◌, ◌≤◌, inl, inr, zero, suc, refl, sym, ◌∙◌, subst, arith}
 use Rattle.rt_ids.specs.Assembly.{Assembly, journal_of}
 use Rattle.rt_ids.specs.Clauses.{StartsRight, RespectsCloses, OutcomesRight}
-use Rattle.rt_tables.proofs.FirstFaults.{fault_breaks}
-use Rattle.rt_turns.proofs.PickLines.{pick_breaks}
+use Rattle.rt_journal_facts.proofs.FirstFaults.{fault_breaks}
+use Rattle.rt_audit_picks.proofs.PickLines.{pick_breaks}
 use Rattle.rt_audit.specs.declared.judge.Verdict.{Verdict}
 use Rattle.rt_audit.specs.declared.judge.Verdict.TheVariants.{Sound, Fault}
 use Rattle.rt_audit.specs.Faults.{IsPlaceOf, StartsFault, OrderFault, ClosesFault, OutcomesFault, PicksFault}

@@ -2,8 +2,8 @@
 use Rattle.std.specs.Prelude.{◌≡◌, ℕ, ◌+◌, ◌<◌, ◌⊎◌, Some}
 use Rattle.rt_ids.specs.Assembly.{Assembly, journal_of}
 use Rattle.rt_ids.specs.Clauses.{StartsRight, RespectsCloses, OutcomesRight}
-use Rattle.rt_tables.specs.Faults.{IsFirstFault}
-use Rattle.rt_turns.specs.PickFaults.{IsPickFault}
+use Rattle.rt_journal_facts.specs.Faults.{IsFirstFault}
+use Rattle.rt_audit_picks.specs.PickFaults.{IsPickFault}
 use Rattle.rt_audit.specs.OrderFaults.{IsLeast, OrderOff}
 use Rattle.rt_audit.specs.Places.{StartsOf, IsInOrder, ClosesOf, LosesNothing, OutcomesOf, PicksOf}
 

@@ -1,8 +1,8 @@
 -- The histories of all journals.
 use Rattle.std.specs.Prelude.{◌≡◌, ℕ, Some, List, length, slice_get}
 use Rattle.rt_ids.specs.Assembly.{Assembly, journal_of}
-use Rattle.rt_tables.specs.declared.histories.History.{History}
-use Rattle.rt_tables.specs.Histories.{IsHistory}
+use Rattle.rt_journal_facts.specs.declared.histories.History.{History}
+use Rattle.rt_journal_facts.specs.Histories.{IsHistory}
 
 -- the histories, as many as said, are those of the first actors
 pub record AreHistories (histories : List History) (assembly : Assembly ℕ) (count : ℕ) : Type 0 where

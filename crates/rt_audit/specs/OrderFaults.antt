@@ -4,8 +4,8 @@ use Rattle.rt_ids.specs.Assembly.{Assembly, journal_of, names_of}
 use Rattle.rt_ids.specs.Clauses.{StandsInOrder}
 use Rattle.rt_ids.specs.Filters.{accepted_orders, delivered_names, given_outcomes, collected_outcomes}
 use Rattle.rt_ids.specs.Journal.{Journal}
-use Rattle.rt_prefixes.specs.Sides.{TurnsOff}
-use Rattle.rt_tables.specs.Faults.{IsFirstFault}
+use Rattle.rt_audit_rules.specs.Sides.{TurnsOff}
+use Rattle.rt_journal_facts.specs.Faults.{IsFirstFault}
 
 -- the lesser of two lines, as far as they are there
 abbrev pub lesser : Option ℕ → Option ℕ → Option ℕ

@@ -5,8 +5,8 @@ ghost use Rattle.rt_ids.specs.Limits.{most_cores};
 ghost use Rattle.rt_audit.specs.Histories.{AreHistories};
 
 use rt_ids::ActorNo;
-use rt_notes::Assembly;
-use rt_tables::History;
+use rt_journal_facts::History;
+use rt_journal_notes::Assembly;
 use std::alloc::{AllocError, Global};
 
 /// The history of each actor's journal.

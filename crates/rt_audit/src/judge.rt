@@ -7,15 +7,15 @@ ghost use Rattle.rt_ids.specs.Spelled.{IsSpelled};
 ghost use Rattle.rt_audit.specs.declared.judge.Verdict.TheVariants.{Sound, Fault};
 ghost use Rattle.rt_audit.specs.Histories.{AreHistories};
 ghost use Rattle.rt_audit.specs.Verdicts.{KeepsRulesBefore, IsFirstBroken, IsVerdict, rule_named};
-ghost use Rattle.rt_rules.specs.Links.{KnowsOrders, KnowsOutcomes};
+ghost use Rattle.rt_audit_rules.specs.Links.{KnowsOrders, KnowsOutcomes};
 
 use crate::histories::histories_of;
 use crate::places::{Place, closes_place, order_place, outcomes_place, picks_place, starts_place};
+use rt_audit_rules::links::{orders_sent, outcomes_given};
 use rt_ids::{ActorNo, Order, OutcomeNote};
-use rt_notes::Assembly;
-use rt_rules::links::{orders_sent, outcomes_given};
-use rt_spelling::is_spelled;
-use rt_tables::{History, NameTable};
+use rt_journal_facts::{History, NameTable};
+use rt_journal_notes::Assembly;
+use rt_journal_write::is_spelled;
 use std::alloc::{AllocError, Global};
 
 /// What an audit finds.

@@ -8,18 +8,17 @@ ghost use Rattle.rt_ids.specs.Journal.{Journal as Notes, EachNote};
 ghost use Rattle.rt_ids.specs.Limits.{most_cores};
 ghost use Rattle.rt_ids.specs.Sound.{AllEnded};
 ghost use Rattle.rt_ids.specs.Work.{number_if, has_work};
-ghost use Rattle.rt_accounts.specs.Accounts.{has_jobs, fresh_account};
-ghost use Rattle.rt_accounts.specs.AllAccounts.{KnowsAccounts};
+ghost use Rattle.rt_journal_facts.specs.Accounts.{has_jobs, fresh_account};
+ghost use Rattle.rt_journal_facts.specs.AllAccounts.{KnowsAccounts};
 ghost use Rattle.rt_ids.specs.declared.note.Note.{Note};
-ghost use Rattle.rt_rules.specs.Links.{KnowsOrders};
-ghost use Rattle.rt_tables.specs.Histories.{IsHistory};
+ghost use Rattle.rt_audit_rules.specs.Links.{KnowsOrders};
+ghost use Rattle.rt_journal_facts.specs.Histories.{IsHistory};
 ghost use Rattle.rt_audit.specs.Ends.{ended_by, EndedUnder, EndedIfSent};
 
-use rt_accounts::{Account, Accounts, queue_touched};
+use rt_audit_rules::links::order_under;
 use rt_ids::{ActorNo, CoreNo, JobId, Note, Order};
-use rt_notes::{Assembly, Journal};
-use rt_rules::links::order_under;
-use rt_tables::{History, NameTable, note_at};
+use rt_journal_facts::{Account, Accounts, History, NameTable, note_at, queue_touched};
+use rt_journal_notes::{Assembly, Journal};
 
 /// Whether the job has ended, or the command was answered.
 fn has_ended(history: &History, name: &JobId, order: &Order<()>) -> bool

@@ -5,24 +5,24 @@ ghost use Rattle.rt_ids.specs.Assembly.{journal_of};
 ghost use Rattle.rt_ids.specs.Limits.{most_cores};
 ghost use Rattle.rt_ids.specs.Sound.{StartsAreSound, OrderIsSound, ClosesAreSound, OutcomesAreSound, PicksAreSound};
 ghost use Rattle.rt_ids.specs.Spelled.{IsSpelled};
-ghost use Rattle.rt_tables.specs.Histories.{IsHistory};
+ghost use Rattle.rt_journal_facts.specs.Histories.{IsHistory};
 ghost use Rattle.rt_audit.specs.Faults.{IsFirstPlace, StartsFault, OrderFault, ClosesFault, OutcomesFault, PicksFault};
 ghost use Rattle.rt_audit.specs.Histories.{AreHistories};
 ghost use Rattle.rt_audit.specs.OrderFaults.{IsLeast, DeliveriesOff, CollectionsOff, LinksOff, lesser};
 ghost use Rattle.rt_audit.specs.Places.{StartsOf, DeliveriesOf, CollectionsOf, IsInOrder, ClosesOf, LosesNothing, OutcomesOf, PicksOf};
-ghost use Rattle.rt_rules.specs.Links.{KnowsOrders, KnowsOutcomes};
+ghost use Rattle.rt_audit_rules.specs.Links.{KnowsOrders, KnowsOutcomes};
 
 use crate::histories::history_of;
 use crate::lost::has_lost;
+use rt_audit_picks::picks_fault;
+use rt_audit_rules::closes::closes_fault;
+use rt_audit_rules::order::order_fault;
+use rt_audit_rules::outcomes::outcomes_fault;
+use rt_audit_rules::starts::starts_fault;
+use rt_audit_rules::{collections_fault, deliveries_fault};
 use rt_ids::{ActorNo, CoreNo, Order, OutcomeNote};
-use rt_notes::Assembly;
-use rt_prefixes::{collections_fault, deliveries_fault};
-use rt_rules::closes::closes_fault;
-use rt_rules::order::order_fault;
-use rt_rules::outcomes::outcomes_fault;
-use rt_rules::starts::starts_fault;
-use rt_tables::{History, NameTable};
-use rt_turns::picks_fault;
+use rt_journal_facts::{History, NameTable};
+use rt_journal_notes::Assembly;
 
 /// A line of an actor's journal, from 1, or 0 if no single note is at fault.
 #[derive(Clone, Copy)]

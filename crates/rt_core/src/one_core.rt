@@ -17,11 +17,11 @@ use crate::senders::Senders;
 use crate::tally::Tally;
 use crate::turn::{PickError, Settled, Turn};
 use arrayvec::ArrayVec;
+use rt_fixed::SealedVec;
 use rt_ids::{
     CoreNo, CoreStats, Envelope, JobId, MOST_QUEUES, Mode, Note, Order, QueueNo, QueueStats,
 };
 use rt_jobs::{Ran, Step, Task};
-use rt_sealed::SealedVec;
 use rt_shares::Shares;
 use rt_taskqueue::{CreateError, Queues};
 use rt_timeline::Timeline;

@@ -2,7 +2,7 @@
 ghost use Rattle.std.specs.Prelude.{◌≡◌, ◌↔◌, ◌<◌, IsTrue, IfOk, Some, None, length, replicate, slice_index_or, slice_set};
 ghost use Rattle.rt_core.specs.Senders.{is_awaited, AreThrough};
 
-use rt_sealed::SealedVec;
+use rt_fixed::SealedVec;
 use std::alloc::{AllocError, Allocator};
 use std::marker::Model;
 

@@ -15,11 +15,11 @@ use Rattle.rt_core.specs.declared.turn.Turn.TheVariants.{Back}
 use Rattle.rt_core.specs.declared.turn.PickError.TheVariants.{Spent}
 use Rattle.rt_core.specs.Closing.{return_reason}
 use Rattle.rt_core.specs.Closing as core_says
-use Rattle.rt_agreement.proofs.Places.{each_line}
+use Rattle.rt_journal.proofs.Places.{each_line}
 use Rattle.rt_journal.proofs.Sums.{sum_upto-at_most_one, sum_upto-same}
-use Rattle.rt_agreement.proofs.KeptPicks.{LeavesFront, first_in_line, kept-picked, kept-returned, picked_view}
-use Rattle.rt_agreement.proofs.KeptPicks.{reason_told, returned_view}
-use Rattle.rt_agreement.proofs.KeptPicks.{right_pick, start_told}
+use Rattle.rt_journal.proofs.KeptPicks.{LeavesFront, first_in_line, kept-picked, kept-returned, picked_view}
+use Rattle.rt_journal.proofs.KeptPicks.{reason_told, returned_view}
+use Rattle.rt_journal.proofs.KeptPicks.{right_pick, start_told}
 use Rattle.rt_journal.proofs.Received.{waiting_stays}
 use Rattle.rt_journal.proofs.EndsKept.{ungiven_if, not_given}
 use Rattle.rt_ids.specs.declared.note.OutcomeNote.TheVariants as outcomes

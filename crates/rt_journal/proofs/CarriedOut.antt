@@ -15,13 +15,13 @@ use Rattle.rt_ids.specs.declared.note.Note.TheVariants as writes
 use Rattle.rt_ids.specs.declared.order.Answer.TheVariants as answers
 pub use Rattle.rt_journal.specs.Ends.{KeepsLists}
 use Rattle.rt_ids.specs.declared.note.OutcomeNote.TheVariants as outcome
-use Rattle.rt_agreement.proofs.KeptDeliveries.{kept-took, kept-back, kept-answered, agrees-answered, kept-effect}
-use Rattle.rt_agreement.proofs.KeptDeliveries.{kept-created, kept-weighed, agrees-core_closed, agrees-queue_closed}
-use Rattle.rt_agreement.proofs.Places.{each_line}
+use Rattle.rt_journal.proofs.KeptDeliveries.{kept-took, kept-back, kept-answered, agrees-answered, kept-effect}
+use Rattle.rt_journal.proofs.KeptDeliveries.{kept-created, kept-weighed, agrees-core_closed, agrees-queue_closed}
+use Rattle.rt_journal.proofs.Places.{each_line}
 use Rattle.rt_journal.proofs.Sums.{sum_upto-at_most_one}
 use Rattle.rt_core.specs.Deliveries.{Delivers as CarriesOut}
 use Rattle.rt_core.specs.declared.delivery.Delivered.TheVariants.{Back, Answered}
-use Rattle.rt_agreement.proofs.Kept.{refusal-agrees}
+use Rattle.rt_journal.proofs.Kept.{refusal-agrees}
 
 -- a job that came is the one of this order
 abbrev pub IsOf : {J : Type 0} → JobId → Order J → ℕ → JobId × Bool × J → Type 0

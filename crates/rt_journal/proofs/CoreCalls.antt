@@ -9,10 +9,10 @@ use Rattle.rt_journal.proofs.Names.{length, reverse, ◌≢◌, IsSome, slice_se
 use Rattle.rt_journal.proofs.Names.{length-append, IsNextShut, final_count, or_else, gate_of, ShutsGate, Inward}
 use Rattle.rt_journal.proofs.Names.{SoundIn, Shuts, IsInOf, TellsShut, given_count, sum_upto, JobOut, CoreCreates}
 use Rattle.rt_ids.specs.declared.note.Note.TheVariants as writes
-use Rattle.rt_agreement.specs.Agreement.{IsKept}
-use Rattle.rt_agreement.proofs.Kept.{kept_after}
+use Rattle.rt_journal.specs.Agreement.{IsKept}
+use Rattle.rt_journal.proofs.Kept.{kept_after}
 use Rattle.rt_journal.proofs.CarriedOut.{HoldsSame}
-use Rattle.rt_agreement.proofs.KeptDeliveries.{agrees-created, agrees-core_closed, agrees-shut}
+use Rattle.rt_journal.proofs.KeptDeliveries.{agrees-created, agrees-core_closed, agrees-shut}
 use Rattle.rt_journal.proofs.Received.{task_stays, waiting_stays}
 use Rattle.rt_journal.proofs.QuietSteps.{nobody, IsQuiet, IsQuietStep, everyone, HasDone, nothing_did, done_so, stepped}
 use Rattle.rt_journal.proofs.Sums.{sum_upto-same}

@@ -3,7 +3,7 @@ use Rattle.rt_journal.proofs.Names.{ℕ, sym, ◌∙◌, ap, Some, false_from_ne
 use Rattle.rt_journal.proofs.Names.{RecordedView, terms_at, IsRecorded}
 use Rattle.rt_ids.specs.Closing as told
 use Rattle.rt_core.specs.Closing as core
-use Rattle.rt_agreement.proofs.Kept.{working}
+use Rattle.rt_journal.proofs.Kept.{working}
 
 module _ {J T : Type 0} {same : J → J → Type 0} {made : J → ℕ} {polls : Owed J T} (view : RecordedView J T) (recorded : IsRecorded same made polls view) where
   pub drained_told : core.IsDrained view.core → told.IsDrained view.core.cores view.journal.notes

@@ -5,17 +5,17 @@ pub use Rattle.std.proofs.lemmas.List.{length-map, length-reverse}
 pub use Rattle.std.proofs.lemmas.Option.{slice_get-map}
 pub use Rattle.std.specs.Option.{option_map}
 pub use Rattle.std.specs.Prelude.{All}
-pub use Rattle.rt_agreement.proofs.Names.{Agrees, All-append, All-cons, All-head, All-nil, All-tail, Answer}
-pub use Rattle.rt_agreement.proofs.Names.{AreMarked, ChangesLine, CoreView, Creates, HasClosed, InRange, IsAnswer}
-pub use Rattle.rt_agreement.proofs.Names.{IsJobOut, IsKept, IsNextDelivered, IsOpening, JobOut, KeyAtMost, Mode}
-pub use Rattle.rt_agreement.proofs.Names.{QueuesView, Reason, Weighs, add-zero, among, apart_of, cases_lt, core_mode}
-pub use Rattle.rt_agreement.proofs.Names.{counted, created_count, delivered_names, figures_of, final_count}
-pub use Rattle.rt_agreement.proofs.Names.{has_effect, has_work, if_from, jobs_out, known_of, le-leb, line, lt-leb}
-pub use Rattle.rt_agreement.proofs.Names.{mode_of, most_turns, name_settled, names_of, no_figures, none-some}
-pub use Rattle.rt_agreement.proofs.Names.{number_if, or_else, or_parts, pick_count, poll_note, queue_count}
-pub use Rattle.rt_agreement.proofs.Names.{queue_mode, refusal, runtime_of, same_Some, settled_view, shares, slice_set}
-pub use Rattle.rt_agreement.proofs.Names.{turns, waiting_of, ⊎_elim}
-pub use Rattle.rt_agreement.specs.Polls.{polls_made, settle_note}
+pub use Rattle.rt_journal.proofs.AgreementNames.{Agrees, All-append, All-cons, All-head, All-nil, All-tail, Answer}
+pub use Rattle.rt_journal.proofs.AgreementNames.{AreMarked, ChangesLine, CoreView, Creates, HasClosed, InRange, IsAnswer}
+pub use Rattle.rt_journal.proofs.AgreementNames.{IsJobOut, IsKept, IsNextDelivered, IsOpening, JobOut, KeyAtMost, Mode}
+pub use Rattle.rt_journal.proofs.AgreementNames.{QueuesView, Reason, Weighs, add-zero, among, apart_of, cases_lt, core_mode}
+pub use Rattle.rt_journal.proofs.AgreementNames.{counted, created_count, delivered_names, figures_of, final_count}
+pub use Rattle.rt_journal.proofs.AgreementNames.{has_effect, has_work, if_from, jobs_out, known_of, le-leb, line, lt-leb}
+pub use Rattle.rt_journal.proofs.AgreementNames.{mode_of, most_turns, name_settled, names_of, no_figures, none-some}
+pub use Rattle.rt_journal.proofs.AgreementNames.{number_if, or_else, or_parts, pick_count, poll_note, queue_count}
+pub use Rattle.rt_journal.proofs.AgreementNames.{queue_mode, refusal, runtime_of, same_Some, settled_view, shares, slice_set}
+pub use Rattle.rt_journal.proofs.AgreementNames.{turns, waiting_of, ⊎_elim}
+pub use Rattle.rt_journal.specs.Polls.{polls_made, settle_note}
 pub use Rattle.rt_core.proofs.AheadTaken.{ahead_picks}
 pub use Rattle.rt_core.proofs.Turned.{some_front}
 pub use Rattle.rt_core.specs.Answers.{IsTaskOut}
@@ -66,27 +66,27 @@ pub use Rattle.rt_journal.specs.Whole.{IsPostingTurn, MayAnswer, StaysPut, Turns
 pub use Rattle.rt_link.specs.Calls.{MayGive, SeesMore, Shuts, Takes, final_of}
 pub use Rattle.rt_link.specs.Ends.{AreNamed, Joined, SoundIn}
 pub use Rattle.rt_link.specs.declared.ends.Inward.{Inward}
-pub use Rattle.rt_recorded_desk.proofs.Names.{AreOutsOf, ArePosts, Bool, Call, Closed, CollectsFrom, DeskView}
-pub use Rattle.rt_recorded_desk.proofs.Names.{DetachesTicket, Does, Doing, EachNote, Err, Fits, Full, Gone, HasPosted}
-pub use Rattle.rt_recorded_desk.proofs.Names.{IfSome, IsOutOf, IsSome, IsSpelledOrder, IsWritten, JobId, Journal}
-pub use Rattle.rt_recorded_desk.proofs.Names.{KeepsOuts, KeepsSent, Lane, List, Makes, MayFollow, MayStand, MayWrite}
-pub use Rattle.rt_recorded_desk.proofs.Names.{NoCore, None, Note, Ok, Option, Order, Outcome, OutcomeNote, Outward}
-pub use Rattle.rt_recorded_desk.proofs.Names.{PostView, RedeemsTicket, Result, SendError, Some, Submits, Terms}
-pub use Rattle.rt_recorded_desk.proofs.Names.{TicketError, Unknown, [], accepted_orders, ap, arith, booked}
-pub use Rattle.rt_recorded_desk.proofs.Names.{collected_outcomes, cond, effect_awaited, eq-eqb, eqb_tells, false}
-pub use Rattle.rt_recorded_desk.proofs.Names.{false_from_ne_true, first_under, get_or, get_or-replicate, inl, inr}
-pub use Rattle.rt_recorded_desk.proofs.Names.{is_name, is_some, is_told, length, length-append, length-replicate}
-pub use Rattle.rt_recorded_desk.proofs.Names.{map-append, name_of, named_outcomes, ne_eqb, numbered_orders, one_name}
-pub use Rattle.rt_recorded_desk.proofs.Names.{opened_desk, outcome_note, outstanding_count, refl, reverse}
-pub use Rattle.rt_recorded_desk.proofs.Names.{same_as_itself, same_name, slice_get, slice_get_within, subst, suc, sym}
-pub use Rattle.rt_recorded_desk.proofs.Names.{take, terms_of_desk, true, true≢false, unwrap_or, with_last}
-pub use Rattle.rt_recorded_desk.proofs.Names.{without_job, zero, ℕ, ◌*◌, ◌++◌, ◌+◌, ◌-◌, ◌<◌, ◌==◌, ◌∙◌, ◌∷◌, ◌≡◌}
-pub use Rattle.rt_recorded_desk.proofs.Names.{◌≢◌, ◌≤◌, ◌⊎◌}
-pub use Rattle.rt_recorded_desk.proofs.OutEnds.{keeps_outs}
-pub use Rattle.rt_recorded_desk.proofs.Posting.{made_parts, posted_made, posted_rest}
-pub use Rattle.rt_recorded_desk.specs.Posts.{lends}
-pub use Rattle.rt_recorded_desk.specs.Submissions.{desk_with}
-pub use Rattle.rt_recorded_desk.specs.Tickets.{AreCollected}
+pub use Rattle.rt_journal_desk.proofs.Names.{AreOutsOf, ArePosts, Bool, Call, Closed, CollectsFrom, DeskView}
+pub use Rattle.rt_journal_desk.proofs.Names.{DetachesTicket, Does, Doing, EachNote, Err, Fits, Full, Gone, HasPosted}
+pub use Rattle.rt_journal_desk.proofs.Names.{IfSome, IsOutOf, IsSome, IsSpelledOrder, IsWritten, JobId, Journal}
+pub use Rattle.rt_journal_desk.proofs.Names.{KeepsOuts, KeepsSent, Lane, List, Makes, MayFollow, MayStand, MayWrite}
+pub use Rattle.rt_journal_desk.proofs.Names.{NoCore, None, Note, Ok, Option, Order, Outcome, OutcomeNote, Outward}
+pub use Rattle.rt_journal_desk.proofs.Names.{PostView, RedeemsTicket, Result, SendError, Some, Submits, Terms}
+pub use Rattle.rt_journal_desk.proofs.Names.{TicketError, Unknown, [], accepted_orders, ap, arith, booked}
+pub use Rattle.rt_journal_desk.proofs.Names.{collected_outcomes, cond, effect_awaited, eq-eqb, eqb_tells, false}
+pub use Rattle.rt_journal_desk.proofs.Names.{false_from_ne_true, first_under, get_or, get_or-replicate, inl, inr}
+pub use Rattle.rt_journal_desk.proofs.Names.{is_name, is_some, is_told, length, length-append, length-replicate}
+pub use Rattle.rt_journal_desk.proofs.Names.{map-append, name_of, named_outcomes, ne_eqb, numbered_orders, one_name}
+pub use Rattle.rt_journal_desk.proofs.Names.{opened_desk, outcome_note, outstanding_count, refl, reverse}
+pub use Rattle.rt_journal_desk.proofs.Names.{same_as_itself, same_name, slice_get, slice_get_within, subst, suc, sym}
+pub use Rattle.rt_journal_desk.proofs.Names.{take, terms_of_desk, true, true≢false, unwrap_or, with_last}
+pub use Rattle.rt_journal_desk.proofs.Names.{without_job, zero, ℕ, ◌*◌, ◌++◌, ◌+◌, ◌-◌, ◌<◌, ◌==◌, ◌∙◌, ◌∷◌, ◌≡◌}
+pub use Rattle.rt_journal_desk.proofs.Names.{◌≢◌, ◌≤◌, ◌⊎◌}
+pub use Rattle.rt_journal_desk.proofs.OutEnds.{keeps_outs}
+pub use Rattle.rt_journal_desk.proofs.Posting.{made_parts, posted_made, posted_rest}
+pub use Rattle.rt_journal_desk.specs.Posts.{lends}
+pub use Rattle.rt_journal_desk.specs.Submissions.{desk_with}
+pub use Rattle.rt_journal_desk.specs.Tickets.{AreCollected}
 pub use Rattle.rt_taskqueue.specs.Queues.{held_count}
 pub use Rattle.rt_taskqueue.specs.declared.queues.CreateError.{CreateError}
 pub use Rattle.rt_taskqueue.specs.declared.queues.CreateError.TheVariants.{Memory, TooMany}

@@ -12,7 +12,7 @@ use Rattle.rt_journal.proofs.Names.{HasTask, OwesAfter, sum_upto, delivered_coun
 use Rattle.rt_journal.proofs.Names.{told_under, outcome_delivered, OutcomeNote, outcome_note, IsNextIn, Receives}
 use Rattle.rt_journal.proofs.Names.{CoreDelivers}
 use Rattle.rt_ids.specs.declared.note.Note.TheVariants as writes
-use Rattle.rt_agreement.proofs.Places.{everywhere}
+use Rattle.rt_journal.proofs.Places.{everywhere}
 use Rattle.rt_journal.proofs.Sums.{sum_upto-one_more, sum_upto-room}
 use Rattle.rt_journal.proofs.CarriedOut.{IsCarriedOut, IsOf, carries_out}
 

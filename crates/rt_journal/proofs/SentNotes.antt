@@ -9,7 +9,7 @@ use Rattle.rt_journal.proofs.Names.{IsRecorded, desk_of, terms_at, given_count, 
 use Rattle.rt_journal.proofs.Names.{CollectsFrom, RedeemsTicket, DetachesTicket, Pending}
 use Rattle.rt_ids.specs.declared.note.Note.TheVariants as writes
 use Rattle.rt_ids.specs.declared.order.SendError.TheVariants.{Spent}
-use Rattle.rt_agreement.proofs.Kept.{IsOpenNote, closing-stays, agrees_unmoved, IsCalm}
+use Rattle.rt_journal.proofs.Kept.{IsOpenNote, closing-stays, agrees_unmoved, IsCalm}
 use Rattle.rt_journal.proofs.EndsKept.{keeps_in}
 use Rattle.rt_journal.proofs.Received.{task_stays}
 use Rattle.rt_journal.proofs.Sums.{sum_upto-same}

@@ -13,11 +13,11 @@ use Rattle.rt_journal.proofs.Names.{length-with_last_if, given_outcomes, IfSome,
 use Rattle.rt_journal.proofs.Names.{MayGive, Fits, order_taken, KeepsIn, LeavesOwed, Gives, IsOutUnder, OwesSettled}
 use Rattle.rt_journal.proofs.Names.{MayAnswer, QueuesView, none-some, Finished, CoreSettles, names_of}
 use Rattle.rt_jobs.specs.declared.job.Step.TheVariants as steps
-use Rattle.rt_agreement.proofs.Places.{each_line}
+use Rattle.rt_journal.proofs.Places.{each_line}
 use Rattle.rt_journal.proofs.Sums.{sum_upto-at_most_one}
-use Rattle.rt_agreement.specs.Agreement.{IsKept}
-use Rattle.rt_agreement.proofs.KeptPolls.{kept-yield, kept-done}
-use Rattle.rt_agreement.proofs.KeptPicks.{other_way}
+use Rattle.rt_journal.specs.Agreement.{IsKept}
+use Rattle.rt_journal.proofs.KeptPolls.{kept-yield, kept-done}
+use Rattle.rt_journal.proofs.KeptPicks.{other_way}
 use Rattle.rt_ids.specs.declared.note.OutcomeNote.TheVariants as outcomes
 use Rattle.rt_journal.proofs.EndsKept.{ungiven_if, not_given}
 use Rattle.rt_journal.proofs.Received.{task_stays}

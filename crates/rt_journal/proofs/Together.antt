@@ -11,7 +11,7 @@ use Rattle.rt_journal.proofs.Names.{order_taken, IsOutOf, IsInOf, name_of, named
 use Rattle.rt_journal.proofs.Names.{suc, zero, ◌++◌, ◌-◌, if_from, with_last, IsNextDelivered, MayFollow}
 use Rattle.rt_ids.specs.declared.note.Note.TheVariants as writes
 use Rattle.rt_ids.specs.Assembly.{names_of}
-use Rattle.rt_recorded_desk.proofs.NumberedOrders.{length-numbered, first_under-numbered}
+use Rattle.rt_journal_desk.proofs.NumberedOrders.{length-numbered, first_under-numbered}
 use Rattle.rt_ids.proofs.Prefixes.{IsPrefix-along, IsPrefix-take}
 use Rattle.rt_link.proofs.Lists.{slice_get-seen}
 use Rattle.rt_journal.proofs.Received.{as_sent-stays}

@@ -10,7 +10,7 @@ use Rattle.rt_ids.specs.Closing.{final_count}
 use Rattle.rt_link.specs.declared.ends.Inward.{Inward}
 use Rattle.rt_link.specs.Calls.{final_of}
 pub use Rattle.rt_journal.specs.Lists.{KeepsLists, GivesMore, told_under}
-use Rattle.rt_recorded_desk.specs.Ends.{name_of, named_outcomes}
+use Rattle.rt_journal_desk.specs.Ends.{name_of, named_outcomes}
 use Rattle.rt_journal.specs.Recorded.{RecordedView, order_taken}
 
 module _ {J T : Type 0} where

@@ -5,7 +5,7 @@ use Rattle.rt_ids.specs.declared.note.OutcomeNote.{OutcomeNote}
 use Rattle.rt_ids.specs.Journal.{Journal, with_last}
 use Rattle.rt_ids.specs.Filters.{if_from, given_outcomes}
 use Rattle.rt_ids.specs.Closing.{final_count}
-use Rattle.rt_recorded_desk.specs.Ends.{KeepsSent}
+use Rattle.rt_journal_desk.specs.Ends.{KeepsSent}
 
 -- the lists that a journal tells of its links, except what was delivered and given, stay as they were; no gate is shut
 pub record KeepsLists {T : Type 0} (old new : Journal T) : Type 0 where

@@ -14,12 +14,12 @@ use Rattle.rt_jobs.specs.Calls.{Call}
 use Rattle.rt_jobs.specs.Steps.{Owed}
 use Rattle.rt_taskqueue.specs.Queues.{waiting_of}
 use Rattle.rt_core.specs.State.{CoreView, JobOut, inside_count}
-use Rattle.rt_notes.specs.Journals.{JournalView}
+use Rattle.rt_journal_notes.specs.Journals.{JournalView}
 use Rattle.rt_desk.specs.Lanes.{Lane}
 use Rattle.rt_ids.specs.Orders.{without_job}
-use Rattle.rt_agreement.specs.Polls.{polls_made}
-use Rattle.rt_agreement.specs.Agreement.{IsKept}
-use Rattle.rt_recorded_desk.specs.Submissions.{DeskView}
+use Rattle.rt_journal.specs.Polls.{polls_made}
+use Rattle.rt_journal.specs.Agreement.{IsKept}
+use Rattle.rt_journal_desk.specs.Submissions.{DeskView}
 use Rattle.rt_ids.specs.Joining.{DeliversAs}
 
 -- the capacity of each link, the core, its journal, the orders that were delivered to it, the oldest first, and what is known of its own submissions to each core

@@ -9,7 +9,7 @@ use Rattle.rt_jobs.specs.Steps.{AfterPoll, Owed, IfDone, OnYield, OwesOn}
 use Rattle.rt_core.specs.State.{JobOut}
 use Rattle.rt_core.specs.declared.turn.Settled.{Settled}
 use Rattle.rt_core.specs.declared.turn.Settled.TheVariants.{Yielded, Finished}
-use Rattle.rt_agreement.specs.Polls.{polls_made, settle_note}
+use Rattle.rt_journal.specs.Polls.{polls_made, settle_note}
 use Rattle.rt_journal.specs.Recorded.{RecordedView, order_taken}
 use Rattle.rt_journal.specs.Steps.{with_notes}
 

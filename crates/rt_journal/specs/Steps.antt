@@ -15,7 +15,7 @@ use Rattle.rt_taskqueue.specs.declared.queues.CreateError.TheVariants.{TooMany, 
 use Rattle.rt_core.specs.State.{opened}
 use Rattle.rt_link.specs.declared.ends.Inward.{Inward}
 use Rattle.rt_link.specs.Calls.{Takes}
-use Rattle.rt_notes.specs.Journals.{JournalView}
+use Rattle.rt_journal_notes.specs.Journals.{JournalView}
 use Rattle.rt_desk.specs.Lanes.{fresh_lane}
 use Rattle.rt_journal.specs.Deliveries.{IsDelivery}
 use Rattle.rt_journal.specs.Recorded.{RecordedView, delivered_count, given_count}

@@ -6,9 +6,9 @@ use Rattle.rt_jobs.specs.Steps.{Owed}
 use Rattle.rt_link.specs.declared.ends.Outward.{Outward}
 use Rattle.rt_link.specs.declared.ends.Inward.{Inward}
 use Rattle.rt_link.specs.Ends.{Joined}
-use Rattle.rt_recorded_desk.specs.Submissions.{DeskView, IsWritten, terms_of_desk}
+use Rattle.rt_journal_desk.specs.Submissions.{DeskView, IsWritten, terms_of_desk}
 use Rattle.rt_journal.specs.Recorded.{RecordedView, IsRecorded, desk_of}
-use Rattle.rt_recorded_desk.specs.Ends.{IsOutOf}
+use Rattle.rt_journal_desk.specs.Ends.{IsOutOf}
 use Rattle.rt_journal.specs.Ends.{IsInOf}
 
 module _ {J T : Type 0} (same : J → J → Type 0) (made : J → ℕ) (polls : Owed J T) where

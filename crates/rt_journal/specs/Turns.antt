@@ -15,7 +15,7 @@ use Rattle.rt_core.specs.declared.turn.Turn.{Turn}
 use Rattle.rt_core.specs.declared.turn.Turn.TheVariants.{Start, Resume, Back, Idle}
 use Rattle.rt_core.specs.declared.turn.PickError.{PickError}
 use Rattle.rt_core.specs.declared.turn.PickError.TheVariants.{Busy, Spent}
-use Rattle.rt_agreement.specs.Polls.{poll_note}
+use Rattle.rt_journal.specs.Polls.{poll_note}
 use Rattle.rt_journal.specs.Recorded.{RecordedView, order_taken}
 use Rattle.rt_journal.specs.Steps.{with_notes}
 pub use Rattle.rt_journal.specs.Settling.{IsOut, IsOutUnder, IsPolled, TellsStep, Settles}

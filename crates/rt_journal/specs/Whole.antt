@@ -14,10 +14,10 @@ use Rattle.rt_link.specs.declared.ends.Outward.{Outward}
 use Rattle.rt_ids.specs.declared.order.Envelope.{Envelope}
 use Rattle.rt_journal.specs.Recorded.{RecordedView, IsRecorded, desk_of, order_taken}
 use Rattle.rt_journal.specs.Ends.{KeepsIn, LeavesOwed, IsSameSeat, told_under}
-use Rattle.rt_recorded_desk.specs.Ends.{KeepsOuts}
+use Rattle.rt_journal_desk.specs.Ends.{KeepsOuts}
 use Rattle.rt_journal.specs.Owed.{OwesSettled, outcome_settled}
-use Rattle.rt_recorded_desk.specs.Posts.{PostView, AreOutsOf, HasPosted}
-use Rattle.rt_recorded_desk.specs.Calls.{Does}
+use Rattle.rt_journal_desk.specs.Posts.{PostView, AreOutsOf, HasPosted}
+use Rattle.rt_journal_desk.specs.Calls.{Does}
 use Rattle.rt_journal.specs.Turns.{IsPick, IsPolled, Settles}
 
 -- the desk of a core, and its ends

@@ -4,7 +4,9 @@
 mod given;
 pub mod laws;
 pub mod recorded;
+pub mod stats;
 
 pub use recorded::Recorded;
-pub use rt_notes::{Assembly, Journal};
-pub use rt_recorded_desk::{RecordedDesk, RecordedPost, desk, post};
+pub use rt_journal_desk::{RecordedDesk, RecordedPost, desk, post};
+pub use rt_journal_notes::{Assembly, Journal};
+pub use stats::told_stats;

@@ -12,16 +12,16 @@ use Rattle.rt_ids.specs.declared.order.SendError.{SendError}
 use Rattle.rt_ids.specs.declared.order.SendError.TheVariants.{Closed, Full, Spent, NoCore}
 use Rattle.rt_ids.specs.Journal.{Journal}
 use Rattle.rt_ids.specs.Outstanding.{outstanding_count}
-use Rattle.rt_notes.specs.Journals.{free_notes}
+use Rattle.rt_journal_notes.specs.Journals.{free_notes}
 use Rattle.rt_desk.specs.Held.{at, count_of}
 use Rattle.rt_desk.specs.Lanes.{Lane, IsLaneOf}
 use Rattle.rt_desk.specs.declared.entry.Entry.{Entry}
-use Rattle.rt_recorded_desk.specs.Submissions.{DeskView, Submits}
-use Rattle.rt_recorded_desk.specs.Spending.{HoldsSome, Spends, booked, due_of}
-use Rattle.rt_recorded_desk.specs.Tickets.{DetachesTicket, HasLane, RedeemsTicket}
-use Rattle.rt_recorded_desk.proofs.Spending.{all_three}
+use Rattle.rt_journal_desk.specs.Submissions.{DeskView, Submits}
+use Rattle.rt_journal_desk.specs.Spending.{HoldsSome, Spends, booked, due_of}
+use Rattle.rt_journal_desk.specs.Tickets.{DetachesTicket, HasLane, RedeemsTicket}
+use Rattle.rt_journal_desk.proofs.Spending.{all_three}
 use Rattle.rt_ring.proofs.SeatViews.{true-not_false}
-use Rattle.rt_grid.specs.Ends.{out_at}
+use Rattle.rt_ring_mesh.specs.Ends.{out_at}
 use Rattle.rt_runtime.specs.State.{RuntimeView, IsRuntime}
 use Rattle.rt_runtime.specs.Sends.{outstanding_upto, room_left}
 

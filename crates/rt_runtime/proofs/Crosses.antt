@@ -12,14 +12,14 @@ use Rattle.std.below.core.specs.contracts.clone.Clone+copy.TheImpl.{ghosts as co
 use Rattle.rt_timeline.proofs.tree.Tree.TheLaws.TheKnot as tree
 use Rattle.rt_desk.proofs.trie.Trie.TheLaws.TheKnot as trie
 use Rattle.rt_desk.specs.contracts.lane.Lane.{the_row as lane}
-use Rattle.rt_notes.proofs.journal.Journal.TheSendSync as journal
-use Rattle.rt_grid.proofs.ends.Ends.TheSendSync as ends
+use Rattle.rt_journal_notes.proofs.journal.Journal.TheSendSync as journal
+use Rattle.rt_ring_mesh.proofs.ends.Ends.TheSendSync as ends
 use Rattle.rt_core.specs.contracts.one_core.Core.{the_row as core}
-use Rattle.rt_recorded_desk.specs.contracts.desk.RecordedDesk.{the_row as desk}
+use Rattle.rt_journal_desk.specs.contracts.desk.RecordedDesk.{the_row as desk}
 use Rattle.rt_journal.specs.contracts.recorded.Recorded.{the_row as recorded}
-use Rattle.rt_worker.specs.contracts.linked.Linked.{the_row as linked}
-use Rattle.rt_worker.specs.contracts.ended.Ended.{the_row as ended}
-use Rattle.rt_worker.specs.contracts.worker.Worker.{the_row as worker}
+use Rattle.rt_runtime_worker.specs.contracts.linked.Linked.{the_row as linked}
+use Rattle.rt_runtime_worker.specs.contracts.ended.Ended.{the_row as ended}
+use Rattle.rt_runtime_worker.specs.contracts.worker.Worker.{the_row as worker}
 
 module _ (T : RattleType) (t : Ghosts (param 0 T).Denot ℕ) (j : IsSend (param 0 T)) where
   core_send : IsSend (core (param 0 T) global u64-field.row t its_alloc (copied global))

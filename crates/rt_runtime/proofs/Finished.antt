@@ -9,21 +9,21 @@ use Rattle.rt_ids.specs.Assembly.{Assembly, journal_of}
 use Rattle.rt_ids.specs.Journal.{Journal, EachNote}
 use Rattle.rt_ids.specs.Joining.{JoiningIsSound, JoinedAreSpelled}
 use Rattle.rt_jobs.specs.Steps.{Owed}
-use Rattle.rt_notes.specs.Journals.{JournalView}
+use Rattle.rt_journal_notes.specs.Journals.{JournalView}
 use Rattle.rt_journal.specs.Recorded.{terms_at, desk_of}
 use Rattle.rt_journal.specs.Together.{IsAssemblyOf}
-use Rattle.rt_grid.specs.Ends.{EndsView}
-use Rattle.rt_grid.specs.Grid.{IsGrid, AreSameEnds, AreReunited, ends_at, no_ends}
-use Rattle.rt_grid.specs.Laws.{GridIsKept}
-use Rattle.rt_grid.proofs.Using.{ends_same}
-use Rattle.rt_workers.specs.Works.{Together}
-use Rattle.rt_workers.proofs.Lists.{together_length}
-use Rattle.rt_worker.specs.Linked.{LinkedView, StaysLinked}
-use Rattle.rt_worker.specs.Ended.{HasEnded}
-use Rattle.rt_worker.specs.Queues.{opening_of}
-use Rattle.rt_worker.specs.Rooms.{MayAct, least_free}
-use Rattle.rt_worker.specs.Together.{HaveEnded, EndedAreJoined, no_linked, worker_at, desk_among, all_ends}
-use Rattle.rt_worker.proofs.Ending.{before_last, at_last}
+use Rattle.rt_ring_mesh.specs.Ends.{EndsView}
+use Rattle.rt_ring_mesh.specs.Grid.{IsGrid, AreSameEnds, AreReunited, ends_at, no_ends}
+use Rattle.rt_ring_mesh.specs.Laws.{GridIsKept}
+use Rattle.rt_ring_mesh.proofs.Using.{ends_same}
+use Rattle.rt_runtime_team.specs.Works.{Together}
+use Rattle.rt_runtime_team.proofs.Lists.{together_length}
+use Rattle.rt_runtime_worker.specs.Linked.{LinkedView, StaysLinked}
+use Rattle.rt_runtime_worker.specs.Ended.{HasEnded}
+use Rattle.rt_runtime_worker.specs.Queues.{opening_of}
+use Rattle.rt_runtime_worker.specs.Rooms.{MayAct, least_free}
+use Rattle.rt_runtime_worker.specs.Together.{HaveEnded, EndedAreJoined, no_linked, worker_at, desk_among, all_ends}
+use Rattle.rt_runtime_worker.proofs.Ending.{before_last, at_last}
 use Rattle.rt_runtime.specs.State.{RuntimeView, IsRuntime, outside_of, closing_at}
 use Rattle.rt_runtime.specs.Calls.{HasFinished, IsFirstOpen}
 use Rattle.rt_runtime.specs.Finishing.{IsFirstOpenOf, Parts}

@@ -13,19 +13,19 @@ use Rattle.rt_ids.proofs.NameLemmas.{one_name}
 use Rattle.rt_jobs.specs.Steps.{Owed}
 use Rattle.rt_link.specs.Ends.{AreOf}
 use Rattle.rt_ring.proofs.Fronts.{slice_get-there}
-use Rattle.rt_recorded_desk.specs.Ends.{name_of, named_outcomes}
-use Rattle.rt_recorded_desk.specs.Orders.{numbered_orders}
-use Rattle.rt_recorded_desk.proofs.NumberedOrders.{first_under-numbered}
+use Rattle.rt_journal_desk.specs.Ends.{name_of, named_outcomes}
+use Rattle.rt_journal_desk.specs.Orders.{numbered_orders}
+use Rattle.rt_journal_desk.proofs.NumberedOrders.{first_under-numbered}
 use Rattle.rt_journal.specs.Together.{IsAssemblyOf}
 use Rattle.rt_ids.proofs.Prefixes.{IsPrefix-take}
 use Rattle.rt_link.proofs.Lists.{slice_get-seen}
 use Rattle.rt_ring.specs.declared.ring_out.Sending.{Sending}
 use Rattle.rt_ring.specs.declared.ring_in.Receiving.{Receiving}
-use Rattle.rt_grid.specs.Ends.{in_at, out_at}
-use Rattle.rt_grid.specs.Grid.{ends_at, no_ends}
-use Rattle.rt_worker.specs.Linked.{LinkedView}
-use Rattle.rt_worker.specs.Together.{HaveEnded, all_ends, desk_among, no_linked}
-use Rattle.rt_worker.proofs.Ending.{at_last, ended_together}
+use Rattle.rt_ring_mesh.specs.Ends.{in_at, out_at}
+use Rattle.rt_ring_mesh.specs.Grid.{ends_at, no_ends}
+use Rattle.rt_runtime_worker.specs.Linked.{LinkedView}
+use Rattle.rt_runtime_worker.specs.Together.{HaveEnded, all_ends, desk_among, no_linked}
+use Rattle.rt_runtime_worker.proofs.Ending.{at_last, ended_together}
 use Rattle.rt_runtime.specs.Outcomes.{AllFitTheirOrders, FitsItsOrder}
 use Rattle.rt_runtime.specs.State.{RuntimeView, outside_of}
 

@@ -3,14 +3,14 @@ use Rattle.std.proofs.Common.{◌≡◌, ℕ, ◌+◌, ◌<◌, ◌≤◌, List,
 use Rattle.std.specs.Prelude.{All}
 use Rattle.std.proofs.lemmas.List.{append-nil, length-map, map-append, get_or_append_left}
 use Rattle.std.proofs.lemmas.Bool.{cases_lt}
-use Rattle.rt_grid.proofs.Parts.{at_end}
+use Rattle.rt_ring_mesh.proofs.Parts.{at_end}
 use Rattle.rt_ids.specs.declared.order.Order.{Order}
 use Rattle.rt_ids.specs.declared.order.Outcome.{Outcome}
 use Rattle.rt_jobs.specs.Steps.{Owed}
-use Rattle.rt_notes.specs.Journals.{JournalView}
-use Rattle.rt_grid.specs.Ends.{EndsView}
-use Rattle.rt_worker.specs.Linked.{LinkedView}
-use Rattle.rt_worker.specs.Ended.{HasEnded}
+use Rattle.rt_journal_notes.specs.Journals.{JournalView}
+use Rattle.rt_ring_mesh.specs.Ends.{EndsView}
+use Rattle.rt_runtime_worker.specs.Linked.{LinkedView}
+use Rattle.rt_runtime_worker.specs.Ended.{HasEnded}
 use Rattle.rt_runtime.specs.Finishing.{Parts}
 
 all_more : {A : Type 0} (P : A → Type 0) (xs : List A) (x : A) → All P xs → P x → All P (xs ++ x ∷ [])

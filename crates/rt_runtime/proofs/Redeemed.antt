@@ -10,9 +10,9 @@ use Rattle.rt_ring.specs.declared.ring_out.Sending.{Sending}
 use Rattle.rt_ring.proofs.Fronts.{slice_get-there}
 use Rattle.rt_desk.specs.Lanes.{FitsSent, IsGot}
 use Rattle.rt_desk.proofs.Taken.{taken-get}
-use Rattle.rt_recorded_desk.specs.Submissions.{DeskView}
-use Rattle.rt_recorded_desk.specs.Tickets.{DetachesTicket, RedeemsTicket, StaysBeside}
-use Rattle.rt_grid.specs.Ends.{EndsView, out_at}
+use Rattle.rt_journal_desk.specs.Submissions.{DeskView}
+use Rattle.rt_journal_desk.specs.Tickets.{DetachesTicket, RedeemsTicket, StaysBeside}
+use Rattle.rt_ring_mesh.specs.Ends.{EndsView, out_at}
 use Rattle.rt_runtime.specs.State.{RuntimeView, IsRuntime, submitted}
 use Rattle.rt_runtime.specs.Tickets.{DetachesHere, FitsSubmitted, RedeemsHere}
 use Rattle.rt_runtime.proofs.Sent.{nothing_on}

@@ -13,18 +13,18 @@ use Rattle.rt_ids.specs.declared.order.SendError.{SendError}
 use Rattle.rt_ids.specs.declared.order.SendError.TheVariants.{Closed, Full, Spent, NoCore}
 use Rattle.rt_link.specs.declared.ends.Outward.{Outward}
 use Rattle.rt_link.specs.Calls.{Sends}
-use Rattle.rt_recorded_desk.specs.Submissions.{DeskView, numbered}
-use Rattle.rt_recorded_desk.specs.Ends.{IsOutOf}
-use Rattle.rt_recorded_desk.specs.Spending.{booked}
-use Rattle.rt_recorded_desk.specs.Tickets.{GetsAll, HasLane, StaysBeside}
-use Rattle.rt_grid.specs.Ends.{EndsView, SameEnds, out_at, no_out}
-use Rattle.rt_grid.specs.Grid.{IsGrid, AreSameEnds, no_ends}
-use Rattle.rt_grid.proofs.Using.{out_used, ends_same}
-use Rattle.rt_grid.proofs.Keeping.{grid_kept}
-use Rattle.rt_worker.specs.Linked.{LinkedView}
-use Rattle.rt_worker.specs.Opening.{IsWorkerOf}
-use Rattle.rt_worker.specs.Together.{no_linked, worker_at}
-use Rattle.rt_worker.proofs.Ending.{before_last, at_last}
+use Rattle.rt_journal_desk.specs.Submissions.{DeskView, numbered}
+use Rattle.rt_journal_desk.specs.Ends.{IsOutOf}
+use Rattle.rt_journal_desk.specs.Spending.{booked}
+use Rattle.rt_journal_desk.specs.Tickets.{GetsAll, HasLane, StaysBeside}
+use Rattle.rt_ring_mesh.specs.Ends.{EndsView, SameEnds, out_at, no_out}
+use Rattle.rt_ring_mesh.specs.Grid.{IsGrid, AreSameEnds, no_ends}
+use Rattle.rt_ring_mesh.proofs.Using.{out_used, ends_same}
+use Rattle.rt_ring_mesh.proofs.Keeping.{grid_kept}
+use Rattle.rt_runtime_worker.specs.Linked.{LinkedView}
+use Rattle.rt_runtime_worker.specs.Opening.{IsWorkerOf}
+use Rattle.rt_runtime_worker.specs.Together.{no_linked, worker_at}
+use Rattle.rt_runtime_worker.proofs.Ending.{before_last, at_last}
 use Rattle.rt_ids.specs.Journal.{Journal}
 use Rattle.rt_ids.specs.Outstanding.{outstanding_count}
 use Rattle.rt_runtime.specs.Sends.{accepted, outstanding_upto}

@@ -6,27 +6,27 @@ use Rattle.std.proofs.lemmas.List.{get_or_append_left, get_or_default, length-re
 use Rattle.std.proofs.Math.Seq.{get_or-append_seam}
 use Rattle.rt_ids.specs.Spelled.{IsWithinLimits}
 use Rattle.rt_link.specs.Whole.{fresh, out_of}
-use Rattle.rt_settings.specs.Configs.{Entry, IsGood}
-use Rattle.rt_workers.specs.Works.{Together}
-use Rattle.rt_workers.proofs.Lists.{together_length}
-use Rattle.rt_recorded_desk.specs.Submissions.{DeskView, IsWritten, opened_desk, terms_of_desk}
-use Rattle.rt_recorded_desk.specs.Ends.{IsOutOf}
+use Rattle.rt_runtime_config.specs.Configs.{Entry, IsGood}
+use Rattle.rt_runtime_team.specs.Works.{Together}
+use Rattle.rt_runtime_team.proofs.Lists.{together_length}
+use Rattle.rt_journal_desk.specs.Submissions.{DeskView, IsWritten, opened_desk, terms_of_desk}
+use Rattle.rt_journal_desk.specs.Ends.{IsOutOf}
 use Rattle.rt_ids.specs.declared.order.Order.{Order}
 use Rattle.rt_ids.specs.declared.order.Outcome.{Outcome}
 use Rattle.rt_ring.specs.declared.ring_out.Sending.{Sending}
 use Rattle.rt_desk.specs.Lanes.{IsUnused, fresh_lane}
-use Rattle.rt_recorded_desk.specs.Spending.{booked, due_of}
+use Rattle.rt_journal_desk.specs.Spending.{booked, due_of}
 use Rattle.rt_desk.proofs.Cores.{IsUnused-fresh}
-use Rattle.rt_recorded_desk.specs.Tickets.{HasLane}
-use Rattle.rt_recorded_desk.proofs.LaneEnds.{fresh_has_lane}
-use Rattle.rt_grid.specs.Ends.{EndsView, AreFresh, out_at}
-use Rattle.rt_grid.specs.Grid.{IsGrid, AreAllFresh, ends_at, no_ends}
-use Rattle.rt_grid.proofs.Parts.{at_end}
-use Rattle.rt_worker.specs.Linked.{LinkedView}
-use Rattle.rt_worker.specs.Opening.{IsWorkerOf}
-use Rattle.rt_worker.specs.Queues.{creations}
-use Rattle.rt_worker.specs.Together.{IsOutside, no_linked, worker_at}
-use Rattle.rt_worker.proofs.Opened.{fresh_out}
+use Rattle.rt_journal_desk.specs.Tickets.{HasLane}
+use Rattle.rt_journal_desk.proofs.LaneEnds.{fresh_has_lane}
+use Rattle.rt_ring_mesh.specs.Ends.{EndsView, AreFresh, out_at}
+use Rattle.rt_ring_mesh.specs.Grid.{IsGrid, AreAllFresh, ends_at, no_ends}
+use Rattle.rt_ring_mesh.proofs.Parts.{at_end}
+use Rattle.rt_runtime_worker.specs.Linked.{LinkedView}
+use Rattle.rt_runtime_worker.specs.Opening.{IsWorkerOf}
+use Rattle.rt_runtime_worker.specs.Queues.{creations}
+use Rattle.rt_runtime_worker.specs.Together.{IsOutside, no_linked, worker_at}
+use Rattle.rt_runtime_worker.proofs.Opened.{fresh_out}
 use Rattle.rt_runtime.specs.State.{IsRuntime}
 use Rattle.rt_runtime.specs.Starting.{AreOpening, IsHouse, IsOpenedWith}
 use Rattle.rt_runtime.proofs.Finished.{together_at}

@@ -8,15 +8,15 @@ use Rattle.rt_ids.specs.Sound.{IsSound}
 use Rattle.rt_ids.specs.Spelled.{IsSpelled}
 use Rattle.rt_ids.specs.declared.order.Order.{Order}
 use Rattle.rt_ids.specs.declared.order.Outcome.{Outcome}
-use Rattle.rt_recorded_desk.specs.Submissions.{opened_desk}
-use Rattle.rt_worker.specs.Queues.{opening_of}
-use Rattle.rt_worker.specs.Rooms.{MayAct, least_free}
-use Rattle.rt_worker.specs.Together.{worker_at}
+use Rattle.rt_journal_desk.specs.Submissions.{opened_desk}
+use Rattle.rt_runtime_worker.specs.Queues.{opening_of}
+use Rattle.rt_runtime_worker.specs.Rooms.{MayAct, least_free}
+use Rattle.rt_runtime_worker.specs.Together.{worker_at}
 use Rattle.rt_runtime.specs.declared.error.FinishError.{FinishError}
 use Rattle.rt_runtime.specs.declared.error.FinishError.TheVariants.{NotClosed}
 use Rattle.rt_runtime.specs.declared.error.StartError.{StartError}
 use Rattle.rt_runtime.specs.declared.error.StartError.TheVariants.{BadConfig, Memory, Thread}
-use Rattle.rt_settings.specs.Configs.{Entry, IsGood}
+use Rattle.rt_runtime_config.specs.Configs.{Entry, IsGood}
 use Rattle.rt_runtime.specs.Outcomes.{AllFitTheirOrders}
 use Rattle.rt_runtime.specs.Starting.{HaveQueues}
 use Rattle.rt_runtime.specs.State.{RuntimeView, closing_at, submitted}

@@ -3,10 +3,10 @@ use Rattle.std.specs.Prelude.{◌≡◌, ℕ, ◌<◌, Bool, true, false, Option
 use Rattle.rt_ids.specs.declared.order.Order.{Order}
 use Rattle.rt_ids.specs.declared.order.Outcome.{Outcome}
 use Rattle.rt_jobs.specs.Steps.{Owed}
-use Rattle.rt_notes.specs.Journals.{JournalView}
-use Rattle.rt_grid.specs.Ends.{EndsView}
-use Rattle.rt_worker.specs.Linked.{LinkedView}
-use Rattle.rt_worker.specs.Ended.{HasEnded}
+use Rattle.rt_journal_notes.specs.Journals.{JournalView}
+use Rattle.rt_ring_mesh.specs.Ends.{EndsView}
+use Rattle.rt_runtime_worker.specs.Linked.{LinkedView}
+use Rattle.rt_runtime_worker.specs.Ended.{HasEnded}
 
 -- no place before this one is open, and this one is; or none is
 abbrev pub IsFirstOpenOf : List Bool → Option ℕ → Type 0

@@ -7,8 +7,8 @@ use Rattle.rt_ids.specs.declared.order.SendError.{SendError}
 use Rattle.rt_ids.specs.declared.order.SendError.TheVariants.{Closed, NoCore}
 use Rattle.rt_ids.specs.Journal.{Journal}
 use Rattle.rt_ids.specs.Outstanding.{outstanding_count}
-use Rattle.rt_notes.specs.Journals.{free_notes}
-use Rattle.rt_recorded_desk.specs.Submissions.{Submits}
+use Rattle.rt_journal_notes.specs.Journals.{free_notes}
+use Rattle.rt_journal_desk.specs.Submissions.{Submits}
 use Rattle.rt_runtime.specs.declared.error.SubmitError.{SubmitError}
 use Rattle.rt_runtime.specs.declared.error.SubmitError.TheVariants.{JournalFull, Send}
 use Rattle.rt_runtime.specs.State.{RuntimeView, StaysRunning, closing_at, submitted, submitted_under}

@@ -1,12 +1,12 @@
 -- What is opened when a runtime is started.
 use Rattle.std.specs.Prelude.{◌≡◌, ℕ, ◌+◌, ◌<◌, ◌≤◌, List, [], ◌∷◌, ◌++◌, length, map}
-use Rattle.rt_settings.specs.Configs.{Entry, least_room, queues_of}
-use Rattle.rt_grid.specs.Ends.{EndsView, AreFresh}
-use Rattle.rt_grid.specs.Grid.{IsGrid}
-use Rattle.rt_worker.specs.Linked.{LinkedView}
-use Rattle.rt_worker.specs.Opening.{AreEndsOf, IsOpenedOver, IsWorkerOf}
-use Rattle.rt_worker.specs.Queues.{creations}
-use Rattle.rt_worker.specs.Together.{worker_at}
+use Rattle.rt_runtime_config.specs.Configs.{Entry, least_room, queues_of}
+use Rattle.rt_ring_mesh.specs.Ends.{EndsView, AreFresh}
+use Rattle.rt_ring_mesh.specs.Grid.{IsGrid}
+use Rattle.rt_runtime_worker.specs.Linked.{LinkedView}
+use Rattle.rt_runtime_worker.specs.Opening.{AreEndsOf, IsOpenedOver, IsWorkerOf}
+use Rattle.rt_runtime_worker.specs.Queues.{creations}
+use Rattle.rt_runtime_worker.specs.Together.{worker_at}
 
 -- a journal has room for the queues that a core is to have, and for what a worker needs
 abbrev pub IsRoomFor : ℕ → ℕ → ℕ → List Entry → ℕ → Type 0

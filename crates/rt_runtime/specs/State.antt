@@ -4,14 +4,14 @@ use Rattle.rt_ids.specs.declared.names.JobId.{JobId}
 use Rattle.rt_ids.specs.declared.order.Order.{Order}
 use Rattle.rt_ids.specs.declared.order.Outcome.{Outcome}
 use Rattle.rt_ids.specs.Spelled.{IsWithinLimits}
-use Rattle.rt_recorded_desk.specs.Submissions.{DeskView}
-use Rattle.rt_recorded_desk.specs.Spending.{booked}
-use Rattle.rt_recorded_desk.specs.Tickets.{HasLane}
-use Rattle.rt_grid.specs.Ends.{EndsView, out_at}
-use Rattle.rt_grid.specs.Grid.{IsGrid}
-use Rattle.rt_worker.specs.Linked.{LinkedView}
-use Rattle.rt_worker.specs.Opening.{IsWorkerOf}
-use Rattle.rt_worker.specs.Together.{OutsideView, IsOutside, worker_at, all_ends}
+use Rattle.rt_journal_desk.specs.Submissions.{DeskView}
+use Rattle.rt_journal_desk.specs.Spending.{booked}
+use Rattle.rt_journal_desk.specs.Tickets.{HasLane}
+use Rattle.rt_ring_mesh.specs.Ends.{EndsView, out_at}
+use Rattle.rt_ring_mesh.specs.Grid.{IsGrid}
+use Rattle.rt_runtime_worker.specs.Linked.{LinkedView}
+use Rattle.rt_runtime_worker.specs.Opening.{IsWorkerOf}
+use Rattle.rt_runtime_worker.specs.Together.{OutsideView, IsOutside, worker_at, all_ends}
 
 -- The outside actor's journal and ends, and for each core whether the caller closed it: an order to close it was accepted, or a send to it was
 -- answered `Closed`. The workers are as they began, with room for so many notes each.

@@ -4,8 +4,8 @@ use Rattle.rt_ids.specs.declared.names.JobId.{JobId}
 use Rattle.rt_ids.specs.declared.names.TicketError.{TicketError}
 use Rattle.rt_ids.specs.declared.order.Order.{Order}
 use Rattle.rt_ids.specs.declared.order.Outcome.{Outcome}
-use Rattle.rt_grid.specs.Ends.{out_at}
-use Rattle.rt_recorded_desk.specs.Tickets.{CollectsFrom, DetachesTicket, GetsAll, RedeemsTicket}
+use Rattle.rt_ring_mesh.specs.Ends.{out_at}
+use Rattle.rt_journal_desk.specs.Tickets.{CollectsFrom, DetachesTicket, GetsAll, RedeemsTicket}
 use Rattle.rt_runtime.specs.State.{RuntimeView, SubmitsNothing, submitted_under}
 
 module _ {J T : Type 0} where

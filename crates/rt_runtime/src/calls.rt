@@ -1,26 +1,26 @@
 //! The outside actor's calls.
 
 ghost use Rattle.std.specs.Prelude.{◌≡◌, ◌+◌, ◌-◌, ◌<◌, ◌≤◌, ◌^◌, ◌↔◌, ◌++◌, IfOk, IsTrue, Some, length, false, slice_get, slice_index_or, slice_set, ◌||◌};
-ghost use Rattle.rt_notes.specs.Journals.{free_notes};
+ghost use Rattle.rt_journal_notes.specs.Journals.{free_notes};
 ghost use Rattle.rt_jobs.specs.Ready.{HasReadyJob};
 ghost use Rattle.rt_ids.specs.declared.order.Order.TheVariants.{CloseCore};
 ghost use Rattle.rt_ids.specs.Outstanding.{outstanding_count};
 ghost use Rattle.rt_link.specs.Fits.{Fits};
-ghost use Rattle.rt_recorded_desk.specs.Ends.{IsOutOf};
-ghost use Rattle.rt_recorded_desk.specs.Submissions.{Submits};
-ghost use Rattle.rt_recorded_desk.specs.Tickets.{HasLane, StaysBeside};
-ghost use Rattle.rt_recorded_desk.specs.Spending.{Spends, booked};
-ghost use Rattle.rt_grid.specs.Ends.{out_at};
+ghost use Rattle.rt_journal_desk.specs.Ends.{IsOutOf};
+ghost use Rattle.rt_journal_desk.specs.Submissions.{Submits};
+ghost use Rattle.rt_journal_desk.specs.Tickets.{HasLane, StaysBeside};
+ghost use Rattle.rt_journal_desk.specs.Spending.{Spends, booked};
+ghost use Rattle.rt_ring_mesh.specs.Ends.{out_at};
 ghost use Rattle.rt_runtime.specs.Sends.{Sends, SubmitsTo, accepted, is_closing, outstanding_upto, room_left, tells_closing};
 
 use crate::error::SubmitError;
 use crate::runtime::Runtime;
-use rt_grid::Ends;
 use rt_ids::{CoreNo, Mode, Order, SendError, Ticket};
 use rt_jobs::Task;
 use rt_journal::RecordedDesk;
 use rt_link::OutEnd;
-use rt_worker::ring;
+use rt_ring_mesh::Ends;
+use rt_runtime_worker::ring;
 
 /// Whether the order closes the core.
 fn closes<J>(order: &Order<J>) -> bool

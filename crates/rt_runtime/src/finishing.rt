@@ -1,24 +1,24 @@
 //! How the workers of a runtime end, and what their journals are together.
 
 ghost use Rattle.std.specs.Prelude.{◌≡◌, ◌+◌, ◌<◌, ◌≤◌, ℕ, true, [], length, map, vec_capacity};
-ghost use Rattle.rt_grid.specs.Grid.{IsGrid, AreReunited};
+ghost use Rattle.rt_ring_mesh.specs.Grid.{IsGrid, AreReunited};
 ghost use Rattle.rt_link.specs.Fits.{Fits};
-ghost use Rattle.rt_worker.specs.Ended.{HasEnded};
+ghost use Rattle.rt_runtime_worker.specs.Ended.{HasEnded};
 ghost use Rattle.rt_runtime.specs.Calls.{Finishes, HasFinished};
 ghost use Rattle.rt_runtime.specs.State.{closing_at};
 ghost use Rattle.rt_runtime.specs.Finishing.{IsFirstOpenOf, Parts};
 
 use crate::error::FinishError;
 use crate::runtime::Runtime;
-use rt_grid::laws::grid_is_kept;
-use rt_grid::{Ends, reunite_all};
 use rt_ids::CoreNo;
 use rt_ids::laws::{joined_are_spelled, joining_is_sound};
 use rt_jobs::{Job, Task};
 use rt_journal::{Assembly, Journal};
-use rt_settings::{Clock, Gate};
-use rt_worker::Ended;
-use rt_worker::laws::ended_are_joined;
+use rt_ring_mesh::laws::grid_is_kept;
+use rt_ring_mesh::{Ends, reunite_all};
+use rt_runtime_config::{Clock, Gate};
+use rt_runtime_worker::Ended;
+use rt_runtime_worker::laws::ended_are_joined;
 use std::sync::Wait;
 use std::thread::Threads;
 

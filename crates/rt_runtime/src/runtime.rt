@@ -2,11 +2,11 @@
 
 ghost use Rattle.std.specs.Prelude.{◌≡◌};
 
-use rt_grid::Ends;
 use rt_jobs::Task;
 use rt_journal::{Journal, RecordedDesk};
-use rt_worker::{Bell, Worker};
-use rt_workers::Team;
+use rt_ring_mesh::Ends;
+use rt_runtime_team::Team;
+use rt_runtime_worker::{Bell, Worker};
 use std::marker::Model;
 
 /// A worker on a thread of its own for each core, and the outside actor, whose calls the caller makes.

@@ -1,23 +1,23 @@
 //! How a runtime is started.
 
 ghost use Rattle.std.specs.Prelude.{◌≡◌, ◌+◌, ◌≤◌, All, false, IfOk, length, replicate};
-ghost use Rattle.rt_settings.specs.Configs.{IsGood};
-ghost use Rattle.rt_workers.specs.Works.{Together};
-ghost use Rattle.rt_worker.specs.Opening.{AreEndsOf, IsOpenedOver};
-ghost use Rattle.rt_worker.specs.Queues.{creations};
-ghost use Rattle.rt_recorded_desk.specs.Submissions.{IsWritten, opened_desk, terms_of_desk};
+ghost use Rattle.rt_runtime_config.specs.Configs.{IsGood};
+ghost use Rattle.rt_runtime_team.specs.Works.{Together};
+ghost use Rattle.rt_runtime_worker.specs.Opening.{AreEndsOf, IsOpenedOver};
+ghost use Rattle.rt_runtime_worker.specs.Queues.{creations};
+ghost use Rattle.rt_journal_desk.specs.Submissions.{IsWritten, opened_desk, terms_of_desk};
 ghost use Rattle.rt_runtime.specs.Calls.{Begins, Starts};
 ghost use Rattle.rt_runtime.specs.Starting.{AreOpening, IsHouse, IsOpenedWith, IsRoomFor};
 
 use crate::error::StartError;
 use crate::runtime::Runtime;
-use rt_grid::{Ends, open_all};
 use rt_ids::ActorNo;
 use rt_jobs::{Job, Task};
 use rt_journal::RecordedDesk;
-use rt_settings::{Clock, Config, Gate, is_good};
-use rt_worker::{Bell, Worker};
-use rt_workers::{NotStarted, Team};
+use rt_ring_mesh::{Ends, open_all};
+use rt_runtime_config::{Clock, Config, Gate, is_good};
+use rt_runtime_team::{NotStarted, Team};
+use rt_runtime_worker::{Bell, Worker};
 use std::alloc::{AllocError, Global};
 use std::sync::atomic::AtomicU64;
 use std::sync::{Arc, Wait};

@@ -3,17 +3,17 @@
 ghost use Rattle.std.specs.Prelude.{◌≡◌, ◌+◌, ◌<◌, ◌≤◌, IfOk, length, slice_set};
 ghost use Rattle.rt_link.specs.Fits.{Fits};
 ghost use Rattle.rt_desk.specs.Lanes.{FitsSent, IsGot};
-ghost use Rattle.rt_recorded_desk.specs.Ends.{IsOutOf};
-ghost use Rattle.rt_recorded_desk.specs.Spending.{HoldsSome, Spends, booked};
-ghost use Rattle.rt_recorded_desk.specs.Tickets.{CollectsFrom, DetachesTicket, GetsAll, HasLane, RedeemsTicket, StaysBeside};
-ghost use Rattle.rt_grid.specs.Ends.{out_at};
+ghost use Rattle.rt_journal_desk.specs.Ends.{IsOutOf};
+ghost use Rattle.rt_journal_desk.specs.Spending.{HoldsSome, Spends, booked};
+ghost use Rattle.rt_journal_desk.specs.Tickets.{CollectsFrom, DetachesTicket, GetsAll, HasLane, RedeemsTicket, StaysBeside};
+ghost use Rattle.rt_ring_mesh.specs.Ends.{out_at};
 ghost use Rattle.rt_runtime.specs.Tickets.{Collects, DetachesHere, RedeemsHere};
 
 use crate::runtime::Runtime;
-use rt_grid::Ends;
 use rt_ids::{CoreNo, Outcome, Ticket, TicketError};
 use rt_jobs::Task;
 use rt_journal::RecordedDesk;
+use rt_ring_mesh::Ends;
 
 /// Collects all outcomes that the end to this core shows.
 fn collect_on<J: Task<Out = u64>>(

@@ -13,8 +13,8 @@ use Rattle.rt_ids.specs.Names.{is_number}
 use Rattle.rt_ids.specs.Picks.{turns, pick_count}
 use Rattle.rt_ids.specs.Work.{number_if}
 use Rattle.rt_ids.proofs.Told.{length-with_last, length-with_last_if}
-use Rattle.rt_tables.proofs.NameLookups.{same_number}
-use Rattle.rt_accounts.specs.Accounts.{greatest_count}
+use Rattle.rt_journal_facts.proofs.NameLookups.{same_number}
+use Rattle.rt_journal_facts.specs.Accounts.{greatest_count}
 use Rattle.rt_stats.specs.declared.gates.Gate.{Gate}
 use Rattle.rt_stats.specs.declared.gates.Gates.{Gates}
 use Rattle.rt_stats.specs.Gates.{gate_of, gate_after, gate_noted, open_gate, creation_count}

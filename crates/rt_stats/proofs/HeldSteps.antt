@@ -7,10 +7,10 @@ use Rattle.rt_ids.specs.HandBacks.{jobs_below}
 use Rattle.rt_ids.specs.Journal.{Journal}
 use Rattle.rt_ids.specs.Names.{is_number}
 use Rattle.rt_ids.specs.Work.{entered_count, queue_joined, number_if}
-use Rattle.rt_accounts.specs.declared.accounts.Account.{Account}
-use Rattle.rt_accounts.specs.declared.accounts.Accounts.{Accounts}
-use Rattle.rt_accounts.specs.Accounts.{fresh_account}
-use Rattle.rt_accounts.specs.AllAccounts.{KnowsAccounts}
+use Rattle.rt_journal_facts.specs.declared.accounts.Account.{Account}
+use Rattle.rt_journal_facts.specs.declared.accounts.Accounts.{Accounts}
+use Rattle.rt_journal_facts.specs.Accounts.{fresh_account}
+use Rattle.rt_journal_facts.specs.AllAccounts.{KnowsAccounts}
 use Rattle.rt_stats.specs.Walks.{inside, inside_below}
 use Rattle.rt_stats.proofs.TallySteps.{number_if-within}
 

@@ -7,10 +7,10 @@ use Rattle.rt_ids.specs.Commands.{created_count}
 use Rattle.rt_ids.specs.HandBacks.{jobs_held}
 use Rattle.rt_ids.specs.Journal.{Journal, or_else}
 use Rattle.rt_ids.specs.Work.{queue_entered, has_work}
-use Rattle.rt_tables.specs.Names.{Entries, known, SetsEntry}
-use Rattle.rt_tables.specs.Told.{queue_told}
-use Rattle.rt_tables.proofs.ReadJobs.{queue_entered-told}
-use Rattle.rt_accounts.specs.Accounts.{fresh_account, has_jobs, greatest_count}
+use Rattle.rt_journal_facts.specs.Names.{Entries, known, SetsEntry}
+use Rattle.rt_journal_facts.specs.Told.{queue_told}
+use Rattle.rt_journal_facts.proofs.ReadJobs.{queue_entered-told}
+use Rattle.rt_journal_facts.specs.Accounts.{fresh_account, has_jobs, greatest_count}
 use Rattle.rt_stats.specs.declared.gates.Gate.{Gate}
 use Rattle.rt_stats.specs.Gates.{open_gate}
 use Rattle.rt_stats.specs.Stats.{core_stats}

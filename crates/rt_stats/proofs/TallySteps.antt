@@ -12,7 +12,7 @@ use Rattle.rt_ids.specs.Lag.{greatest_charge}
 use Rattle.rt_ids.specs.Names.{is_number}
 use Rattle.rt_ids.specs.Runtimes.{shares}
 use Rattle.rt_ids.specs.Work.{queue_of, number_if}
-use Rattle.rt_accounts.specs.Accounts.{greatest_runtime, greatest_count}
+use Rattle.rt_journal_facts.specs.Accounts.{greatest_runtime, greatest_count}
 use Rattle.rt_stats.specs.declared.tally.Tally.{Tally}
 use Rattle.rt_stats.specs.Sums.{count_of, queue_of_told, run_time, time_noted, charges, begun_count, settled_count, finished_count, returned_count}
 use Rattle.rt_stats.proofs.Tables.{each_next}

@@ -7,7 +7,7 @@ use Rattle.rt_ids.specs.HandBacks.{picks_of}
 use Rattle.rt_ids.specs.Journal.{Journal}
 use Rattle.rt_ids.specs.Lag.{greatest_charge}
 use Rattle.rt_ids.specs.Work.{queue_of}
-use Rattle.rt_accounts.specs.Accounts.{greatest_runtime, greatest_count}
+use Rattle.rt_journal_facts.specs.Accounts.{greatest_runtime, greatest_count}
 use Rattle.rt_stats.specs.declared.tally.Tally.{Tally}
 use Rattle.rt_stats.specs.Sums.{run_time, charges, begun_count, settled_count, finished_count, returned_count}
 

@@ -5,11 +5,11 @@ use Rattle.rt_ids.specs.Commands.{created_count}
 use Rattle.rt_ids.specs.Journal.{Journal}
 use Rattle.rt_ids.specs.Picks.{turns}
 use Rattle.rt_ids.specs.Work.{queue_of}
-use Rattle.rt_tables.specs.Names.{Entries, known}
-use Rattle.rt_accounts.specs.declared.accounts.Account.{Account}
-use Rattle.rt_accounts.specs.declared.accounts.Accounts.{Accounts}
-use Rattle.rt_accounts.specs.Accounts.{greatest_count, fresh_account}
-use Rattle.rt_accounts.specs.AllAccounts.{KnowsAccounts}
+use Rattle.rt_journal_facts.specs.Names.{Entries, known}
+use Rattle.rt_journal_facts.specs.declared.accounts.Account.{Account}
+use Rattle.rt_journal_facts.specs.declared.accounts.Accounts.{Accounts}
+use Rattle.rt_journal_facts.specs.Accounts.{greatest_count, fresh_account}
+use Rattle.rt_journal_facts.specs.AllAccounts.{KnowsAccounts}
 use Rattle.rt_stats.specs.declared.gates.Gates.{Gates}
 use Rattle.rt_stats.specs.declared.tally.Tallies.{Tallies}
 use Rattle.rt_stats.specs.Tallies.{KnowsTally, no_tally}

@@ -3,7 +3,7 @@
 ghost use Rattle.std.specs.Prelude.{◌≡◌, ◌↔◌, ◌<◌, ◌≤◌, ◌∷◌, ℕ, [], length, get_or, IsTrue, Some};
 ghost use Rattle.rt_ids.specs.Journal.{Journal as Notes};
 ghost use Rattle.rt_ids.specs.Picks.{pick_count};
-ghost use Rattle.rt_accounts.specs.Accounts.{greatest_count};
+ghost use Rattle.rt_journal_facts.specs.Accounts.{greatest_count};
 ghost use Rattle.rt_stats.specs.Gates.{open_gate, gate_after};
 ghost use Rattle.rt_stats.specs.Gates as spec;
 ghost use Rattle.rt_stats.specs.Walks.{KnowsGates};

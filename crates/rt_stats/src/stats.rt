@@ -10,7 +10,7 @@ ghost use Rattle.rt_stats.specs.Stats as spec;
 
 use crate::sums::Sums;
 use rt_ids::{CoreStats, QueueNo, QueueStats};
-use rt_notes::Journal;
+use rt_journal_notes::Journal;
 use std::alloc::{AllocError, Global};
 
 /// The statistics of a queue, if there is such a queue. Times are nanoseconds.

@@ -4,18 +4,17 @@ ghost use Rattle.std.specs.Prelude.{◌≡◌, ◌↔◌, ◌<◌, ◌≤◌, �
 ghost use Rattle.rt_ids.specs.Closing.{IsDrained};
 ghost use Rattle.rt_ids.specs.Journal.{Journal as Notes, at_place};
 ghost use Rattle.rt_ids.specs.Lag.{greatest_charge};
-ghost use Rattle.rt_accounts.specs.Accounts.{greatest_count, fresh_account, has_jobs};
+ghost use Rattle.rt_journal_facts.specs.Accounts.{greatest_count, fresh_account, has_jobs};
 ghost use Rattle.rt_stats.specs.Stats as spec;
 ghost use Rattle.rt_stats.specs.Sums.{charges};
 ghost use Rattle.rt_stats.specs.Walks.{KnowsSums, inside_below};
 
 use crate::gates::{Gates, all_done};
 use crate::tally::{Tallies, account_of, queue_noted, queue_touched};
-use rt_accounts::{Account, Accounts};
 use rt_ids::{CoreStats, Note, QueueNo, QueueStats};
-use rt_notes::Journal;
-use rt_tables::told::queue_told;
-use rt_tables::{NameTable, note_at};
+use rt_journal_facts::told::queue_told;
+use rt_journal_facts::{Account, Accounts, NameTable, note_at};
+use rt_journal_notes::Journal;
 use std::alloc::{AllocError, Global};
 use std::marker::Model;
 

@@ -2,17 +2,16 @@
 
 ghost use Rattle.std.specs.Prelude.{◌≡◌, ◌<◌, ◌∷◌, ◌^◌, ℕ, [], length, get_or};
 ghost use Rattle.rt_ids.specs.Journal.{Journal as Notes};
-ghost use Rattle.rt_accounts.specs.Accounts.{greatest_count, fresh_account};
-ghost use Rattle.rt_accounts.specs.AllAccounts.{KnowsAccounts};
+ghost use Rattle.rt_journal_facts.specs.Accounts.{greatest_count, fresh_account};
+ghost use Rattle.rt_journal_facts.specs.AllAccounts.{KnowsAccounts};
 ghost use Rattle.rt_stats.specs.Tallies.{no_tally, one_more, settling, tally_after, cost_told};
 ghost use Rattle.rt_stats.specs.Tallies as spec;
 ghost use Rattle.rt_stats.specs.Walks.{KnowsTallies, KnowsQueues};
-ghost use Rattle.rt_accounts.specs.Accounts as accounts;
+ghost use Rattle.rt_journal_facts.specs.Accounts as accounts;
 
-use rt_accounts::{Account, Accounts};
 use rt_ids::{Note, QueueNo};
+use rt_journal_facts::{Account, Accounts, NameTable};
 use rt_shares::Shares;
-use rt_tables::NameTable;
 
 /// Of the notes that were read: what is counted of one queue. Times are nanoseconds.
 #[derive(Clone, Copy)]

@@ -1,8 +1,8 @@
 //! The slips of the queues, each at the place of its queue, and what the next one is taken from.
 ghost use Rattle.std.specs.Prelude.{◌≡◌, ◌<◌, ◌≤◌, [], ◌∷◌, ◌++◌, length, Some, IfOk, OnOk, OnErr};
 
+use rt_fixed::SealedVec;
 use rt_ids::QueueNo;
-use rt_sealed::SealedVec;
 use rt_timeline::Slip;
 use std::alloc::{AllocError, Allocator};
 

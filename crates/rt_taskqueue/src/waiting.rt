@@ -7,9 +7,9 @@ ghost use Rattle.rt_taskqueue.specs.Fronts.{MakesCalls, PollsAt};
 
 use crate::line::Line;
 use crate::meter::Meter;
+use rt_fixed::SealedSlab;
 use rt_ids::JobId;
 use rt_jobs::{Job, Post, Step};
-use rt_sealed::SealedSlab;
 use std::alloc::Allocator;
 
 /// A job in the line of a queue.

@@ -5,12 +5,12 @@ use Rattle.rt_world.proofs.Words.{Detaches, Sends, RecordedView, desk_of, core_a
 use Rattle.rt_world.specs.declared.model.acts.Act.TheVariants.{Send, Collect, Redeem, Detach}
 use Rattle.rt_world.specs.Acts.{notes_for, HasCoreActed}
 use Rattle.rt_world.proofs.Desks.{desks-core}
-use Rattle.rt_linked_core.proofs.LinkRows.{with_link}
-use Rattle.rt_linked_core.proofs.LinkSteps.{OnlySent, in_stays}
+use Rattle.rt_world_links.proofs.LinkRows.{with_link}
+use Rattle.rt_world_links.proofs.LinkSteps.{OnlySent, in_stays}
 use Rattle.rt_world.proofs.WorldAfter.{rest_after}
 use Rattle.rt_world.proofs.CoreSteps.{desk_is, parts_now, rests}
 use Rattle.rt_world.proofs.Sending.{IsDoneOn, IsActing, its_cap, its_room, later, changes, all_sent, others_received, senders_sent}
-use Rattle.rt_linked_core.proofs.SentLinks.{IsSubmitted, only_sent, got_more, got_same, same_given}
+use Rattle.rt_world_links.proofs.SentLinks.{IsSubmitted, only_sent, got_more, got_same, same_given}
 use Rattle.rt_world.proofs.SentLinks.{sends_now}
 use Rattle.rt_world.proofs.Ticketing.{collects_now, redeems_now, detaches_now}
 

@@ -3,9 +3,9 @@ use Rattle.rt_world.proofs.Words.{◌≡◌, ◌≢◌, ℕ, ◌+◌, ◌<◌, �
 use Rattle.rt_world.proofs.Words.{get_or-set_other, length-set, get_or_default, set-get_or, noted, map, Note, Owed, Whole, inward_of, RecordedView}
 use Rattle.rt_world.proofs.Words.{IsRecorded, desk_of, Fits, IsInOf, journal_at, link_at, Parts, core_at, desk_at, world_of, IsWorld, opened_beside}
 use Rattle.rt_world.proofs.Words.{with_notes, IsSameSeat, ChangesLink, notes_at, seat_of, WorldView}
-use Rattle.rt_recorded_desk.specs.Ends.{KeepsOuts}
+use Rattle.rt_journal_desk.specs.Ends.{KeepsOuts}
 use Rattle.rt_world.proofs.Desks.{desk_at-core, desks-core, journal_at-world, journals-noted}
-use Rattle.rt_linked_core.proofs.LinkSteps.{OnlyReceived, OnlySent, IsSenderOn, sender_stays, received-same, sent-same, each_link, other_link}
+use Rattle.rt_world_links.proofs.LinkSteps.{OnlyReceived, OnlySent, IsSenderOn, sender_stays, received-same, sent-same, each_link, other_link}
 use Rattle.rt_world.proofs.WorldAfter.{IsStep, world_after, world_sender}
 
 module _ {J T : Type 0} {same : J → J → Type 0} {made : J → ℕ} {polls : Owed J T} {answers : J → T → Type 0} {old : Parts J T}

@@ -4,12 +4,12 @@ use Rattle.rt_world.proofs.Words.{IsRecorded, desk_of, Fits, IsInOf, journal_at,
 use Rattle.rt_world.proofs.Words.{DeskView, IsWritten, opened_desk, terms_of_desk, sent_at, IsFresh}
 use Rattle.rt_link.specs.Whole.{fresh}
 use Rattle.rt_journal.proofs.Opened.{recorded-opened}
-use Rattle.rt_linked_core.specs.Links.{AreFresh}
-use Rattle.rt_linked_core.specs.Cores.{AreOpened}
+use Rattle.rt_world_links.specs.Links.{AreFresh}
+use Rattle.rt_world_links.specs.Cores.{AreOpened}
 use Rattle.rt_world.proofs.Desks.{desk_at-core, desk_at-outside, journal_at-world, sent_at-world, world_lists}
-use Rattle.rt_linked_core.proofs.FreshLinks.{in_of-opened, fresh_sender}
-use Rattle.rt_linked_core.proofs.LinkSteps.{IsSenderOn}
-use Rattle.rt_linked_core.proofs.Places.{none_anywhere, none_in_table}
+use Rattle.rt_world_links.proofs.FreshLinks.{in_of-opened, fresh_sender}
+use Rattle.rt_world_links.proofs.LinkSteps.{IsSenderOn}
+use Rattle.rt_world_links.proofs.Places.{none_anywhere, none_in_table}
 
 module _ {J T : Type 0} (same : J → J → Type 0) (made : J → ℕ) (polls : Owed J T) (answers : J → T → Type 0) (cores cap room : ℕ)
     (inside : List (RecordedView J T)) (outside : DeskView J T) (links : List (List (Whole J T)))

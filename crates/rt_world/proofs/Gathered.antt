@@ -1,7 +1,7 @@
 -- The journals of a world, gathered from its actors.
 use Rattle.rt_world.proofs.Words.{◌≡◌, ◌+◌, List, [], ◌∷◌, ◌++◌, length, refl, sym, ◌∙◌, ap, length-map, length_push, map-append, map, RecordedView, desk_of}
 use Rattle.rt_world.proofs.Words.{Parts, world_of}
-use Rattle.rt_notes.specs.Journals.{JournalView}
+use Rattle.rt_journal_notes.specs.Journals.{JournalView}
 
 module _ {J T : Type 0} where
   -- the journals of the cores

@@ -5,15 +5,15 @@ use Rattle.rt_world.proofs.Words.{link_at, Parts, core_at, world_of, IsWorld, Is
 use Rattle.rt_world.proofs.Words.{turns, has_work, Makes, polls_made, poll_note, order_taken, opened_beside, with_notes, post_of, CallsAt, order_under}
 use Rattle.rt_world.proofs.Words.{pick_notes, IsPoll, Turns}
 use Rattle.rt_ids.specs.declared.note.Note.TheVariants as writes
-use Rattle.rt_agreement.specs.Polls.{settle_note}
-use Rattle.rt_linked_core.specs.declared.turn.Turned.{Turned}
-use Rattle.rt_linked_core.specs.declared.turn.Turned.TheVariants.{Made, Idle, Spent}
+use Rattle.rt_journal.specs.Polls.{settle_note}
+use Rattle.rt_world_links.specs.declared.turn.Turned.{Turned}
+use Rattle.rt_world_links.specs.declared.turn.Turned.TheVariants.{Made, Idle, Spent}
 use Rattle.rt_world.specs.Turns.{turned_reply}
-use Rattle.rt_linked_core.specs.OneTurn as one
+use Rattle.rt_world_links.specs.OneTurn as one
 use Rattle.rt_world.proofs.CoreSteps.{cores_are, number_is, parts_now, receives, journal_is, core_noted}
 use Rattle.rt_world.proofs.Desks.{sent_at-world}
-use Rattle.rt_linked_core.proofs.LinkSteps.{received-same, no_change}
-use Rattle.rt_linked_core.proofs.OneTurn.{settled_stays, out_is, poll_owed, poll_task}
+use Rattle.rt_world_links.proofs.LinkSteps.{received-same, no_change}
+use Rattle.rt_world_links.proofs.OneTurn.{settled_stays, out_is, poll_owed, poll_task}
 use Rattle.rt_world.proofs.Posting.{Post, parts_at, IsAt, calls_now}
 use Rattle.rt_world.proofs.Turning.{quiet, quiet_rests, quiet_at_rest, quiet_noted, handed_back, unchanged}
 use Rattle.rt_world.proofs.WorldAfter.{rest_after}

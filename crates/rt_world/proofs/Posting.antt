@@ -4,8 +4,8 @@ use Rattle.rt_world.proofs.Words.{length-set, get_or_from_slice_get, JobId, Repl
 use Rattle.rt_world.proofs.Words.{row_of, link_at, Parts, core_at, desk_at, world_of, IsWorld, journal_at, Unknown, Call, Makes, Submit, Redeem, Detach}
 use Rattle.rt_world.proofs.Words.{kept_by_sender, KeepsIn, opened_beside, RefusesTicket, Act, IsActOf, IsActAt, Acts, HasActed, CallsAt, Redeems, Detaches}
 use Rattle.rt_world.proofs.Words.{redeemed_reply, detached_reply, sent_reply}
-use Rattle.rt_recorded_desk.specs.Calls.{Does, LendsEnd}
-use Rattle.rt_recorded_desk.specs.Posts.{PostView}
+use Rattle.rt_journal_desk.specs.Calls.{Does, LendsEnd}
+use Rattle.rt_journal_desk.specs.Posts.{PostView}
 use Rattle.rt_journal.proofs.SentNotes.{SaysNoMore, recorded_silent, ins_silent, submitted_silent, redeemed_silent, detached_silent}
 use Rattle.rt_world.specs.declared.model.acts.Act.TheVariants as acts
 use Rattle.rt_world.specs.declared.model.acts.Act.TheVariants.{Send}

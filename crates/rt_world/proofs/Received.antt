@@ -2,20 +2,20 @@
 use Rattle.rt_world.proofs.Words.{◌≡◌, ℕ, ◌<◌, ◌≤◌, Bool, List, sym, ◌∙◌, ap, subst, Owed, Whole, inward_of, RecordedView, IsInOf, WorldView, journal_at}
 use Rattle.rt_world.proofs.Words.{link_at, Parts, core_at, world_of, IsWorld, ◌+◌, true, false, [], ◌∷◌, length, arith, append-nil, slice_get, Reply, noted}
 use Rattle.rt_world.proofs.Words.{desk_at, IsAtRest, accepted_orders, ChangesLink, sent_at, Delivers, IsDelivery, next_place, HasReceived}
-use Rattle.rt_linked_core.proofs.TakenLinks.{DidOnLink, on_link, took_on_link, seen_is, sent_is, only_received}
+use Rattle.rt_world_links.proofs.TakenLinks.{DidOnLink, on_link, took_on_link, seen_is, sent_is, only_received}
 use Rattle.rt_world.proofs.CoreSteps.{journal_is, number_is, parts_now, core_noted, core_unchanged, receives}
 use Rattle.rt_ids.specs.declared.order.Envelope.{Envelope}
 use Rattle.rt_ids.specs.Filters.{delivered_names}
 use Rattle.rt_journal.specs.Steps.{Delivers as DeliversTo}
-use Rattle.rt_recorded_desk.proofs.NumberedOrders.{length-numbered}
+use Rattle.rt_journal_desk.proofs.NumberedOrders.{length-numbered}
 use Rattle.rt_ids.specs.declared.note.Note.TheVariants as writes
 use Rattle.rt_world.specs.declared.model.receipts.Receipt.{Receipt}
 use Rattle.rt_world.specs.declared.model.receipts.Receipt.TheVariants.{Take, Shut}
 use Rattle.rt_world.specs.Deliveries.{taken_reply}
 use Rattle.rt_world.specs.Receipts.{ReceivesOn, Receives}
-use Rattle.rt_linked_core.proofs.Places.{by_place}
+use Rattle.rt_world_links.proofs.Places.{by_place}
 use Rattle.rt_world.proofs.Desks.{journal_at-world, sent_at-world}
-use Rattle.rt_linked_core.proofs.LinkRows.{with_link, same_sent, ChangesLink-with_link}
+use Rattle.rt_world_links.proofs.LinkRows.{with_link, same_sent, ChangesLink-with_link}
 use Rattle.rt_world.proofs.WorldAfter.{rest_after}
 use Rattle.std.proofs.lemmas.Option.{slice_get_past}
 

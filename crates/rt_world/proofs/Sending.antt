@@ -3,9 +3,9 @@ use Rattle.rt_world.proofs.Words.{◌≡◌, ◌≢◌, ℕ, ◌+◌, ◌<◌, �
 use Rattle.rt_world.proofs.Words.{Journal, Owed, Whole, Fits, out_of, WorldView, journal_at, noted, link_at, Parts, desks, desk_at, world_of, IsWorld}
 use Rattle.rt_world.proofs.Words.{Outcome, DeskView, opened_desk, StaysBeside, ChangesLink, seat_of}
 use Rattle.rt_world.proofs.Desks.{desk_at-outside, desks-outside, journal_at-world, journals-noted}
-use Rattle.rt_linked_core.proofs.Places.{by_place}
-use Rattle.rt_linked_core.proofs.LinkRows.{with_link, same_sent, ChangesLink-with_link}
-use Rattle.rt_linked_core.proofs.LinkSteps.{OnlyReceived, OnlySent, IsSenderOn, received-same, sent-same, each_link, other_link}
+use Rattle.rt_world_links.proofs.Places.{by_place}
+use Rattle.rt_world_links.proofs.LinkRows.{with_link, same_sent, ChangesLink-with_link}
+use Rattle.rt_world_links.proofs.LinkSteps.{OnlyReceived, OnlySent, IsSenderOn, received-same, sent-same, each_link, other_link}
 use Rattle.rt_world.proofs.WorldAfter.{world_after, world_sender}
 
 -- what a call on the sender's end says of its desk, and of the link

@@ -7,10 +7,10 @@ use Rattle.rt_ids.specs.declared.order.SendError.TheVariants.{NoCore}
 use Rattle.rt_ids.specs.Closing.{final_count}
 use Rattle.rt_ids.specs.Orders.{without_job}
 use Rattle.rt_link.specs.Calls.{Sends as SendsOn, final_of}
-use Rattle.rt_recorded_desk.specs.Submissions.{Submits, numbered}
+use Rattle.rt_journal_desk.specs.Submissions.{Submits, numbered}
 use Rattle.rt_world.proofs.Desks.{sent_at-world}
-use Rattle.rt_linked_core.proofs.LinkRows.{sent-with_link}
-use Rattle.rt_linked_core.proofs.SentLinks.{added, IsSubmitted, same_gate, sent_is}
+use Rattle.rt_world_links.proofs.LinkRows.{sent-with_link}
+use Rattle.rt_world_links.proofs.SentLinks.{added, IsSubmitted, same_gate, sent_is}
 use Rattle.rt_world.proofs.CoreSteps.{journal_is}
 use Rattle.rt_world.proofs.Sending.{IsActing, its_seat, its_cap, its_notes, later, journals_noted, same_now}
 

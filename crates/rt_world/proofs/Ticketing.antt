@@ -7,14 +7,14 @@ use Rattle.rt_world.proofs.Words.{RefusesTicket, RedeemsTicket, DetachesTicket, 
 use Rattle.rt_world.proofs.Words.{detached_reply}
 use Rattle.rt_ids.specs.declared.note.Note.TheVariants as writes
 use Rattle.rt_ids.specs.Journal.{with_last}
-use Rattle.rt_recorded_desk.specs.Tickets.{AreCollected, CollectsFrom, GetsAll}
+use Rattle.rt_journal_desk.specs.Tickets.{AreCollected, CollectsFrom, GetsAll}
 use Rattle.std.proofs.Common.{take, drop}
 use Rattle.std.specs.Prelude.{IfOk, IfSome}
 use Rattle.std.proofs.Math.Seq.{drop-append_seam, take-length}
 use Rattle.rt_ids.specs.Filters.{given_outcomes}
 use Rattle.rt_link.proofs.Lists.{slice_get-behind}
 use Rattle.rt_desk.specs.Lanes.{IsGot, FitsSent}
-use Rattle.rt_recorded_desk.specs.Ends.{named_outcomes}
+use Rattle.rt_journal_desk.specs.Ends.{named_outcomes}
 use Rattle.rt_world.specs.declared.event.Reply.TheVariants as reply
 use Rattle.rt_world.specs.Collections.{FitsUnder}
 use Rattle.rt_world.proofs.Desks.{sent_at-world}

@@ -8,10 +8,10 @@ use Rattle.rt_ids.specs.Limits.{most_queues}
 use Rattle.rt_ids.specs.declared.note.Note.TheVariants as writes
 use Rattle.rt_taskqueue.specs.declared.queues.CreateError.{CreateError}
 use Rattle.rt_taskqueue.specs.declared.queues.CreateError.TheVariants.{TooMany, Memory}
-use Rattle.rt_linked_core.specs.OneTurn as one
+use Rattle.rt_world_links.specs.OneTurn as one
 use Rattle.rt_world.specs.Opening.{CreatesAtOpening}
-use Rattle.rt_linked_core.proofs.LinkRows.{same_sent}
-use Rattle.rt_linked_core.proofs.LinkSteps.{IsSenderOn, received-given}
+use Rattle.rt_world_links.proofs.LinkRows.{same_sent}
+use Rattle.rt_world_links.proofs.LinkSteps.{IsSenderOn, received-given}
 use Rattle.rt_world.proofs.WorldAfter.{rest_after}
 use Rattle.rt_world.proofs.CoreSteps.{cores_are, parts_now, receives, journal_is, core_sender, core_noted, core_unchanged}
 

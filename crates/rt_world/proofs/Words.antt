@@ -24,13 +24,13 @@ pub use Rattle.rt_ids.specs.declared.stats.CoreStats.{CoreStats}
 pub use Rattle.rt_jobs.specs.Calls.{Call, Makes}
 pub use Rattle.rt_jobs.specs.Calls.Call.{Detach, Redeem, Submit}
 pub use Rattle.rt_jobs.specs.Steps.{Owed}
-pub use Rattle.rt_recorded_desk.proofs.NumberedOrders.{get_or-map}
+pub use Rattle.rt_journal_desk.proofs.NumberedOrders.{get_or-map}
 pub use Rattle.rt_journal.specs.Ends.{IsInOf, IsSameSeat, KeepsIn}
-pub use Rattle.rt_agreement.specs.Polls.{poll_note, polls_made}
+pub use Rattle.rt_journal.specs.Polls.{poll_note, polls_made}
 pub use Rattle.rt_journal.specs.Recorded.{IsRecorded, RecordedView, desk_of, order_taken}
 pub use Rattle.rt_journal.specs.Steps.{CreatesQueue, opened_beside, with_notes}
-pub use Rattle.rt_recorded_desk.specs.Submissions.{DeskView, IsWritten, opened_desk, terms_of_desk}
-pub use Rattle.rt_recorded_desk.specs.Tickets.{DetachesTicket, RedeemsTicket, RefusesTicket, StaysBeside}
+pub use Rattle.rt_journal_desk.specs.Submissions.{DeskView, IsWritten, opened_desk, terms_of_desk}
+pub use Rattle.rt_journal_desk.specs.Tickets.{DetachesTicket, RedeemsTicket, RefusesTicket, StaysBeside}
 pub use Rattle.rt_journal.specs.Whole.{post_of}
 pub use Rattle.rt_link.specs.Fits.{Fits}
 pub use Rattle.rt_link.specs.Whole.{inward_of, kept_by_sender, out_of}
@@ -40,14 +40,14 @@ pub use Rattle.rt_world.specs.Calls.{CallsAt}
 pub use Rattle.rt_world.specs.Collections.{Collects, Detaches, Redeems, WasAccepted, collected_notes, detached_reply, redeemed_reply, uncollected}
 pub use Rattle.rt_world.specs.Deliveries.{Delivers, IsDelivery, next_place}
 pub use Rattle.rt_world.specs.Inside.{IsAtRest, IsWorld, Parts, core_at, desk_at, desks, notes_at, seat_of, world_of}
-pub use Rattle.rt_linked_core.specs.Links.{ChangesLink, link_at, no_link, row_of}
-pub use Rattle.rt_linked_core.specs.OneTurn.{IsKeptBeside, none_owed}
+pub use Rattle.rt_world_links.specs.Links.{ChangesLink, link_at, no_link, row_of}
+pub use Rattle.rt_world_links.specs.OneTurn.{IsKeptBeside, none_owed}
 pub use Rattle.rt_world.specs.Opening.{HasAllLists, IsFresh}
 pub use Rattle.rt_world.specs.Receipts.{HasReceived}
 pub use Rattle.rt_world.specs.Runs.{Happens, IsRun}
 pub use Rattle.rt_world.specs.Sends.{AreThere, Sends, actor_of, sent_reply}
 pub use Rattle.rt_world.specs.State.{WorldView, assembly_of, journal_at, noted, order_under, sent_at}
-pub use Rattle.rt_recorded_stats.specs.Stats.{TellsCore, TellsQueues}
+pub use Rattle.rt_journal.specs.Stats.{TellsCore, TellsQueues}
 pub use Rattle.rt_world.specs.Turns.{IsHandBack, IsPoll, Turns, pick_notes}
 pub use Rattle.rt_world.specs.declared.event.Event.{Event}
 pub use Rattle.rt_world.specs.declared.event.Reply.{Reply}

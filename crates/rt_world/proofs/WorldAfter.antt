@@ -3,8 +3,8 @@ use Rattle.rt_world.proofs.Words.{◌≡◌, ◌≢◌, ℕ, ◌<◌, ◌≤◌,
 use Rattle.rt_world.proofs.Words.{None, Owed, Whole, inward_of, RecordedView, IsRecorded, Fits, IsInOf, row_of, link_at, Parts, core_at, desks, desk_at}
 use Rattle.rt_world.proofs.Words.{IsWorld, IsAtRest, DeskView, IsWritten, terms_of_desk, opened_desk, opened_beside, seat_of}
 use Rattle.rt_world.proofs.Desks.{desk_count}
-use Rattle.rt_linked_core.proofs.Places.{set_each, by_place}
-use Rattle.rt_linked_core.proofs.LinkSteps.{OnlyReceived, OnlySent, IsSenderOn, sender_stays, in_stays}
+use Rattle.rt_world_links.proofs.Places.{set_each, by_place}
+use Rattle.rt_world_links.proofs.LinkSteps.{OnlyReceived, OnlySent, IsSenderOn, sender_stays, in_stays}
 
 -- no core has a job out, where the one that made a step has none
 pub rest_after : {J T : Type 0} (old : Parts J T) (core : ℕ) (now : RecordedView J T) (links : List (List (Whole J T))) → IsAtRest old → now.core.out ≡ None →

@@ -4,7 +4,7 @@ use Rattle.rt_world.proofs.Words.{world_of, IsWorld, IsAtRest, AreJoined, IsSoun
 use Rattle.rt_ids.proofs.Joining.{joining_is_sound}
 use Rattle.rt_journal.specs.Together.{AreTogether, IsAssemblyOf}
 use Rattle.rt_journal.proofs.Together.{together_joined}
-use Rattle.rt_linked_core.proofs.LinkSteps.{plain_joined}
+use Rattle.rt_world_links.proofs.LinkSteps.{plain_joined}
 use Rattle.rt_world.proofs.Desks.{desk_count, desk_at-core, desk_at-outside, journal_of-world}
 
 module _ {J : Type 0} {same : J → J → Type 0} {made : J → ℕ} {polls : Owed J ℕ} {answers : J → ℕ → Type 0} (parts : Parts J ℕ) (world : IsWorld same made polls answers parts) (rest : IsAtRest parts) where

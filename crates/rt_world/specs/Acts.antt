@@ -13,8 +13,8 @@ use Rattle.rt_desk.specs.Lanes.{IsGot, FitsSent}
 use Rattle.rt_jobs.specs.Steps.{Owed}
 use Rattle.rt_journal.specs.Ends.{IsSameSeat, KeepsIn}
 use Rattle.rt_journal.specs.Recorded.{RecordedView, IsRecorded, desk_of}
-use Rattle.rt_recorded_desk.specs.Submissions.{DeskView, Submits, numbered}
-use Rattle.rt_recorded_desk.specs.Tickets.{CollectsFrom, GetsAll, RedeemsTicket, DetachesTicket, StaysBeside}
+use Rattle.rt_journal_desk.specs.Submissions.{DeskView, Submits, numbered}
+use Rattle.rt_journal_desk.specs.Tickets.{CollectsFrom, GetsAll, RedeemsTicket, DetachesTicket, StaysBeside}
 use Rattle.rt_world.specs.declared.event.Reply.{Reply}
 use Rattle.rt_world.specs.declared.event.Reply.TheVariants as reply
 use Rattle.rt_world.specs.declared.model.acts.Act.{Act}

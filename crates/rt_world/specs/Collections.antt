@@ -14,7 +14,7 @@ use Rattle.rt_ids.specs.Filters.{Outcomes, accepted_orders, given_outcomes, coll
 use Rattle.rt_ids.specs.Journal.{Journal}
 use Rattle.rt_ids.specs.Outcomes.{outcome_note}
 use Rattle.rt_link.specs.Fits.{Fits}
-pub use Rattle.rt_recorded_desk.specs.Tickets.{RefusesTicket}
+pub use Rattle.rt_journal_desk.specs.Tickets.{RefusesTicket}
 use Rattle.rt_world.specs.declared.event.Reply.{Reply}
 use Rattle.rt_world.specs.declared.event.Reply.TheVariants as reply
 use Rattle.rt_world.specs.State.{WorldView, journal_at, order_under, noted}

@@ -7,14 +7,14 @@ use Rattle.rt_jobs.specs.Steps.{Owed}
 use Rattle.rt_link.specs.declared.plain.Whole.{Whole}
 use Rattle.rt_link.specs.Whole.{out_of, inward_of}
 use Rattle.rt_link.specs.Fits.{Fits}
-use Rattle.rt_recorded_desk.specs.Submissions.{DeskView, IsWritten, terms_of_desk, opened_desk}
+use Rattle.rt_journal_desk.specs.Submissions.{DeskView, IsWritten, terms_of_desk, opened_desk}
 use Rattle.rt_journal.specs.Recorded.{RecordedView, IsRecorded, desk_of}
 use Rattle.rt_journal.specs.Steps.{opened_beside}
 use Rattle.rt_journal.specs.Ends.{IsInOf}
-use Rattle.rt_recorded_desk.specs.Ends.{IsOutOf}
-use Rattle.rt_recorded_desk.specs.Tickets.{HasLane}
+use Rattle.rt_journal_desk.specs.Ends.{IsOutOf}
+use Rattle.rt_journal_desk.specs.Tickets.{HasLane}
 use Rattle.rt_world.specs.State.{WorldView}
-use Rattle.rt_linked_core.specs.Links.{row_of, link_at}
+use Rattle.rt_world_links.specs.Links.{row_of, link_at}
 
 -- the parts of a world: its cores, each beside its journal; the outside actor; and its links, by sender and then by core
 pub record Parts (J T : Type 0) : Type 0 where

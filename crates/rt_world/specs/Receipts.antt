@@ -10,7 +10,7 @@ use Rattle.rt_link.specs.declared.plain.Whole.{Whole}
 use Rattle.rt_link.specs.Calls.{Shuts as ShutsOn}
 use Rattle.rt_link.specs.Whole.{inward_of, kept_by_receiver}
 use Rattle.rt_journal.specs.Ends.{IsInOf, IsSameSeat, KeepsIn}
-use Rattle.rt_recorded_desk.specs.Ends.{KeepsOuts}
+use Rattle.rt_journal_desk.specs.Ends.{KeepsOuts}
 use Rattle.rt_journal.specs.Recorded.{RecordedView, IsRecorded, desk_of}
 use Rattle.rt_journal.specs.Steps.{Delivers as DeliversTo, TellsShut}
 use Rattle.rt_world.specs.declared.event.Reply.{Reply}

@@ -14,11 +14,11 @@ use Rattle.rt_ids.specs.Commands.{return_reason}
 use Rattle.rt_jobs.specs.Calls.{Call, Makes}
 use Rattle.rt_jobs.specs.declared.job.Step.{Step}
 use Rattle.rt_jobs.specs.Steps.{IfDone, Owed}
-use Rattle.rt_linked_core.specs.declared.turn.Turned.{Turned}
-use Rattle.rt_linked_core.specs.declared.turn.Turned.TheVariants as turned
+use Rattle.rt_world_links.specs.declared.turn.Turned.{Turned}
+use Rattle.rt_world_links.specs.declared.turn.Turned.TheVariants as turned
 use Rattle.rt_world.specs.declared.event.Reply.{Reply}
 use Rattle.rt_world.specs.declared.event.Reply.TheVariants as reply
-pub use Rattle.rt_agreement.specs.Polls.{polls_made, poll_note, settle_note}
+pub use Rattle.rt_journal.specs.Polls.{polls_made, poll_note, settle_note}
 use Rattle.rt_world.specs.State.{WorldView, journal_at, order_under, noted}
 use Rattle.rt_world.specs.Calls.{CallsAt}
 

@@ -6,4 +6,4 @@ pub mod model;
 
 pub use event::{Event, Reply};
 pub use model::{World, WorldError};
-pub use rt_notes::{Assembly, Journal};
+pub use rt_journal_notes::{Assembly, Journal};

@@ -9,8 +9,8 @@ ghost use Rattle.rt_world.specs.State.{journal_at, assembly_of};
 use rt_ids::{ActorNo, CoreNo};
 use rt_jobs::Task;
 use rt_journal::{Recorded, RecordedDesk};
-use rt_linked_core::Links;
-use rt_notes::{Assembly, Journal};
+use rt_journal_notes::{Assembly, Journal};
+use rt_world_links::Links;
 use std::alloc::{AllocError, Allocator, Global};
 use std::marker::Model;
 

@@ -11,7 +11,7 @@ use Rattle.rt_jobs.specs.Calls.Call.{Redeem as RedeemCall, Detach as DetachCall}
 use Rattle.rt_world.specs.declared.event.Event.TheVariants.{Redeem, Detach}
 use Rattle.rt_world.specs.declared.event.Reply.TheVariants as reply
 use Rattle.rt_world_laws.specs.Creations.{OrdersNoQueue}
-use Rattle.rt_linked_core.proofs.Places.{set_or, set_each}
+use Rattle.rt_world_links.proofs.Places.{set_or, set_each}
 use Rattle.rt_world_laws.proofs.PlainNotes.{plain_after, collected_plain, pick_plain, settle_plain, delivery_plain, no_creation}
 use Rattle.rt_link.proofs.Lists.{slice_get-with_last}
 

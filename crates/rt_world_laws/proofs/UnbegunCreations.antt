@@ -5,7 +5,7 @@ use Rattle.std.proofs.Common.{replicate}
 use Rattle.std.proofs.lemmas.List.{length-replicate, get_or-replicate}
 use Rattle.rt_ids.specs.declared.note.Note.TheVariants as writes
 use Rattle.rt_world_laws.proofs.KeptLists.{later_noted}
-use Rattle.rt_linked_core.proofs.Places.{none_anywhere, none_in_table, set_each}
+use Rattle.rt_world_links.proofs.Places.{none_anywhere, none_in_table, set_each}
 
 module _ {J T : Type 0} where
   pub unbegun_fresh : (cores cap room : ℕ) (world : WorldView J T) → IsFresh cores cap room world → IsUnbegun world

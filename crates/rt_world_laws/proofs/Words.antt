@@ -30,7 +30,7 @@ pub use Rattle.rt_jobs.specs.Scripts.{Script}
 pub use Rattle.rt_jobs.specs.Steps.{Owed}
 pub use Rattle.rt_jobs.specs.declared.job.Step.{Step}
 pub use Rattle.rt_link.specs.Fits.{Fits}
-pub use Rattle.rt_recorded_desk.specs.Tickets.{RefusesTicket}
+pub use Rattle.rt_journal_desk.specs.Tickets.{RefusesTicket}
 pub use Rattle.rt_world.specs.Calls.{CallsAt}
 pub use Rattle.rt_world.specs.Closings.{Shuts}
 pub use Rattle.rt_world.specs.Collections.{Collects, Detaches, Redeems, WasAccepted, collected_notes, detached_reply, redeemed_reply, uncollected}

@@ -7,12 +7,12 @@ ghost use Rattle.rt_jobs.specs.Ready.{HasReadyJob};
 ghost use Rattle.rt_link.specs.Calls.{Sends};
 ghost use Rattle.rt_link.specs.Fits.{Fits};
 ghost use Rattle.rt_desk.specs.Lanes.{IsGot, FitsSent};
-ghost use Rattle.rt_recorded_desk.specs.Submissions.{Submits, numbered};
+ghost use Rattle.rt_journal_desk.specs.Submissions.{Submits, numbered};
 ghost use Rattle.rt_journal.specs.Recorded.{IsRecorded, desk_of};
-ghost use Rattle.rt_recorded_desk.specs.Ends.{IsOutOf};
+ghost use Rattle.rt_journal_desk.specs.Ends.{IsOutOf};
 ghost use Rattle.rt_journal.specs.Ends.{KeepsIn, IsSameSeat};
-ghost use Rattle.rt_recorded_desk.specs.Tickets.{HasLane, StaysBeside, RefusesTicket, RedeemsTicket, DetachesTicket, CollectsFrom, GetsAll};
-ghost use Rattle.rt_recorded_desk.specs.Spending.{HoldsSome, booked};
+ghost use Rattle.rt_journal_desk.specs.Tickets.{HasLane, StaysBeside, RefusesTicket, RedeemsTicket, DetachesTicket, CollectsFrom, GetsAll};
+ghost use Rattle.rt_journal_desk.specs.Spending.{HoldsSome, booked};
 
 use super::Recorded;
 use rt_ids::{CoreNo, Order, Outcome, SendError, Ticket, TicketError};

@@ -2,9 +2,9 @@
 
 ghost use Rattle.std.specs.Prelude.{◌≡◌, ◌≤◌, ◌<◌, ◌+◌, length};
 ghost use Rattle.rt_jobs.specs.Ready.{HasReadyJob};
-ghost use Rattle.rt_recorded_desk.specs.Ends.{IsOutOf};
+ghost use Rattle.rt_journal_desk.specs.Ends.{IsOutOf};
 ghost use Rattle.rt_journal.specs.Recorded.{desk_of};
-ghost use Rattle.rt_recorded_desk.specs.Tickets.{HasLane};
+ghost use Rattle.rt_journal_desk.specs.Tickets.{HasLane};
 ghost use Rattle.rt_link.specs.Fits.{Fits};
 ghost use Rattle.rt_link.specs.Whole.{out_of};
 ghost use Rattle.rt_world.specs.State.{journal_at};

@@ -13,7 +13,7 @@ use super::World;
 use crate::event::{Event, Reply};
 use rt_ids::ActorNo;
 use rt_jobs::{Job, Task};
-use rt_notes::Assembly;
+use rt_journal_notes::Assembly;
 use std::alloc::Allocator;
 
 impl<J: Task<Out = u64>, A: Allocator + Clone> World<J, A> {

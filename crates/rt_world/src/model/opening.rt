@@ -8,9 +8,9 @@ use super::{World, WorldError};
 use rt_ids::{ActorNo, CoreNo, MOST_CAPACITY, MOST_CORES, MOST_NOTES, QueueNo};
 use rt_jobs::Task;
 use rt_journal::RecordedDesk;
-use rt_linked_core::{Links, open_cores};
 use rt_shares::Shares;
 use rt_taskqueue::CreateError;
+use rt_world_links::{Links, open_cores};
 use std::alloc::{Allocator, Global};
 
 // Whether a world may have these numbers.

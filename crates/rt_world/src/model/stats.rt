@@ -3,13 +3,13 @@
 ghost use Rattle.std.specs.Prelude.{◌≡◌, ◌↔◌, ◌≤◌, IfSome, IsNone};
 ghost use Rattle.arrayvec.specs.ArrayVec.{array_vec_len};
 ghost use Rattle.rt_world.specs.State.{journal_at};
-ghost use Rattle.rt_recorded_stats.specs.Stats.{TellsCore, TellsQueues};
+ghost use Rattle.rt_journal.specs.Stats.{TellsCore, TellsQueues};
 
 use super::World;
 use arrayvec::ArrayVec;
 use rt_ids::{CoreNo, CoreStats, QueueStats};
 use rt_jobs::Task;
-use rt_recorded_stats::told_stats;
+use rt_journal::told_stats;
 use std::alloc::Allocator;
 
 impl<J: Task<Out = u64>, A: Allocator + Clone> World<J, A> {

@@ -13,7 +13,7 @@ use super::receipts::Receipt;
 use crate::event::Reply;
 use rt_ids::{ActorNo, CoreNo, Order};
 use rt_jobs::{Job, Task};
-use rt_linked_core::{Turned, turn_of};
+use rt_world_links::{Turned, turn_of};
 use std::alloc::Allocator;
 
 impl<J: Task<Out = u64>, A: Allocator + Clone> World<J, A> {

@@ -1,6 +1,6 @@
 use Rattle.std.proofs.Common.{◌≡◌, ℕ, ◌+◌, subst, arith}
 use Rattle.rt_ids.specs.Journal.{Journal}
-use Rattle.rt_tables.specs.Histories.{IsHistory}
+use Rattle.rt_journal_facts.specs.Histories.{IsHistory}
 use Rattle.rt_audit.specs.Histories.{AreHistories}
 use Rattle.rt_audit.proofs.HistoryTables.{next_histories}
 use Rattle.rt_audit.proofs.histories.histories_of.Goals as goal

@@ -1,9 +1,9 @@
 use Rattle.std.proofs.Common.{ℕ, ◌<◌, length, sym, subst, arith}
-use Rattle.rt_accounts.specs.Accounts.{greatest_count}
-use Rattle.rt_accounts.specs.AllAccounts.{KnowsAccounts}
+use Rattle.rt_journal_facts.specs.Accounts.{greatest_count}
+use Rattle.rt_journal_facts.specs.AllAccounts.{KnowsAccounts}
 use Rattle.rt_ids.specs.Journal.{Journal, at_place}
-use Rattle.rt_tables.proofs.Walks.{at_start, whole_walk}
-use Rattle.rt_turns.proofs.PickSteps.{length-at_place}
+use Rattle.rt_journal_facts.proofs.Walks.{at_start, whole_walk}
+use Rattle.rt_audit_picks.proofs.PickSteps.{length-at_place}
 use Rattle.rt_audit.proofs.lost.accounts_after.Goals as goal
 
 pub loop-place-init : goal.loop-place-init

@@ -1,4 +1,4 @@
-use Rattle.rt_accounts.specs.AllAccounts.{KnowsAccounts}
+use Rattle.rt_journal_facts.specs.AllAccounts.{KnowsAccounts}
 use Rattle.rt_ids.specs.Journal.{at_place}
 use Rattle.rt_audit.proofs.lost.accounts_after.Given as goal
 

@@ -1,7 +1,7 @@
 use Rattle.std.proofs.Common.{ℕ, sym, subst, arith}
 use Rattle.std.proofs.lemmas.Bool.{both_ways}
 use Rattle.rt_ids.specs.Journal.{Journal, EachNote, at_place}
-use Rattle.rt_tables.proofs.Walks.{at_start, whole_walk}
+use Rattle.rt_journal_facts.proofs.Walks.{at_start, whole_walk}
 use Rattle.rt_audit.specs.Ends.{EndedIfSent}
 use Rattle.rt_audit.proofs.lost.all_ended.Goals as goal
 

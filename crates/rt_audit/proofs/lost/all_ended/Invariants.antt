@@ -1,8 +1,8 @@
 use Rattle.std.proofs.Common.{ℕ}
 use Rattle.rt_ids.specs.Assembly.{Assembly}
 use Rattle.rt_ids.specs.Journal.{Journal, EachNote, at_place}
-use Rattle.rt_rules.specs.Links.{KnowsOrders}
-use Rattle.rt_tables.specs.Histories.{IsHistory}
+use Rattle.rt_audit_rules.specs.Links.{KnowsOrders}
+use Rattle.rt_journal_facts.specs.Histories.{IsHistory}
 use Rattle.rt_audit.specs.Ends.{EndedIfSent}
 use Rattle.rt_audit.proofs.lost.all_ended.Given as goal
 

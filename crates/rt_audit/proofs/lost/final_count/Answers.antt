@@ -1,7 +1,7 @@
 use Rattle.std.proofs.Common.{◌≡◌, ℕ, sym, ap, ◌∙◌, arith}
 use Rattle.rt_ids.specs.Closing.{final_count}
 use Rattle.rt_ids.specs.Journal.{Journal, at_place}
-use Rattle.rt_tables.proofs.Walks.{at_start, whole_walk}
+use Rattle.rt_journal_facts.proofs.Walks.{at_start, whole_walk}
 use Rattle.rt_audit.proofs.lost.final_count.Goals as goal
 
 pub loop-place-init : goal.loop-place-init

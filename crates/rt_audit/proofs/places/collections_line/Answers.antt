@@ -2,7 +2,7 @@ use Rattle.std.proofs.Common.{◌≡◌, ℕ, refl, subst, arith, below_more}
 use Rattle.rt_ids.specs.Assembly.{journal_of, IsPrefix, names_of}
 use Rattle.rt_ids.specs.Filters.{given_outcomes, collected_outcomes}
 use Rattle.rt_ids.specs.Journal.{Journal}
-use Rattle.rt_prefixes.proofs.ToldNames.{none_off, collected_at_place}
+use Rattle.rt_audit_rules.proofs.ToldNames.{none_off, collected_at_place}
 use Rattle.rt_audit.specs.OrderFaults.{IsLeast, CollectionsOff}
 use Rattle.rt_audit.proofs.LeastLines.{prefix_least}
 use Rattle.rt_audit.proofs.LinksOff.{next_collected}

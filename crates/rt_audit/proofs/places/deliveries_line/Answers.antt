@@ -1,7 +1,7 @@
 use Rattle.std.proofs.Common.{◌≡◌, ℕ, ◌+◌, refl, ap, ◌∙◌, subst, arith, below_more}
 use Rattle.rt_ids.specs.Assembly.{journal_of, IsPrefix, names_of}
 use Rattle.rt_ids.specs.Filters.{accepted_orders, delivered_names, name_delivered}
-use Rattle.rt_prefixes.proofs.ToldNames.{none_off, told_at_place}
+use Rattle.rt_audit_rules.proofs.ToldNames.{none_off, told_at_place}
 use Rattle.rt_audit.specs.OrderFaults.{IsLeast, DeliveriesOff}
 use Rattle.rt_audit.proofs.LeastLines.{prefix_least}
 use Rattle.rt_audit.proofs.LinksOff.{next_delivered}

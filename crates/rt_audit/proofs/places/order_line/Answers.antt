@@ -3,7 +3,7 @@ use Rattle.rt_ids.specs.Clauses.{StandsInOrder}
 use Rattle.rt_ids.specs.Journal.{Journal, EachNote}
 use Rattle.rt_ids.specs.Terms.{terms_of}
 use Rattle.rt_ids.specs.Assembly.{journal_of}
-use Rattle.rt_tables.specs.Faults.{IsFirstFault}
+use Rattle.rt_journal_facts.specs.Faults.{IsFirstFault}
 use Rattle.rt_audit.specs.OrderFaults.{IsLeast, LinksOff, OrderOff}
 use Rattle.rt_audit.proofs.LeastLines.{both_least, notes_least, least_some}
 use Rattle.rt_audit.proofs.NoFaults.{if_found}

@@ -2,8 +2,8 @@ use Rattle.std.proofs.Common.{ℕ, inl, inr, refl, sym, subst}
 use Rattle.std.proofs.lemmas.Bool.{both_ways}
 use Rattle.rt_ids.specs.Clauses.{OutcomesRight}
 use Rattle.rt_ids.specs.Journal.{Journal, EachNote}
-use Rattle.rt_tables.specs.Faults.{IsFirstFault}
-use Rattle.rt_tables.specs.Histories.{IsHistory}
+use Rattle.rt_journal_facts.specs.Faults.{IsFirstFault}
+use Rattle.rt_journal_facts.specs.Histories.{IsHistory}
 use Rattle.rt_audit.proofs.NoFaults.{if_found}
 use Rattle.rt_audit.proofs.places.outcomes_line.Goals as goal
 

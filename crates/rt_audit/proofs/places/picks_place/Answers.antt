@@ -3,8 +3,8 @@ use Rattle.std.specs.Prelude.{None}
 use Rattle.rt_ids.specs.Clauses.{PicksRight, queue_just_picked}
 use Rattle.rt_ids.specs.Journal.{Journal, EachNote}
 use Rattle.rt_ids.specs.Terms.{terms_of}
-use Rattle.rt_tables.specs.Histories.{IsHistory}
-use Rattle.rt_turns.specs.PickFaults.{IsPickFault}
+use Rattle.rt_journal_facts.specs.Histories.{IsHistory}
+use Rattle.rt_audit_picks.specs.PickFaults.{IsPickFault}
 use Rattle.rt_audit.specs.Places.{PicksOf}
 use Rattle.rt_audit.proofs.places.picks_place.Goals as goal
 

@@ -1,8 +1,8 @@
 use Rattle.std.proofs.Common.{ℕ, subst, sym, arith, below_more}
 use Rattle.rt_ids.specs.Clauses.{StartsRight}
 use Rattle.rt_ids.specs.Journal.{Journal, EachNote}
-use Rattle.rt_tables.specs.Faults.{IsFirstFault}
-use Rattle.rt_tables.specs.Histories.{IsHistory}
+use Rattle.rt_journal_facts.specs.Faults.{IsFirstFault}
+use Rattle.rt_journal_facts.specs.Histories.{IsHistory}
 use Rattle.rt_audit.specs.Places.{StartsOf}
 use Rattle.rt_audit.proofs.places.starts_place.Goals as goal
 

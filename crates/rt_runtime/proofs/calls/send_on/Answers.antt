@@ -1,9 +1,9 @@
 use Rattle.std.proofs.Common.{◌≡◌, ◌-◌, ◌++◌, ◌∙◌, Some, sym, subst, ap, set}
 use Rattle.std.specs.Prelude.{IfOk, slice_get}
 use Rattle.rt_link.specs.Fits.{Fits}
-use Rattle.rt_recorded_desk.specs.Ends.{IsOutOf}
-use Rattle.rt_recorded_desk.specs.Tickets.{HasLane, StaysBeside}
-use Rattle.rt_grid.specs.Ends.{out_at}
+use Rattle.rt_journal_desk.specs.Ends.{IsOutOf}
+use Rattle.rt_journal_desk.specs.Tickets.{HasLane, StaysBeside}
+use Rattle.rt_ring_mesh.specs.Ends.{out_at}
 use Rattle.rt_runtime.specs.Sends.{accepted}
 use Rattle.rt_runtime.proofs.Sent.{lent_out, put_seen, put_at, sent_orders, sent_named}
 use Rattle.rt_runtime.proofs.calls.send_on.Goals as goal

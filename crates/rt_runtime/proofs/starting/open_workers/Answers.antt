@@ -1,6 +1,6 @@
 use Rattle.std.proofs.Common.{◌∙◌, ap, sym, subst, length, arith}
 use Rattle.std.specs.Vec.Iter.{into_iter_items, into_iter_len}
-use Rattle.rt_workers.proofs.Lists.{IsMade, made_all, made_first, made_more}
+use Rattle.rt_runtime_team.proofs.Lists.{IsMade, made_all, made_first, made_more}
 use Rattle.rt_runtime.specs.Starting.{AreOpening, IsOpenedWith}
 use Rattle.rt_runtime.proofs.Started.{holds_next}
 use Rattle.rt_runtime.proofs.starting.open_workers.Goals as goal

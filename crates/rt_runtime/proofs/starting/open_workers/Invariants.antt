@@ -1,6 +1,6 @@
 use Rattle.std.proofs.Common.{◌≡◌, ◌≤◌, length, vec_capacity}
 use Rattle.std.specs.Vec.Iter.{into_iter_items, into_iter_len}
-use Rattle.rt_workers.proofs.Lists.{IsMade}
+use Rattle.rt_runtime_team.proofs.Lists.{IsMade}
 use Rattle.rt_runtime.specs.Starting.{IsOpenedWith}
 use Rattle.rt_runtime.proofs.starting.open_workers.Given as goal
 

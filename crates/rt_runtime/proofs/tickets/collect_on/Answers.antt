@@ -1,7 +1,7 @@
 use Rattle.std.proofs.Common.{◌∙◌, sym, subst, ap, set, ◌+◌, ◌≤◌, length}
 use Rattle.rt_link.specs.Fits.{Fits}
-use Rattle.rt_recorded_desk.specs.Ends.{IsOutOf}
-use Rattle.rt_recorded_desk.specs.Tickets.{HasLane, StaysBeside}
+use Rattle.rt_journal_desk.specs.Ends.{IsOutOf}
+use Rattle.rt_journal_desk.specs.Tickets.{HasLane, StaysBeside}
 use Rattle.rt_runtime.proofs.Sent.{gets_there, lent_out, put_seen, put_at}
 use Rattle.rt_runtime.proofs.tickets.collect_on.Goals as goal
 

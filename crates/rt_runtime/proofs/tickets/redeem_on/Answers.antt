@@ -2,8 +2,8 @@ use Rattle.std.proofs.Common.{◌∙◌, sym, subst, ap, set}
 use Rattle.rt_link.specs.Fits.{Fits}
 use Rattle.std.specs.Prelude.{IfOk}
 use Rattle.rt_desk.specs.Lanes.{FitsSent, IsGot}
-use Rattle.rt_recorded_desk.specs.Ends.{IsOutOf}
-use Rattle.rt_recorded_desk.specs.Tickets.{HasLane, StaysBeside}
+use Rattle.rt_journal_desk.specs.Ends.{IsOutOf}
+use Rattle.rt_journal_desk.specs.Tickets.{HasLane, StaysBeside}
 use Rattle.rt_runtime.proofs.Sent.{lent_out, put_seen, put_at}
 use Rattle.rt_runtime.proofs.tickets.redeem_on.Goals as goal
 

@@ -1,6 +1,6 @@
 use Rattle.std.proofs.Common.{ℕ, ◌-◌, sym, subst, ap, ◌∙◌, arith}
 use Rattle.rt_ids.specs.Journal.{Journal, at_place}
-use Rattle.rt_tables.proofs.Walks.{at_start}
+use Rattle.rt_journal_facts.proofs.Walks.{at_start}
 use Rattle.rt_stats.specs.Sums.{charges}
 use Rattle.rt_stats.specs.Walks.{KnowsSums}
 use Rattle.rt_stats.proofs.Gains.{gained_is}

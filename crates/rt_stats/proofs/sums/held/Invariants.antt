@@ -1,5 +1,5 @@
 use Rattle.std.proofs.Common.{◌≡◌, min}
-use Rattle.rt_accounts.specs.Accounts.{greatest_count}
+use Rattle.rt_journal_facts.specs.Accounts.{greatest_count}
 use Rattle.rt_stats.specs.Walks.{inside_below}
 use Rattle.rt_stats.proofs.sums.held.Given as goal
 

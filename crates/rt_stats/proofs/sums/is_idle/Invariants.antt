@@ -1,5 +1,5 @@
 use Rattle.std.proofs.Common.{◌≡◌, ℕ, ◌<◌, false, get_or}
-use Rattle.rt_accounts.specs.Accounts.{fresh_account, has_jobs}
+use Rattle.rt_journal_facts.specs.Accounts.{fresh_account, has_jobs}
 use Rattle.rt_stats.proofs.sums.is_idle.Given as goal
 
 abbrev pub invariant-loop-queue : goal.invariant-loop-queue

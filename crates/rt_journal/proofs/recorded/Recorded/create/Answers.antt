@@ -1,5 +1,5 @@
 use Rattle.rt_journal.proofs.Names.{sym, ◌∙◌, subst, arith, InRange, IsOpening, ℕ}
-use Rattle.rt_agreement.proofs.Kept.{opening_is_open}
+use Rattle.rt_journal.proofs.Kept.{opening_is_open}
 use Rattle.rt_journal.proofs.CoreCalls.{created_did}
 use Rattle.rt_journal.proofs.QuietSteps.{view_of, quiet_invariant, quiet_now, quiet_noted}
 use Rattle.rt_journal.proofs.recorded.Recorded.create.Goals as goal

@@ -1,5 +1,5 @@
 use Rattle.std.proofs.Common.{◌<◌, arith}
-use Rattle.rt_grid.specs.Ends.{out_at}
+use Rattle.rt_ring_mesh.specs.Ends.{out_at}
 use Rattle.rt_runtime.proofs.Booked.{room_to_collect}
 use Rattle.rt_runtime.proofs.Sent.{runtime_on, stored_on}
 use Rattle.rt_runtime.proofs.runtime.Runtime.collect.Goals as goal

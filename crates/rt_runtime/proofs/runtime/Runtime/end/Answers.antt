@@ -1,6 +1,6 @@
 use Rattle.std.proofs.Common.{◌≡◌, ◌<◌, ℕ, ◌∙◌, [], ◌∷◌, ◌++◌, ap, sym, subst, length, arith}
 use Rattle.std.specs.Prelude.{true}
-use Rattle.rt_grid.specs.Grid.{IsGrid}
+use Rattle.rt_ring_mesh.specs.Grid.{IsGrid}
 use Rattle.rt_link.specs.Fits.{Fits}
 use Rattle.rt_runtime.specs.Calls.{HasFinished}
 use Rattle.rt_runtime.specs.State.{closing_at}

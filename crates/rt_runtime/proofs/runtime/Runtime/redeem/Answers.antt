@@ -1,5 +1,5 @@
 use Rattle.std.proofs.Common.{◌<◌, ◌∙◌, ap, arith}
-use Rattle.rt_grid.specs.Ends.{out_at}
+use Rattle.rt_ring_mesh.specs.Ends.{out_at}
 use Rattle.rt_runtime.proofs.Booked.{books_redeemed, room_held}
 use Rattle.rt_runtime.proofs.Redeemed.{redeemed_here}
 use Rattle.rt_runtime.proofs.Sent.{runtime_on, stored_on}

@@ -1,6 +1,6 @@
 use Rattle.std.proofs.Common.{◌≡◌, ◌+◌, ◌<◌, ◌≤◌, ◌∙◌, ap, sym, subst, arith, length, length-set}
-use Rattle.rt_recorded_desk.specs.Spending.{booked}
-use Rattle.rt_grid.specs.Ends.{out_at}
+use Rattle.rt_journal_desk.specs.Spending.{booked}
+use Rattle.rt_ring_mesh.specs.Ends.{out_at}
 use Rattle.rt_runtime.proofs.Booked.{books_sent}
 use Rattle.rt_runtime.proofs.Sent.{runtime_on, stored_on}
 use Rattle.rt_runtime.proofs.runtime.Runtime.send.Goals as goal

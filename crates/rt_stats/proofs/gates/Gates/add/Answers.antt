@@ -1,6 +1,6 @@
 use Rattle.std.proofs.Common.{◌≡◌, ℕ, ◌+◌, min, get_or, sym, ◌∙◌, ap, arith}
 use Rattle.std.specs.Prelude.{Some}
-use Rattle.rt_accounts.specs.Accounts.{greatest_count}
+use Rattle.rt_journal_facts.specs.Accounts.{greatest_count}
 use Rattle.rt_stats.specs.declared.gates.Gates.{Gates}
 use Rattle.rt_stats.specs.Gates.{gate_after, open_gate}
 use Rattle.rt_stats.proofs.GateSteps.{gates_next, each_after_one, each_after_none}

@@ -1,6 +1,6 @@
 use Rattle.std.proofs.Common.{ℕ, sym, subst, ap, ◌∙◌}
 use Rattle.rt_ids.specs.Journal.{Journal, at_place}
-use Rattle.rt_tables.proofs.Walks.{at_start, at_end}
+use Rattle.rt_journal_facts.proofs.Walks.{at_start, at_end}
 use Rattle.rt_stats.specs.Walks.{KnowsSums}
 use Rattle.rt_stats.proofs.sums.Sums.of.Goals as goal
 

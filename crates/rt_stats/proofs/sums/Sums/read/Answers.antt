@@ -1,6 +1,6 @@
 use Rattle.std.proofs.Common.{ℕ, ◌<◌, length, sym, subst, arith}
 use Rattle.rt_ids.specs.Journal.{Journal, at_place}
-use Rattle.rt_accounts.specs.Accounts.{greatest_count}
+use Rattle.rt_journal_facts.specs.Accounts.{greatest_count}
 use Rattle.rt_stats.specs.Walks.{KnowsSums}
 use Rattle.rt_stats.proofs.Gains.{length-at_place, same_place}
 use Rattle.rt_stats.proofs.sums.Sums.read.Goals as goal

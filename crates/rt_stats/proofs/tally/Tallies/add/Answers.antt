@@ -1,8 +1,8 @@
 use Rattle.std.proofs.Common.{◌≡◌, ℕ, get_or, sym, ◌∙◌, ap, arith}
 use Rattle.std.specs.Prelude.{Some}
 use Rattle.rt_ids.specs.Runtimes.{shares}
-use Rattle.rt_accounts.specs.declared.accounts.Account.{Account}
-use Rattle.rt_accounts.specs.Accounts.{fresh_account}
+use Rattle.rt_journal_facts.specs.declared.accounts.Account.{Account}
+use Rattle.rt_journal_facts.specs.Accounts.{fresh_account}
 use Rattle.rt_stats.specs.Tallies.{no_tally, tally_after, cost_told}
 use Rattle.rt_stats.proofs.TallySteps.{tallies_after_one}
 use Rattle.rt_stats.proofs.tally.Tallies.add.Goals as goal

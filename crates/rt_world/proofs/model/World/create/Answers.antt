@@ -1,6 +1,6 @@
 use Rattle.rt_world.proofs.Words.{◌<◌, ◌∙◌, ap, subst, arith, journal_at, IsOpening, sym, none_owed, IsKeptBeside}
 use Rattle.rt_world.proofs.CoreSteps.{viewed, free, journal_is}
-use Rattle.rt_linked_core.proofs.OneTurn.{created_stays}
+use Rattle.rt_world_links.proofs.OneTurn.{created_stays}
 use Rattle.rt_world.proofs.Turning.{all_beside, quiet_rests, quiet_at_rest, creates_now}
 use Rattle.rt_world.proofs.model.World.create.Goals as goal
 

@@ -1,0 +1,5 @@
+use Rattle.fairexec_args.proofs.Rows.{asked_rows}
+use Rattle.fairexec_args.proofs.laws.lines_are_asked.Goals as goal
+
+pub returns : goal.returns
+returns c = asked_rows

@@ -1,0 +1,61 @@
+-- Command lines, and what each asks for or why it is refused.
+use Rattle.std.specs.Prelude.{◌≡◌, [], ◌∷◌, true, false, List, Option, Some, None, codes}
+use Rattle.clap.specs.Words.{Text, fault_of, takes}
+use Rattle.clap.specs.Kinds.{Kinds}
+use Rattle.clap.specs.declared.error.kind.ErrorKind.TheVariants as kind
+use Rattle.fairexec_args.specs.Asks.{asks_of}
+use Rattle.fairexec_args.specs.CommandLine.{our_app}
+use Rattle.fairexec_args.specs.declared.asked.What.{What}
+use Rattle.fairexec_args.specs.declared.asked.What.TheVariants.{Run, Threads, Audit}
+
+-- the words of a command line, behind the program's name
+abbrev pub fairexec : List Text → List Text
+fairexec words = codes "fairexec" ∷ words
+
+-- the words are taken, and ask for this
+abbrev pub IsAsked : List Text → What → Option Text → Type 0
+IsAsked words what file = (takes our_app words ≡ true) × (asks_of words ≡ Some (what, file))
+
+-- the words are not taken, and have one of these faults
+abbrev pub IsRefused : List Text → Kinds → Type 0
+IsRefused words faults = (takes our_app words ≡ false) × (fault_of our_app words ≡ faults)
+
+-- command lines that are taken
+pub record AreAsked : Type 0 where
+  -- fairexec run
+  pub run : IsAsked (fairexec (codes "run" ∷ [])) (Run false false) None
+  -- fairexec run --journal a.script
+  pub journal : IsAsked (fairexec (codes "run" ∷ codes "--journal" ∷ codes "a.script" ∷ [])) (Run true false) (Some (codes "a.script"))
+  -- fairexec run a.script --stats: a flag may come behind the file
+  pub stats : IsAsked (fairexec (codes "run" ∷ codes "a.script" ∷ codes "--stats" ∷ [])) (Run false true) (Some (codes "a.script"))
+  -- fairexec run --stats --journal -- --journal: what follows `--` is a file
+  pub trailing : IsAsked (fairexec (codes "run" ∷ codes "--stats" ∷ codes "--journal" ∷ codes "--" ∷ codes "--journal" ∷ [])) (Run true true) (Some (codes "--journal"))
+  -- fairexec run -: a file named `-` is a file
+  pub dash : IsAsked (fairexec (codes "run" ∷ codes "-" ∷ [])) (Run false false) (Some (codes "-"))
+  -- fairexec run threads: the name of a subcommand is a file here
+  pub named : IsAsked (fairexec (codes "run" ∷ codes "threads" ∷ [])) (Run false false) (Some (codes "threads"))
+  -- fairexec threads x
+  pub threads : IsAsked (fairexec (codes "threads" ∷ codes "x" ∷ [])) Threads (Some (codes "x"))
+  -- fairexec audit
+  pub audit : IsAsked (fairexec (codes "audit" ∷ [])) Audit None
+
+-- command lines that are not taken
+pub record AreRefused : Type 0 where
+  -- fairexec
+  pub nothing : IsRefused (fairexec []) (kind.MissingSubcommand ∷ [])
+  -- fairexec go
+  pub unknown : IsRefused (fairexec (codes "go" ∷ [])) (kind.UnknownArgument ∷ kind.InvalidSubcommand ∷ [])
+  -- fairexec run a b
+  pub two_files : IsRefused (fairexec (codes "run" ∷ codes "a" ∷ codes "b" ∷ [])) (kind.UnknownArgument ∷ [])
+  -- fairexec run --journal --journal
+  pub twice : IsRefused (fairexec (codes "run" ∷ codes "--journal" ∷ codes "--journal" ∷ [])) (kind.ArgumentConflict ∷ [])
+  -- fairexec run --journal=x
+  pub valued : IsRefused (fairexec (codes "run" ∷ codes "--journal=x" ∷ [])) (kind.TooManyValues ∷ [])
+  -- fairexec threads --journal
+  pub flag_of_run : IsRefused (fairexec (codes "threads" ∷ codes "--journal" ∷ [])) (kind.UnknownArgument ∷ [])
+  -- fairexec --help
+  pub help : IsRefused (fairexec (codes "--help" ∷ [])) (kind.DisplayHelp ∷ [])
+  -- fairexec run -h
+  pub help_of_run : IsRefused (fairexec (codes "run" ∷ codes "-h" ∷ [])) (kind.DisplayHelp ∷ [])
+  -- fairexec -V
+  pub version : IsRefused (fairexec (codes "-V" ∷ [])) (kind.DisplayVersion ∷ [])

@@ -1,0 +1,65 @@
+-- What is written of a verdict, and what stops a reader, told as a fault of the audit.
+use Rattle.std.proofs.Common.{◌≡◌, Result, Ok, Err, OnOk, ℕ, List, [], Option, Some, None, true, refl, append-nil}
+use Rattle.std.specs.Option.{IfSome}
+use Rattle.std.specs.Io.KnownBytes.{Appends}
+use Rattle.rt_ids.specs.Assembly.{Assembly}
+use Rattle.rt_ids.specs.Sound.{IsSound}
+use Rattle.rt_ids.specs.Spelled.{IsSpelled}
+use Rattle.rt_audit.specs.declared.judge.Verdict.{Verdict}
+use Rattle.rt_audit.specs.declared.judge.Verdict.TheVariants.{Sound, Fault}
+use Rattle.rt_audit.specs.Verdicts.{IsFirstBroken, IsVerdict, rule_named}
+use Rattle.rt_journal_read.specs.declared.fault.JournalCause.{JournalCause}
+use Rattle.rt_journal_read.specs.declared.fault.ReadError.{ReadError}
+use Rattle.rt_journal_read.specs.declared.fault.ReadError.TheVariants as read
+use Rattle.rt_journal_read.specs.Faults.{IfText as IfTextRead}
+use Rattle.rt_journal_read.specs.Taking.{IsPrompt as IsPromptRead}
+use Rattle.fairexec_report.specs.Audits.{JudgesText, TellsSound}
+use Rattle.fairexec_report.specs.Faults.{IfText}
+use Rattle.fairexec_report.specs.Prompt.{IsPrompt}
+use Rattle.fairexec_report.specs.Reasons.{fault_of}
+use Rattle.rt_journal_write.specs.Pages.{AppendsFront}
+use Rattle.fairexec_report.specs.VerdictTexts.{is_sound}
+use Rattle.rt_journal_write.specs.Texts.{journal_text}
+pub use Rattle.rt_journal_write.proofs.PageLemmas.{front_of_count}
+
+pub OnOk-any : {T E P : Type 0} (result : Result T E) → P → OnOk result P
+OnOk-any (Ok value) p = p
+OnOk-any (Err error) p = tt
+
+-- all is written
+pub front_of_all : (old new : Option (List ℕ)) (text : List ℕ) → Appends old new text → AppendsFront old new text
+front_of_all old new text out = record { written = text; rest = []; appends = out; whole = append-nil text }
+
+-- a faulty line of the text
+pub told_of : (fact : ℕ × JournalCause → Type 0) (error : ReadError) → IfTextRead fact error → IfText fact (fault_of error)
+told_of fact (read.Text line cause) known = known
+told_of fact read.Read known = tt
+told_of fact read.Memory known = tt
+
+-- told as soon as its reader could
+pub prompt_of : (old new : Option (List ℕ)) (error : ReadError) → IsPromptRead old new error → IsPrompt old new (fault_of error)
+prompt_of old new (read.Text line cause) prompt = prompt
+prompt_of old new read.Read prompt = prompt
+prompt_of old new read.Memory prompt = tt
+
+sound_only : (verdict : Verdict) → is_sound verdict ≡ true → verdict ≡ Sound
+sound_only Sound is = refl
+sound_only (Fault actor line rule) is = cc
+
+module _ (source : Option (List ℕ)) (assembly : Assembly ℕ) (verdict : Verdict) (told : IfSome source (λ text. IsSpelled assembly × (text ≡ journal_text assembly))) (sound : verdict ≡ Sound → IsSpelled assembly × IsSound assembly) where
+  -- the verdict is one of the journals that the source tells
+  pub judged : (IsSpelled assembly → IsFirstBroken assembly (rule_named verdict)) → (IsSpelled assembly → IsVerdict assembly verdict) →
+      (IsSpelled assembly → IsSound assembly → verdict ≡ Sound) → IfSome source (JudgesText verdict)
+  judged rule place only = from source told
+    where
+      from : (all : Option (List ℕ)) → IfSome all (λ text. IsSpelled assembly × (text ≡ journal_text assembly)) → IfSome all (JudgesText verdict)
+      from None is = tt
+      from (Some text) (spelled, same) = (assembly, same, record { spelled = spelled; sound = (λ found. (sound found).1, only spelled); rule = rule spelled; place = place spelled })
+
+  -- and they are sound if it says so
+  pub tells_sound : is_sound verdict ≡ true → TellsSound source
+  tells_sound holds = from source told
+    where
+      from : (all : Option (List ℕ)) → IfSome all (λ text. IsSpelled assembly × (text ≡ journal_text assembly)) → TellsSound all
+      from None is = tt
+      from (Some text) (spelled, same) = (assembly, same, spelled, (sound (sound_only verdict holds)).1)

@@ -1,0 +1,3 @@
+pub mod AuditLemmas
+pub mod StatLemmas
+pub mod TextLemmas

@@ -1,0 +1,69 @@
+-- The text of statistics, one queue or core after another.
+use Rattle.std.proofs.Common.{◌≡◌, ℕ, zero, suc, ◌+◌, Bool, true, false, List, [], ◌++◌, refl, sym, ap, ◌∙◌, subst, append_assoc, append-nil, arith}
+use Rattle.std.specs.Prelude.{◌↔◌, IsTrue}
+use Rattle.rt_ids.specs.Closing.{IsDrained}
+use Rattle.rt_ids.specs.Journal.{Journal}
+use Rattle.rt_stats.specs.Stats.{core_stats, queue_stats}
+use Rattle.fairexec_report.specs.StatTexts.{core_text, queue_text, queues_below, IsCoreText, IsTextBelow, IsStatsText}
+
+next : (number : ℕ) → suc number ≡ number + 1
+next number = omega arith
+
+no_queues : (core : ℕ) (journal : Journal ℕ) → queues_below 0 core journal ≡ []
+unfolding queues_below
+no_queues core journal = refl
+
+queue_more : (queue core : ℕ) (journal : Journal ℕ) → queues_below (suc queue) core journal ≡ queues_below queue core journal ++ queue_text core queue (queue_stats queue journal)
+unfolding queues_below
+queue_more queue core journal = refl
+
+-- before the first queue nothing is put
+pub before_queues : (core : ℕ) (journal : Journal ℕ) (page : List ℕ) → page ≡ page ++ queues_below 0 core journal
+before_queues core journal page = sym (ap (λ text. page ++ text) (no_queues core journal) ∙ append-nil page)
+
+-- one queue more
+pub after_queue : (queue core : ℕ) (journal : Journal ℕ) (start page new : List ℕ) → page ≡ start ++ queues_below queue core journal →
+    new ≡ page ++ queue_text core queue (queue_stats queue journal) → new ≡ start ++ queues_below (queue + 1) core journal
+after_queue queue core journal start page new so_far put =
+    let line = queue_text core queue (queue_stats queue journal) in
+    put ∙ ap (λ text. text ++ line) so_far ∙ append_assoc start (queues_below queue core journal) line
+    ∙ ap (λ text. start ++ text) (sym (queue_more queue core journal)) ∙ ap (λ number. start ++ queues_below number core journal) (next queue)
+
+-- before the first core nothing is told
+pub no_cores : (cores : ℕ) (journals : ℕ → Journal ℕ) → IsTextBelow 0 cores journals []
+unfolding IsTextBelow
+no_cores cores journals = refl
+
+core_more : (core cores : ℕ) (journals : ℕ → Journal ℕ) (first rest : List ℕ) → IsTextBelow core cores journals first → IsCoreText core cores (journals core) rest → IsTextBelow (suc core) cores journals (first ++ rest)
+unfolding IsTextBelow
+core_more core cores journals first rest so_far one = (first, rest, so_far, one, refl)
+
+-- one core more
+pub after_core : (core cores : ℕ) (journals : ℕ → Journal ℕ) (first rest : List ℕ) → IsTextBelow core cores journals first → IsCoreText core cores (journals core) rest → IsTextBelow (core + 1) cores journals (first ++ rest)
+after_core core cores journals first rest so_far one =
+    subst (λ number. IsTextBelow number cores journals (first ++ rest)) (next core) (core_more core cores journals first rest so_far one)
+
+-- two answers to one question are the same
+same_answer : (one other : Bool) (fact : Type 0) → IsTrue one ↔ fact → IsTrue other ↔ fact → one ≡ other
+same_answer true true fact first second = refl
+same_answer false false fact first second = refl
+same_answer true false fact first second = sym (second.1 (first.0 refl))
+same_answer false true fact first second = first.1 (second.0 refl)
+
+-- a journal has one text of statistics
+core_once : (core cores : ℕ) (journal : Journal ℕ) (text other : List ℕ) → IsCoreText core cores journal text → IsCoreText core cores journal other → text ≡ other
+core_once core cores journal text other first second =
+    first.told
+    ∙ (ap (λ drained. core_text core (core_stats drained journal) ++ queues_below 256 core journal) (same_answer first.drained second.drained (IsDrained cores journal) first.right second.right)
+    ∙ sym second.told)
+
+below_once : (core cores : ℕ) (journals : ℕ → Journal ℕ) (text other : List ℕ) → IsTextBelow core cores journals text → IsTextBelow core cores journals other → text ≡ other
+unfolding IsTextBelow
+below_once zero cores journals text other first second = first ∙ sym second
+below_once (suc core) cores journals text other (front, rest, below, one, whole) (other_front, other_rest, other_below, other_one, other_whole) =
+    whole
+    ∙ (ap (λ bytes. bytes ++ rest) (below_once core cores journals front other_front below other_below)
+    ∙ (ap (λ bytes. other_front ++ bytes) (core_once core cores (journals core) rest other_rest one other_one) ∙ sym other_whole))
+
+pub stats_once : (cores : ℕ) (journals : ℕ → Journal ℕ) (text other : List ℕ) → IsStatsText cores journals text → IsStatsText cores journals other → text ≡ other
+stats_once cores journals text other first second = below_once cores cores journals text other first second

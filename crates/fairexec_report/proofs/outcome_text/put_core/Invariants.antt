@@ -1,0 +1,11 @@
+-- The lines of the notes so far stand behind what the page had.
+use Rattle.std.proofs.Common.{◌≡◌, ◌++◌, ℕ, string_bytes}
+use Rattle.rt_ids.specs.Assembly.{Assembly}
+use Rattle.rt_ids.specs.Journal.{at_place}
+use Rattle.rt_audit_rules.specs.Links.{KnowsOutcomes}
+use Rattle.fairexec_report.specs.Outcomes.{lines_told}
+use Rattle.fairexec_report.proofs.text.put_core.Given as goal
+
+abbrev pub invariant-loop-place : goal.invariant-loop-place
+invariant-loop-place l =
+    (assembly : Assembly ℕ) → KnowsOutcomes l.outcomes assembly → string_bytes l.page ≡ string_bytes l.initial.page ++ lines_told assembly l.core (at_place l.place l.sent.notes)

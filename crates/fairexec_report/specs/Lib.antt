@@ -1,0 +1,9 @@
+pub mod Audits
+pub mod Faults
+pub mod Outcomes
+pub mod Prompt
+pub mod Reasons
+pub mod StatLines
+pub mod StatTexts
+pub mod VerdictTexts
+pub mod Writing

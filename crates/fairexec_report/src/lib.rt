@@ -1,0 +1,18 @@
+//! What the program tells of journals beside their notes: their statistics, what an audit finds, and what became of the outside actor's submissions.
+#![tactic(auto)]
+
+pub mod audit;
+pub mod fault;
+pub mod line;
+pub mod outcome_line;
+pub mod outcome_text;
+pub mod outcome_write;
+pub mod stats;
+pub mod verdict;
+
+pub use audit::audit_text;
+pub use fault::AuditFault;
+pub use outcome_line::OutcomeLine;
+pub use outcome_text::put_outcomes;
+pub use outcome_write::{TellFault, write_outcomes};
+pub use stats::put_stats;

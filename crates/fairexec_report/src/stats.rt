@@ -1,0 +1,66 @@
+//! The statistics of a core as text.
+
+ghost use Rattle.std.specs.Prelude.{◌≡◌, ◌++◌, ℕ, List, OnOk, string_bytes};
+ghost use Rattle.fairexec_report.specs.StatTexts as spec;
+ghost use Rattle.rt_ids.specs.Journal.{Journal as Notes};
+ghost use Rattle.rt_stats.specs.Stats.{queue_stats};
+ghost use Rattle.rt_stats.specs.Walks.{KnowsSums};
+
+use crate::line::{CoreLine, QueueLine};
+use rt_ids::{CoreNo, QueueNo};
+use rt_journal_notes::Journal;
+use rt_stats::Sums;
+use std::alloc::{AllocError, Global};
+
+/// Puts the line of a core on the page, and then a line for each of its queues, by number. `cores` is how many cores there are in all.
+///
+/// # Errors
+///
+/// `AllocError` for want of memory. A first part of the lines may then stand on the page.
+pub fn put_stats(
+    alloc: Global,
+    core: CoreNo,
+    cores: u8,
+    journal: &Journal<u64>,
+    page: &mut String,
+) -> Result<(), AllocError>
+    ensures { OnOk result ((text : List ℕ) × spec.IsCoreText core cores journal.now.notes text
+        × (string_bytes page.new ≡ string_bytes page.old ++ text)) }
+{
+    let sums = Sums::of(alloc, journal)?;
+    put_core(core, cores, &sums, page)?;
+    put_queues(core, &sums, page)
+}
+
+/// Puts the line of the core.
+fn put_core(core: CoreNo, cores: u8, sums: &Sums, page: &mut String) -> Result<(), AllocError>
+    ensures { OnOk result ((journal : Notes ℕ) → KnowsSums sums.now journal
+        → spec.IsCorePut core cores journal (string_bytes page.old) (string_bytes page.new)) }
+{
+    let line = CoreLine(core, sums.core_stats(cores));
+    writeln!(page, "{line}")?;
+    Ok(())
+}
+
+/// Puts the lines of all queues that there are, by number.
+fn put_queues(core: CoreNo, sums: &Sums, page: &mut String) -> Result<(), AllocError>
+    ensures { OnOk result ((journal : Notes ℕ) → KnowsSums sums.now journal
+        → string_bytes page.new ≡ string_bytes page.old ++ spec.queues_below 256 core journal) }
+{
+    for queue in 0..256u16 {
+        put_queue(core, QueueNo(queue as u8), sums, page)?;
+    }
+    Ok(())
+}
+
+/// Puts the line of the queue, if there is such a queue.
+fn put_queue(core: CoreNo, queue: QueueNo, sums: &Sums, page: &mut String) -> Result<(), AllocError>
+    ensures { OnOk result ((journal : Notes ℕ) → KnowsSums sums.now journal
+        → string_bytes page.new ≡ string_bytes page.old ++ spec.queue_text core queue (queue_stats queue journal)) }
+{
+    if let Some(stats) = sums.queue_stats(queue) {
+        let line = QueueLine(core, queue, stats);
+        writeln!(page, "{line}")?;
+    }
+    Ok(())
+}

@@ -1,0 +1,101 @@
+-- What is printed of a script's events.
+use Rattle.std.specs.Prelude.{◌≡◌, ℕ, ◌+◌, ◌*◌, ◌++◌, List, [], ◌∷◌, codes, reverse, Option, Some, None}
+use Rattle.rt_ids.specs.declared.note.Note.{Note}
+use Rattle.rt_ids.specs.declared.note.Note.TheVariants.{Created}
+use Rattle.rt_ids.specs.Commands.{created_count}
+use Rattle.rt_jobs.specs.Scripts.{Script}
+use Rattle.rt_world.specs.declared.event.Event.{Event}
+use Rattle.fairexec_script.specs.declared.event.ScriptEvent.{ScriptEvent}
+use Rattle.rt_world.specs.declared.event.Reply.{Reply}
+use Rattle.rt_world.specs.declared.event.Reply.TheVariants as reply
+use Rattle.rt_ids.specs.Assembly.{Assembly}
+use Rattle.rt_ids.specs.Joining.{AreJoined}
+use Rattle.rt_ids.specs.Sound.{IsSound}
+use Rattle.rt_world.specs.State.{WorldView, journal_at, noted, assembly_of}
+use Rattle.rt_world.specs.Sends.{actor_of}
+use Rattle.rt_world.specs.Opening.{IsFresh, HasAllLists}
+use Rattle.rt_world.specs.Runs.{Happens, IsRun, RunsTo}
+use Rattle.rt_world_laws.specs.ScriptRuns.{ScriptSame, script_made, ScriptPolls, ScriptAnswers}
+use Rattle.rt_text.specs.declared.reply.Ends.{Ends}
+use Rattle.rt_text.specs.declared.reply.Quiet.{Quiet}
+use Rattle.fairexec_script.specs.Drafts.{Drafted}
+use Rattle.rt_text.specs.Notes.{note_line}
+use Rattle.fairexec_run.specs.Replies.{event_of, ends_of, quiet_of}
+use Rattle.rt_text.specs.Replies.{reply_line}
+
+-- a world of script jobs
+abbrev pub ScriptWorld : Type 0
+ScriptWorld = WorldView Script ℕ
+
+-- one event of script jobs
+abbrev pub Occurs : Event Script → ScriptWorld → ScriptWorld → Reply Script → Type 0
+Occurs event old new answer = Happens ScriptSame script_made ScriptPolls ScriptAnswers event old new answer
+
+-- a run of events of script jobs
+abbrev pub RunOf : List (Event Script) → ScriptWorld → ScriptWorld → Type 0
+RunOf = IsRun ScriptSame script_made ScriptPolls ScriptAnswers
+
+-- these are the journals after such a run
+abbrev pub RunsOf : List (Event Script) → ScriptWorld → Assembly ℕ → Type 0
+RunsOf = RunsTo ScriptSame script_made ScriptPolls ScriptAnswers
+
+-- the event was not handed back: its actors exist, and their journals have room
+abbrev pub IsHeard : Reply Script → Type 0
+IsHeard (reply.NoActor back) = ⊥
+IsHeard (reply.NoRoom back) = ⊥
+IsHeard _ = Unit {0}
+
+-- an actor's notes as lines, the oldest first
+abbrev pub note_lines : ℕ → List (Note ℕ) → List ℕ
+note_lines actor [] = []
+note_lines actor (note ∷ rest) = note_line actor note ++ codes "\n" ++ note_lines actor rest
+
+abbrev pub quiet_text : Ends → Option Quiet → List ℕ
+quiet_text ends None = []
+quiet_text ends (Some quiet) = reply_line ends quiet ++ codes "\n"
+
+-- the text of an event: its notes, the oldest first, or one line where it made none
+abbrev pub event_text : Ends → List (Note ℕ) → Option Quiet → List ℕ
+event_text ends [] quiet = quiet_text ends quiet
+event_text ends (note ∷ rest) quiet = note_lines ends.actor (note ∷ rest)
+
+-- the event happens, and this is its text
+pub record Prints (event : ScriptEvent) (old new : ScriptWorld) (text : List ℕ) : Type 0 where
+  pub answer : Reply Script
+  pub occurs : Occurs (event_of event) old new answer
+  pub heard : IsHeard answer
+  pub notes : List (Note ℕ)
+  pub noted : journal_at (actor_of (event_of event)) new ≡ notes ++ journal_at (actor_of (event_of event)) old
+  pub printed : text ≡ event_text (ends_of event) (reverse notes) (quiet_of answer)
+
+-- the events happen one after another, and their texts follow one another
+abbrev pub PrintsAll : List ScriptEvent → ScriptWorld → ScriptWorld → List ℕ → Type 0
+PrintsAll [] old new text = (new ≡ old) × (text ≡ [])
+PrintsAll (event ∷ events) old new text =
+    (between : ScriptWorld) × (first rest : List ℕ)
+    × Prints event old between first × PrintsAll events between new rest × (text ≡ first ++ rest)
+
+-- a queue is made at the opening, under the next number
+abbrev pub with_queue : ℕ × ℕ → ScriptWorld → ScriptWorld
+with_queue queue world = noted queue.0 (Created (created_count (journal_at queue.0 world) + 1) queue.1 ∷ []) world
+
+abbrev pub with_queues : List (ℕ × ℕ) → ScriptWorld → ScriptWorld
+with_queues [] world = world
+with_queues (queue ∷ queues) world = with_queues queues (with_queue queue world)
+
+-- the room of a journal in a system of this size: more than 4096 lines fill
+abbrev pub script_room : ℕ → ℕ → ℕ
+script_room cores cap = 32768 + 3 * cores * cap + 4
+
+-- what is printed of a whole script; behind it stands a journal for each actor, lawful and joined, and they are sound together
+pub record IsOutput (script : Drafted) (output : List ℕ) : Type 0 where
+  pub cores : ℕ
+  pub cap : ℕ
+  pub size : script.size ≡ Some (cores, cap)
+  pub empty : ScriptWorld
+  pub fresh : IsFresh cores cap (script_room cores cap) empty
+  pub end : ScriptWorld
+  pub all : PrintsAll script.events (with_queues script.queues empty) end output
+  pub lists : HasAllLists end
+  pub joined : AreJoined (assembly_of end)
+  pub sound : IsSound (assembly_of end)

@@ -1,0 +1,193 @@
+//! Runs a script on the model.
+
+ghost use Rattle.std.specs.Prelude.{◌≡◌, ◌<◌, ◌+◌, [], ℕ, List, length, IfOk, IfErr, OnOk, OnErr, IfSome, Err, Some, true, false};
+ghost use Rattle.std.specs.Io.KnownBytes.{Keeps, Appends};
+ghost use Rattle.rt_ids.specs.Commands.{created_count};
+ghost use Rattle.rt_world.specs.Opening.{IsFresh, IsUnbegun};
+ghost use Rattle.rt_world.specs.State.{journal_at};
+ghost use Rattle.fairexec_script.specs.Limits.{IsSize, ArePlaced, HasFewQueues};
+ghost use Rattle.fairexec_script.specs.ScriptFaults.{IfText};
+ghost use Rattle.fairexec_script.specs.Scripts.{script_of};
+ghost use Rattle.fairexec_script.specs.Taking.{IsPrompt};
+ghost use Rattle.fairexec_script.specs.Whole.{drafted};
+ghost use Rattle.fairexec_run.specs.Begun.{BreaksOff, IsCutShort};
+ghost use Rattle.fairexec_run.specs.Outputs.{IsDone, IfUnread, TellsScript, IfUnwritten, IfEnded};
+ghost use Rattle.fairexec_run.specs.Rooms.{MayMake, IsOpened};
+ghost use Rattle.fairexec_run.specs.Printed.{IsPrinted};
+ghost use Rattle.fairexec_run.specs.Transcripts.{script_room, with_queue, with_queues};
+
+use crate::journal::{events_of, print_journal, print_journal_rear, print_rear};
+use crate::print::{FULL_PAGE, LONGEST_PRINT, Model, print_events};
+use fairexec_script::{Script, read_script};
+use rt_ids::CoreNo;
+use rt_shares::Shares;
+use rt_taskqueue::CreateError;
+use rt_text::EngineFault;
+use rt_world::{World, WorldError};
+use std::alloc::Global;
+use std::io::{Read, Write};
+
+/// Runs the script that the source tells, and prints each event's notes, or one line if it made none.
+///
+/// With `journal` it prints the text of the journals instead. With `stats` the statistics of all cores follow.
+///
+/// # Errors
+///
+/// A faulty line of the script (`Text`), a failed read (`Read`) or write (`Write`), want of memory (`Memory`). Nothing is printed
+/// before the whole script is judged. After a failed write or for want of memory, a beginning of what is printed may be written.
+pub fn run_script<R: Read, W: Write>(
+    alloc: Global,
+    journal: bool,
+    stats: bool,
+    source: &mut R,
+    sink: &mut W,
+) -> Result<bool, EngineFault>
+    ensures done { IfOk result (λ done. (done ≡ true)
+        × IsDone journal stats (R.remaining source.old) (W.contents sink.old) (W.contents sink.new)) }
+    ensures faulty { IfErr result (IfText (λ fault.
+        IfSome (R.remaining source.old) (λ text. script_of text ≡ Err fault))) }
+    ensures prompt { IfErr result (IsPrompt (R.remaining source.old) (R.remaining source.new)) }
+    ensures silent { IfErr result (IfUnread (Keeps (W.contents sink.old) (W.contents sink.new))) }
+    ensures judged { IfErr result (IfUnwritten (TellsScript (R.remaining source.old))) }
+    ensures begun { IfErr result (IfEnded (IsCutShort journal stats (R.remaining source.old) (W.contents sink.old) (W.contents sink.new))) }
+{
+    let script = read_script(alloc, source)?;
+    play(alloc, journal, stats, script, sink)?;
+    Ok(true)
+}
+
+/// Runs a whole script, prints what is wanted of it, and tells the sink that no more comes.
+fn play<W: Write>(
+    alloc: Global,
+    journal: bool,
+    stats: bool,
+    script: Script,
+    sink: &mut W,
+) -> Result<(), EngineFault>
+    ensures ok { OnOk result ((output : List ℕ) × IsPrinted journal stats (drafted script) output
+        × Appends (W.contents sink.old) (W.contents sink.new) output) }
+    ensures err { OnErr result (BreaksOff journal stats (drafted script) (W.contents sink.old) (W.contents sink.new)) }
+    ensures device { IfErr result (IfUnread ⊥) }
+{
+    if journal {
+        play_journal(alloc, stats, script, sink)
+    } else {
+        play_events(alloc, stats, script, sink)
+    }
+}
+
+/// Prints the events, and the statistics if they are wanted.
+fn play_events<W: Write>(
+    alloc: Global,
+    stats: bool,
+    script: Script,
+    sink: &mut W,
+) -> Result<(), EngineFault>
+    ensures ok { OnOk result ((output : List ℕ) × IsPrinted false stats (drafted script) output
+        × Appends (W.contents sink.old) (W.contents sink.new) output) }
+    ensures err { OnErr result (BreaksOff false stats (drafted script) (W.contents sink.old) (W.contents sink.new)) }
+    ensures device { IfErr result (IfUnread ⊥) }
+{
+    let Script {
+        cores,
+        cap,
+        queues,
+        events,
+    } = script;
+    let mut model = open_model(alloc, cores, cap, queues.as_slice())?;
+    let mut page = String::with_capacity(alloc, FULL_PAGE + LONGEST_PRINT)?;
+    print_events(&mut model, events, &mut page, sink)?;
+    model.complete();
+    model.joined();
+    model.sound();
+    print_rear(alloc, stats, &model, &mut page, sink)
+}
+
+/// Prints the journals, and the statistics if they are wanted.
+fn play_journal<W: Write>(
+    alloc: Global,
+    stats: bool,
+    script: Script,
+    sink: &mut W,
+) -> Result<(), EngineFault>
+    ensures ok { OnOk result ((output : List ℕ) × IsPrinted true stats (drafted script) output
+        × Appends (W.contents sink.old) (W.contents sink.new) output) }
+    ensures err { OnErr result (BreaksOff true stats (drafted script) (W.contents sink.old) (W.contents sink.new)) }
+    ensures device { IfErr result (IfUnread ⊥) }
+{
+    let Script {
+        cores,
+        cap,
+        queues,
+        events,
+    } = script;
+    let model = open_model(alloc, cores, cap, queues.as_slice())?;
+    let events = events_of(alloc, events)?;
+    let mut page = String::with_capacity(alloc, FULL_PAGE + LONGEST_PRINT)?;
+    let assembly = model.run(events);
+    print_journal(&assembly, sink)?;
+    print_journal_rear(alloc, stats, &assembly, &mut page, sink)
+}
+
+/// A world of so many cores with links of that capacity and with these queues. Its journals have room for all notes of a script.
+fn open_model(
+    alloc: Global,
+    cores: u8,
+    cap: u16,
+    queues: &[(CoreNo, Shares)],
+) -> Result<Model, EngineFault>
+    requires sized { IsSize cores cap }
+    requires few { HasFewQueues queues.now }
+    requires placed { ArePlaced (Some (cores, cap)) queues.now }
+    ensures ok { IfOk result (IsOpened cores cap queues.now) }
+    ensures device { IfErr result (IfUnread ⊥) }
+{
+    let mut model = empty_model(alloc, cores, cap)?;
+    create_queues(&mut model, queues)?;
+    Ok(model)
+}
+
+/// The same without queues.
+fn empty_model(alloc: Global, cores: u8, cap: u16) -> Result<Model, EngineFault>
+    requires { IsSize cores cap }
+    ensures ok { IfOk result (IsFresh cores cap (script_room cores cap)) }
+    ensures device { IfErr result (IfUnread ⊥) }
+{
+    let room = 32768 + 3 * u32::from(cores) * u32::from(cap) + 4;
+    match World::try_new(alloc, alloc, cores, cap, room) {
+        Ok(model) => Ok(model),
+        Err(WorldError::Memory) => Err(EngineFault::Memory),
+        Err(WorldError::BadConfig) => unreachable!(),
+    }
+}
+
+/// Makes the queues of the `queue` lines, in their order.
+fn create_queues(model: &mut Model, queues: &[(CoreNo, Shares)]) -> Result<(), EngineFault>
+    requires may { MayMake queues.now model.old }
+    requires room { 255 < model.old.room }
+    requires placed { ArePlaced (Some (model.old.cores, model.old.cap)) queues.now }
+    ensures ok { OnOk result (model.new ≡ with_queues queues.now model.old) }
+    ensures after { OnOk result (MayMake [] model.new) }
+    ensures device { IfErr result (IfUnread ⊥) }
+{
+    for queue in queues {
+        create_queue(model, queue.0, queue.1)?;
+    }
+    Ok(())
+}
+
+/// Makes one queue, under the next number of its core.
+fn create_queue(model: &mut Model, core: CoreNo, shares: Shares) -> Result<(), EngineFault>
+    requires core { core < model.old.cores }
+    requires unbegun { IsUnbegun model.old }
+    requires room { length (journal_at core model.old) < model.old.room }
+    requires few { created_count (journal_at core model.old) < 255 }
+    ensures ok { OnOk result (model.new ≡ with_queue (core, shares) model.old) }
+    ensures device { IfErr result (IfUnread ⊥) }
+{
+    match model.create(core, shares) {
+        Ok(_) => Ok(()),
+        Err(CreateError::Memory) => Err(EngineFault::Memory),
+        Err(CreateError::TooMany) => unreachable!(),
+    }
+}

@@ -1,0 +1,182 @@
+//! Prints the journals of a run, and the statistics of its cores.
+
+ghost use Rattle.std.specs.Prelude.{◌≡◌, ◌++◌, ℕ, List, map, IfOk, IfErr, OnOk, OnErr, string_bytes};
+ghost use Rattle.std.specs.Io.KnownBytes.{Appends};
+ghost use Rattle.rt_ids.specs.Spelled.{IsSpelled};
+ghost use Rattle.fairexec_report.specs.StatTexts.{IsCoreText};
+ghost use Rattle.rt_journal_write.specs.Pages.{Puts, AppendsFront};
+ghost use Rattle.rt_journal_write.specs.Texts.{journal_text};
+ghost use Rattle.rt_world.specs.State.{assembly_of};
+ghost use Rattle.fairexec_run.specs.Begun.{IsRearPart, IsNoneOr, WritesStats};
+ghost use Rattle.fairexec_run.specs.Outputs.{IfUnread};
+ghost use Rattle.fairexec_run.specs.Printed.{IsRear, PutsStats};
+ghost use Rattle.fairexec_run.specs.Replies as replies;
+
+use crate::print::{FULL_PAGE, Model, print_page};
+use crate::reply::event_of;
+use fairexec_report::put_stats;
+use fairexec_script::ScriptEvent;
+use rt_ids::{ActorNo, CoreNo};
+use rt_jobs::ScriptJob;
+use rt_journal_notes::Journal;
+use rt_journal_write::write_journal;
+use rt_text::EngineFault;
+use rt_text::steady::flush;
+use rt_world::{Assembly, Event};
+use std::alloc::Global;
+use std::io::Write;
+
+/// The events of a script as events of the model, in their order.
+pub(crate) fn events_of(
+    alloc: Global,
+    events: Vec<ScriptEvent>,
+) -> Result<Vec<Event<ScriptJob>>, EngineFault>
+    ensures ok { IfOk result (λ all. all.items ≡ map replies.event_of events.items) }
+    ensures device { IfErr result (IfUnread ⊥) }
+{
+    let mut all = Vec::with_capacity(alloc, events.len())?;
+    for event in events {
+        all.push(event_of(event))?;
+    }
+    Ok(all)
+}
+
+/// Prints the text of the journals.
+pub(crate) fn print_journal<W: Write>(assembly: &Assembly, sink: &mut W) -> Result<(), EngineFault>
+    requires { IsSpelled assembly.now }
+    ensures ok { OnOk result (Appends (W.contents sink.old) (W.contents sink.new) (journal_text assembly.now)) }
+    ensures err { OnErr result (AppendsFront (W.contents sink.old) (W.contents sink.new) (journal_text assembly.now)) }
+    ensures device { IfErr result (IfUnread ⊥) }
+{
+    match write_journal(assembly, sink) {
+        Ok(()) => Ok(()),
+        Err(_) => Err(EngineFault::Write),
+    }
+}
+
+/// Prints the page, and behind it the statistics of a world if they are wanted. Then it tells the sink that no more comes.
+pub(crate) fn print_rear<W: Write>(
+    alloc: Global,
+    stats: bool,
+    model: &Model,
+    page: &mut String,
+    sink: &mut W,
+) -> Result<(), EngineFault>
+    ensures ok { OnOk result ((text : List ℕ) × IsRear stats (assembly_of model.now) text
+        × Appends (W.contents sink.old) (W.contents sink.new) (string_bytes page.old ++ text)) }
+    ensures err { OnErr result ((text : List ℕ) × IsRearPart stats (assembly_of model.now) text
+        × AppendsFront (W.contents sink.old) (W.contents sink.new) (string_bytes page.old ++ text)) }
+    ensures device { IfErr result (IfUnread ⊥) }
+{
+    if !stats {
+        return print_last(page, sink);
+    }
+    print_stats(alloc, model, page, sink)?;
+    print_last(page, sink)
+}
+
+/// The same, of the cores whose journals these are.
+pub(crate) fn print_journal_rear<W: Write>(
+    alloc: Global,
+    stats: bool,
+    assembly: &Assembly,
+    page: &mut String,
+    sink: &mut W,
+) -> Result<(), EngineFault>
+    ensures ok { OnOk result ((text : List ℕ) × IsRear stats assembly.now text
+        × Appends (W.contents sink.old) (W.contents sink.new) (string_bytes page.old ++ text)) }
+    ensures err { OnErr result ((text : List ℕ) × IsRearPart stats assembly.now text
+        × AppendsFront (W.contents sink.old) (W.contents sink.new) (string_bytes page.old ++ text)) }
+    ensures device { IfErr result (IfUnread ⊥) }
+{
+    if !stats {
+        return print_last(page, sink);
+    }
+    print_journal_stats(alloc, assembly, page, sink)?;
+    print_last(page, sink)
+}
+
+/// Puts the statistics of all cores of a world on the page. A full page is written to the sink at once.
+fn print_stats<W: Write>(
+    alloc: Global,
+    model: &Model,
+    page: &mut String,
+    sink: &mut W,
+) -> Result<(), EngineFault>
+    ensures ok { OnOk result (PutsStats (assembly_of model.now) (string_bytes page.old) (string_bytes page.new) (W.contents sink.old) (W.contents sink.new)) }
+    ensures err { OnErr result (WritesStats (assembly_of model.now) (string_bytes page.old) (W.contents sink.old) (W.contents sink.new)) }
+    ensures device { IfErr result (IfUnread ⊥) }
+{
+    let cores = model.cores();
+    for core in 0..cores {
+        print_core(
+            alloc,
+            CoreNo(core),
+            cores,
+            model.journal(ActorNo(core)),
+            page,
+            sink,
+        )?;
+    }
+    Ok(())
+}
+
+/// The same, of the cores whose journals these are.
+fn print_journal_stats<W: Write>(
+    alloc: Global,
+    assembly: &Assembly,
+    page: &mut String,
+    sink: &mut W,
+) -> Result<(), EngineFault>
+    ensures ok { OnOk result (PutsStats assembly.now (string_bytes page.old) (string_bytes page.new) (W.contents sink.old) (W.contents sink.new)) }
+    ensures err { OnErr result (WritesStats assembly.now (string_bytes page.old) (W.contents sink.old) (W.contents sink.new)) }
+    ensures device { IfErr result (IfUnread ⊥) }
+{
+    let cores = assembly.cores();
+    for core in 0..cores {
+        print_core(
+            alloc,
+            CoreNo(core),
+            cores,
+            assembly.journal(ActorNo(core)),
+            page,
+            sink,
+        )?;
+    }
+    Ok(())
+}
+
+/// Puts the statistics of one core on the page, and writes the page if it is full.
+fn print_core<W: Write>(
+    alloc: Global,
+    core: CoreNo,
+    cores: u8,
+    journal: &Journal<u64>,
+    page: &mut String,
+    sink: &mut W,
+) -> Result<(), EngineFault>
+    ensures ok { OnOk result ((text : List ℕ) × IsCoreText core cores journal.now.notes text
+        × Puts (string_bytes page.old) (string_bytes page.new) (W.contents sink.old) (W.contents sink.new) text) }
+    ensures err { OnErr result ((text : List ℕ) × IsNoneOr (IsCoreText core cores journal.now.notes) text
+        × AppendsFront (W.contents sink.old) (W.contents sink.new) (string_bytes page.old ++ text)) }
+    ensures device { IfErr result (IfUnread ⊥) }
+{
+    put_stats(alloc, core, cores, journal, page)?;
+    if page.len() < FULL_PAGE {
+        return Ok(());
+    }
+    print_page(page, sink)
+}
+
+/// Prints the last page, and tells the sink that no more comes.
+fn print_last<W: Write>(page: &mut String, sink: &mut W) -> Result<(), EngineFault>
+    ensures ok { OnOk result (Appends (W.contents sink.old) (W.contents sink.new) (string_bytes page.old)) }
+    ensures err { OnErr result (AppendsFront (W.contents sink.old) (W.contents sink.new) (string_bytes page.old)) }
+    ensures device { IfErr result (IfUnread ⊥) }
+{
+    print_page(page, sink)?;
+    match flush(sink) {
+        Ok(()) => Ok(()),
+        Err(_) => Err(EngineFault::Write),
+    }
+}

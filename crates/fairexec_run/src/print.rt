@@ -1,0 +1,115 @@
+//! Lets the events of a script happen, and prints each.
+
+ghost use Rattle.std.specs.Prelude.{◌≡◌, ◌≤◌, ◌++◌, [], ℕ, List, length, drop, reverse, IfErr, OnOk, OnErr, Some, string_bytes};
+ghost use Rattle.std.specs.Io.KnownBytes.{Appends};
+ghost use Rattle.fairexec_script.specs.Limits.{AreEventsOf, IsEventOf};
+ghost use Rattle.rt_journal_write.specs.Pages.{AppendsFront};
+ghost use Rattle.fairexec_run.specs.Begun.{WritesFirst};
+ghost use Rattle.fairexec_run.specs.Outputs.{WritesAll, IfUnread};
+ghost use Rattle.fairexec_run.specs.Rooms.{IsRoomy};
+ghost use Rattle.fairexec_run.specs.Transcripts.{Prints, note_lines};
+
+use crate::reply::{ends_of, event_of, quiet_of};
+use fairexec_script::ScriptEvent;
+use rt_ids::ActorNo;
+use rt_jobs::ScriptJob;
+use rt_text::steady::write_all;
+use rt_text::{EngineFault, NoteLine, ReplyLine};
+use rt_world::{Journal, World};
+use std::alloc::Global;
+use std::io::Write;
+
+/// A world of script jobs.
+pub(crate) type Model = World<ScriptJob, Global>;
+
+/// A page of this many bytes is full, and is written.
+pub(crate) const FULL_PAGE: usize = 16384;
+
+/// More than the lines of most events: four notes of at most 128 bytes. If an event collects many outcomes, or a core has many
+/// queues, the page grows.
+pub(crate) const LONGEST_PRINT: usize = 1024;
+
+/// Lets the events happen, one after another. A full page is written to the sink at once.
+pub(crate) fn print_events<W: Write>(
+    model: &mut Model,
+    events: Vec<ScriptEvent>,
+    page: &mut String,
+    sink: &mut W,
+) -> Result<(), EngineFault>
+    requires roomy { IsRoomy model.old.cores model.old.cap 510 model.old }
+    requires there { AreEventsOf (Some (model.old.cores, model.old.cap)) events.items }
+    requires short { length events.items ≤ 4096 }
+    ensures ok { OnOk result (WritesAll events.items model.old model.new (string_bytes page.old) (string_bytes page.new)
+        (W.contents sink.old) (W.contents sink.new)) }
+    ensures err { OnErr result (WritesFirst events.items model.old (string_bytes page.old) (W.contents sink.old) (W.contents sink.new)) }
+    ensures device { IfErr result (IfUnread ⊥) }
+{
+    for event in events {
+        print_event(model, event, page)?;
+        if page.len() >= FULL_PAGE {
+            print_page(page, sink)?;
+        }
+    }
+    Ok(())
+}
+
+/// Lets the event happen, and puts its lines on the page.
+fn print_event(model: &mut Model, event: ScriptEvent, page: &mut String) -> Result<(), EngineFault>
+    requires roomy { IsRoomy model.old.cores model.old.cap 32768 model.old }
+    requires there { IsEventOf model.old.cores event }
+    ensures ok { OnOk result ((text : List ℕ) × Prints event model.old model.new text
+        × (string_bytes page.new ≡ string_bytes page.old ++ text)) }
+    ensures device { IfErr result (IfUnread ⊥) }
+{
+    // Lawful journals have no more collected outcomes than submissions, so the event has room.
+    model.joined();
+    let ends = ends_of(&event);
+    let before = model.journal(ends.actor).len();
+    let reply = model.step(event_of(event));
+    let journal = model.journal(ends.actor);
+    if journal.len() > before {
+        return print_notes(ends.actor, journal, before, page);
+    }
+    if let Some(quiet) = quiet_of(&reply) {
+        let line = ReplyLine(ends, quiet);
+        writeln!(page, "{line}")?;
+    }
+    Ok(())
+}
+
+/// Puts the notes from that place on upon the page, the oldest first.
+fn print_notes(
+    actor: ActorNo,
+    journal: &Journal<u64>,
+    first: usize,
+    page: &mut String,
+) -> Result<(), EngineFault>
+    requires { first ≤ length journal.now.notes }
+    ensures ok { OnOk result (string_bytes page.new
+        ≡ string_bytes page.old ++ note_lines actor (drop first (reverse journal.now.notes))) }
+    ensures device { IfErr result (IfUnread ⊥) }
+{
+    for place in first..journal.len() {
+        if let Some(note) = journal.get(place) {
+            let line = NoteLine(actor, note);
+            writeln!(page, "{line}")?;
+        }
+    }
+    Ok(())
+}
+
+/// Prints the page, and empties it.
+pub(crate) fn print_page<W: Write>(page: &mut String, sink: &mut W) -> Result<(), EngineFault>
+    ensures ok { OnOk result (Appends (W.contents sink.old) (W.contents sink.new) (string_bytes page.old)) }
+    ensures empty { OnOk result (string_bytes page.new ≡ []) }
+    ensures err { OnErr result (AppendsFront (W.contents sink.old) (W.contents sink.new) (string_bytes page.old)) }
+    ensures device { IfErr result (IfUnread ⊥) }
+{
+    match write_all(sink, page.as_bytes()) {
+        Ok(()) => {
+            page.clear();
+            Ok(())
+        }
+        Err(_) => Err(EngineFault::Write),
+    }
+}

@@ -1,0 +1,17 @@
+-- What comes of the rest is what comes of the text, and each turn takes some of the room that a script has. What was read is taken.
+use Rattle.std.proofs.Common.{◌≡◌, ℕ, List, length}
+use Rattle.std.specs.Io.KnownBytes.{Consumes}
+use Rattle.fairexec_script.specs.Scripts.{room_left, start_of_text}
+use Rattle.fairexec_script.specs.Taking.{TakesAll}
+use Rattle.fairexec_script.specs.Telling.{GoesOn}
+use Rattle.fairexec_script.proofs.source.read_script.Given as goal
+
+abbrev pub invariant-loop-count : goal.invariant-loop-count
+invariant-loop-count g l = record {
+  room : length l.chunk ≡ 8192;
+  same : GoesOn (g.R.Read.remaining l.initial.source) (g.R.Read.remaining l.source) l.reader;
+  seen : (text : List ℕ) × Consumes (g.R.Read.remaining l.initial.source) (g.R.Read.remaining l.source) text × TakesAll text start_of_text l.reader;
+}
+
+abbrev pub decreases-loop-count : goal.decreases-loop-count
+decreases-loop-count g l = room_left l.reader

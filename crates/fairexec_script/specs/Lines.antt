@@ -1,0 +1,61 @@
+-- What one line of a script says.
+use Rattle.std.specs.Prelude.{ℕ, ◌&&◌, ◌==◌, not, Bool, false, List, codes, Option, Some, None, Result, Err, if◌then◌else◌}
+use Rattle.std.specs.Str.{bytes_eq}
+use Rattle.rt_ids.specs.Limits.{most_capacity, most_cores}
+use Rattle.fairexec_script.specs.declared.line.Line.{Line}
+use Rattle.fairexec_script.specs.declared.line.Line.TheVariants.{Size, Queue}
+use Rattle.fairexec_script.specs.declared.keyword.Keyword.{Keyword}
+use Rattle.fairexec_script.specs.declared.keyword.Keyword.TheVariants as keyword
+use Rattle.rt_text.specs.declared.fault.Cause.{Cause}
+use Rattle.rt_text.specs.declared.fault.Cause.TheVariants.{CoresLineExpected, UnknownWord, QueueLineTooLate, WrongNumberOfWords}
+use Rattle.rt_words.specs.Numbers.{number_of, within}
+use Rattle.rt_words.specs.Words.{first, others, second, third, word_count}
+use Rattle.fairexec_script.specs.Keywords.{keyword_of, takes, is_queue}
+use Rattle.rt_words.specs.Fields.{both, made, core_field, shares_field, fixed_field}
+use Rattle.fairexec_script.specs.EventLines.{submit_line, create_line, shares_line, close_line, closecore_line, deliver_line, turn_line, shut_line, collect_line, redeem_line, detach_line}
+
+-- `C cap K`
+abbrev pub size_line : List (List ℕ) → Result Line Cause
+size_line ws = made (λ p. Size p.0 (p.1).1) (both (within 1 most_cores (number_of (first ws))) (both (fixed_field (codes "cap") (second ws)) (within 1 most_capacity (number_of (third ws)))))
+
+-- `d w`
+abbrev pub queue_line : ℕ → List (List ℕ) → Result Line Cause
+queue_line cores ws = made (λ p. Queue p.0 p.1) (both (core_field cores (first ws)) (shares_field (second ws)))
+
+-- the words behind a line's first word, by what that says
+abbrev pub line_of : Keyword → ℕ → List (List ℕ) → Result Line Cause
+line_of keyword.Queue cores ws = queue_line cores ws
+line_of keyword.Submit cores ws = submit_line cores ws
+line_of keyword.Create cores ws = create_line cores ws
+line_of keyword.Shares cores ws = shares_line cores ws
+line_of keyword.Close cores ws = close_line cores ws
+line_of keyword.CloseCore cores ws = closecore_line cores ws
+line_of keyword.Deliver cores ws = deliver_line cores ws
+line_of keyword.Turn cores ws = turn_line cores ws
+line_of keyword.Shut cores ws = shut_line cores ws
+line_of keyword.Collect cores ws = collect_line cores ws
+line_of keyword.Redeem cores ws = redeem_line cores ws
+line_of keyword.Detach cores ws = detach_line cores ws
+
+-- a line has this many words, none of them empty
+abbrev pub counts : (ℕ → Bool) → Option ℕ → Bool
+counts test None = false
+counts test (Some count) = test count
+
+-- the first line that isn't skipped
+abbrev pub first_line : List (List ℕ) → Result Line Cause
+first_line ws =
+    if not (bytes_eq (first ws) (codes "cores")) then Err CoresLineExpected
+    else (if counts (λ count. count == 4) (word_count ws) then size_line (others ws)
+    else Err WrongNumberOfWords)
+
+-- a line after it, with this first word; `late` says that a line other than a `queue` line came before
+abbrev pub keyword_line : Option Keyword → ℕ → Bool → List (List ℕ) → Result Line Cause
+keyword_line None cores late ws = Err UnknownWord
+keyword_line (Some keyword) cores late ws =
+    if late && is_queue keyword then Err QueueLineTooLate
+    else (if counts (takes keyword) (word_count ws) then line_of keyword cores (others ws)
+    else Err WrongNumberOfWords)
+
+abbrev pub later_line : ℕ → Bool → List (List ℕ) → Result Line Cause
+later_line cores late ws = keyword_line (keyword_of (first ws)) cores late ws

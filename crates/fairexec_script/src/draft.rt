@@ -1,0 +1,146 @@
+//! A script as far as its lines are judged.
+
+ghost use Rattle.std.specs.Prelude.{◌≡◌, Ok, Err, IfOk, IfErr, OnOk, OnErr, length, nat_lt, ◌≤◌, ◌+◌, IfSome, IsNone, None, ◌↔◌};
+ghost use Rattle.fairexec_script.specs.Whole.{drafted};
+ghost use Rattle.rt_words.specs.Words.{words};
+ghost use Rattle.fairexec_script.specs.Drafts as spec;
+ghost use Rattle.fairexec_script.specs.Limits.{MayFollow};
+ghost use Rattle.fairexec_script.specs.ScriptFaults.{IfFaulty};
+
+use crate::counts::CoreCounts;
+use crate::event::ScriptEvent;
+use crate::line::{Line, first_line, later_line};
+use crate::script::Script;
+use rt_ids::CoreNo;
+use rt_shares::Shares;
+use rt_text::{Cause, EngineFault};
+use std::alloc::Global;
+use std::marker::Model;
+
+/// The most `queue` lines of a core: with queue 0 they make 256.
+const MOST_QUEUE_LINES: usize = 255;
+
+/// A script as far as its lines are judged.
+#[derive(Drop)]
+pub struct Draft {
+    size: Option<(u8, u16)>,
+    queues: Vec<(CoreNo, Shares)>,
+    // How many `queue` lines each core has.
+    counts: CoreCounts,
+    events: Vec<ScriptEvent>,
+}
+
+impl Model for Draft {
+    ghost use Rattle.fairexec_script.specs.Drafts.{Drafted};
+    ghost use Rattle.fairexec_script.specs.Counts.{HasCountedLines};
+
+    ghost Value = { Drafted };
+
+    ghost view = { λ d. record { size = d.size; queues = d.queues.items; events = d.events.items } };
+
+    ghost invariant = { λ d. HasCountedLines
+        (record { size = d.size; queues = d.queues.items; events = d.events.items }) d.counts };
+}
+
+impl Draft {
+    /// Before the first line.
+    pub fn new(alloc: Global) -> Draft
+        ensures { result ≡ spec.empty_draft }
+    {
+        Draft {
+            size: None,
+            queues: Vec::new(alloc),
+            counts: CoreCounts::new(),
+            events: Vec::new(alloc),
+        }
+    }
+
+    /// The whole script, where the lines end here; None where none told the size.
+    pub fn finish(self) -> Option<Script>
+        requires { length self.events ≤ 4096 }
+        ensures whole { IfSome result (λ script. self ≡ drafted script) }
+        ensures none { IsNone result ↔ (self.size ≡ None) }
+    {
+        let Draft {
+            size,
+            queues,
+            counts: _,
+            events,
+        } = self;
+        let (cores, cap) = size?;
+        Some(Script {
+            cores,
+            cap,
+            queues,
+            events,
+        })
+    }
+
+    /// Takes one line that isn't too long, by its number from 1.
+    pub fn take(&mut self, number: u32, text: &[u8]) -> Result<(), EngineFault>
+        ensures ok { OnOk result (spec.with_text self.old text.now ≡ Ok self.new) }
+        ensures faulty { IfErr result (IfFaulty (λ fault.
+            (fault.0 ≡ number) × (spec.with_text self.old text.now ≡ Err fault.1))) }
+        ensures one_more { OnOk result (length self.new.events ≤ length self.old.events + 1) }
+        ensures err { OnErr result (self.new ≡ self.old) }
+    {
+        if is_skipped(text) {
+            return Ok(());
+        }
+        match self.line_at(text) {
+            Ok(line) => self.add(number, line),
+            Err(cause) => Err(EngineFault::Text {
+                line: number,
+                cause,
+            }),
+        }
+    }
+
+    /// What a line that isn't skipped says at its place.
+    fn line_at(&self, text: &[u8]) -> Result<Line, Cause>
+        ensures line { result
+            ≡ spec.line_at self.now.size (nat_lt 0 (length self.now.events)) (words text.now) }
+        ensures follows { IfOk result (MayFollow self.now.size) }
+    {
+        match self.size {
+            None => first_line(text),
+            Some((cores, _)) => later_line(text, cores, !self.events.is_empty()),
+        }
+    }
+
+    /// Takes what a line says, by its number.
+    fn add(&mut self, number: u32, line: Line) -> Result<(), EngineFault>
+        requires { MayFollow self.old.size line }
+        ensures ok { OnOk result (spec.with_line self.old line ≡ Ok self.new) }
+        ensures faulty { IfErr result (IfFaulty (λ fault.
+            (fault.0 ≡ number) × (spec.with_line self.old line ≡ Err fault.1))) }
+        ensures one_more { OnOk result (length self.new.events ≤ length self.old.events + 1) }
+        ensures err { OnErr result (self.new ≡ self.old) }
+    {
+        match line {
+            Line::Size(cores, cap) => self.size = Some((cores, cap)),
+            Line::Queue(core, shares) => {
+                if self.counts.of(core) >= MOST_QUEUE_LINES {
+                    return Err(EngineFault::Text {
+                        line: number,
+                        cause: Cause::TooManyQueues,
+                    });
+                }
+                self.queues.push((core, shares))?;
+                self.counts.add(core);
+            }
+            Line::Step(event) => self.events.push(event)?,
+        }
+        Ok(())
+    }
+}
+
+/// Whether the line is empty or begins with `#`.
+fn is_skipped(line: &[u8]) -> bool
+    ensures { result ≡ spec.is_skipped line.now }
+{
+    match line {
+        [] => true,
+        [first, ..] => *first == b'#',
+    }
+}

@@ -1,0 +1,26 @@
+//! A whole script.
+
+ghost use Rattle.std.specs.Prelude.{Some, length, ◌≤◌};
+ghost use Rattle.fairexec_script.specs.Limits.{IsSize, ArePlaced, HasFewQueues, AreEventsOf};
+
+use crate::event::ScriptEvent;
+use rt_ids::CoreNo;
+use rt_shares::Shares;
+
+/// A whole script, well spelled and within the limits of a system.
+#[derive(Drop)]
+pub struct Script {
+    /// How many cores there are.
+    pub cores: u8,
+    /// How many submissions each link may have outstanding.
+    pub cap: u16,
+    /// The queues to create at the opening, by core, in order.
+    pub queues: Vec<(CoreNo, Shares)>,
+    /// What then happens, in order.
+    pub events: Vec<ScriptEvent>,
+    ghost sized: { IsSize cores cap },
+    ghost placed: { ArePlaced (Some (cores, cap)) queues.items },
+    ghost few: { HasFewQueues queues.items },
+    ghost happen: { AreEventsOf (Some (cores, cap)) events.items },
+    ghost short: { length events.items ≤ 4096 },
+}

@@ -1,0 +1,24 @@
+-- A whole run of a script.
+use Rattle.std.proofs.Common.{◌≡◌, ℕ, List, Option, Some, None, Ok, true, Bool, refl, ap, ◌∙◌}
+use Rattle.std.specs.Option.{IfSome}
+use Rattle.rt_ids.specs.Assembly.{Assembly}
+use Rattle.fairexec_report.specs.Writing.{IsTold}
+use Rattle.fairexec_report.specs.VerdictTexts.{is_sound}
+use Rattle.rt_runtime_config.specs.Configs.{Entry}
+use Rattle.fairexec_threads_script.specs.declared.script.ThreadsScript.{ThreadsScript}
+use Rattle.fairexec_threads_script.specs.Drafts.{Told}
+use Rattle.fairexec_threads_script.specs.Scripts.{threads_script_of}
+use Rattle.fairexec_threads_script.specs.Whole.{drafted}
+use Rattle.fairexec_threads.specs.Runs.{RunsOrders, TellsRun}
+
+pub own : (P : ℕ → ℕ → Type 0) (a b c d : ℕ) → c ≡ a → d ≡ b → P a b → P c d
+own P a b c d first second p = rw (first, second) p
+
+-- the run is of the script that the source tells
+pub tells_run : (source : Option (List ℕ)) (script : ThreadsScript) (assembly : Assembly ℕ) → IfSome source (λ text. threads_script_of text ≡ Ok (drafted script)) → RunsOrders script.cores script.cap script.queues.items script.orders.items assembly → TellsRun source assembly
+tells_run None script assembly told runs = tt
+tells_run (Some text) script assembly told runs = (drafted script, told, ((script.cores, script.cap), refl, runs))
+
+-- sound journals are told as sound
+pub told_sound : (cores cap : ℕ) (queues : List Entry) (orders : List Told) (assembly : Assembly ℕ) (old new : Option (List ℕ)) (answer : Bool) → RunsOrders cores cap queues orders assembly → IsTold assembly old new answer → answer ≡ true
+told_sound cores cap queues orders assembly old new answer runs told = told.answered ∙ ap is_sound (told.judged.sound.1 runs.finishes.sound)

@@ -1,0 +1,33 @@
+-- The orders that a script's outside actor sends, one after another.
+use Rattle.std.specs.Prelude.{◌≡◌, ℕ, zero, suc, ◌++◌, List, [], ◌∷◌, Result, Ok, Err}
+use Rattle.rt_ids.specs.declared.names.JobId.{JobId}
+use Rattle.rt_ids.specs.declared.order.Mode.TheVariants.{Finish}
+use Rattle.rt_ids.specs.declared.order.Order.TheVariants.{CloseCore}
+use Rattle.rt_ids.specs.declared.order.SendError.{SendError}
+use Rattle.rt_ids.specs.declared.order.SendError.TheVariants.{Closed}
+use Rattle.rt_jobs.specs.Scripts.{Script}
+use Rattle.rt_runtime.specs.Sends.{SendsTo}
+use Rattle.rt_runtime.specs.State.{RuntimeView}
+use Rattle.fairexec_threads_script.specs.Drafts.{Told}
+
+-- a send is accepted, or the core is closed already
+abbrev pub IsTaken : Result JobId (SendError Script) → Type 0
+IsTaken (Ok name) = Unit {0}
+IsTaken (Err (Closed back final)) = Unit {0}
+IsTaken (Err _) = ⊥
+
+-- one order is sent to its core: it is accepted, unless the core closed by itself before
+pub record Offers (told : Told) (old new : RuntimeView Script ℕ) : Type 0 where
+  pub answer : Result JobId (SendError Script)
+  pub taken : IsTaken answer
+  pub sends : SendsTo told.0 told.1 old answer new
+
+-- orders are sent in this order, each to its core
+abbrev pub OffersAll : List Told → RuntimeView Script ℕ → RuntimeView Script ℕ → Type 0
+OffersAll [] old new = new ≡ old
+OffersAll (told ∷ rest) old new = (between : RuntimeView Script ℕ) × Offers told old between × OffersAll rest between new
+
+-- the orders to close the first cores in mode `Finish`, from core 0 upwards
+abbrev pub closings : ℕ → List Told
+closings zero = []
+closings (suc core) = closings core ++ (core, CloseCore Finish) ∷ []

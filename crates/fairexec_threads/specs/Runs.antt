@@ -1,0 +1,58 @@
+-- A whole run of a script on threads.
+use Rattle.std.specs.Prelude.{◌≡◌, ◌<◌, ◌++◌, ℕ, Bool, List, Option, Some, Ok}
+use Rattle.std.specs.Option.{IfSome}
+use Rattle.rt_ids.specs.Assembly.{Assembly, journal_of}
+use Rattle.rt_jobs.specs.Scripts.{Script}
+use Rattle.fairexec_report.specs.Writing as writing
+use Rattle.rt_runtime.specs.Calls.{IsStarted, HasFinished}
+use Rattle.rt_runtime.specs.State.{RuntimeView}
+use Rattle.rt_runtime_config.specs.Configs.{Entry}
+use Rattle.fairexec_threads_script.specs.declared.fault.ThreadsFault.{ThreadsFault}
+use Rattle.fairexec_threads_script.specs.declared.fault.ThreadsFault.TheVariants.{Write}
+use Rattle.fairexec_threads_script.specs.Drafts.{Drafted, Told}
+use Rattle.fairexec_threads_script.specs.Scripts.{threads_script_of}
+use Rattle.fairexec_threads.specs.Offers.{OffersAll, closings}
+use Rattle.fairexec_threads.specs.Outcomes.{AreAnswered, FitsScript}
+use Rattle.fairexec_threads.specs.Rooms.{room_of}
+use Rattle.rt_runtime_worker.specs.Queues.{creations, opening_of}
+
+-- A runtime of these numbers and queues is started, the orders are sent, each core is closed from 0 upwards, and the runtime is finished. The
+-- journal of each core begins with the creation of its queues, and what the journals tell of an order is what it asks.
+pub record RunsOrders (cores cap : ℕ) (queues : List Entry) (orders : List Told) (assembly : Assembly ℕ) : Type 0 where
+  pub started : RuntimeView Script ℕ
+  pub ended : RuntimeView Script ℕ
+  pub starts : IsStarted cores cap (room_of cores cap) queues started
+  pub offers : OffersAll (orders ++ closings cores) started ended
+  pub finishes : HasFinished FitsScript ended assembly
+  pub opened : (core : ℕ) → core < cores → opening_of (journal_of core assembly) ≡ creations core queues
+  pub answered : AreAnswered (orders ++ closings cores) started ended offers assembly
+
+-- the same of a script that told its size
+abbrev pub RunsScript : Drafted → Assembly ℕ → Type 0
+RunsScript draft assembly = (size : ℕ × ℕ) × (draft.size ≡ Some size) × RunsOrders size.0 size.1 draft.queues draft.orders assembly
+
+-- the journals are those of a run of the script that the source tells
+abbrev pub TellsRun : Option (List ℕ) → Assembly ℕ → Type 0
+TellsRun source assembly = IfSome source (λ text. (draft : Drafted) × (threads_script_of text ≡ Ok draft) × RunsScript draft assembly)
+
+-- what became of the orders of such a run is written, and behind it the verdict of its journals; the answer tells whether they are sound
+pub record IsRun (source sink_old sink_new : Option (List ℕ)) (answer : Bool) : Type 0 where
+  pub assembly : Assembly ℕ
+  pub runs : TellsRun source assembly
+  pub told : writing.IsTold assembly sink_old sink_new answer
+
+-- a first part of that is written
+pub record IsCutShort (source sink_old sink_new : Option (List ℕ)) : Type 0 where
+  pub assembly : Assembly ℕ
+  pub runs : TellsRun source assembly
+  pub told : writing.IsCutShort assembly sink_old sink_new
+
+-- a fact of a failed write
+abbrev pub IfUnwritten : Type 0 → ThreadsFault → Type 0
+IfUnwritten fact Write = fact
+IfUnwritten fact _ = Unit {0}
+
+-- a fact of each other fault, before which nothing is written
+abbrev pub IfUntold : Type 0 → ThreadsFault → Type 0
+IfUntold fact Write = Unit {0}
+IfUntold fact _ = fact

@@ -1,0 +1,58 @@
+//! The orders of a script's outside actor.
+
+ghost use Rattle.std.specs.Prelude.{◌≡◌, ◌<◌, ◌≤◌, [], length, Some};
+ghost use Rattle.rt_ids.specs.declared.order.Mode.TheVariants as mode;
+ghost use Rattle.rt_ids.specs.declared.order.Order.TheVariants as order;
+ghost use Rattle.fairexec_threads_script.specs.Limits.{IsToldOf, AreTold, HasSpare};
+ghost use Rattle.fairexec_threads.specs.Counting.{IsOfScript, HasPlace, CanClose, AreClosedBelow};
+ghost use Rattle.fairexec_threads.specs.Offers.{Offers, OffersAll, closings};
+
+use crate::house::House;
+use rt_ids::{CoreNo, Mode, Order};
+use rt_jobs::ScriptJob;
+
+/// Sends one order to its core.
+fn offer(house: &mut House, core: CoreNo, order: Order<ScriptJob>)
+    requires told { IsToldOf house.old.desk.cores (core, order) }
+    requires place { HasPlace core house.old }
+    ensures { Offers (core, order) house.old house.new }
+{
+    let _answer = house.submit(core, order);
+}
+
+/// Sends all orders, each to its core, in this order.
+pub(crate) fn offer_all(house: &mut House, orders: Vec<(CoreNo, Order<ScriptJob>)>)
+    requires script { IsOfScript house.old }
+    requires none { house.old.desk.journal.notes ≡ [] }
+    requires told { AreTold (Some (house.old.desk.cores, house.old.desk.cap)) orders.items }
+    requires spare { HasSpare (Some (house.old.desk.cores, house.old.desk.cap)) orders.items }
+    requires short { length orders.items ≤ 4096 }
+    ensures offers { OffersAll orders.items house.old house.new }
+    ensures ready { CanClose house.new }
+{
+    for told in orders {
+        let (core, order) = told;
+        offer(house, core, order);
+    }
+}
+
+/// Closes one core in mode `Finish`.
+fn close(house: &mut House, core: CoreNo)
+    requires there { core < house.old.desk.cores }
+    requires place { HasPlace core house.old }
+    ensures { Offers (core, order.CloseCore mode.Finish) house.old house.new }
+{
+    let _answer = house.close_core(core, Mode::Finish);
+}
+
+/// Closes each core in mode `Finish`, from core 0 upwards.
+pub(crate) fn close_all(house: &mut House, cores: u8)
+    requires cores { house.old.desk.cores ≡ cores }
+    requires ready { CanClose house.old }
+    ensures offers { OffersAll (closings cores) house.old house.new }
+    ensures closed { AreClosedBelow house.new.desk.cores house.new }
+{
+    for core in 0..cores {
+        close(house, CoreNo(core));
+    }
+}

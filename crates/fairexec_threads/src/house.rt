@@ -1,0 +1,85 @@
+//! How a script's runtime is started.
+
+ghost use Rattle.std.specs.Prelude.{◌≡◌, ◌≤◌, length, IfOk, IfErr, Some};
+ghost use Rattle.rt_ids.specs.Limits.{most_capacity, most_cores};
+ghost use Rattle.rt_runtime.specs.Calls.{IsStarted};
+ghost use Rattle.fairexec_script.specs.Limits.{IsSize, ArePlaced, HasFewQueues};
+ghost use Rattle.fairexec_threads.specs.Rooms as spec;
+ghost use Rattle.fairexec_threads.specs.Starting.{IsOfStart};
+
+use crate::clock::StillClock;
+use fairexec_threads_script::ThreadsFault;
+use rt_ids::CoreNo;
+use rt_jobs::ScriptJob;
+use rt_runtime::{Runtime, StartError};
+use rt_runtime_config::{Config, NoGate};
+use rt_shares::Shares;
+use std::alloc::{AllocError, Global};
+use std::sync::Wait;
+use std::thread::Threads;
+
+/// A runtime of script jobs, which tell their own time.
+pub(crate) type House = Runtime<ScriptJob, StillClock, NoGate>;
+
+/// How many notes each journal has room for.
+fn room_of(cores: u8, cap: u16) -> u32
+    requires cores { cores ≤ most_cores }
+    requires cap { cap ≤ most_capacity }
+    ensures { result ≡ spec.room_of cores cap }
+{
+    (1 << 16) + 16 * ((u32::from(cores) + 1) * (u32::from(cap) + 1))
+}
+
+/// A clock for each core.
+fn clocks_of(alloc: Global, cores: u8) -> Result<Vec<StillClock>, AllocError>
+    ensures { IfOk result (λ clocks. length clocks.items ≡ cores) }
+{
+    let mut clocks = Vec::new(alloc);
+    clocks.resize(cores as usize, StillClock)?;
+    Ok(clocks)
+}
+
+/// A gate for each core.
+fn gates_of(alloc: Global, cores: u8) -> Result<Vec<NoGate>, AllocError>
+    ensures { IfOk result (λ gates. length gates.items ≡ cores) }
+{
+    let mut gates = Vec::new(alloc);
+    gates.resize(cores as usize, NoGate)?;
+    Ok(gates)
+}
+
+/// Starts the runtime of a script of this size with these queues.
+///
+/// # Errors
+///
+/// `Memory`, and `Thread` where a thread can't be made.
+pub(crate) fn start_house<R>(
+    rt: R,
+    alloc: Global,
+    cores: u8,
+    cap: u16,
+    queues: Vec<(CoreNo, Shares)>,
+) -> Result<House, ThreadsFault>
+where
+    R: Threads + Wait + Copy + Drop + Send + 'static,
+    requires size { IsSize cores cap }
+    requires placed { ArePlaced (Some (cores, cap)) queues.items }
+    requires few { HasFewQueues queues.items }
+    ensures ok { IfOk result (IsStarted cores cap (spec.room_of cores cap) queues.items) }
+    ensures fault { IfErr result IsOfStart }
+{
+    let clocks = clocks_of(alloc, cores)?;
+    let gates = gates_of(alloc, cores)?;
+    let config = Config {
+        cores,
+        cap,
+        room: room_of(cores, cap),
+        queues,
+    };
+    match House::start(rt, alloc, config, clocks, gates) {
+        Ok(house) => Ok(house),
+        Err(StartError::Memory) => Err(ThreadsFault::Memory),
+        Err(StartError::Thread) => Err(ThreadsFault::Thread),
+        Err(StartError::BadConfig) => unreachable!(),
+    }
+}

@@ -1,0 +1,75 @@
+//! Runs a script on threads, and tells what became of its orders.
+
+ghost use Rattle.std.specs.Prelude.{◌≡◌, Err, IfOk, IfErr, IfSome, true};
+ghost use Rattle.std.specs.Io.KnownBytes.{Keeps};
+ghost use Rattle.fairexec_threads_script.specs.ScriptFaults.{IfText};
+ghost use Rattle.fairexec_threads_script.specs.Scripts.{threads_script_of};
+ghost use Rattle.fairexec_threads_script.specs.Taking.{IsPrompt};
+ghost use Rattle.fairexec_threads.specs.Runs.{RunsOrders, IsRun, IsCutShort, IfUnwritten, IfUntold};
+ghost use Rattle.fairexec_threads.specs.Starting.{IsOfStart};
+
+use crate::calls::{close_all, offer_all};
+use crate::house::start_house;
+use fairexec_report::{TellFault, write_outcomes};
+use fairexec_threads_script::{ThreadsFault, ThreadsScript, read_threads_script};
+use rt_journal_notes::Assembly;
+use rt_runtime::FinishError;
+use std::alloc::Global;
+use std::io::{Read, Write};
+use std::sync::Wait;
+use std::thread::Threads;
+
+/// Starts the runtime of the script, sends its orders, closes each core, and waits until all workers have ended.
+fn run_orders<H>(rt: H, alloc: Global, script: ThreadsScript) -> Result<Assembly, ThreadsFault>
+where
+    H: Threads + Wait + Copy + Drop + Send + 'static,
+    ensures ok { IfOk result (RunsOrders script.cores script.cap script.queues.items script.orders.items) }
+    ensures fault { IfErr result IsOfStart }
+{
+    let ThreadsScript {
+        cores,
+        cap,
+        queues,
+        orders,
+    } = script;
+    let mut house = start_house(rt, alloc, cores, cap, queues)?;
+    offer_all(&mut house, orders);
+    close_all(&mut house, cores);
+    match house.finish(&rt) {
+        Ok(assembly) => Ok(assembly),
+        Err(FinishError::NotClosed(_, _)) => unreachable!(),
+    }
+}
+
+/// Reads a script, runs it on a thread for each core, and writes what became of each of its orders, and then the verdict of the journals.
+///
+/// The whole script is read and judged before a thread is made. The answer is that the journals are sound.
+///
+/// # Errors
+///
+/// A faulty line of the script (`Text`), a failed read (`Read`) or write (`Write`), want of memory (`Memory`), a thread that can't be made
+/// (`Thread`). After a failed write a first part of the text may be written, and before each other fault nothing is.
+pub fn threads_script<H, R: Read, W: Write>(
+    rt: H,
+    alloc: Global,
+    source: &mut R,
+    sink: &mut W,
+) -> Result<bool, ThreadsFault>
+where
+    H: Threads + Wait + Copy + Drop + Send + 'static,
+    ensures done { IfOk result (IsRun (R.remaining source.old) (W.contents sink.old) (W.contents sink.new)) }
+    ensures sound { IfOk result (λ sound. sound ≡ true) }
+    ensures faulty { IfErr result (IfText (λ fault.
+        IfSome (R.remaining source.old) (λ text. threads_script_of text ≡ Err fault))) }
+    ensures prompt { IfErr result (IsPrompt (R.remaining source.old) (R.remaining source.new)) }
+    ensures silent { IfErr result (IfUntold (Keeps (W.contents sink.old) (W.contents sink.new))) }
+    ensures unwritten { IfErr result (IfUnwritten (IsCutShort (R.remaining source.old) (W.contents sink.old) (W.contents sink.new))) }
+{
+    let script = read_threads_script(alloc, source)?;
+    let assembly = run_orders(rt, alloc, script)?;
+    match write_outcomes(alloc, &assembly, sink) {
+        Ok(sound) => Ok(sound),
+        Err(TellFault::Write) => Err(ThreadsFault::Write),
+        Err(TellFault::Memory) => Err(ThreadsFault::Memory),
+    }
+}

@@ -1,0 +1,17 @@
+use Rattle.std.proofs.Common.{sym, ◌∙◌, Some, None, not}
+use Rattle.rt_words.specs.Words.{words}
+use Rattle.fairexec_script.specs.Limits.{MayFollow, IsSized}
+use Rattle.fairexec_threads_script.proofs.LimitLemmas.{size_told_ok, line_told_ok, IfOk-from_each}
+use Rattle.fairexec_threads_script.proofs.draft.Draft.line_at.Goals as goal
+
+pub returns-in-None-clause-follows : goal.returns-in-None-clause-follows
+returns-in-None-clause-follows c =
+    rw (← c.self.view_is, c.in-None.is)
+    (IfOk-from_each _ (MayFollow None) (λ line e. size_told_ok (words c.args.text.now) line (sym c.size_told.ensures ∙ e)))
+
+pub returns-in-Some-clause-follows : goal.returns-in-Some-clause-follows
+returns-in-Some-clause-follows c =
+    let sized : IsSized (Some (c.in-Some.cores, c.in-Some.field-0-1)) = rw c.in-Some.is at c.self.invariant.0.sized in
+    rw (← c.self.view_is, c.in-Some.is)
+    (IfOk-from_each _ (MayFollow (Some (c.in-Some.cores, c.in-Some.field-0-1)))
+    (λ line e. line_told_ok (c.in-Some.cores, c.in-Some.field-0-1) (not c.is_empty.result) (words c.args.text.now) line sized.some_cores (sym c.line_told.ensures ∙ e)))

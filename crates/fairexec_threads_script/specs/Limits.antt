@@ -1,0 +1,48 @@
+-- A script for threads keeps within the limits of a runtime.
+use Rattle.std.specs.Prelude.{◌≡◌, ℕ, ◌≤◌, ◌<◌, [], ◌∷◌, List, Option, Some, None, All, length}
+use Rattle.rt_ids.specs.declared.order.Order.{Order}
+use Rattle.rt_ids.specs.declared.order.Order.TheVariants as order
+use Rattle.rt_jobs.specs.declared.poll.Poll.TheVariants.{Yield}
+use Rattle.rt_jobs.specs.Scripts.{Script}
+use Rattle.fairexec_script.specs.Counts.{count_of}
+use Rattle.fairexec_script.specs.Drafts.{queue_lines}
+use Rattle.fairexec_script.specs.Limits.{IsSized, ArePlaced, HasFewQueues}
+use Rattle.fairexec_threads_script.specs.Drafts.{Drafted, Told, orders_to}
+
+-- the job of an order; if it is none, one of a single poll that isn't made
+abbrev pub job_in : Order Script → Script
+job_in (order.Job queue job) = job
+job_in _ = record { polls = Yield 0 ∷ []; polled = 0 }
+
+-- an order to one of so many cores, whose job has polls and has made none
+pub record IsToldOf (cores : ℕ) (told : Told) : Type 0 where
+  pub core : told.0 < cores
+  pub some_polls : 1 ≤ length (job_in told.1).polls
+  pub none_made : (job_in told.1).polled ≡ 0
+
+-- the same of the cores that are told
+abbrev pub IsToldFor : Option (ℕ × ℕ) → Told → Type 0
+IsToldFor None told = ⊥
+IsToldFor (Some size) told = IsToldOf size.0 told
+
+-- each order is to one of the cores, and none comes before they are told
+abbrev pub AreTold : Option (ℕ × ℕ) → List Told → Type 0
+AreTold None orders = orders ≡ []
+AreTold (Some size) orders = All (IsToldOf size.0) orders
+
+-- one place of each link stays for the order that closes its core: a core gets fewer orders than the capacity
+abbrev pub HasSpare : Option (ℕ × ℕ) → List Told → Type 0
+HasSpare None orders = Unit {0}
+HasSpare (Some size) orders = (core : ℕ) → orders_to core orders < size.1
+
+pub record IsWithinLimits (draft : Drafted) : Type 0 where
+  pub sized : IsSized draft.size
+  pub placed : ArePlaced draft.size draft.queues
+  pub few : HasFewQueues draft.queues
+  pub told : AreTold draft.size draft.orders
+  pub spare : HasSpare draft.size draft.orders
+
+-- the `queue` lines and the orders of each core are counted
+pub record AreCounted (queues : List (ℕ × ℕ)) (orders : List Told) (lines sent : List ℕ) : Type 0 where
+  pub lines_are : (core : ℕ) → count_of core lines ≡ queue_lines core queues
+  pub sent_are : (core : ℕ) → count_of core sent ≡ orders_to core orders

@@ -1,0 +1,288 @@
+//! A script for threads as far as its lines are judged.
+
+ghost use Rattle.std.specs.Prelude.{◌≡◌, Ok, Err, IfOk, IfErr, IfSome, IsNone, None, Some, OnOk, OnErr, length, nat_lt, ◌<◌, ◌≤◌, ◌+◌, ◌++◌, ◌∷◌, [], ◌↔◌};
+ghost use Rattle.rt_words.specs.Words.{words};
+ghost use Rattle.fairexec_script.specs.Drafts.{is_skipped};
+ghost use Rattle.fairexec_script.specs.Limits.{IsCoreOf, IsSize, MayFollow, IsEventFor};
+ghost use Rattle.fairexec_threads_script.specs.declared.fault.ThreadsFault.TheVariants.{Memory};
+ghost use Rattle.fairexec_threads_script.specs.Drafts as spec;
+ghost use Rattle.fairexec_threads_script.specs.Limits.{IsToldFor};
+ghost use Rattle.fairexec_threads_script.specs.ScriptFaults.{IfFaulty};
+ghost use Rattle.fairexec_threads_script.specs.Whole.{drafted};
+
+use crate::fault::{ThreadsCause, ThreadsFault};
+use crate::line::{line_told, size_told};
+use crate::script::ThreadsScript;
+use fairexec_script::ScriptEvent;
+use fairexec_script::counts::CoreCounts;
+use fairexec_script::line::Line;
+use rt_ids::{CoreNo, Order};
+use rt_jobs::ScriptJob;
+use rt_shares::Shares;
+use rt_text::Cause;
+use std::alloc::Global;
+use std::marker::Model;
+
+/// The most `queue` lines of a core: with queue 0 they make 256.
+const MOST_QUEUE_LINES: usize = 255;
+
+/// The most polls of all jobs together.
+const MOST_POLLS: u32 = 4096;
+
+/// A script for threads as far as its lines are judged.
+#[derive(Drop)]
+pub(crate) struct Draft {
+    size: Option<(u8, u16)>,
+    queues: Vec<(CoreNo, Shares)>,
+    /// How many `queue` lines each core has.
+    lines: CoreCounts,
+    orders: Vec<(CoreNo, Order<ScriptJob>)>,
+    /// How many orders each core gets.
+    sent: CoreCounts,
+    /// How many polls the jobs have together.
+    polls: u32,
+}
+
+impl Model for Draft {
+    ghost use Rattle.std.specs.Prelude.{◌≤◌, ◌≡◌};
+    ghost use Rattle.fairexec_threads_script.specs.Drafts.{Drafted, polls_in};
+    ghost use Rattle.fairexec_threads_script.specs.Limits.{IsWithinLimits, AreCounted};
+
+    ghost Value = { Drafted };
+
+    ghost view = { λ d. record { size = d.size; queues = d.queues.items; orders = d.orders.items } };
+
+    ghost invariant = { λ d. IsWithinLimits
+        (record { size = d.size; queues = d.queues.items; orders = d.orders.items })
+        × (d.polls ≡ polls_in d.orders.items) × (d.polls ≤ 4096)
+        × AreCounted d.queues.items d.orders.items d.lines d.sent };
+}
+
+impl Draft {
+    /// Before the first line.
+    pub(crate) fn new(alloc: Global) -> Draft
+        ensures { result ≡ spec.empty_draft }
+    {
+        Draft {
+            size: None,
+            queues: Vec::new(alloc),
+            lines: CoreCounts::new(),
+            orders: Vec::new(alloc),
+            sent: CoreCounts::new(),
+            polls: 0,
+        }
+    }
+
+    /// The whole script, if the lines end here; None if none told the size.
+    pub(crate) fn finish(self) -> Option<ThreadsScript>
+        requires { length self.orders ≤ 4096 }
+        ensures whole { IfSome result (λ script. self ≡ drafted script) }
+        ensures none { IsNone result ↔ (self.size ≡ None) }
+    {
+        let Draft {
+            size,
+            queues,
+            lines: _,
+            orders,
+            sent: _,
+            polls: _,
+        } = self;
+        let (cores, cap) = size?;
+        Some(ThreadsScript {
+            cores,
+            cap,
+            queues,
+            orders,
+        })
+    }
+
+    /// Takes one line that isn't too long, by its number from 1.
+    pub(crate) fn take(&mut self, number: u32, text: &[u8]) -> Result<(), ThreadsFault>
+        ensures ok { OnOk result (spec.with_text self.old text.now ≡ Ok self.new) }
+        ensures faulty { IfErr result (IfFaulty (λ fault.
+            (fault.0 ≡ number) × (spec.with_text self.old text.now ≡ Err fault.1))) }
+        ensures one_more { OnOk result (length self.new.orders ≤ length self.old.orders + 1) }
+        ensures err { OnErr result (self.new ≡ self.old) }
+    {
+        if is_skipped(text) {
+            return Ok(());
+        }
+        match self.line_at(text) {
+            Ok(line) => self.add(number, line),
+            Err(cause) => Err(ThreadsFault::Text {
+                line: number,
+                cause,
+            }),
+        }
+    }
+
+    /// What a line that isn't skipped says at its place.
+    fn line_at(&self, text: &[u8]) -> Result<Line, ThreadsCause>
+        ensures line { result
+            ≡ spec.line_at self.now.size (nat_lt 0 (length self.now.orders)) (words text.now) }
+        ensures follows { IfOk result (MayFollow self.now.size) }
+    {
+        match self.size {
+            None => size_told(text),
+            Some((cores, _)) => line_told(text, cores, !self.orders.is_empty()),
+        }
+    }
+
+    /// Takes what a line says, by its number.
+    fn add(&mut self, number: u32, line: Line) -> Result<(), ThreadsFault>
+        requires { MayFollow self.old.size line }
+        ensures ok { OnOk result (spec.with_line self.old line ≡ Ok self.new) }
+        ensures faulty { IfErr result (IfFaulty (λ fault.
+            (fault.0 ≡ number) × (spec.with_line self.old line ≡ Err fault.1))) }
+        ensures one_more { OnOk result (length self.new.orders ≤ length self.old.orders + 1) }
+        ensures err { OnErr result (self.new ≡ self.old) }
+    {
+        match line {
+            Line::Size(cores, cap) => {
+                self.set_size(cores, cap);
+                Ok(())
+            }
+            Line::Queue(core, shares) => self.add_queue(number, core, shares),
+            Line::Step(event) => self.add_event(number, event),
+        }
+    }
+
+    /// Takes the first line.
+    fn set_size(&mut self, cores: u8, cap: u16)
+        requires first { self.old.size ≡ None }
+        requires size { IsSize cores cap }
+        ensures { self.new ≡ record self.old { size = Some (cores, cap) } }
+    {
+        self.size = Some((cores, cap));
+    }
+
+    /// Takes a `queue` line.
+    fn add_queue(&mut self, number: u32, core: CoreNo, shares: Shares) -> Result<(), ThreadsFault>
+        requires { IsCoreOf self.old.size core }
+        ensures ok { OnOk result (spec.with_queue self.old core shares ≡ Ok self.new) }
+        ensures faulty { IfErr result (IfFaulty (λ fault.
+            (fault.0 ≡ number) × (spec.with_queue self.old core shares ≡ Err fault.1))) }
+        ensures one_more { OnOk result (length self.new.orders ≤ length self.old.orders + 1) }
+        ensures err { OnErr result (self.new ≡ self.old) }
+    {
+        if self.lines.of(core) >= MOST_QUEUE_LINES {
+            return Err(ThreadsFault::Text {
+                line: number,
+                cause: ThreadsCause::Line(Cause::TooManyQueues),
+            });
+        }
+        self.queues.push((core, shares))?;
+        self.lines.add(core);
+        Ok(())
+    }
+
+    /// Takes a line that lets something happen.
+    fn add_event(&mut self, number: u32, event: ScriptEvent) -> Result<(), ThreadsFault>
+        requires { IsEventFor self.old.size event }
+        ensures ok { OnOk result (spec.with_event self.old event ≡ Ok self.new) }
+        ensures faulty { IfErr result (IfFaulty (λ fault.
+            (fault.0 ≡ number) × (spec.with_event self.old event ≡ Err fault.1))) }
+        ensures one_more { OnOk result (length self.new.orders ≤ length self.old.orders + 1) }
+        ensures err { OnErr result (self.new ≡ self.old) }
+    {
+        match event {
+            ScriptEvent::Send(_, core, order) => self.add_order(number, core, order),
+            _ => Err(ThreadsFault::Text {
+                line: number,
+                cause: ThreadsCause::NotForThreads,
+            }),
+        }
+    }
+
+    /// Takes an order to a core.
+    fn add_order(
+        &mut self,
+        number: u32,
+        core: CoreNo,
+        order: Order<ScriptJob>,
+    ) -> Result<(), ThreadsFault>
+        requires { IsToldFor self.old.size (core, order) }
+        ensures ok { OnOk result (spec.with_order self.old (core, order) ≡ Ok self.new) }
+        ensures faulty { IfErr result (IfFaulty (λ fault.
+            (fault.0 ≡ number) × (spec.with_order self.old (core, order) ≡ Err fault.1))) }
+        ensures one_more { OnOk result (length self.new.orders ≤ length self.old.orders + 1) }
+        ensures err { OnErr result (self.new ≡ self.old) }
+    {
+        let polls = polls_of(&order);
+        match self.refuses(core, polls) {
+            Some(cause) => Err(ThreadsFault::Text {
+                line: number,
+                cause,
+            }),
+            None => self.push_order(core, order, polls),
+        }
+    }
+
+    /// Takes an order to a core that there is room for.
+    fn push_order(
+        &mut self,
+        core: CoreNo,
+        order: Order<ScriptJob>,
+        polls: u32,
+    ) -> Result<(), ThreadsFault>
+        requires told { IsToldFor self.old.size (core, order) }
+        requires polls { polls ≡ spec.polls_of order }
+        requires few { spec.polls_in self.old.orders + polls ≤ 4096 }
+        requires room { spec.orders_to core self.old.orders + 1 < spec.cap_of self.old.size }
+        ensures ok { OnOk result (self.new
+            ≡ record self.old { orders = self.old.orders ++ (core, order) ∷ [] }) }
+        ensures fault { IfErr result (λ fault. fault ≡ Memory) }
+        ensures err { OnErr result (self.new ≡ self.old) }
+    {
+        self.orders.push((core, order))?;
+        self.sent.add(core);
+        self.polls += polls;
+        Ok(())
+    }
+
+    /// Why there is no room for an order to the core whose job has so many polls.
+    fn refuses(&self, core: CoreNo, polls: u32) -> Option<ThreadsCause>
+        requires { polls ≤ 64 }
+        ensures { result ≡ spec.refusal self.now core polls }
+    {
+        let most = self.cap().saturating_sub(1);
+        if self.sent.of(core) >= most as usize {
+            return Some(ThreadsCause::TooManyForCap);
+        }
+        if self.polls + polls > MOST_POLLS {
+            return Some(ThreadsCause::TooManyPolls);
+        }
+        None
+    }
+
+    /// The capacity, 0 before it is told.
+    fn cap(&self) -> u16
+        ensures { result ≡ spec.cap_of self.now.size }
+    {
+        match self.size {
+            None => 0,
+            Some((_, cap)) => cap,
+        }
+    }
+}
+
+/// How many polls the job of an order has.
+fn polls_of(order: &Order<ScriptJob>) -> u32
+    ensures count { result ≡ spec.polls_of order.now }
+    ensures few { result ≤ 64 }
+{
+    match order {
+        Order::Job(_, job) => job.poll_count() as u32,
+        _ => 0,
+    }
+}
+
+/// Whether the line is empty or begins with `#`.
+fn is_skipped(line: &[u8]) -> bool
+    ensures { result ≡ is_skipped line.now }
+{
+    match line {
+        [] => true,
+        [first, ..] => *first == b'#',
+    }
+}

@@ -1,6 +1,0 @@
-use Rattle.std.proofs.Common.{refl}
-use Rattle.rt_accounts.proofs.AccountSteps.{all_fresh}
-use Rattle.rt_accounts.proofs.accounts.Accounts.new.Goals as goal
-
-pub returns : goal.returns
-returns c = record { each = λ queue. all_fresh 256 queue c.new.result c.new.ensures; floor = refl }

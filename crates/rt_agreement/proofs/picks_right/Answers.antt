@@ -1,6 +1,0 @@
-use Rattle.rt_agreement.proofs.KeptPicks.{right_pick}
-use Rattle.rt_agreement.proofs.picks_right.Goals as goal
-
-pub returns : goal.returns
-returns g c terms old new name queue was_started job journal kept takes =
-    right_pick terms old name queue was_started job new.queues journal kept (record { next = takes.next; others = takes.others; first = takes.first; line = takes.line })

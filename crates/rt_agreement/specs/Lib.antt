@@ -1,4 +1,0 @@
-pub mod Polls
-pub mod Figures
-pub mod Agreement
-pub mod Laws

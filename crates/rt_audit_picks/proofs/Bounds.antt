@@ -1,0 +1,83 @@
+-- A virtual runtime is at most 2^50 for each note, if each pick is right and each note is spelled.
+use Rattle.std.proofs.Common.{ℕ, ◌*◌, ◌^◌, ◌<◌, ◌≤◌, Bool, true, false, [], ◌∷◌, length, cond, arith}
+use Rattle.std.specs.Prelude.{Some, None, ◌==◌, unwrap_or}
+use Rattle.rt_shares.specs.Charge.{charge, InRange}
+use Rattle.rt_ids.specs.declared.note.Note.{Note}
+use Rattle.rt_ids.specs.declared.note.Note.TheVariants.{Created, SharesSet, Pick, Yield, Done}
+use Rattle.rt_ids.specs.Clauses.{PicksRight}
+use Rattle.rt_ids.specs.Journal.{Journal, EachNote}
+use Rattle.rt_ids.specs.Names.{is_number}
+use Rattle.rt_ids.specs.Runtimes.{shares, floor, virtual_runtime, runtime_picked, charge_noted}
+use Rattle.rt_ids.specs.Spelled.{IsSpelledNote, AreSpelledNotes}
+use Rattle.rt_ids.specs.Terms.{Terms}
+use Rattle.rt_ids.specs.Work.{queue_of}
+use Rattle.rt_ids.proofs.RuntimeBound.{charge_below, place_noted-bounded}
+use Rattle.rt_journal_facts.specs.Accounts.{greatest_runtime, greatest_count}
+use Rattle.rt_audit_picks.specs.Picks.{AreBelow}
+
+module _ (terms : Terms) where
+  -- the shares of a queue are within their range
+  shares_next : (queue : ℕ) (note : Note ℕ) (before : Journal ℕ) → IsSpelledNote terms note → InRange (shares queue before) → InRange (shares queue (note ∷ before))
+  shares_next queue (Created other weight) before spelled was = by_test (queue == other)
+    where
+      by_test : (test : Bool) → InRange (unwrap_or (cond test (Some weight) None) (shares queue before))
+      by_test true = spelled.2
+      by_test false = was
+  shares_next queue (SharesSet other weight) before spelled was = by_test (queue == other)
+    where
+      by_test : (test : Bool) → InRange (unwrap_or (cond test (Some weight) None) (shares queue before))
+      by_test true = spelled.2
+      by_test false = was
+  shares_next queue _ before spelled was = was
+
+  in_range : (queue : ℕ) (journal : Journal ℕ) → AreSpelledNotes terms journal → InRange (shares queue journal)
+  in_range queue [] spelled = record { positive = omega arith; bounded = omega arith }
+  in_range queue (note ∷ before) spelled = shares_next queue note before spelled.0 (in_range queue before spelled.1)
+
+  -- a note costs a queue at most 2^50
+  costs_little : (queue : ℕ) (note : Note ℕ) (before : Journal ℕ) → InRange (shares queue before) → charge_noted queue note before ≤ 2 ^ 50
+  costs_little queue (Yield name time) before range = by_test (is_number queue (queue_of name before))
+    where
+      by_test : (test : Bool) → cond test (charge time (shares queue before)) 0 ≤ 2 ^ 50
+      by_test true = let below = charge_below time (shares queue before) range.positive in omega arith
+      by_test false = omega arith
+  costs_little queue (Done name time value) before range = by_test (is_number queue (queue_of name before))
+    where
+      by_test : (test : Bool) → cond test (charge time (shares queue before)) 0 ≤ 2 ^ 50
+      by_test true = let below = charge_below time (shares queue before) range.positive in omega arith
+      by_test false = omega arith
+  costs_little queue _ before range = omega arith
+
+  -- a right pick is at the virtual runtime of its queue
+  picked_low : (bound : ℕ) (note : Note ℕ) (before : Journal ℕ) → PicksRight note before → ((queue : ℕ) → virtual_runtime queue before ≤ bound) →
+      runtime_picked note ≤ bound
+  picked_low bound (Pick queue runtime) before right low = let at_queue = low queue in omega (arith, right.right.at)
+  picked_low bound _ before right low = omega arith
+
+  -- the floor and all virtual runtimes are at most this
+  record IsLow (bound : ℕ) (journal : Journal ℕ) : Type 0 where
+    of_floor : floor journal ≤ bound
+    of_queues : (queue : ℕ) → virtual_runtime queue journal ≤ bound
+
+  low : (journal : Journal ℕ) → AreSpelledNotes terms journal → EachNote PicksRight journal → IsLow (length journal * 2 ^ 50) journal
+  low [] spelled each = record { of_floor = omega arith; of_queues = λ queue. omega arith }
+  low (note ∷ before) spelled each = step (low before spelled.1 each.1)
+    where
+      step : IsLow (length before * 2 ^ 50) before → IsLow (length (note ∷ before) * 2 ^ 50) (note ∷ before)
+      step was = record {
+        of_floor =
+            let picked = picked_low (length before * 2 ^ 50) note before each.0 was.of_queues in
+            let under = was.of_floor in
+            omega arith;
+        of_queues = λ queue.
+            let under = was.of_floor in
+            let here = was.of_queues queue in
+            let placed = place_noted-bounded terms queue note before in
+            let cost = costs_little queue note before (in_range queue before spelled.1) in
+            omega arith;
+      }
+
+  -- no virtual runtime of a journal in memory is cut off
+  pub are_below : (journal : Journal ℕ) → AreSpelledNotes terms journal → EachNote PicksRight journal → length journal < greatest_count →
+      AreBelow greatest_runtime journal
+  are_below journal spelled each short queue = let here = (low journal spelled each).of_queues queue in omega (arith, short, here)

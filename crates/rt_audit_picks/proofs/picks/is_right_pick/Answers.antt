@@ -1,0 +1,33 @@
+use Rattle.std.proofs.Common.{ap, ◌∙◌}
+use Rattle.std.proofs.lemmas.Bool.{both_ways}
+use Rattle.rt_audit_picks.specs.Picks.{out_list}
+use Rattle.rt_audit_picks.proofs.PickSteps.{right_pick}
+use Rattle.rt_audit_picks.proofs.RightPicks.{none_out, stands_at, stands_first}
+use Rattle.rt_audit_picks.proofs.picks.is_right_pick.Goals as goal
+
+pub returns-then-not-has_few-clause-only : goal.returns-then-not-has_few-clause-only
+returns-then-not-has_few-clause-only c = λ before knows below right. absurd (both_ways c.has_few.result c.if-not-has_few.true c.has_few.ensures.always)
+
+pub returns-then-may_pick-clause-right : goal.returns-then-may_pick-clause-right
+returns-then-may_pick-clause-right c =
+    λ before knows yes.
+    let may = c.may_pick.ensures.right c.if-may_pick.true in
+    right_pick before c.args.turns.now.accounts c.args.turns.now.least c.args.queue c.args.runtime knows.accounts c.has_few.ensures.few knows.least
+    (knows.out ∙ ap out_list may.0) may.1.jobs may.1.at may.1.below (c.is_least.ensures.right knows.tree yes)
+
+pub returns-then-may_pick-clause-only : goal.returns-then-may_pick-clause-only
+returns-then-may_pick-clause-only c =
+    λ before knows below right.
+    c.is_least.ensures.only knows.tree (stands_first c.args.turns.now.least c.args.queue c.args.runtime before knows.least knows.idle below right)
+
+pub returns-else-may_pick-clause-only : goal.returns-else-may_pick-clause-only
+returns-else-may_pick-clause-only c =
+    λ before knows below right.
+    absurd
+    (
+    both_ways c.may_pick.result c.if-may_pick.false
+    (
+    c.may_pick.ensures.only (none_out c.args.turns.now.out before knows.out right.eligible.nobody_out)
+    (stands_at c.args.turns.now.accounts c.args.queue c.args.runtime before knows.accounts below right)
+    )
+    )

@@ -1,0 +1,3 @@
+pub mod PickFaults
+pub mod Picks
+pub mod Winners

@@ -1,0 +1,5 @@
+pub mod CloseSteps
+pub mod LinkTables
+pub mod NumberSteps
+pub mod Reached
+pub mod ToldNames

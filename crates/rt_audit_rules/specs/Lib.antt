@@ -1,0 +1,4 @@
+pub mod Closes
+pub mod Links
+pub mod Numbers
+pub mod Sides

@@ -1,0 +1,44 @@
+-- What tables by name know of the orders and the outcomes of all journals.
+use Rattle.std.specs.Prelude.{◌≡◌, ℕ, Option, Some, None, List, length, slice_get}
+use Rattle.rt_ids.specs.declared.names.JobId.{JobId}
+use Rattle.rt_ids.specs.declared.note.OutcomeNote.{OutcomeNote}
+use Rattle.rt_ids.specs.declared.order.Order.{Order}
+use Rattle.rt_ids.specs.Assembly.{Assembly, journal_of, first_under, order_of, outcome_of}
+use Rattle.rt_ids.specs.Filters.{accepted_orders, given_outcomes}
+use Rattle.rt_ids.specs.Journal.{Journal}
+use Rattle.rt_journal_facts.specs.Names.{Entries, known}
+
+-- what the table knows, if there is one
+abbrev pub known_in : {V : Type 0} → Option (Entries V) → JobId → Option V
+known_in None name = None
+known_in (Some entries) name = known entries name
+
+-- what the table of this place knows under a name
+abbrev pub under : {V : Type 0} → List (Entries V) → ℕ → JobId → Option V
+under tables place name = known_in (slice_get tables place) name
+
+-- the table has the orders that a journal's actor sent
+abbrev pub KnowsOrdersOf : {T : Type 0} → Entries (Order (Unit {0})) → Journal T → Type 0
+KnowsOrdersOf entries journal = (name : JobId) → known entries name ≡ first_under name (accepted_orders name.to journal)
+
+-- the table has the outcomes that a journal's actor gave
+abbrev pub KnowsOutcomesOf : {T : Type 0} → Entries (OutcomeNote T) → Journal T → Type 0
+KnowsOutcomesOf entries journal = (name : JobId) → known entries name ≡ first_under name (given_outcomes name.from journal)
+
+-- the orders that are known are those that were accepted
+abbrev pub KnowsOrders : {T : Type 0} → List (Entries (Order (Unit {0}))) → Assembly T → Type 0
+KnowsOrders tables assembly = (name : JobId) → under tables name.from name ≡ order_of name assembly
+
+-- the outcomes that are known are those that were given
+abbrev pub KnowsOutcomes : {T : Type 0} → List (Entries (OutcomeNote T)) → Assembly T → Type 0
+KnowsOutcomes tables assembly = (name : JobId) → under tables name.to name ≡ outcome_of name assembly
+
+-- the first tables, as many as said, are those of the first actors
+pub record AreOrdersOf {T : Type 0} (tables : List (Entries (Order (Unit {0})))) (assembly : Assembly T) (count : ℕ) : Type 0 where
+  pub counted : length tables ≡ count
+  pub each : (actor : ℕ) (entries : Entries (Order (Unit {0}))) → slice_get tables actor ≡ Some entries → KnowsOrdersOf entries (journal_of actor assembly)
+
+-- the first tables, as many as said, are those of the first actors
+pub record AreOutcomesOf {T : Type 0} (tables : List (Entries (OutcomeNote T))) (assembly : Assembly T) (count : ℕ) : Type 0 where
+  pub counted : length tables ≡ count
+  pub each : (actor : ℕ) (entries : Entries (OutcomeNote T)) → slice_get tables actor ≡ Some entries → KnowsOutcomesOf entries (journal_of actor assembly)

@@ -1,0 +1,68 @@
+//! What an audit finds in each text.
+
+use crate::rows::{CLOSES, ORDER, OUTCOMES, PICKS, Row, SOUND, STARTS};
+use rt_audit::{Verdict, audit};
+use rt_ids::ActorNo;
+use rt_journal_read::read_journal;
+use std::alloc::Global;
+
+/// The verdict on the journals of a text, if the text is read.
+fn verdict_on(alloc: Global, text: &str) -> Option<Verdict> {
+    let mut source = text.as_bytes();
+    match read_journal(alloc, &mut source) {
+        Ok(journals) => audit(alloc, &journals).ok(),
+        Err(_) => None,
+    }
+}
+
+/// Whether the first fault is of this rule, at this line of this actor.
+fn breaks(alloc: Global, text: &str, rule: u8, actor: u8, line: usize) -> bool {
+    let fault = Verdict::Fault {
+        actor: ActorNo(actor),
+        line,
+        rule,
+    };
+    verdict_on(alloc, text) == Some(fault)
+}
+
+/// What is wrong in the first row of this rule whose fault the audit doesn't name.
+fn first_unnamed(alloc: Global, rule: u8, rows: &[Row]) -> Option<&'static str> {
+    for row in rows.iter() {
+        if !breaks(alloc, row.3, rule, row.0, row.1) {
+            return Some(row.2);
+        }
+    }
+    None
+}
+
+#[test]
+fn sound_journals_are_found_sound(rt: HostRuntime) {
+    for text in SOUND.iter() {
+        assert!(rt; verdict_on(rt.alloc(), *text) == Some(Verdict::Sound));
+    }
+}
+
+#[test]
+fn each_fault_of_starts_is_named(rt: HostRuntime) {
+    assert_eq!(rt; first_unnamed(rt.alloc(), 1, &STARTS), None);
+}
+
+#[test]
+fn each_fault_of_order_is_named(rt: HostRuntime) {
+    assert_eq!(rt; first_unnamed(rt.alloc(), 2, &ORDER), None);
+}
+
+#[test]
+fn each_fault_of_closes_is_named(rt: HostRuntime) {
+    assert_eq!(rt; first_unnamed(rt.alloc(), 3, &CLOSES), None);
+}
+
+#[test]
+fn each_fault_of_outcomes_is_named(rt: HostRuntime) {
+    assert_eq!(rt; first_unnamed(rt.alloc(), 4, &OUTCOMES), None);
+}
+
+#[test]
+fn each_fault_of_picks_is_named(rt: HostRuntime) {
+    assert_eq!(rt; first_unnamed(rt.alloc(), 5, &PICKS), None);
+}

@@ -1,9 +1,0 @@
-use Rattle.rt_text.proofs.KnownLemmas.{Appends-more_kept}
-use Rattle.rt_report.proofs.AuditLemmas.{front_of_all}
-use Rattle.rt_engine.proofs.journal.print_last.Goals as goal
-
-pub returns-in-Ok-clause-ok : goal.returns-in-Ok-clause-ok
-returns-in-Ok-clause-ok g c = Appends-more_kept _ _ _ _ c.in_ok-print_page.ensures.ok c.flush.ensures
-
-pub returns-in-Err-clause-err : goal.returns-in-Err-clause-err
-returns-in-Err-clause-err g c = front_of_all _ _ _ (Appends-more_kept _ _ _ _ c.in_ok-print_page.ensures.ok c.flush.ensures)

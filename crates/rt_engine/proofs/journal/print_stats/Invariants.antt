@@ -1,9 +1,0 @@
--- The statistics of the cores so far stand behind what the page had.
-use Rattle.std.proofs.Common.{string_bytes}
-use Rattle.rt_world.specs.State.{assembly_of}
-use Rattle.rt_engine.proofs.RearLemmas.{HasStats}
-use Rattle.rt_engine.proofs.journal.print_stats.Given as goal
-
-abbrev pub invariant-loop-core : goal.invariant-loop-core
-invariant-loop-core g l =
-    HasStats (assembly_of l.model) l.core (string_bytes l.initial.page) (string_bytes l.page) (g.W.Write.contents l.initial.sink) (g.W.Write.contents l.sink)

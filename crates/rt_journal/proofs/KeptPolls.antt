@@ -1,0 +1,86 @@
+-- What a core tells of itself stays what its journal says, as a poll is settled: the job yields, or is done.
+use Rattle.rt_journal.proofs.AgreementNames.{get_or-set_other, length-set, none-some, CoreView, JobOut, runtime_of, tally_of}
+use Rattle.rt_journal.proofs.AgreementNames.{settled_view, Tally, jobs_out-done, jobs_out-yield, line-done, line-yield}
+use Rattle.rt_journal.proofs.AgreementNames.{line-yield_elsewhere, floor-stays, virtual_runtime-done}
+use Rattle.rt_journal.proofs.AgreementNames.{virtual_runtime-done_elsewhere, virtual_runtime-yield}
+use Rattle.rt_journal.proofs.AgreementNames.{virtual_runtime-yield_elsewhere, is_told-alone, jobs_out, shares}
+use Rattle.rt_journal.proofs.AgreementNames.{virtual_runtime, queue_of, Agrees, AreMarked, IsJobOut, IsKept, names_of}
+use Rattle.rt_journal.proofs.AgreementNames.{figures_told, Bool, JobId, Journal, None, Note, Some, Terms, [], ap, arith}
+use Rattle.rt_journal.proofs.AgreementNames.{cond, get_or-set_same, length, map-append, refl, subst, sym, true, ℕ, ◌++◌, ◌+◌}
+use Rattle.rt_journal.proofs.AgreementNames.{◌<◌, ◌==◌, ◌∙◌, ◌∷◌, ◌≡◌, ◌≤◌, charge, clamped, ChangesLine, QueuesView}
+use Rattle.rt_journal.proofs.AgreementNames.{mode_of, line, queue_count, shares_of, waiting_of}
+use Rattle.rt_ids.specs.declared.note.Note.TheVariants as writes
+use Rattle.rt_journal.proofs.Places.{everywhere}
+use Rattle.rt_journal.proofs.Figures.{figures-grow, one_poll, told-done, told-yield}
+use Rattle.rt_journal.proofs.Kept.{IsPlain, closing-stays, kept_after, marks_longer, turns-stays}
+
+module _ {J T : Type 0} (terms : Terms) (old : CoreView J) (job : JobOut J) (time : ℕ) (journal : Journal T) (kept : IsKept terms old journal) (at : old.out ≡ Some job) where
+  is_out : (jobs_out journal ≡ job.name ∷ []) × (queue_of job.name journal ≡ Some job.queue)
+  is_out = subst (λ out. IsJobOut out journal) at kept.agrees.out
+
+  exists : job.queue < queue_count old.queues
+  exists = kept.agrees.out_exists job at
+
+  -- the core with its poll settled, by which so many jobs are done
+  module _ (done : ℕ) (queues : QueuesView J) where
+    abbrev new : CoreView J
+    new = settled_view old job time done queues
+
+    abbrev settled_tally : Tally
+    settled_tally = record (tally_of job.queue old) {
+      runtime = (tally_of job.queue old).runtime + charge time (shares_of job.queue old.queues);
+      time = (tally_of job.queue old).time + clamped time;
+      finished = (tally_of job.queue old).finished + done;
+    }
+
+    -- the queue of the job is charged, and no other
+    runtime_charged : runtime_of job.queue new ≡ virtual_runtime job.queue journal + charge time (shares job.queue journal)
+    runtime_charged = grind (arith, get_or-set_same old.tallies job.queue, kept.agrees.runtimes job.queue, kept.agrees.weights job.queue exists, exists, kept.agrees.tallied)
+
+    runtime_same : (other : ℕ) → (other ≡ job.queue → ⊥) → runtime_of other new ≡ virtual_runtime other journal
+    runtime_same other away = grind (arith, get_or-set_other old.tallies job.queue other, kept.agrees.runtimes other)
+
+    -- it agrees with the note of that
+    agrees_settled : (note : Note T) (plain : IsPlain note journal) →
+        ((other : ℕ) → figures_told other (note ∷ journal) ≡ cond (other == job.queue) (one_poll time done (figures_told other journal)) (figures_told other journal)) →
+        queue_count queues ≡ queue_count old.queues → ((other : ℕ) → shares_of other queues ≡ shares_of other old.queues) → ((other : ℕ) → mode_of other queues ≡ mode_of other old.queues) →
+        ((other : ℕ) → names_of (waiting_of other queues) ≡ line other (note ∷ journal)) → ((other : ℕ) → AreMarked (note ∷ journal) (waiting_of other queues)) →
+        virtual_runtime job.queue (note ∷ journal) ≡ virtual_runtime job.queue journal + charge time (shares job.queue journal) →
+        ((other : ℕ) → (other ≡ job.queue → ⊥) → virtual_runtime other (note ∷ journal) ≡ virtual_runtime other journal) → jobs_out (note ∷ journal) ≡ [] → Agrees new (note ∷ journal)
+    agrees_settled note plain told same_count same_shares same_modes lines marks charged elsewhere nobody =
+        let tallied = length-set old.tallies job.queue settled_tally ∙ (kept.agrees.tallied ∙ sym same_count) in
+        let last = same_count ∙ (kept.agrees.last ∙ ap (λ count. count + 1) (sym plain.created)) in
+        let weights = λ (other : ℕ) (there : other < queue_count queues).
+        same_shares other ∙ (kept.agrees.weights other (subst (λ count. other < count) same_count there) ∙ sym (plain.weighs other)) in
+        let runtimes = everywhere (λ at. runtime_of at new ≡ virtual_runtime at (note ∷ journal)) job.queue (runtime_charged ∙ sym charged) (λ other away. runtime_same other away ∙ sym (elsewhere other away)) in
+        let floor_now = kept.agrees.the_floor ∙ sym (floor-stays note journal plain.picks) in
+        let turns_now = kept.agrees.turns ∙ sym (turns-stays note journal plain.turns_made) in
+        let none : (out : JobOut J) → None ≡ Some out → out.queue < queue_count queues = λ out none. absurd (none-some out none) in
+        let delivered = λ (sender : ℕ) (known : sender ≤ old.cores). kept.agrees.delivered sender known ∙ ap length (sym (plain.delivered sender)) in
+        let closing = closing-stays old new note journal same_modes refl refl refl plain.opens kept.agrees.closing in
+        let within : job.queue < length old.tallies = omega (arith, exists, kept.agrees.tallied) in
+        assumption (figures-grow old new job.queue settled_tally within refl journal (note ∷ journal) (one_poll time done) refl kept.agrees.figures told, nobody)
+
+  -- the job goes to the end of its line
+  pub kept-yield : (queues : QueuesView J) (back : J) → ChangesLine old.queues queues job.queue (waiting_of job.queue old.queues ++ (job.name, true, back) ∷ []) →
+      IsKept terms (settled_view old job time 0 queues) (writes.Yield job.name time ∷ journal)
+  kept-yield queues back changes =
+      kept_after terms (writes.Yield job.name time) kept
+      (agrees_settled 0 queues (writes.Yield job.name time) (assumption) (λ other. told-yield other job.queue journal job.name is_out.1 time)
+      changes.same_count changes.same_shares changes.same_modes lines (marks_longer journal job.name true back (sym (is_told-alone terms job.name journal kept.notes is_out.0)) changes kept.agrees.marks) (virtual_runtime-yield job.queue journal job.name time is_out.1)
+      (λ other away. virtual_runtime-yield_elsewhere other journal job.name time job.queue is_out.1 away) (jobs_out-yield job.name time journal is_out.0)) kept.is_core is_out.0 refl tt refl refl
+    where
+      lines : (other : ℕ) → names_of (waiting_of other queues) ≡ line other (writes.Yield job.name time ∷ journal)
+      lines other =
+          let longer = map-append (λ (entry : JobId × Bool × J). entry.0) (waiting_of job.queue old.queues) ((job.name, true, back) ∷ []) in
+          let here = line-yield job.queue time job.name journal is_out.1 in
+          grind (arith, longer, here, kept.agrees.lines other, changes.others other, line-yield_elsewhere other job.queue time job.name journal is_out.1)
+
+  -- the job is gone
+  pub kept-done : (value : T) → IsKept terms (settled_view old job time 1 old.queues) (writes.Done job.name time value ∷ journal)
+  kept-done value =
+      kept_after terms (writes.Done job.name time value) kept
+      (agrees_settled 1 old.queues (writes.Done job.name time value) (assumption) (λ other. told-done other job.queue journal job.name is_out.1 time value) refl (λ other. refl) (λ other. refl)
+      (λ other. kept.agrees.lines other ∙ sym (line-done terms journal kept.notes other time value job.name is_out.0)) kept.agrees.marks
+      (virtual_runtime-done job.queue journal job.name time value is_out.1) (λ other away. virtual_runtime-done_elsewhere other journal job.name time value job.queue is_out.1 away)
+      (jobs_out-done job.name time value journal is_out.0)) kept.is_core is_out.0 refl tt refl refl

@@ -1,0 +1,164 @@
+-- What a core tells of itself in numbers, its journal tells: the jobs inside, and the numbers of each queue.
+use Rattle.rt_journal.proofs.Words.{◌≡◌, ℕ, zero, suc, ◌+◌, ◌<◌, ◌≤◌, List, [], ◌∷◌, length, refl, sym, ◌∙◌, ap, arith, get_or, ⊎_elim, Option, Some}
+use Rattle.rt_journal.proofs.Words.{None, is_some, ◌==◌, cases_eq, eq-eqb, length-map, Journal, EachNote, MayStand, line, Terms, queue_count}
+use Rattle.rt_journal.proofs.Words.{waiting_of, ◌-◌, ◌^◌, ◌↔◌, slice_get, IsTrue, Note, CoreStats, turns, virtual_runtime, Owed, core_stats}
+use Rattle.rt_journal.proofs.Words.{queue_stats, RecordedView, IsRecorded, TellsCore, TellsQueues}
+use Rattle.std.specs.Prelude.{sum_by}
+use Rattle.std.proofs.lemmas.Bool.{ne_eqb}
+use Rattle.std.proofs.lemmas.List.Sums.{sum_by-cons}
+use Rattle.rt_ids.specs.HandBacks.{jobs_below, jobs_held}
+use Rattle.rt_ids.specs.Lines.{queue_out}
+use Rattle.rt_ids.specs.Names.{is_number}
+use Rattle.rt_ids.specs.Work.{number_if}
+use Rattle.rt_ids.proofs.Counts.{counts_agree}
+use Rattle.rt_taskqueue.specs.Queues.{QueueView, no_queue, held_count}
+use Rattle.rt_core.specs.State as state
+use Rattle.rt_core.specs.State.{CoreView, JobOut, inside_count}
+use Rattle.rt_journal.specs.Agreement.{IsKept}
+use Rattle.rt_journal.proofs.Kept.{queue_out-agrees}
+use Rattle.std.proofs.Common.{min}
+use Rattle.rt_ids.specs.declared.note.Note.TheVariants.{Pick}
+use Rattle.rt_ids.specs.declared.stats.QueueStats.{QueueStats}
+use Rattle.rt_ids.specs.Lawful.{MayFollow}
+use Rattle.rt_ids.specs.Limits.{most_turns}
+use Rattle.rt_ids.proofs.RuntimeBound.{no_runtime_wraps}
+use Rattle.rt_stats.specs.Stats.{stats_of}
+use Rattle.rt_stats.specs.Sums.{waiting_count}
+use Rattle.rt_stats.proofs.WaitingLaw.{waiting_is_line}
+use Rattle.rt_core.specs.Closing as closing
+use Rattle.rt_journal.specs.Recorded.{terms_at}
+use Rattle.rt_journal.proofs.Drained.{drained_told, drained_here}
+
+-- a count of the first numbers together
+abbrev below : (ℕ → ℕ) → ℕ → ℕ
+below count zero = 0
+below count (suc last) = below count last + count last
+
+below-alike : (count other : ℕ → ℕ) → ((number : ℕ) → count number ≡ other number) → (last : ℕ) → below count last ≡ below other last
+below-alike count other same zero = refl
+below-alike count other same (suc last) = λ i. below-alike count other same last i + same last i
+
+below-first : (count : ℕ → ℕ) (last : ℕ) → below count (suc last) ≡ count 0 + below (λ number. count (suc number)) last
+below-first count zero = omega arith
+below-first count (suc last) = omega (arith, below-first count last)
+
+-- all items of a list, one by one
+below-items : {A : Type 0} (count : A → ℕ) (default : A) (items : List A) → below (λ place. count (get_or items place default)) (length items) ≡ sum_by count items
+below-items count default [] = refl
+below-items count default (item ∷ items) =
+    below-first (λ place. count (get_or (item ∷ items) place default)) (length items)
+    ∙ (ap (λ rest. count item + rest) (below-items count default items) ∙ sym (sum_by-cons count item items))
+
+none_below : (last : ℕ) → below (λ number. number_if (is_number number None)) last ≡ 0
+none_below zero = refl
+none_below (suc last) = omega (arith, none_below last)
+
+-- how often a number is met among the first
+abbrev met : ℕ → ℕ → ℕ
+met queue = below (λ number. number_if (number == queue))
+
+-- it is met once, if it is among them
+none_met : (queue last : ℕ) → last ≤ queue → met queue last ≡ 0
+none_met queue zero past = refl
+none_met queue (suc last) past = omega (arith, none_met queue last (omega (arith, past)), ap number_if (ne_eqb last queue (λ same. omega (arith, past, same))))
+
+once_met : (queue last : ℕ) → queue < last → met queue last ≡ 1
+once_met queue zero within = absurd (omega (arith, within))
+once_met queue (suc last) within =
+    ⊎_elim (λ same. omega (arith, none_met queue last (omega (arith, same)), ap number_if (eq-eqb last queue same)))
+    (λ apart. omega (arith, once_met queue last (omega (arith, within, apart)), ap number_if (ne_eqb last queue apart))) (cases_eq last queue)
+
+module _ {J : Type 0} where
+  -- the job that is out is of one of the queues
+  out_below : (count : ℕ) (out : Option (JobOut J)) → ((job : JobOut J) → out ≡ Some job → job.queue < count) →
+      below (λ queue. number_if (is_number queue (state.queue_out out))) count ≡ number_if (is_some out)
+  out_below count None there = none_below count
+  out_below count (Some job) there = once_met job.queue count (there job refl)
+
+module _ {T : Type 0} (terms : Terms) (journal : Journal T) (notes : EachNote (MayStand terms) journal) where
+  abbrev is_out : ℕ → ℕ
+  is_out queue = number_if (is_number queue (queue_out journal))
+
+  -- who is inside waits or is out
+  below_told : (count : ℕ) → jobs_below count journal ≡ below (λ queue. length (line queue journal)) count + below is_out count
+  below_told zero = refl
+  below_told (suc queue) = omega (arith, below_told queue, counts_agree terms queue journal notes)
+
+pub held_told : {J T : Type 0} (terms : Terms) (core : CoreView J) (journal : Journal T) → IsKept terms core journal → inside_count core ≡ jobs_held journal
+held_told terms core journal kept =
+    omega (arith, waiting, out, below_told terms journal kept.notes (queue_count core.queues), ap (λ count. jobs_below count journal) kept.agrees.last)
+  where
+    waiting : below (λ queue. length (line queue journal)) (queue_count core.queues) ≡ held_count core.queues
+    waiting =
+        below-alike (λ queue. length (line queue journal)) (λ queue. length (waiting_of queue core.queues))
+        (λ queue. ap length (sym (kept.agrees.lines queue)) ∙ length-map (waiting_of queue core.queues) _) (queue_count core.queues)
+        ∙ below-items (λ (queue : QueueView _). length queue.waiting) no_queue core.queues.queues
+
+    out : below (λ queue. number_if (is_number queue (queue_out journal))) (queue_count core.queues) ≡ number_if (is_some core.out)
+    out =
+        ap (λ there. below (λ queue. number_if (is_number queue there)) (queue_count core.queues)) (sym (queue_out-agrees core journal kept.agrees.out))
+        ∙ out_below (queue_count core.queues) core.out kept.agrees.out_exists
+
+module _ {T : Type 0} (terms : Terms) where
+  -- no journal has more turns than there may be
+  turns_within : (journal : Journal T) → EachNote (MayStand terms) journal → turns journal ≤ most_turns
+  turns_within [] notes = omega arith
+  turns_within (note ∷ before) notes = by_note note notes.0.may_follow (turns_within before notes.1)
+    where
+      by_note : (note : Note T) → MayFollow terms note before → turns before ≤ most_turns → turns (note ∷ before) ≤ most_turns
+      by_note (Pick queue runtime) law within = omega (arith, law.turn_left)
+      by_note _ law within = omega (arith, within)
+
+  -- so a virtual runtime is never cut
+  runtime_fits : (queue : ℕ) (journal : Journal T) → EachNote (MayStand terms) journal → virtual_runtime queue journal ≡ min (virtual_runtime queue journal) (2 ^ 128 - 1)
+  runtime_fits queue journal notes =
+      let low = no_runtime_wraps terms queue journal notes in
+      let few = turns_within journal notes in
+      omega arith
+
+module _ {J T : Type 0} {same : J → J → Type 0} {made : J → ℕ} {polls : Owed J T} (view : RecordedView J T) (recorded : IsRecorded same made polls view) where
+  pub core_told : (told : CoreStats) → told ≡ core_stats view.core told.drained → IsTrue told.drained ↔ closing.IsDrained view.core → TellsCore view.core.cores view.journal.notes told
+  core_told told is drained = record {
+    sums = is
+        ∙ (λ i. record {
+          turns = recorded.kept.agrees.turns i;
+          floor = recorded.kept.agrees.the_floor i;
+          held = held_told (terms_at view) view.core view.journal.notes recorded.kept i;
+          drained = told.drained;
+        });
+    drained = (λ yes. drained_told view recorded (drained.0 yes), λ all. drained.1 (drained_here view recorded all));
+  }
+
+  -- who waits in a queue
+  waits : (queue : ℕ) → length (waiting_of queue view.core.queues) ≡ waiting_count queue view.journal.notes
+  waits queue =
+      sym (length-map (waiting_of queue view.core.queues) _)
+      ∙ (ap length (recorded.kept.agrees.lines queue) ∙ sym (waiting_is_line (terms_at view) queue view.journal.notes recorded.kept.notes))
+
+  -- all numbers of a queue
+  sums_of : (queue : ℕ) → queue < queue_count view.core.queues → queue_stats queue view.core ≡ stats_of queue view.journal.notes
+  sums_of queue within = λ i. record {
+    shares = recorded.kept.agrees.weights queue within i;
+    selected = (recorded.kept.agrees.figures queue i).selected;
+    runtime = (recorded.kept.agrees.figures queue i).time;
+    virtual_runtime = (recorded.kept.agrees.runtimes queue ∙ runtime_fits (terms_at view) queue view.journal.notes recorded.kept.notes) i;
+    waiting = waits queue i;
+    finished = (recorded.kept.agrees.figures queue i).finished;
+    returned = (recorded.kept.agrees.figures queue i).returned;
+  }
+
+  pub queues_told : (count : ℕ) (told : List QueueStats) → count ≡ queue_count view.core.queues →
+      ((queue : ℕ) → queue < queue_count view.core.queues → slice_get told queue ≡ Some (queue_stats queue view.core)) → TellsQueues view.journal.notes count told
+  queues_told count told count_is at = record {
+    count_is = count_is ∙ recorded.kept.agrees.last;
+    each = λ queue known.
+        let within : queue < queue_count view.core.queues = omega (arith, known, recorded.kept.agrees.last) in (
+          queue_stats queue view.core,
+          at queue within,
+          record {
+            sums = sums_of queue within;
+            runtime_is = recorded.kept.agrees.runtimes queue;
+            waiting_are = sym (length-map (waiting_of queue view.core.queues) _) ∙ ap length (recorded.kept.agrees.lines queue);
+          },
+        );
+  }

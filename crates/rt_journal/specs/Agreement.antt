@@ -1,0 +1,62 @@
+-- When what a core tells of itself is what its journal says.
+use Rattle.std.specs.Prelude.{◌≡◌, ℕ, ◌+◌, ◌<◌, ◌≤◌, Bool, Option, Some, None, List, [], ◌∷◌, length, map, All}
+use Rattle.rt_ids.specs.Terms.{Terms}
+use Rattle.rt_ids.specs.declared.names.JobId.{JobId}
+use Rattle.rt_ids.specs.Journal.{Journal, EachNote, is_told}
+use Rattle.rt_ids.specs.Filters.{delivered_names, name_started}
+use Rattle.rt_ids.specs.Work.{queue_of}
+use Rattle.rt_ids.specs.Runtimes.{virtual_runtime, shares, floor}
+use Rattle.rt_ids.specs.Lines.{line, jobs_out}
+use Rattle.rt_ids.specs.Closing.{queue_mode, core_mode, final_count}
+use Rattle.rt_ids.specs.Clauses.{queue_just_picked}
+use Rattle.rt_ids.specs.Commands.{created_count, effect_awaited}
+use Rattle.rt_ids.specs.Lawful.{MayStand}
+use Rattle.rt_ids.specs.Picks.{turns}
+use Rattle.rt_taskqueue.specs.Queues.{queue_count, shares_of, mode_of, waiting_of}
+use Rattle.rt_core.specs.State.{CoreView, JobOut, runtime_of, delivered_of, gate_of}
+use Rattle.rt_journal.specs.Figures.{figures_of, figures_told}
+
+module _ {J : Type 0} where
+  abbrev pub names_of : List (JobId × Bool × J) → List JobId
+  names_of waiting = map (λ entry. entry.0) waiting
+
+module _ {J T : Type 0} where
+  -- each of them is marked as started exactly where the journal says that it started
+  abbrev pub AreMarked : Journal T → List (JobId × Bool × J) → Type 0
+  AreMarked journal waiting = All (λ entry. entry.1 ≡ is_told name_started entry.0 journal) waiting
+
+  -- the job that is out is the one of the journal, in its queue
+  abbrev pub IsJobOut : Option (JobOut J) → Journal T → Type 0
+  IsJobOut None journal = jobs_out journal ≡ []
+  IsJobOut (Some job) journal = (jobs_out journal ≡ job.name ∷ []) × (queue_of job.name journal ≡ Some job.queue)
+
+  -- the modes of the queues and of the core, and the gates, are those of the journal
+  pub record AgreesOnClosing (core : CoreView J) (journal : Journal T) : Type 0 where
+    pub modes : (queue : ℕ) → mode_of queue core.queues ≡ queue_mode queue journal
+    pub mode : core.mode ≡ core_mode journal
+    pub gate_places : length core.gates ≡ core.cores + 1
+    pub gates : (sender : ℕ) → gate_of sender core ≡ final_count sender journal
+
+  pub record Agrees (core : CoreView J) (journal : Journal T) : Type 0 where
+    pub tallied : length core.tallies ≡ queue_count core.queues
+    pub senders : length core.delivered ≡ core.cores + 1
+    pub last : queue_count core.queues ≡ created_count journal + 1
+    pub lines : (queue : ℕ) → names_of (waiting_of queue core.queues) ≡ line queue journal
+    pub marks : (queue : ℕ) → AreMarked journal (waiting_of queue core.queues)
+    pub runtimes : (queue : ℕ) → runtime_of queue core ≡ virtual_runtime queue journal
+    pub weights : (queue : ℕ) → queue < queue_count core.queues → shares_of queue core.queues ≡ shares queue journal
+    pub the_floor : core.floor ≡ floor journal
+    pub turns : core.turns ≡ turns journal
+    pub out : IsJobOut core.out journal
+    pub out_exists : (job : JobOut J) → core.out ≡ Some job → job.queue < queue_count core.queues
+    pub delivered : (sender : ℕ) → sender ≤ core.cores → delivered_of sender core ≡ length (delivered_names sender journal)
+    pub figures : (queue : ℕ) → figures_of queue core ≡ figures_told queue journal
+    pub closing : AgreesOnClosing core journal
+
+-- the journal is one of notes that may stand where they stand, with no step half done except a poll, and the core agrees with it
+pub record IsKept {J T : Type 0} (terms : Terms) (core : CoreView J) (journal : Journal T) : Type 0 where
+  pub is_core : terms.actor < terms.cores
+  pub agrees : Agrees core journal
+  pub notes : EachNote (MayStand terms) journal
+  pub no_pick : queue_just_picked journal ≡ None
+  pub no_answer : effect_awaited journal ≡ None

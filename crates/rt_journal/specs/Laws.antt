@@ -1,0 +1,27 @@
+-- What follows for a core that its journal keeps.
+use Rattle.std.specs.Prelude.{◌≡◌, ℕ, Bool}
+use Rattle.rt_ids.specs.Terms.{Terms}
+use Rattle.rt_ids.specs.declared.names.JobId.{JobId}
+use Rattle.rt_ids.specs.Journal.{Journal}
+use Rattle.rt_ids.specs.Work.{has_work}
+use Rattle.rt_ids.specs.Commands.{refusal}
+use Rattle.rt_ids.specs.Picks.{IsRightPick}
+use Rattle.rt_core.specs.State.{CoreView, is_working, runtime_of}
+use Rattle.rt_core.specs.Turns.{TakesOut}
+use Rattle.rt_core.specs.Closing as core_says
+use Rattle.rt_journal.specs.Agreement.{IsKept}
+
+module _ (J T : Type 0) where
+  -- a queue works where it has work in the journal
+  abbrev pub WorksAsTold : Type 0
+  WorksAsTold = (terms : Terms) (core : CoreView J) (journal : Journal T) → IsKept terms core journal → (queue : ℕ) → is_working queue core ≡ has_work queue journal
+
+  -- a job is refused for the reason that the journal gives
+  abbrev pub RefusesAsTold : Type 0
+  RefusesAsTold = (terms : Terms) (core : CoreView J) (journal : Journal T) → IsKept terms core journal → (queue : ℕ) → core_says.refusal queue core ≡ refusal queue journal
+
+  -- what is taken out is a right pick
+  abbrev pub PicksRight : Type 0
+  PicksRight =
+      (terms : Terms) (old new : CoreView J) (name : JobId) (queue : ℕ) (was_started : Bool) (job : J) (journal : Journal T) → IsKept terms old journal →
+      TakesOut old name queue was_started job new → IsRightPick queue (runtime_of queue old) journal

@@ -1,0 +1,22 @@
+//! What a core beside its journal tells of itself in numbers: the sums over the journal.
+
+ghost use Rattle.arrayvec.specs.ArrayVec.{array_vec_len};
+ghost use Rattle.rt_journal.specs.Recorded.{IsRecorded};
+ghost use Rattle.rt_journal.specs.Stats.{TellsCore, TellsQueues};
+
+use crate::Recorded;
+use arrayvec::ArrayVec;
+use rt_ids::{CoreStats, QueueStats};
+use rt_jobs::Task;
+use std::alloc::Allocator;
+
+/// The numbers of the core and of its queues, by number. Times are in nanoseconds.
+pub fn told_stats<J: Task<Out = u64>, A: Allocator + Clone>(
+    recorded: &Recorded<J, A>,
+) -> (CoreStats, ArrayVec<QueueStats, 256>)
+    requires sound { IsRecorded J.SameTask J.made J.Polls recorded.now }
+    ensures core { TellsCore recorded.now.core.cores recorded.now.journal.notes result.0 }
+    ensures queues { TellsQueues recorded.now.journal.notes (array_vec_len result.1) result.1.items }
+{
+    recorded.core().stats()
+}

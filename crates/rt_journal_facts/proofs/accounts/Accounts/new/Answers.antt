@@ -1,0 +1,6 @@
+use Rattle.std.proofs.Common.{refl}
+use Rattle.rt_journal_facts.proofs.AccountSteps.{all_fresh}
+use Rattle.rt_journal_facts.proofs.accounts.Accounts.new.Goals as goal
+
+pub returns : goal.returns
+returns c = record { each = λ queue. all_fresh 256 queue c.new.result c.new.ensures; floor = refl }

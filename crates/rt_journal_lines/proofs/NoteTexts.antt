@@ -1,0 +1,215 @@
+-- The words of a note's line say that note, and nothing else.
+use Rattle.std.proofs.Common.{◌≡◌, ℕ, ◌<◌, ◌≤◌, List, [], ◌∷◌, length, Some, ap, ◌∙◌, subst, arith, decimal, codes}
+use Rattle.rt_ids.specs.declared.names.JobId.{JobId}
+use Rattle.rt_ids.specs.declared.note.Note.{Note}
+use Rattle.rt_ids.specs.declared.note.Note.TheVariants as note
+use Rattle.rt_ids.specs.declared.order.Mode.{Mode}
+use Rattle.rt_ids.specs.Limits.{most_cores, last_number}
+use Rattle.rt_ids.specs.Spelled.{IsOwn, IsReceived, IsSpelledNote}
+use Rattle.rt_ids.specs.Terms.{Terms}
+use Rattle.rt_text.specs.Notes.{name_text, mode_text, reason_text}
+use Rattle.rt_words.specs.Words.{first, others, second, third}
+use Rattle.rt_journal_lines.specs.declared.kind.OwnKind.{OwnKind}
+use Rattle.rt_journal_lines.specs.declared.kind.OwnKind.TheVariants as own
+use Rattle.rt_journal_lines.specs.declared.kind.ReceivedKind.{ReceivedKind}
+use Rattle.rt_journal_lines.specs.declared.kind.ReceivedKind.TheVariants as received
+use Rattle.rt_journal_lines.specs.declared.kind.CoreKind.{CoreKind}
+use Rattle.rt_journal_lines.specs.declared.kind.CoreKind.TheVariants as inner
+use Rattle.rt_journal_lines.specs.Fields.{◌>>=◌, fixed, number_in, queue_of, mode_of, back_reason_of, return_reason_of, count_of, runtime_of}
+use Rattle.rt_journal_lines.specs.Phrases.{last, shares_phrase, mode_phrase, order_of, answer_of, outcome_of}
+use Rattle.rt_journal_lines.specs.NoteWords.{own_rest, received_rest, core_rest, done_phrase, pick_phrase, shut_phrase}
+use Rattle.rt_journal_lines.proofs.Decimals.{number_in_read, number_in-none}
+use Rattle.rt_journal_lines.proofs.FieldTexts.{queue_word, queue_read, queue_of-none, mode_read, mode_of-none, back_reason_read, back_reason_of-none, return_reason_read, return_reason_of-none}
+use Rattle.rt_journal_lines.proofs.Options.{bind_some, map_some, last_some, told, fixed_some, led, alone}
+use Rattle.rt_journal_lines.proofs.PhraseTexts.{shares_words_read, mode_words_read, order_words, order_read, answer_words, answer_read, outcome_words, outcome_read}
+
+-- the words of a note
+abbrev pub note_words : Note ℕ → List (List ℕ)
+note_words (note.Sent name sent) = codes "sent" ∷ name_text name ∷ order_words sent
+note_words (note.Took name queue) = codes "took" ∷ name_text name ∷ queue_word queue ∷ []
+note_words (note.Back name why) = codes "back" ∷ name_text name ∷ reason_text why ∷ []
+note_words (note.Answered name told) = codes "answered" ∷ name_text name ∷ answer_words told
+note_words (note.Created queue weight) = codes "queue" ∷ queue_word queue ∷ decimal weight ∷ []
+note_words (note.SharesSet queue weight) = codes "shares" ∷ queue_word queue ∷ decimal weight ∷ []
+note_words (note.QueueClosed queue mode) = codes "closed" ∷ queue_word queue ∷ mode_text mode ∷ []
+note_words (note.CoreClosed mode) = codes "coreclosed" ∷ mode_text mode ∷ []
+note_words (note.Pick queue runtime) = codes "pick" ∷ queue_word queue ∷ codes "at" ∷ decimal runtime ∷ []
+note_words (note.Start name) = codes "start" ∷ name_text name ∷ []
+note_words (note.Resume name) = codes "resume" ∷ name_text name ∷ []
+note_words (note.Yield name time) = codes "yield" ∷ name_text name ∷ decimal time ∷ []
+note_words (note.Done name time value) = codes "done" ∷ name_text name ∷ decimal time ∷ codes "=" ∷ decimal value ∷ []
+note_words (note.Returned name why) = codes "returned" ∷ name_text name ∷ reason_text why ∷ []
+note_words (note.Shut sender count) = codes "shut" ∷ decimal sender ∷ decimal count ∷ []
+note_words (note.Collected name told) = codes "collected" ∷ name_text name ∷ outcome_words told
+note_words (note.Redeemed name told) = codes "redeemed" ∷ name_text name ∷ outcome_words told
+note_words (note.Detached name) = codes "detached" ∷ name_text name ∷ []
+
+abbrev pub own_word : OwnKind → List ℕ
+own_word own.Sent = codes "sent"
+own_word own.Collected = codes "collected"
+own_word own.Redeemed = codes "redeemed"
+own_word own.Detached = codes "detached"
+
+abbrev pub received_word : ReceivedKind → List ℕ
+received_word received.Took = codes "took"
+received_word received.Back = codes "back"
+received_word received.Answered = codes "answered"
+received_word received.Start = codes "start"
+received_word received.Resume = codes "resume"
+received_word received.Yield = codes "yield"
+received_word received.Done = codes "done"
+received_word received.Returned = codes "returned"
+
+abbrev pub inner_word : CoreKind → List ℕ
+inner_word inner.Created = codes "queue"
+inner_word inner.SharesSet = codes "shares"
+inner_word inner.QueueClosed = codes "closed"
+inner_word inner.CoreClosed = codes "coreclosed"
+inner_word inner.Pick = codes "pick"
+inner_word inner.Shut = codes "shut"
+
+-- the words are those of this note, and its actor may write it
+abbrev pub WordsOf : Terms → List (List ℕ) → Note ℕ → Type 0
+WordsOf terms ws written = (ws ≡ note_words written) × IsSpelledNote terms written
+
+pub own_rest_read : (terms : Terms) (kind : OwnKind) (name : JobId) (ws : List (List ℕ)) (written : Note ℕ) → IsOwn terms name → own_rest kind name ws ≡ Some written → WordsOf terms (own_word kind ∷ name_text name ∷ ws) written
+unfolding own_rest
+own_rest_read terms own.Sent name ws written mine is =
+    let one = map_some (note.Sent name) (order_of ws) written is in
+    let read = order_read ws one.0 one.1 in
+    subst (WordsOf terms (codes "sent" ∷ name_text name ∷ ws)) one.2 (ap (λ r. codes "sent" ∷ name_text name ∷ r) read.0, (mine, read.1))
+own_rest_read terms own.Collected name ws written mine is =
+    let one = map_some (note.Collected name) (outcome_of ws) written is in
+    let read = outcome_read ws one.0 one.1 in
+    subst (WordsOf terms (codes "collected" ∷ name_text name ∷ ws)) one.2 (ap (λ r. codes "collected" ∷ name_text name ∷ r) read.0, (mine, read.1))
+own_rest_read terms own.Redeemed name ws written mine is =
+    let one = map_some (note.Redeemed name) (outcome_of ws) written is in
+    let read = outcome_read ws one.0 one.1 in
+    subst (WordsOf terms (codes "redeemed" ∷ name_text name ∷ ws)) one.2 (ap (λ r. codes "redeemed" ∷ name_text name ∷ r) read.0, (mine, read.1))
+own_rest_read terms own.Detached name ws written mine is =
+    let one = last_some (Some (note.Detached name)) ws written is in
+    let same : note.Detached name ≡ written = cc in
+    subst (WordsOf terms (codes "detached" ∷ name_text name ∷ ws)) same (ap (λ r. codes "detached" ∷ name_text name ∷ r) one.1, mine)
+
+done_read : (terms : Terms) (name : JobId) (ws : List (List ℕ)) (written : Note ℕ) → IsReceived terms name → done_phrase name ws ≡ Some written → WordsOf terms (codes "done" ∷ name_text name ∷ ws) written
+unfolding done_phrase
+done_read terms name ws written mine is =
+    let rest = others (others ws) in
+    let one = bind_some (count_of (first ws)) (λ time. fixed (codes "=") (second ws) (last (count_of (third ws)) (others rest)) >>= λ value. Some (note.Done name time value)) written is in
+    let two = bind_some (fixed (codes "=") (second ws) (last (count_of (third ws)) (others rest))) (λ value. Some (note.Done name one.0 value)) written one.2 in
+    let sign = fixed_some (codes "=") (second ws) (last (count_of (third ws)) (others rest)) two.0 two.1 in
+    let end = alone count_of rest two.0 (number_in-none 0 18446744073709551615) sign.1 in
+    let time = number_in_read 0 18446744073709551615 (first ws) one.0 (omega arith) one.1 in
+    let value = number_in_read 0 18446744073709551615 (third ws) two.0 (omega arith) end.0 in
+    let same : note.Done name one.0 two.0 ≡ written = cc in
+    subst (WordsOf terms (codes "done" ∷ name_text name ∷ ws)) same (
+      ap (λ r. codes "done" ∷ name_text name ∷ r) (
+          led count_of ws one.0 (number_in-none 0 18446744073709551615) one.1
+          ∙ ap (λ word. word ∷ others ws) time.2
+          ∙ ap (λ words. decimal one.0 ∷ words) (second_there (others ws) sign.0)
+          ∙ ap (λ words. decimal one.0 ∷ codes "=" ∷ words) (end.1 ∙ ap (λ word. word ∷ []) value.2)),
+      mine,
+    )
+  where
+    second_there : (rest : List (List ℕ)) → first rest ≡ codes "=" → rest ≡ codes "=" ∷ others rest
+    second_there [] e = absurd (omega (arith, ap length e))
+    second_there (w ∷ rest) e = ap (λ word. word ∷ rest) e
+
+pub received_rest_read : (terms : Terms) (kind : ReceivedKind) (name : JobId) (ws : List (List ℕ)) (written : Note ℕ) → IsReceived terms name → received_rest kind name ws ≡ Some written → WordsOf terms (received_word kind ∷ name_text name ∷ ws) written
+unfolding received_rest
+received_rest_read terms received.Took name ws written mine is =
+    let one = map_some (note.Took name) (last (queue_of (first ws)) (others ws)) written is in
+    let end = alone queue_of ws one.0 queue_of-none one.1 in
+    let read = queue_read (first ws) one.0 end.0 in
+    subst (WordsOf terms (codes "took" ∷ name_text name ∷ ws)) one.2 (ap (λ r. codes "took" ∷ name_text name ∷ r) (end.1 ∙ ap (λ word. word ∷ []) read.1), (mine, omega (arith, read.0)))
+received_rest_read terms received.Back name ws written mine is =
+    let one = map_some (note.Back name) (last (back_reason_of (first ws)) (others ws)) written is in
+    let end = alone back_reason_of ws one.0 back_reason_of-none one.1 in
+    let read = back_reason_read (first ws) one.0 end.0 in
+    subst (WordsOf terms (codes "back" ∷ name_text name ∷ ws)) one.2 (ap (λ r. codes "back" ∷ name_text name ∷ r) (end.1 ∙ ap (λ word. word ∷ []) read.0), (mine, read.1))
+received_rest_read terms received.Answered name ws written mine is =
+    let one = map_some (note.Answered name) (answer_of ws) written is in
+    let read = answer_read ws one.0 one.1 in
+    subst (WordsOf terms (codes "answered" ∷ name_text name ∷ ws)) one.2 (ap (λ r. codes "answered" ∷ name_text name ∷ r) read.0, (mine, read.1))
+received_rest_read terms received.Start name ws written mine is =
+    let one = last_some (Some (note.Start name)) ws written is in
+    let same : note.Start name ≡ written = cc in
+    subst (WordsOf terms (codes "start" ∷ name_text name ∷ ws)) same (ap (λ r. codes "start" ∷ name_text name ∷ r) one.1, mine)
+received_rest_read terms received.Resume name ws written mine is =
+    let one = last_some (Some (note.Resume name)) ws written is in
+    let same : note.Resume name ≡ written = cc in
+    subst (WordsOf terms (codes "resume" ∷ name_text name ∷ ws)) same (ap (λ r. codes "resume" ∷ name_text name ∷ r) one.1, mine)
+received_rest_read terms received.Yield name ws written mine is =
+    let one = map_some (note.Yield name) (last (count_of (first ws)) (others ws)) written is in
+    let end = alone count_of ws one.0 (number_in-none 0 18446744073709551615) one.1 in
+    let read = number_in_read 0 18446744073709551615 (first ws) one.0 (omega arith) end.0 in
+    subst (WordsOf terms (codes "yield" ∷ name_text name ∷ ws)) one.2 (ap (λ r. codes "yield" ∷ name_text name ∷ r) (end.1 ∙ ap (λ word. word ∷ []) read.2), mine)
+received_rest_read terms received.Done name ws written mine is = done_read terms name ws written mine is
+received_rest_read terms received.Returned name ws written mine is =
+    let one = map_some (note.Returned name) (last (return_reason_of (first ws)) (others ws)) written is in
+    let end = alone return_reason_of ws one.0 return_reason_of-none one.1 in
+    let read = return_reason_read (first ws) one.0 end.0 in
+    subst (WordsOf terms (codes "returned" ∷ name_text name ∷ ws)) one.2 (ap (λ r. codes "returned" ∷ name_text name ∷ r) (end.1 ∙ ap (λ word. word ∷ []) read.0), (mine, read.1))
+
+-- the notes of a core that name no submission
+second_is : (text : List ℕ) (rest : List (List ℕ)) → 1 ≤ length text → first rest ≡ text → rest ≡ text ∷ others rest
+second_is text [] some e = absurd (omega (arith, ap length e))
+second_is text (w ∷ rest) some e = ap (λ word. word ∷ rest) e
+
+pick_read : (terms : Terms) (ws : List (List ℕ)) (written : Note ℕ) → terms.actor < terms.cores → pick_phrase ws ≡ Some written → WordsOf terms (codes "pick" ∷ ws) written
+unfolding pick_phrase
+pick_read terms ws written core is =
+    let rest = others (others ws) in
+    let one = bind_some (queue_of (first ws)) (λ queue. fixed (codes "at") (second ws) (last (runtime_of (third ws)) (others rest)) >>= λ runtime. Some (note.Pick queue runtime)) written is in
+    let two = bind_some (fixed (codes "at") (second ws) (last (runtime_of (third ws)) (others rest))) (λ runtime. Some (note.Pick one.0 runtime)) written one.2 in
+    let sign = fixed_some (codes "at") (second ws) (last (runtime_of (third ws)) (others rest)) two.0 two.1 in
+    let end = alone runtime_of rest two.0 (number_in-none 0 340282366920938463463374607431768211455) sign.1 in
+    let queue = queue_read (first ws) one.0 one.1 in
+    let runtime = number_in_read 0 340282366920938463463374607431768211455 (third ws) two.0 (omega arith) end.0 in
+    let same : note.Pick one.0 two.0 ≡ written = cc in
+    subst (WordsOf terms (codes "pick" ∷ ws)) same (
+      ap (λ r. codes "pick" ∷ r) (
+          led queue_of ws one.0 queue_of-none one.1
+          ∙ ap (λ word. word ∷ others ws) queue.1
+          ∙ ap (λ words. queue_word one.0 ∷ words) (second_is (codes "at") (others ws) (omega arith) sign.0)
+          ∙ ap (λ words. queue_word one.0 ∷ codes "at" ∷ words) (end.1 ∙ ap (λ word. word ∷ []) runtime.2)),
+      (core, omega (arith, queue.0), omega (arith, runtime.1)),
+    )
+
+shut_read : (terms : Terms) (ws : List (List ℕ)) (written : Note ℕ) → terms.actor < terms.cores → terms.cores ≤ most_cores → shut_phrase terms.cores ws ≡ Some written → WordsOf terms (codes "shut" ∷ ws) written
+unfolding shut_phrase
+shut_read terms ws written core few is =
+    let one = bind_some (number_in 0 terms.cores (first ws)) (λ sender. last (number_in 0 last_number (second ws)) (others (others ws)) >>= λ count. Some (note.Shut sender count)) written is in
+    let two = bind_some (last (number_in 0 last_number (second ws)) (others (others ws))) (λ count. Some (note.Shut one.0 count)) written one.2 in
+    let end = alone (number_in 0 last_number) (others ws) two.0 (number_in-none 0 last_number) two.1 in
+    let sender = number_in_read 0 terms.cores (first ws) one.0 (omega arith) one.1 in
+    let count = number_in_read 0 last_number (second ws) two.0 (omega arith) end.0 in
+    let same : note.Shut one.0 two.0 ≡ written = cc in
+    subst (WordsOf terms (codes "shut" ∷ ws)) same (
+      ap (λ r. codes "shut" ∷ r) (
+          led (number_in 0 terms.cores) ws one.0 (number_in-none 0 terms.cores) one.1
+          ∙ ap (λ word. word ∷ others ws) sender.2
+          ∙ ap (λ words. decimal one.0 ∷ words) (end.1 ∙ ap (λ word. word ∷ []) count.2)),
+      (core, sender.1, count.1),
+    )
+
+pub core_rest_read : (terms : Terms) (kind : CoreKind) (ws : List (List ℕ)) (written : Note ℕ) → terms.actor < terms.cores → terms.cores ≤ most_cores → core_rest kind terms.cores ws ≡ Some written → WordsOf terms (inner_word kind ∷ ws) written
+unfolding core_rest
+core_rest_read terms inner.Created ws written core few is =
+    let one = map_some (λ (p : ℕ × ℕ). note.Created p.0 p.1) (shares_phrase ws) written is in
+    let read = shares_words_read ws (one.0).0 (one.0).1 one.1 in
+    subst (WordsOf terms (codes "queue" ∷ ws)) one.2 (ap (λ r. codes "queue" ∷ r) read.0, (core, omega (arith, read.1), read.2))
+core_rest_read terms inner.SharesSet ws written core few is =
+    let one = map_some (λ (p : ℕ × ℕ). note.SharesSet p.0 p.1) (shares_phrase ws) written is in
+    let read = shares_words_read ws (one.0).0 (one.0).1 one.1 in
+    subst (WordsOf terms (codes "shares" ∷ ws)) one.2 (ap (λ r. codes "shares" ∷ r) read.0, (core, omega (arith, read.1), read.2))
+core_rest_read terms inner.QueueClosed ws written core few is =
+    let one = map_some (λ (p : ℕ × Mode). note.QueueClosed p.0 p.1) (mode_phrase ws) written is in
+    let read = mode_words_read ws (one.0).0 (one.0).1 one.1 in
+    subst (WordsOf terms (codes "closed" ∷ ws)) one.2 (ap (λ r. codes "closed" ∷ r) read.0, (core, omega (arith, read.1)))
+core_rest_read terms inner.CoreClosed ws written core few is =
+    let one = map_some note.CoreClosed (last (mode_of (first ws)) (others ws)) written is in
+    let end = alone mode_of ws one.0 mode_of-none one.1 in
+    subst (WordsOf terms (codes "coreclosed" ∷ ws)) one.2 (ap (λ r. codes "coreclosed" ∷ r) (end.1 ∙ ap (λ word. word ∷ []) (mode_read (first ws) one.0 end.0)), core)
+core_rest_read terms inner.Pick ws written core few is = pick_read terms ws written core is
+core_rest_read terms inner.Shut ws written core few is = shut_read terms ws written core few is

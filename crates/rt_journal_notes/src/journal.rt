@@ -1,0 +1,139 @@
+//! The notes of one actor.
+
+ghost use Rattle.std.specs.Prelude.{◌≡◌, ◌↔◌, ◌+◌, ◌<◌, ◌≤◌, [], ◌∷◌, ◌++◌, length, reverse, slice_get, IfOk, IsTrue, OnErr, OnOk};
+ghost use Rattle.rt_ids.specs.Limits.{most_notes};
+ghost use Rattle.rt_journal_notes.specs.Journals.{free_notes, IsWithinRoom};
+
+use rt_ids::Note;
+use std::alloc::{AllocError, Global};
+use std::marker::Model;
+
+/// The notes of one actor. The opening and `try_push` ask for memory, and no other call does; no clause says so.
+///
+/// A contract sees the list of the notes, the newest first, and how many there may be in all.
+#[derive(Drop)]
+pub struct Journal<T: Copy> {
+    notes: Vec<Note<T>>,
+    room: u32,
+}
+
+impl<T: Copy> Model for Journal<T> {
+    ghost use Rattle.rt_journal_notes.specs.Journals.{JournalView};
+
+    ghost Value = { JournalView T };
+
+    ghost use Rattle.std.specs.Prelude.{vec_capacity};
+    ghost use Rattle.rt_journal_notes.specs.Journals.{journal_of_notes, IsReserved};
+
+    ghost view = { λ journal. journal_of_notes journal.room journal.notes.items };
+
+    ghost invariant = { λ journal. IsReserved journal.room (vec_capacity journal.notes) journal.notes.items };
+}
+
+impl<T: Copy> Journal<T> {
+    /// Takes the memory for this many notes.
+    pub fn try_with_room(alloc: Global, room: u32) -> Result<Self, AllocError>
+        ensures { IfOk result (λ journal. journal ≡ record { notes = []; room = room }) }
+    {
+        let notes = Vec::with_capacity(alloc, room as usize)?;
+        Ok(Journal { notes, room })
+    }
+
+    /// The journal of these notes, the oldest first, which has room for no other.
+    pub fn of(notes: Vec<Note<T>>) -> Self
+        requires { length notes.items ≤ most_notes }
+        ensures notes { result.notes ≡ reverse notes.items }
+        ensures room { result.room ≡ length notes.items }
+    {
+        let room = notes.len() as u32;
+        Journal { notes, room }
+    }
+
+    /// Writes to the memory of all notes that there may be, so that none of them is the first to touch its page. No note is added.
+    pub fn prefault(&mut self)
+        ensures { self.new ≡ self.old }
+    {
+        let count = self.notes.len();
+        let Ok(()) = self.notes.resize(self.room as usize, Note::default()) else {
+            unreachable!()
+        };
+        self.notes.truncate(count);
+    }
+
+    /// Adds the newest note.
+    pub fn push(&mut self, note: Note<T>)
+        requires free { length self.old.notes < self.old.room }
+        ensures notes { self.new ≡ record self.old { notes = note ∷ self.old.notes } }
+        ensures limits { IsWithinRoom self.new }
+    {
+        self.notes.push_reserved(note);
+    }
+
+    /// Adds the newest note, also where no room is left. The room is asked for as the notes grow: where it is used up, for twice as many.
+    pub fn try_push(&mut self, note: Note<T>) -> Result<(), AllocError>
+        requires few { length self.old.notes < most_notes }
+        ensures ok { OnOk result (self.new.notes ≡ note ∷ self.old.notes) }
+        ensures room { OnOk result (length self.new.notes ≤ self.new.room) }
+        ensures err { OnErr result (self.new ≡ self.old) }
+    {
+        self.notes.push(note)?;
+        self.room = self.room.max(self.notes.len() as u32);
+        Ok(())
+    }
+
+    /// Adds these notes one after another, so that the last of them is the newest.
+    pub fn push_all(&mut self, notes: &[Note<T>])
+        requires free { length self.old.notes + length notes.now ≤ self.old.room }
+        ensures notes { self.new ≡ record self.old { notes = reverse notes.now ++ self.old.notes } }
+        ensures limits { IsWithinRoom self.new }
+    {
+        for note in notes {
+            self.notes.push_reserved(*note);
+        }
+    }
+
+    /// How many notes there may be in all.
+    pub fn room(&self) -> u32
+        ensures value { result ≡ self.now.room }
+        ensures limits { IsWithinRoom self.now }
+    {
+        self.room
+    }
+
+    /// How many more notes there may be.
+    pub fn free(&self) -> u32
+        ensures value { result ≡ free_notes self.now }
+        ensures limits { IsWithinRoom self.now }
+    {
+        self.room - self.notes.len() as u32
+    }
+
+    /// How many notes there are.
+    pub fn len(&self) -> usize
+        ensures value { result ≡ length self.now.notes }
+        ensures limits { IsWithinRoom self.now }
+    {
+        self.notes.len()
+    }
+
+    /// Whether there is no note.
+    pub fn is_empty(&self) -> bool
+        ensures { IsTrue result ↔ (self.now.notes ≡ []) }
+    {
+        self.notes.is_empty()
+    }
+
+    /// The note of this place, counted from the oldest, whose place is 0.
+    pub fn get(&self, index: usize) -> Option<Note<T>>
+        ensures { result ≡ slice_get (reverse self.now.notes) index }
+    {
+        self.notes.get(index).copied()
+    }
+
+    /// All notes, the oldest first.
+    pub fn as_slice(&self) -> &[Note<T>]
+        ensures { result.now ≡ reverse self.now.notes }
+    {
+        self.notes.as_slice()
+    }
+}

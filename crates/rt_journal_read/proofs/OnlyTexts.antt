@@ -1,0 +1,75 @@
+-- Only the text of spelled journals is read.
+use Rattle.std.proofs.Common.{◌≡◌, ℕ, zero, suc, ◌+◌, ◌-◌, ◌<◌, ◌==◌, List, [], ◌∷◌, ◌++◌, length, Option, Some, None, Ok, IfSome, unwrap_or, refl, sym, ap, ◌∙◌, subst, arith, length-append}
+use Rattle.std.specs.Prelude.{slice_get}
+use Rattle.std.specs.List.{slice_split}
+use Rattle.std.proofs.lemmas.List.Splits.{join_with_byte-slice_split}
+use Rattle.rt_ids.specs.Assembly.{Assembly}
+use Rattle.rt_ids.specs.Journal.{Journal}
+use Rattle.rt_ids.specs.Spelled.{AreSpelledNotes, IsSpelled}
+use Rattle.rt_journal_write.specs.Texts.{form_line, size_line, journal_lines, end_line, text_of, journal_text}
+use Rattle.rt_journal_read.specs.Drafts.{Drafted, empty_draft, raised_to, all_journals, assembly_of}
+use Rattle.rt_journal_read.specs.JournalTexts.{journals_of}
+use Rattle.rt_journal_read.specs.Laws.{OnlyTextsAreRead}
+use Rattle.rt_journal_read.proofs.DraftLemmas.{raised_is}
+use Rattle.rt_journal_read.proofs.ReadTexts.{read_from}
+use Rattle.rt_journal_read.proofs.SoFar.{terms_at, IsFair, SpelledFrom, spelled_push, body_lines, raised_fair}
+
+spelled_index : (first cores cap : ℕ) (journals : List (Journal ℕ)) (place : ℕ) → SpelledFrom first cores cap journals → place < length journals → AreSpelledNotes (record { actor = first + place; cores = cores; cap = cap }) (unwrap_or (slice_get journals place) [])
+spelled_index first cores cap [] place spelled within = absurd (omega arith)
+spelled_index first cores cap (journal ∷ journals) zero spelled within =
+    let here : first ≡ first + 0 = omega arith in
+    subst (λ n. AreSpelledNotes (record { actor = n; cores = cores; cap = cap }) journal) here spelled.0
+spelled_index first cores cap (journal ∷ journals) (suc place) spelled within =
+    let next : (first + 1) + place ≡ first + suc place = omega arith in
+    subst (λ n. AreSpelledNotes (record { actor = n; cores = cores; cap = cap }) (unwrap_or (slice_get journals place) [])) next
+    (spelled_index (first + 1) cores cap journals place spelled.1 (omega arith))
+
+-- all journals of a draft that is whole
+all_spelled : (draft : Drafted) → IsFair draft → SpelledFrom 0 draft.cores draft.cap (all_journals draft)
+all_spelled draft fair =
+    let here : length draft.earlier ≡ 0 + length draft.earlier = omega arith in
+    spelled_push 0 draft.cores draft.cap draft.earlier draft.notes fair.before (subst (λ n. AreSpelledNotes (terms_at n draft) draft.notes) here fair.here)
+
+pub assembly_spelled : (draft : Drafted) → IsFair draft → IsSpelled (assembly_of draft)
+assembly_spelled draft fair =
+    let actors = fair.actors in
+    let passed = raised_to draft.cores draft in
+    let kept = raised_is (draft.cores - length draft.earlier) draft in
+    let rest = raised_fair (draft.cores - length draft.earlier) draft fair (omega arith) in
+    let longer = kept.earlier in
+    let count : length (all_journals passed) ≡ draft.cores + 1 = omega (arith, length-append passed.earlier (passed.notes ∷ [])) in
+    let each : SpelledFrom 0 draft.cores draft.cap (all_journals passed) =
+    subst (λ n. SpelledFrom 0 n draft.cap (all_journals passed)) kept.cores
+    (subst (λ n. SpelledFrom 0 passed.cores n (all_journals passed)) kept.cap (all_spelled passed rest.0)) in
+    record {
+      limits = fair.limits;
+      journals = count;
+      notes = λ actor within.
+          let place : 0 + actor ≡ actor = omega arith in
+          subst (λ n. AreSpelledNotes (record { actor = n; cores = draft.cores; cap = draft.cap }) (unwrap_or (slice_get (all_journals passed) actor) [])) place
+          (spelled_index 0 draft.cores draft.cap (all_journals passed) actor each (omega arith));
+    }
+
+-- the lines of a draft are those of its journals
+assembly_text : (draft : Drafted) → IsFair draft → text_of (body_lines draft ++ end_line ∷ []) ≡ journal_text (assembly_of draft)
+unfolding journal_text
+assembly_text draft fair =
+    let actors = fair.actors in
+    let passed = raised_to draft.cores draft in
+    let kept = raised_is (draft.cores - length draft.earlier) draft in
+    let rest = raised_fair (draft.cores - length draft.earlier) draft fair (omega arith) in
+    ap (λ body. text_of (body ++ end_line ∷ [])) (
+    sym rest.1
+    ∙ ap (λ n. form_line ∷ size_line n passed.cap ∷ journal_lines 0 (all_journals passed)) kept.cores
+    ∙ ap (λ n. form_line ∷ size_line draft.cores n ∷ journal_lines 0 (all_journals passed)) kept.cap)
+
+pub only_texts : OnlyTextsAreRead
+only_texts text draft told =
+    let read = read_from 1 empty_draft draft (slice_split (λ byte. byte == 10) text) refl told in
+    (assembly_spelled draft read.0, sym (join_with_byte-slice_split 10 text) ∙ sym read.1 ∙ assembly_text draft read.0)
+
+-- what was read of a text that is known
+pub same_text : (known : Option (List ℕ)) (assembly : Assembly ℕ) → IfSome known (λ text. (draft : Drafted) × (journals_of text ≡ Ok draft) × (assembly ≡ assembly_of draft)) →
+    IfSome known (λ text. IsSpelled assembly × (text ≡ journal_text assembly))
+same_text None assembly told = tt
+same_text (Some text) assembly told = let read = only_texts text told.0 told.1 in (subst IsSpelled (sym told.2) read.0, read.1 ∙ ap journal_text (sym told.2))

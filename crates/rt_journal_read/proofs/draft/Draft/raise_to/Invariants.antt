@@ -1,0 +1,11 @@
+-- With the actors that are left, the draft becomes what it is to be.
+use Rattle.std.proofs.Common.{◌≡◌, ◌-◌, length}
+use Rattle.rt_journal_read.specs.Drafts.{raised, raised_to}
+use Rattle.rt_journal_read.proofs.draft.Draft.raise_to.Given as goal
+
+abbrev pub invariant-loop-i : goal.invariant-loop-i
+invariant-loop-i l = record {
+  same : raised (l.actor - l._i) l.self ≡ raised_to l.actor l.initial.self;
+  place : length l.self.earlier ≡ l._i;
+  cores : l.self.cores ≡ l.initial.self.cores;
+}

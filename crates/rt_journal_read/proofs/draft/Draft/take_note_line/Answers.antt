@@ -1,0 +1,41 @@
+use Rattle.std.proofs.Common.{ℕ, Err, ◌≡◌, ◌-◌, ap, sym, ◌∙◌, length, arith, codes, false, Some}
+use Rattle.std.specs.Str.{bytes_eq}
+use Rattle.std.proofs.lemmas.List.{length-map}
+use Rattle.std.proofs.lemmas.Result.{on_ok_weaker}
+use Rattle.rt_words.specs.Words.{words, first, others}
+use Rattle.rt_journal_lines.specs.Fields.{number_in}
+use Rattle.rt_journal_lines.specs.NoteWords.{note_of}
+use Rattle.rt_journal_read.specs.declared.fault.JournalCause.{JournalCause}
+use Rattle.rt_journal_read.specs.Drafts.{Drafted, with_note, with_note_line}
+use Rattle.rt_journal_read.proofs.DraftLemmas.{line_read, raised_is}
+use Rattle.rt_journal_read.proofs.ReaderLemmas.{IfErr_faulty}
+use Rattle.rt_journal_read.proofs.draft.Draft.take_note_line.Goals as goal
+
+pub returns-in_ok-raise_to-in-Some-clause-ok : goal.returns-in_ok-raise_to-in-Some-clause-ok
+returns-in_ok-raise_to-in-Some-clause-ok c =
+    let draft = c.args.self.now in
+    let line = c.args.line.now in
+    let other : bytes_eq line (codes "end") ≡ false = sym c.is_word.ensures ∙ c.if-is_word.false in
+    let place : c.len-first.result ≡ length draft.earlier = omega (arith, c.len-first.ensures, simp length-map at (ap (λ (d : Drafted). length d.earlier) c.self.view_is)) in
+    let cores = ap (λ (d : Drafted). d.cores) c.self.view_is in
+    let number : number_in (length draft.earlier) draft.cores (first (words line)) ≡ Some c.in-Some.actor = cc (place, cores, c.number_in.ensures.value, c.in-Some.is, c.next_word.ensures.word, c.of-fields.ensures, c.from.ensures) in
+    let passed = c.in_ok-raise_to-in-Some.ensures.ok in
+    let kept = raised_is (c.in-Some.actor - length draft.earlier) draft in
+    let read : c.note_of.result ≡ note_of c.in-Some.actor draft.cores (others (words line)) = cc (c.note_of.ensures, c.next_word.ensures.others, c.of-fields.ensures, ap (λ (d : Drafted). d.cores) c.self-in-Some.view_is, ap (λ (d : Drafted). d.cores) passed, kept.cores) in
+    on_ok_weaker c.take_note.result (λ taken. line_read draft c.raise_to.new.self line c.in-Some.actor c.note_of.result other number passed read ∙ taken) c.take_note.ensures.ok
+
+pub returns-in_ok-raise_to-in-Some-clause-faulty : goal.returns-in_ok-raise_to-in-Some-clause-faulty
+returns-in_ok-raise_to-in-Some-clause-faulty c =
+    let draft = c.args.self.now in
+    let line = c.args.line.now in
+    let other : bytes_eq line (codes "end") ≡ false = sym c.is_word.ensures ∙ c.if-is_word.false in
+    let place : c.len-first.result ≡ length draft.earlier = omega (arith, c.len-first.ensures, simp length-map at (ap (λ (d : Drafted). length d.earlier) c.self.view_is)) in
+    let cores = ap (λ (d : Drafted). d.cores) c.self.view_is in
+    let number : number_in (length draft.earlier) draft.cores (first (words line)) ≡ Some c.in-Some.actor = cc (place, cores, c.number_in.ensures.value, c.in-Some.is, c.next_word.ensures.word, c.of-fields.ensures, c.from.ensures) in
+    let passed = c.in_ok-raise_to-in-Some.ensures.ok in
+    let kept = raised_is (c.in-Some.actor - length draft.earlier) draft in
+    let read : c.note_of.result ≡ note_of c.in-Some.actor draft.cores (others (words line)) = cc (c.note_of.ensures, c.next_word.ensures.others, c.of-fields.ensures, ap (λ (d : Drafted). d.cores) c.self-in-Some.view_is, ap (λ (d : Drafted). d.cores) passed, kept.cores) in
+    IfErr_faulty c.take_note.result
+    (λ (fault : ℕ × JournalCause). (fault.0 ≡ c.args.number) × (with_note c.raise_to.new.self c.note_of.result ≡ Err fault.1))
+    (λ (fault : ℕ × JournalCause). (fault.0 ≡ c.args.number) × (with_note_line draft line ≡ Err fault.1))
+    (λ fault h. (h.0, line_read draft c.raise_to.new.self line c.in-Some.actor c.note_of.result other number passed read ∙ h.1)) c.take_note.ensures.faulty

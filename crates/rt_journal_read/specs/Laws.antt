@@ -1,0 +1,23 @@
+-- What is read is a text of journals, and what is written of journals is read as the same.
+use Rattle.std.specs.Prelude.{◌≡◌, ℕ, ◌≤◌, List, Ok, length}
+use Rattle.rt_ids.specs.Assembly.{Assembly, journal_of}
+use Rattle.rt_ids.specs.Journal.{EachNote}
+use Rattle.rt_ids.specs.Limits.{most_notes}
+use Rattle.rt_ids.specs.Spelled.{IsSpelled}
+use Rattle.rt_journal_lines.specs.Laws.{HoldsTimes}
+use Rattle.rt_journal_write.specs.Texts.{journal_text}
+use Rattle.rt_journal_read.specs.Drafts.{Drafted, assembly_of}
+use Rattle.rt_journal_read.specs.JournalTexts.{journals_of}
+
+-- a text that tells journals is the text of these journals, and they are spelled; so two texts never tell the same
+abbrev pub OnlyTextsAreRead : Type 0
+OnlyTextsAreRead = (text : List ℕ) (draft : Drafted) → journals_of text ≡ Ok draft → IsSpelled (assembly_of draft) × (text ≡ journal_text (assembly_of draft))
+
+-- no actor has more notes than a text may tell of it, and times and answers are what their types hold
+pub record IsTellable (assembly : Assembly ℕ) : Type 0 where
+  pub few : (actor : ℕ) → actor ≤ assembly.cores → length (journal_of actor assembly) ≤ most_notes
+  pub times : (actor : ℕ) → actor ≤ assembly.cores → EachNote (λ note before. HoldsTimes note) (journal_of actor assembly)
+
+-- the text of journals tells these journals
+abbrev pub TextIsReadBack : Type 0
+TextIsReadBack = (assembly : Assembly ℕ) → IsSpelled assembly → IsTellable assembly → (draft : Drafted) × (journals_of (journal_text assembly) ≡ Ok draft) × (assembly_of draft ≡ assembly)

@@ -1,0 +1,251 @@
+//! The journals of a text as far as its lines are judged.
+
+ghost use Rattle.std.specs.Prelude.{◌≡◌, ◌≤◌, ◌<◌, ◌+◌, ◌++◌, ◌∷◌, [], Ok, Err, OnErr, IfOk, IfErr, IfSome, OnOk, length};
+ghost use Rattle.rt_ids.specs.Limits.{most_cores};
+ghost use Rattle.rt_words.specs.Words.{words};
+ghost use Rattle.rt_journal_read.specs.Drafts as spec;
+ghost use Rattle.rt_journal_read.specs.Faults.{IfFaulty};
+
+use crate::fault::{JournalCause, ReadError};
+use rt_ids::{MOST_CAPACITY, MOST_CORES, MOST_NOTES, Note};
+use rt_journal_lines::field::number_in;
+use rt_journal_lines::note_of;
+use rt_journal_lines::phrase::last;
+use rt_journal_notes::{Assembly, Journal};
+use rt_words::Words;
+use rt_words::field::is_word;
+use std::alloc::Global;
+use std::marker::Model;
+use std::mem::replace;
+
+/// What comes next in a text.
+#[derive(Clone, Copy, PartialEq, Eq)]
+pub enum Part {
+    /// `journal 1`
+    Form,
+    /// `cores C cap K`
+    Size,
+    /// A note, or `end`.
+    Notes,
+    /// Nothing.
+    After,
+}
+
+/// The journals of a text as far as its lines are judged.
+#[derive(Drop)]
+pub struct Draft {
+    part: Part,
+    cores: u8,
+    cap: u16,
+    earlier: Vec<Journal<u64>>,
+    notes: Journal<u64>,
+    alloc: Global,
+}
+
+impl Model for Draft {
+    ghost use Rattle.std.specs.Prelude.{map};
+    ghost use Rattle.rt_journal_read.specs.Drafts.{Drafted, IsDraft};
+
+    ghost Value = { Drafted };
+
+    ghost view = { λ d. record {
+      part = d.part;
+      cores = d.cores;
+      cap = d.cap;
+      earlier = map (λ journal. journal.notes) d.earlier.items;
+      notes = d.notes.notes;
+    } };
+
+    ghost invariant = { λ d. IsDraft (record {
+      part = d.part;
+      cores = d.cores;
+      cap = d.cap;
+      earlier = map (λ journal. journal.notes) d.earlier.items;
+      notes = d.notes.notes;
+    }) };
+}
+
+impl Draft {
+    /// Before the first line.
+    pub fn new(alloc: Global) -> Draft
+        ensures { result ≡ spec.empty_draft }
+    {
+        Draft {
+            part: Part::Form,
+            cores: 1,
+            cap: 1,
+            earlier: Vec::new(alloc),
+            notes: Journal::of(Vec::new(alloc)),
+            alloc,
+        }
+    }
+
+    /// What comes next.
+    pub fn part(&self) -> Part
+        ensures { result ≡ self.now.part }
+    {
+        self.part
+    }
+
+    /// Takes one line that isn't too long and has ended, by its number from 1.
+    pub fn take(&mut self, number: u32, line: &[u8]) -> Result<(), ReadError>
+        ensures ok { OnOk result (spec.with_text self.old.part self.old line.now ≡ Ok self.new) }
+        ensures faulty { IfErr result (IfFaulty (λ fault.
+            (fault.0 ≡ number) × (spec.with_text self.old.part self.old line.now ≡ Err fault.1))) }
+        ensures fewer { OnOk result (spec.lines_left self.new + 1 ≤ spec.lines_left self.old) }
+    {
+        match self.part {
+            Part::Form => self.take_form(number, line),
+            Part::Size => self.take_size(number, line),
+            Part::Notes => self.take_note_line(number, line),
+            Part::After => Err(ReadError::Text {
+                line: number,
+                cause: JournalCause::AfterEnd,
+            }),
+        }
+    }
+
+    fn take_form(&mut self, number: u32, line: &[u8]) -> Result<(), ReadError>
+        requires { self.old.part ≡ Part.Form }
+        ensures ok { OnOk result (spec.with_form self.old line.now ≡ Ok self.new) }
+        ensures faulty { IfErr result (IfFaulty (λ fault.
+            (fault.0 ≡ number) × (spec.with_form self.old line.now ≡ Err fault.1))) }
+    {
+        if is_word(line, "journal 1") {
+            self.part = Part::Size;
+            return Ok(());
+        }
+        Err(ReadError::Text {
+            line: number,
+            cause: JournalCause::Header,
+        })
+    }
+
+    fn take_size(&mut self, number: u32, line: &[u8]) -> Result<(), ReadError>
+        requires { self.old.part ≡ Part.Size }
+        ensures ok { OnOk result (spec.with_size self.old (spec.size_of (words line.now)) ≡ Ok self.new) }
+        ensures faulty { IfErr result (IfFaulty (λ fault.
+            (fault.0 ≡ number) × (spec.with_size self.old (spec.size_of (words line.now)) ≡ Err fault.1))) }
+    {
+        match size_of(&mut Words::of(line)) {
+            Some((cores, cap)) => {
+                self.part = Part::Notes;
+                self.cores = cores;
+                self.cap = cap;
+                Ok(())
+            }
+            None => Err(ReadError::Text {
+                line: number,
+                cause: JournalCause::Cores,
+            }),
+        }
+    }
+
+    fn take_note_line(&mut self, number: u32, line: &[u8]) -> Result<(), ReadError>
+        ensures ok { OnOk result (spec.with_note_line self.old line.now ≡ Ok self.new) }
+        ensures faulty { IfErr result (IfFaulty (λ fault.
+            (fault.0 ≡ number) × (spec.with_note_line self.old line.now ≡ Err fault.1))) }
+    {
+        if is_word(line, "end") {
+            self.part = Part::After;
+            return Ok(());
+        }
+        let mut fields = Words::of(line);
+        let first = self.earlier.len() as u64;
+        match number_in(fields.next_word(), first, u64::from(self.cores)) {
+            Some(actor) => {
+                let actor = actor as u8;
+                self.raise_to(actor)?;
+                let cores = self.cores;
+                self.take_note(number, note_of(&mut fields, actor, cores))
+            }
+            None => Err(ReadError::Text {
+                line: number,
+                cause: JournalCause::Actor,
+            }),
+        }
+    }
+
+    /// Takes what was read of a note of the actor.
+    fn take_note(&mut self, number: u32, note: Option<Note<u64>>) -> Result<(), ReadError>
+        ensures ok { OnOk result (spec.with_note self.old note ≡ Ok self.new) }
+        ensures faulty { IfErr result (IfFaulty (λ fault.
+            (fault.0 ≡ number) × (spec.with_note self.old note ≡ Err fault.1))) }
+    {
+        let cause = match note {
+            None => JournalCause::Note,
+            Some(note) => {
+                if self.notes.len() < MOST_NOTES {
+                    self.notes.try_push(note)?;
+                    return Ok(());
+                }
+                JournalCause::TooMany
+            }
+        };
+        Err(ReadError::Text {
+            line: number,
+            cause,
+        })
+    }
+
+    /// Goes on to this actor. The journals of those before it are whole.
+    fn raise_to(&mut self, actor: u8) -> Result<(), ReadError>
+        requires { actor ≤ self.old.cores }
+        ensures ok { OnOk result (self.new ≡ spec.raised_to actor self.old) }
+        ensures faulty { IfErr result (IfFaulty (λ fault. ⊥)) }
+    {
+        for _i in self.earlier.len()..usize::from(actor) {
+            self.next_actor()?;
+        }
+        Ok(())
+    }
+
+    /// The journal of the actor is whole.
+    fn next_actor(&mut self) -> Result<(), ReadError>
+        requires { length self.old.earlier < self.old.cores }
+        ensures ok { OnOk result (self.new ≡ spec.next_actor self.old) }
+        ensures faulty { IfErr result (IfFaulty (λ fault. ⊥)) }
+    {
+        let notes = replace(&mut self.notes, Journal::of(Vec::new(self.alloc)));
+        self.earlier.push(notes)?;
+        Ok(())
+    }
+
+    /// The journals of all actors, where the lines end here.
+    pub fn finish(mut self) -> Result<Assembly, ReadError>
+        ensures ok { IfOk result (λ assembly. assembly ≡ spec.assembly_of self) }
+        ensures faulty { IfErr result (IfFaulty (λ fault. ⊥)) }
+    {
+        let end = self.cores;
+        self.raise_to(end)?;
+        let Draft {
+            part: _,
+            cores,
+            cap,
+            mut earlier,
+            notes,
+            alloc: _,
+        } = self;
+        earlier.push(notes)?;
+        Ok(Assembly::of(cores, cap, earlier))
+    }
+}
+
+/// `cores C cap K`
+#[tactic(auto, unfolding(crate::specs::Drafts::size_of))]
+fn size_of(fields: &mut Words<'_>) -> Option<(u8, u16)>
+    ensures value { result ≡ spec.size_of fields.old }
+    ensures some { IfSome result (λ size. 1 ≤ size.0) }
+    ensures few { IfSome result (λ size. size.0 ≤ most_cores) }
+{
+    if !is_word(fields.next_word(), "cores") {
+        return None;
+    }
+    let cores = number_in(fields.next_word(), 1, MOST_CORES as u64)?;
+    if !is_word(fields.next_word(), "cap") {
+        return None;
+    }
+    let cap = number_in(fields.next_word(), 1, MOST_CAPACITY as u64);
+    let cap = last(cap, fields)?;
+    Some((cores as u8, cap as u16))
+}

@@ -1,0 +1,76 @@
+//! What can be wrong with the text of journals.
+
+ghost use Rattle.std.specs.Prelude.{◌≡◌};
+ghost use Rattle.rt_journal_read.specs.Faults.{cause_text};
+
+use std::alloc::{AllocError, AllocFailed};
+
+/// What is wrong with a line. Of several causes the first in this order is told.
+#[derive(Clone, Copy, PartialEq, Eq, Debug)]
+pub enum JournalCause {
+    /// It is the last line, and has no line feed.
+    Cut,
+    /// It is the first line, and isn't `journal 1`.
+    Header,
+    /// It is the second line, and isn't a `cores` line within the limits.
+    Cores,
+    /// Its first word is no actor, or an actor before that of the line before.
+    Actor,
+    /// The words behind the actor say no note that it may write, or the line has more than 128 bytes.
+    Note,
+    /// It has a note more of its actor than there may be.
+    TooMany,
+    /// The text ends before it, and no line was `end`.
+    EndMissing,
+    /// It stands behind `end`.
+    AfterEnd,
+}
+
+impl JournalCause {
+    /// The words that are printed of it.
+    pub fn words(self) -> &'static str
+        ensures { result.now ≡ cause_text self }
+    {
+        match self {
+            JournalCause::Cut => "cut",
+            JournalCause::Header => "header",
+            JournalCause::Cores => "cores",
+            JournalCause::Actor => "actor",
+            JournalCause::Note => "note",
+            JournalCause::TooMany => "too many",
+            JournalCause::EndMissing => "end missing",
+            JournalCause::AfterEnd => "after end",
+        }
+    }
+}
+
+/// Why no journals are read.
+#[derive(Clone, Copy, PartialEq, Eq, Debug)]
+pub enum ReadError {
+    /// A line of the text, by its number from 1, is faulty.
+    Text { line: u32, cause: JournalCause },
+    /// The text couldn't be read.
+    Read,
+    /// There is no memory.
+    Memory,
+}
+
+impl From<AllocError> for ReadError {
+    ghost use Rattle.rt_journal_read.specs.declared.fault.ReadError.TheVariants.{Memory};
+
+    ghost from_gives = { λ _ error. error ≡ Memory };
+
+    fn from(_error: AllocError) -> ReadError {
+        ReadError::Memory
+    }
+}
+
+impl<T: Drop> From<AllocFailed<T>> for ReadError {
+    ghost use Rattle.rt_journal_read.specs.declared.fault.ReadError.TheVariants.{Memory};
+
+    ghost from_gives = { λ _ error. error ≡ Memory };
+
+    fn from(_failed: AllocFailed<T>) -> ReadError {
+        ReadError::Memory
+    }
+}

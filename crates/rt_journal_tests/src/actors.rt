@@ -1,0 +1,251 @@
+//! Actors with the ends of their links, whatever kind of links these are.
+
+ghost use Rattle.std.specs.Prelude.{◌≡◌};
+ghost use Rattle.rt_jobs.specs.Ready.{HasReadyJob};
+ghost use Rattle.rt_link.specs.Whole.{fresh, inward_of, out_of};
+
+use rt_core::Turn;
+use rt_ids::{ActorNo, CoreNo, JobId, Note, Order, Outcome, QueueNo, Ticket, TicketError};
+use rt_jobs::{NoPost, Ran, ScriptJob, Task};
+use rt_journal::{Journal, Recorded, RecordedDesk};
+use rt_link::{InEnd, OutEnd, PlainLink};
+use std::alloc::{AllocError, Global};
+use std::marker::Model;
+
+/// The core that all orders here are for.
+pub const CORE: CoreNo = CoreNo(0);
+
+/// The same core, as it sends to itself.
+pub const OWN: ActorNo = ActorNo(0);
+
+/// The outside actor of one core.
+pub const OUTSIDE: ActorNo = ActorNo(1);
+
+/// The queue of all jobs here.
+pub const QUEUE: QueueNo = QueueNo(0);
+
+/// The name of the outside actor's first submission.
+pub const FIRST: JobId = JobId {
+    from: OUTSIDE,
+    to: CORE,
+    number: 1,
+};
+
+/// The name of its second one.
+pub const SECOND: JobId = JobId {
+    from: OUTSIDE,
+    to: CORE,
+    number: 2,
+};
+
+/// Whether these are the notes, the oldest first.
+pub fn tells(journal: &Journal<u64>, notes: &[Note<u64>]) -> bool {
+    journal.as_slice() == notes
+}
+
+/// Sends an order on a plain link that has a place for it.
+pub fn put(link: &mut PlainLink<ScriptJob>, order: Order<ScriptJob>)
+    requires { HasReadyJob ⟦<ScriptJob as Task>⟧.done ⟦<ScriptJob as Task>⟧.CanPoll order }
+    ensures { link.new ≡ record link.old { sent = link.new.sent } }
+{
+    drop(link.send(order));
+}
+
+/// The ticket of the outside actor's submission of this number.
+fn ticket(number: u64) -> Ticket
+    ensures { result ≡ record { from = 1; to = 0; number = number } }
+{
+    Ticket::named(JobId {
+        from: OUTSIDE,
+        to: CORE,
+        number,
+    })
+}
+
+/// What a core is to do.
+#[derive(Clone, Copy)]
+pub enum Act {
+    /// An order comes from the outside actor.
+    Deliver,
+    /// No order comes from it.
+    Nothing,
+    /// A job is polled for the first time, or handed back.
+    Turn,
+    /// The gate of this sender is shut.
+    Shut(ActorNo),
+}
+
+/// Core 0 of one core, with the ends of its links from itself and from the outside actor.
+#[derive(Drop)]
+pub struct Receiver<I: InEnd<ScriptJob> + Drop> {
+    core: Recorded<ScriptJob>,
+    own: I,
+    outside: I,
+}
+
+impl<I: InEnd<ScriptJob> + Drop> Model for Receiver<I> {
+    ghost use Rattle.std.specs.Prelude.{ℕ};
+    ghost use Rattle.rt_journal.specs.Ends.{IsInOf};
+
+    ghost Value = { ℕ };
+
+    ghost view = { λ _. 0 };
+
+    ghost invariant = { λ r. IsInOf 0 r.core (I.inward r.own) × IsInOf 1 r.core (I.inward r.outside) };
+}
+
+impl<I: InEnd<ScriptJob> + Drop> Receiver<I> {
+    /// Opens the core, with the ends of links of this capacity that were just opened. The outside actor may have sent already.
+    pub fn open(alloc: Global, cap: u16, own: I, outside: I) -> Result<Self, AllocError>
+        requires own { I.inward own ≡ inward_of (fresh 0 0 cap 0) }
+        requires outside { I.inward outside ≡ record (inward_of (fresh 1 0 cap 0)) { seen = (I.inward outside).seen } }
+    {
+        let core = Recorded::open(alloc, alloc, CORE, 1, cap, 10)?;
+        Ok(Receiver { core, own, outside })
+    }
+
+    fn deliver(&mut self) -> bool {
+        self.core.journal().free() >= 2 && self.core.deliver(&mut self.outside)
+    }
+
+    fn turn(&mut self) -> bool {
+        if self.core.journal().free() < 3 {
+            return false;
+        }
+        match self.core.pick() {
+            Ok(Turn::Start(name, _, job)) => {
+                if name.from != OUTSIDE {
+                    return false;
+                }
+                let ran = Ran::poll(job, &mut NoPost);
+                drop(self.core.settle(&mut self.outside, name, ran, 5));
+                true
+            }
+            Ok(Turn::Back(name, reason, order)) => {
+                if name.from == OUTSIDE {
+                    self.core.give_back(&mut self.outside, name, reason, order);
+                } else if name.from == OWN {
+                    self.core.give_back(&mut self.own, name, reason, order);
+                }
+                true
+            }
+            Ok(Turn::Resume(_, _, job)) => {
+                drop(job);
+                false
+            }
+            Ok(Turn::Idle) => false,
+            Err(_) => false,
+        }
+    }
+
+    fn shut(&mut self, from: ActorNo) -> bool {
+        let closed = self.core.journal().free() >= 1 && self.core.is_closed();
+        if !closed || from.0 > 1 || self.core.gate(from).is_some() {
+            return false;
+        }
+        if from == OUTSIDE {
+            let _count = self.core.shut(&mut self.outside, from);
+        } else {
+            let _count = self.core.shut(&mut self.own, from);
+        }
+        true
+    }
+
+    /// Whether all of this could be done, in this order.
+    pub fn does(&mut self, acts: &[Act]) -> bool {
+        for act in acts {
+            let done = match act {
+                Act::Deliver => self.deliver(),
+                Act::Nothing => !self.deliver(),
+                Act::Turn => self.turn(),
+                Act::Shut(from) => self.shut(*from),
+            };
+            if !done {
+                return false;
+            }
+        }
+        true
+    }
+
+    pub fn is_drained(&self) -> bool {
+        self.core.is_drained()
+    }
+
+    pub fn tells(&self, notes: &[Note<u64>]) -> bool {
+        tells(self.core.journal(), notes)
+    }
+}
+
+/// The outside actor of one core, with the end of its link to that core.
+#[derive(Drop)]
+pub struct Sender<O: OutEnd<ScriptJob> + Drop> {
+    desk: RecordedDesk<ScriptJob>,
+    end: O,
+}
+
+impl<O: OutEnd<ScriptJob> + Drop> Model for Sender<O> {
+    ghost use Rattle.std.specs.Prelude.{ℕ};
+    ghost use Rattle.rt_link.specs.Fits.{Fits};
+    ghost use Rattle.rt_journal_desk.specs.Ends.{IsOutOf};
+    ghost use Rattle.rt_journal_desk.specs.Tickets.{HasLane};
+
+    ghost Value = { ℕ };
+
+    ghost view = { λ _. 0 };
+
+    ghost invariant = { λ s. IsOutOf 0 s.desk (O.out s.end) (O.credited s.end)
+        × HasLane (Fits ⟦<ScriptJob as Task>⟧.SameTask ⟦<ScriptJob as Task>⟧.Answers) 0 s.desk (O.out s.end) (O.credited s.end) };
+}
+
+impl<O: OutEnd<ScriptJob> + Drop> Sender<O> {
+    /// Opens the desk, with the end of a link of this capacity that was just opened.
+    pub fn open(alloc: Global, cap: u16, end: O) -> Result<Self, AllocError>
+        requires out { O.out end ≡ out_of (fresh 1 0 cap 0) }
+        requires credited { O.credited end ≡ 0 }
+    {
+        let desk = RecordedDesk::open(alloc, OUTSIDE, 1, cap, 10)?;
+        Ok(Sender { desk, end })
+    }
+
+    /// Whether the order was accepted.
+    pub fn submit(&mut self, order: Order<ScriptJob>) -> bool
+        requires { HasReadyJob ⟦<ScriptJob as Task>⟧.done ⟦<ScriptJob as Task>⟧.CanPoll order }
+    {
+        self.desk.journal().free() >= 1 && self.desk.submit(&mut self.end, CORE, order).is_ok()
+    }
+
+    /// How many outcomes were collected.
+    pub fn collect(&mut self) -> usize {
+        if self.desk.journal().free() < self.desk.cap() as u32 {
+            return 0;
+        }
+        self.desk.collect_from(&mut self.end, CORE)
+    }
+
+    /// The answer of the submission of this number, or why there is none.
+    pub fn redeem(&mut self, number: u64) -> Result<Option<u64>, TicketError> {
+        let ticket = ticket(number);
+        if self.desk.journal().free() < 1 || !self.desk.knows(ticket) {
+            return Ok(None);
+        }
+        match self.desk.redeem(&mut self.end, ticket) {
+            Ok(Outcome::Finished(answer)) => Ok(Some(answer)),
+            Ok(_) => Ok(None),
+            Err(error) => Err(error),
+        }
+    }
+
+    /// Whether the submission of this number was detached.
+    pub fn detach(&mut self, number: u64) -> bool {
+        let ticket = ticket(number);
+        self.desk.journal().free() >= 1 && self.desk.detach(&mut self.end, ticket).is_ok()
+    }
+
+    pub fn outstanding(&self) -> u64 {
+        self.desk.outstanding(&self.end, CORE)
+    }
+
+    pub fn tells(&self, notes: &[Note<u64>]) -> bool {
+        tells(self.desk.journal(), notes)
+    }
+}

@@ -1,0 +1,127 @@
+//! A core whose jobs submit from inside their polls, with the ends of its links, whatever kind of links these are.
+
+ghost use Rattle.std.specs.Prelude.{◌≡◌};
+ghost use Rattle.rt_journal.specs.Ends.{IsInOf};
+ghost use Rattle.rt_journal_desk.specs.Ends.{IsOutOf};
+ghost use Rattle.rt_journal.specs.Recorded.{desk_of};
+ghost use Rattle.rt_journal_desk.specs.Tickets.{HasLane};
+ghost use Rattle.rt_link.specs.Fits.{Fits};
+ghost use Rattle.rt_link.specs.Whole.{fresh, inward_of, out_of};
+
+use crate::actors::{CORE, OUTSIDE, OWN, tells};
+use rt_core::Ahead;
+use rt_ids::{ActorNo, Note};
+use rt_jobs::{ScriptJob, Task};
+use rt_journal::Recorded;
+use rt_link::{InEnd, OutEnd};
+use std::alloc::{AllocError, Global};
+use std::marker::Model;
+
+/// Core 0 of one core: the end on which it sends to itself, and those on which it receives from itself and from the outside actor.
+#[derive(Drop)]
+pub struct Poster<O: OutEnd<ScriptJob> + Drop, I: InEnd<ScriptJob> + Drop> {
+    core: Recorded<ScriptJob>,
+    outs: Vec<O, Global>,
+    own: I,
+    outside: I,
+}
+
+impl<O: OutEnd<ScriptJob> + Drop, I: InEnd<ScriptJob> + Drop> Model for Poster<O, I> {
+    ghost use Rattle.std.specs.Prelude.{ℕ, ◌≡◌};
+    ghost use Rattle.rt_link.specs.Fits.{Fits};
+    ghost use Rattle.rt_journal.specs.Recorded.{desk_of};
+    ghost use Rattle.rt_journal.specs.Ends.{IsInOf};
+    ghost use Rattle.rt_journal_desk.specs.Posts.{AreOutsOf};
+
+    ghost Value = { ℕ };
+
+    ghost view = { λ _. 0 };
+
+    ghost invariant = { λ p.
+        (p.core.core.cores ≡ 1)
+        × AreOutsOf (Fits ⟦<ScriptJob as Task>⟧.SameTask ⟦<ScriptJob as Task>⟧.Answers) O.out O.credited (desk_of p.core) p.outs.items
+        × IsInOf 0 p.core (I.inward p.own) × IsInOf 1 p.core (I.inward p.outside) };
+}
+
+impl<O: OutEnd<ScriptJob> + Drop, I: InEnd<ScriptJob> + Drop> Poster<O, I> {
+    fn new(
+        alloc: Global,
+        core: Recorded<ScriptJob>,
+        out: O,
+        own: I,
+        outside: I,
+    ) -> Result<Self, AllocError>
+        requires alone { core.core.cores ≡ 1 }
+        requires beside { IsOutOf 0 (desk_of core) (O.out out) (O.credited out) }
+        requires lane { HasLane (Fits ⟦<ScriptJob as Task>⟧.SameTask ⟦<ScriptJob as Task>⟧.Answers) 0 (desk_of core) (O.out out) (O.credited out) }
+        requires own { IsInOf 0 core (I.inward own) }
+        requires outside { IsInOf 1 core (I.inward outside) }
+    {
+        let mut outs = Vec::with_capacity(alloc, 1)?;
+        outs.push_reserved(out);
+        Ok(Poster {
+            core,
+            outs,
+            own,
+            outside,
+        })
+    }
+
+    /// Opens the core, with the ends of links of one place that were just opened. The outside actor may have sent already.
+    pub fn open(alloc: Global, out: O, own: I, outside: I) -> Result<Self, AllocError>
+        requires out { O.out out ≡ out_of (fresh 0 0 1 0) }
+        requires credited { O.credited out ≡ 0 }
+        requires own { I.inward own ≡ inward_of (fresh 0 0 1 0) }
+        requires outside { I.inward outside ≡ record (inward_of (fresh 1 0 1 0)) { seen = (I.inward outside).seen } }
+    {
+        let core = Recorded::open(alloc, alloc, CORE, 1, 1, 30)?;
+        Poster::new(alloc, core, out, own, outside)
+    }
+
+    /// Whether an order came from this actor.
+    pub fn deliver(&mut self, from: ActorNo) -> bool {
+        if self.core.journal().free() < 2 {
+            return false;
+        }
+        if from == OWN {
+            self.core.deliver(&mut self.own)
+        } else {
+            self.core.deliver(&mut self.outside)
+        }
+    }
+
+    /// Whether a job was polled in its place in the core.
+    fn turn(&mut self, alloc: Global) -> bool {
+        let cap = self.core.cap();
+        if self.core.journal().free() < 3 * cap as u32 + 3 {
+            return false;
+        }
+        let Ok(Ahead::Job(next)) = self.core.ahead() else {
+            return false;
+        };
+        let mut spent = 5;
+        let settled = self
+            .core
+            .turn_posting(alloc, &mut self.outs, &next, &mut spent);
+        if next.name.from == OWN {
+            self.core.give_done(&mut self.own, next.name, &settled);
+        } else if next.name.from == OUTSIDE {
+            self.core.give_done(&mut self.outside, next.name, &settled);
+        }
+        true
+    }
+
+    /// Whether so many jobs were polled so.
+    pub fn turns(&mut self, alloc: Global, count: u64) -> bool {
+        for _ in 0..count {
+            if !self.turn(alloc) {
+                return false;
+            }
+        }
+        true
+    }
+
+    pub fn tells(&self, notes: &[Note<u64>]) -> bool {
+        tells(self.core.journal(), notes)
+    }
+}

@@ -1,9 +1,0 @@
-use Rattle.std.proofs.Common.{◌≡◌, ◌++◌, take}
-use Rattle.std.specs.Prelude.{vec_capacity}
-use Rattle.rt_notes.proofs.journal.Journal.push_all.Given as goal
-
-abbrev pub invariant-loop-note : goal.invariant-loop-note
-invariant-loop-note g l =
-    (l.self-inside.notes.items ≡ l.initial.self-inside.notes.items ++ take l.note-index l.notes)
-    × (vec_capacity l.self-inside.notes ≡ vec_capacity l.initial.self-inside.notes)
-    × (l.self-inside.room ≡ l.initial.self-inside.room)

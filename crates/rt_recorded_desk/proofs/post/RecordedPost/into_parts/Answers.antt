@@ -1,5 +1,0 @@
-use Rattle.rt_recorded_desk.proofs.Names.{subst, Fits, IsLent}
-use Rattle.rt_recorded_desk.proofs.post.RecordedPost.into_parts.Goals as goal
-
-pub returns-clause-lent : goal.returns-clause-lent
-returns-clause-lent g c = subst (IsLent (Fits g.J.Task.SameTask g.J.Task.Answers) g.O.OutEnd.out g.O.OutEnd.credited) c.self.view_is c.self.invariant

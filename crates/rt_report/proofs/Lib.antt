@@ -1,2 +1,0 @@
-pub mod StatLemmas
-pub mod AuditLemmas

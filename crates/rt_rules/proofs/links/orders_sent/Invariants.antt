@@ -1,5 +1,0 @@
-use Rattle.rt_rules.specs.Links.{AreOrdersOf}
-use Rattle.rt_rules.proofs.links.orders_sent.Given as goal
-
-abbrev pub invariant-loop-actor : goal.invariant-loop-actor
-invariant-loop-actor l = AreOrdersOf l.orders.items l.assembly l.actor

@@ -1,5 +1,0 @@
-use Rattle.rt_rules.specs.Links.{AreOutcomesOf}
-use Rattle.rt_rules.proofs.links.outcomes_given.Given as goal
-
-abbrev pub invariant-loop-actor : goal.invariant-loop-actor
-invariant-loop-actor l = AreOutcomesOf l.outcomes.items l.assembly l.actor

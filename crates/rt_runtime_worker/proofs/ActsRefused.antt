@@ -1,0 +1,27 @@
+-- Small journals of a core that sends or lets go while none of its jobs is polled.
+use Rattle.std.proofs.Common.{ℕ, [], ◌∷◌, refl}
+use Rattle.rt_ids.specs.declared.names.JobId.{JobId}
+use Rattle.rt_ids.specs.declared.note.Note.TheVariants.{Sent, Detached, Took, Pick, Start, Done}
+use Rattle.rt_ids.specs.declared.order.Mode.TheVariants.{Return}
+use Rattle.rt_ids.specs.declared.order.Order.TheVariants.{CloseCore}
+use Rattle.rt_ids.specs.Journal.{Journal, EachNote}
+use Rattle.rt_runtime_worker.specs.Rooms.{MayAct}
+
+-- a job from the outside actor to core 0, and a submission of core 0 to itself
+abbrev job : JobId
+job = record { from = 1; to = 0; number = 1 }
+
+abbrev own : JobId
+own = record { from = 0; to = 0; number = 1 }
+
+-- no core may write this journal, however much room it has
+abbrev IsRefused : Journal ℕ → Type 0
+IsRefused notes = (least room : ℕ) → EachNote (MayAct least room) notes → ⊥
+
+-- it sends itself an order before any job is there
+sends_by_itself : IsRefused (Sent own (CloseCore Return) ∷ [])
+sends_by_itself least room acts = acts.0 refl
+
+-- it lets go of a submission behind a poll that is settled
+lets_go_behind_a_poll : IsRefused (Detached own ∷ Done job 1 5 ∷ Sent own (CloseCore Return) ∷ Start job ∷ Pick 0 0 ∷ Took job 0 ∷ [])
+lets_go_behind_a_poll least room acts = acts.0 refl

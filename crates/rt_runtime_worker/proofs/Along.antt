@@ -1,0 +1,36 @@
+-- Steps one after another.
+use Rattle.std.proofs.Common.{ℕ, refl, ◌∙◌}
+use Rattle.rt_journal.specs.Recorded.{RecordedView}
+use Rattle.rt_journal.specs.Ends.{IsSameSeat, KeepsIn}
+use Rattle.rt_journal_desk.specs.Ends.{KeepsOuts}
+use Rattle.rt_journal_desk.specs.Submissions.{DeskView}
+use Rattle.rt_ring_mesh.proofs.Using.{ends_same, ends_along}
+use Rattle.rt_runtime_worker.specs.Linked.{LinkedView, StaysLinked}
+
+module _ {J T : Type 0} where
+  pub ins_along : (old middle new : RecordedView J T) (sender : ℕ) → KeepsIn sender old middle → KeepsIn sender middle new → KeepsIn sender old new
+  ins_along old middle new sender one two = record { each = λ inward is. two.each inward (one.each inward is) }
+
+  pub outs_along : (old middle new : DeskView J T) → KeepsOuts old middle → KeepsOuts middle new → KeepsOuts old new
+  outs_along old middle new one two core = record { each = λ out credited is. (two core).each out credited ((one core).each out credited is) }
+
+  pub seat_along : (old middle new : RecordedView J T) → IsSameSeat old middle → IsSameSeat middle new → IsSameSeat old new
+  seat_along old middle new one two = record {
+    number = two.number ∙ one.number;
+    cores = two.cores ∙ one.cores;
+    cap = two.cap ∙ one.cap;
+    room = two.room ∙ one.room;
+  }
+
+  pub seat_same : (view : RecordedView J T) → IsSameSeat view view
+  seat_same view = record { number = refl; cores = refl; cap = refl; room = refl }
+
+  pub stays_same : (view : LinkedView J T) → StaysLinked view view
+  stays_same view = record { seat = seat_same view.recorded; ends = ends_same view.ends; opening = refl }
+
+  pub stays_along : (old middle new : LinkedView J T) → StaysLinked old middle → StaysLinked middle new → StaysLinked old new
+  stays_along old middle new one two = record {
+    seat = seat_along old.recorded middle.recorded new.recorded one.seat two.seat;
+    ends = ends_along old.ends middle.ends new.ends one.ends two.ends;
+    opening = two.opening ∙ one.opening;
+  }

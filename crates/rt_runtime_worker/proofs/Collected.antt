@@ -1,0 +1,96 @@
+-- A core and its ends after the outcomes of one link were collected.
+use Rattle.std.proofs.Common.{◌≡◌, inl, inr, ℕ, ◌+◌, ◌<◌, ◌≤◌, get_or, length, set, get_or-set_same, length-set, refl, sym, ◌∙◌, ap, subst, arith}
+use Rattle.std.specs.Prelude.{Some, slice_get}
+use Rattle.std.proofs.lemmas.Bool.Decides.{eqb_tells}
+use Rattle.std.proofs.lemmas.List.{get_or_default, length-append}
+use Rattle.std.proofs.lemmas.Option.{slice_get-get_or}
+use Rattle.rt_ids.specs.declared.order.Order.{Order}
+use Rattle.rt_ids.specs.declared.order.Outcome.{Outcome}
+use Rattle.rt_desk.proofs.Cores.{changed, unchanged}
+use Rattle.rt_jobs.specs.Steps.{Owed}
+use Rattle.rt_ring.specs.declared.ring_out.Sending.{Sending}
+use Rattle.rt_journal.specs.Recorded.{RecordedView, IsRecorded, desk_of}
+use Rattle.rt_journal_desk.specs.Ends.{IsOutOf}
+use Rattle.rt_journal.specs.Ends.{IsSameSeat, KeepsIn}
+use Rattle.rt_journal_desk.specs.Posts.{AreOutsOf}
+use Rattle.rt_journal_desk.specs.Tickets.{HasLane, StaysBeside, CollectsFrom, GetsAll}
+use Rattle.rt_ring_mesh.specs.Ends.{EndsView, out_at, no_out, SameEnds}
+use Rattle.rt_ring_mesh.proofs.Using.{out_used}
+use Rattle.rt_runtime_worker.specs.Linked.{AreBeside, IsLinked}
+use Rattle.rt_runtime_worker.specs.Steps.{CollectsOf}
+use Rattle.rt_journal_notes.specs.Journals.{JournalView}
+use Rattle.rt_runtime_worker.specs.Queues.{opening_of}
+use Rattle.rt_runtime_worker.proofs.Openings.{opening_collected}
+use Rattle.rt_runtime_worker.proofs.Stepping.{Opens}
+use Rattle.rt_runtime_worker.proofs.Posted.{resent_beside}
+
+module _ {J T : Type 0} {fits : Order J → Outcome J T → Type 0} (core : ℕ) (recorded : RecordedView J T) (ends : EndsView J T) (known : core < recorded.core.cores) (at : ℕ) (inside : EndsView J T)
+    (opens : Opens core ends at inside) (before : Sending J T) (is : before ≡ get_or inside.outs at before) (beside : AreBeside fits recorded ends) where
+  out_in_place : core < length ends.outs
+  out_in_place = omega (arith, known, beside.outs.count)
+
+  out_here : before ≡ out_at core ends
+  out_here =
+      subst (λ number. before ≡ get_or ends.outs number before) opens.number (subst (λ ends. before ≡ get_or ends.outs at before) opens.seen is)
+      ∙ get_or_default ends.outs core before no_out out_in_place
+
+  out_there : slice_get ends.outs core ≡ Some before
+  out_there = subst (λ end. slice_get ends.outs core ≡ Some end) (sym out_here) (slice_get-get_or ends.outs core no_out out_in_place)
+
+  pub out_beside : IsOutOf core (desk_of recorded) before.out before.credited
+  out_beside = beside.outs.beside core before out_there
+
+  pub out_lane : HasLane fits core (desk_of recorded) before.out before.credited
+  out_lane = beside.outs.lanes core before out_there
+
+  module _ (now : RecordedView J T) (after : Sending J T) where
+    -- the end is put back
+    put_seen : record ends { outs = set ends.outs core after } ≡ record inside { outs = set inside.outs at after }
+    put_seen = ap (λ number. record ends { outs = set ends.outs number after }) (sym opens.number) ∙ ap (λ (ends : EndsView J T). record ends { outs = set ends.outs at after }) (sym opens.seen)
+
+    module _ (stays : StaysBeside fits core (desk_of recorded) (desk_of now) after.out after.credited) where
+      outs_now : AreOutsOf fits (λ (end : Sending J T). end.out) (λ (end : Sending J T). end.credited) (desk_of now) (set ends.outs core after)
+      outs_now = record {
+        count = length-set ends.outs core after ∙ (beside.outs.count ∙ ap (λ desk. desk.cores) (sym stays.rest));
+        beside = λ other its at. elim (eqb_tells other core) [
+          | inl one ↦ subst (λ (end : Sending J T). IsOutOf other (desk_of now) end.out end.credited) (sym (changed ends.outs core other after its at one.1)) (subst (λ core. IsOutOf core (desk_of now) after.out after.credited) (sym one.1) stays.beside)
+          | inr away ↦ (stays.others other away.1).each its.out its.credited (beside.outs.beside other its (unchanged ends.outs core other after its at away.1))
+        ];
+        lanes = λ other its at. elim (eqb_tells other core) [
+          | inl one ↦ subst (λ (end : Sending J T). HasLane fits other (desk_of now) end.out end.credited) (sym (changed ends.outs core other after its at one.1)) (subst (λ core. HasLane fits core (desk_of now) after.out after.credited) (sym one.1) stays.lane)
+          | inr away ↦
+              let had = beside.outs.lanes other its (unchanged ends.outs core other after its at away.1) in
+              record { lane = had.lane; is = stays.lanes other away.1 ∙ had.is; lane_of = had.lane_of }
+        ];
+      }
+
+      collected_beside : ((sender : ℕ) → KeepsIn sender recorded now) → IsSameSeat recorded now → AreBeside fits now (record inside { outs = set inside.outs at after })
+      collected_beside ins seat =
+          subst (AreBeside fits now) put_seen (resent_beside recorded now ends ends refl (set ends.outs core after) beside ins seat outs_now)
+
+      module _ {same : J → J → Type 0} {made : J → ℕ} {polls : Owed J T} (linked : IsLinked same made polls fits (record { recorded = recorded; ends = ends }))
+          (rest : now ≡ record recorded { journal = now.journal; lanes = now.lanes }) (ins : (sender : ℕ) → KeepsIn sender recorded now) (seat : IsSameSeat recorded now) where
+        pub collected_linked : IsRecorded same made polls now → IsLinked same made polls fits (record { recorded = now; ends = record inside { outs = set inside.outs at after } })
+        collected_linked sound = record {
+          recorded = sound;
+          at_rest = ap (λ view. view.core.out) rest ∙ linked.at_rest;
+          beside = collected_beside ins seat;
+        }
+
+    pub collected_does : (count : ℕ) → CollectsFrom core (desk_of recorded) count (desk_of now) → GetsAll before.out after.out → now ≡ record recorded { journal = now.journal; lanes = now.lanes } →
+        IsSameSeat recorded now → after.link ≡ before.link → length now.journal.notes ≤ length recorded.journal.notes + recorded.cap →
+        CollectsOf core (record { recorded = recorded; ends = ends }) count (record { recorded = now; ends = record inside { outs = set inside.outs at after } })
+    collected_does count collects all rest seat link few = record {
+      collects = collects;
+      all =
+          subst (λ (ends' : EndsView J T). GetsAll (out_at core ends).out (out_at core ends').out) put_seen
+          (subst (λ (end : Sending J T). GetsAll end.out (get_or (set ends.outs core after) core no_out).out) out_here
+          (subst (λ (end : Sending J T). GetsAll before.out end.out) (sym (get_or-set_same ends.outs core after no_out out_in_place)) all));
+      few = omega (arith, few, collects.2, ap (λ journal. length journal.notes) collects.3, length-append collects.0 recorded.journal.notes);
+      rest = rest;
+      stays = record {
+        seat = seat;
+        ends = subst (SameEnds ends) put_seen (out_used ends core after out_in_place (link ∙ ap (λ (end : Sending J T). end.link) out_here));
+        opening = ap (λ (journal : JournalView T). opening_of journal.notes) collects.3 ∙ opening_collected core collects.0 recorded.journal.notes collects.1;
+      };
+    }

@@ -1,0 +1,88 @@
+-- A core and its ends after an order was delivered, a gate shut, or a poll settled, on the end of one sender.
+use Rattle.std.proofs.Common.{◌≡◌, ◌≢◌, ℕ, ◌≤◌, None, sym, subst, ◌∙◌, ap}
+use Rattle.std.specs.Prelude.{Bool, true, false}
+use Rattle.rt_ids.specs.declared.order.Outcome.{Outcome}
+use Rattle.rt_ids.specs.declared.order.Order.{Order}
+use Rattle.rt_jobs.specs.Steps.{Owed}
+use Rattle.rt_link.specs.Calls.{Shuts}
+use Rattle.rt_ring.specs.declared.ring_in.Receiving.{Receiving}
+use Rattle.rt_journal.specs.Recorded.{RecordedView, IsRecorded, desk_of}
+use Rattle.rt_journal.specs.Ends.{IsInOf, IsSameSeat, KeepsIn}
+use Rattle.rt_journal_desk.specs.Ends.{KeepsOuts}
+use Rattle.rt_journal.specs.Steps.{Delivers, TellsShut}
+use Rattle.rt_ring_mesh.specs.Ends.{EndsView, in_at}
+use Rattle.rt_runtime_worker.specs.Linked.{IsLinked, StaysLinked}
+use Rattle.rt_runtime_worker.specs.Steps.{ShutsGate, DeliversFrom}
+use Rattle.rt_runtime_worker.specs.Queues.{opening_of}
+use Rattle.rt_runtime_worker.proofs.Openings.{opening_delivers, opening_shut}
+use Rattle.rt_runtime_worker.proofs.Stepping.{StepsOn, Opens, lent, lent_beside, lent_here, put_back, same_ends, put_beside, end_put}
+
+module _ {J T : Type 0} {same : J → J → Type 0} {made : J → ℕ} {polls : Owed J T} {fits : Order J → Outcome J T → Type 0} where
+  module _ (sender : ℕ) (recorded now : RecordedView J T) (ends : EndsView J T) (at : ℕ) (inside : EndsView J T) (before after : Receiving J T) (opens : Opens sender ends at inside)
+      (linked : IsLinked same made polls fits (record { recorded = recorded; ends = ends })) (known : sender ≤ recorded.core.cores) (is : lent at inside before) where
+    before_is : before ≡ in_at sender ends
+    before_is = lent_here sender recorded ends at inside before opens linked.beside known is
+
+    from_is : before.inward.from ≡ sender
+    from_is = (lent_beside sender recorded ends at inside before opens linked.beside known is).from
+
+    stepped : IsInOf sender now after.inward → ((other : ℕ) → other ≢ sender → KeepsIn other recorded now) → KeepsOuts (desk_of recorded) (desk_of now) → now.lanes ≡ recorded.lanes → IsSameSeat recorded now →
+        after.link ≡ before.link → opening_of now.journal.notes ≡ opening_of recorded.journal.notes → StepsOn fits sender recorded now ends after
+    stepped its_own others outs lanes seat link opening = record {
+      beside = linked.beside;
+      known = known;
+      seat = seat;
+      its_own = its_own;
+      others = others;
+      outs = outs;
+      lanes = lanes;
+      link = link ∙ ap (λ end. end.link) before_is;
+      opening = opening;
+    }
+
+    module _ (step : StepsOn fits sender recorded now ends after) where
+      pub linked_here : now.core.out ≡ None → IsRecorded same made polls now → IsLinked same made polls fits (record { recorded = now; ends = put_back at inside after })
+      linked_here at_rest sound = record { recorded = sound; at_rest = at_rest; beside = put_beside sender recorded now ends at inside after opens step }
+
+      pub stays_here : StaysLinked (record { recorded = recorded; ends = ends }) (record { recorded = now; ends = put_back at inside after })
+      stays_here = record { seat = step.seat; ends = same_ends sender recorded now ends at inside after opens step; opening = step.opening }
+
+    at_rest_after : (found : Bool) → Delivers recorded before.inward now after.inward found → now.core.out ≡ None
+    at_rest_after true does = does.2.out ∙ linked.at_rest
+    at_rest_after false does = ap (λ view. view.core.out) does.1 ∙ linked.at_rest
+
+    module _ (found : Bool) (does : Delivers recorded before.inward now after.inward found) (its_own : IsInOf before.inward.from now after.inward)
+        (others : (other : ℕ) → other ≢ before.inward.from → KeepsIn other recorded now) (outs : KeepsOuts (desk_of recorded) (desk_of now)) (lanes : now.lanes ≡ recorded.lanes) (seat : IsSameSeat recorded now) (link : after.link ≡ before.link) where
+      delivered_step : StepsOn fits sender recorded now ends after
+      delivered_step =
+          stepped (subst (λ from. IsInOf from now after.inward) from_is its_own) (λ other away. others other (λ one. away (one ∙ from_is))) outs lanes seat link
+          (opening_delivers recorded now before.inward after.inward found does)
+
+      pub delivers_linked : IsRecorded same made polls now → IsLinked same made polls fits (record { recorded = now; ends = put_back at inside after })
+      delivers_linked sound = linked_here delivered_step (at_rest_after found does) sound
+
+      pub delivers_does : DeliversFrom sender (record { recorded = recorded; ends = ends }) found (record { recorded = now; ends = put_back at inside after })
+      delivers_does = record {
+        delivers =
+            subst (λ end. Delivers recorded end.inward now (in_at sender (put_back at inside after)).inward found) before_is
+            (subst (λ end. Delivers recorded before.inward now end.inward found) (sym (end_put sender recorded now ends at inside after opens delivered_step)) does);
+        stays = stays_here delivered_step;
+      }
+
+    module _ (count : ℕ) (shuts : Shuts before.inward after.inward count) (tells : TellsShut recorded sender count now) (its_own : IsInOf sender now after.inward)
+        (others : (other : ℕ) → other ≢ sender → KeepsIn other recorded now) (outs : KeepsOuts (desk_of recorded) (desk_of now)) (lanes : now.lanes ≡ recorded.lanes) (seat : IsSameSeat recorded now) (link : after.link ≡ before.link) where
+      shut_step : StepsOn fits sender recorded now ends after
+      shut_step = stepped its_own others outs lanes seat link (opening_shut recorded now sender count tells)
+
+      pub shuts_linked : IsRecorded same made polls now → IsLinked same made polls fits (record { recorded = now; ends = put_back at inside after })
+      shuts_linked sound = linked_here shut_step (tells.out ∙ linked.at_rest) sound
+
+      pub shuts_does : ShutsGate sender (record { recorded = recorded; ends = ends }) (record { recorded = now; ends = put_back at inside after })
+      shuts_does = record {
+        count = count;
+        tells = tells;
+        shuts =
+            subst (λ end. Shuts end.inward (in_at sender (put_back at inside after)).inward count) before_is
+            (subst (λ end. Shuts before.inward end.inward count) (sym (end_put sender recorded now ends at inside after opens shut_step)) shuts);
+        stays = stays_here shut_step;
+      }

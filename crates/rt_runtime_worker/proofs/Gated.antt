@@ -1,0 +1,225 @@
+-- Gates that are shut one after another, and the room that is left behind.
+use Rattle.std.proofs.Common.{◌≡◌, ◌≢◌, inl, inr, ℕ, suc, ◌+◌, ◌*◌, ◌≤◌, cond, ◌∷◌, length, refl, sym, ◌∙◌, ap, subst, arith, ⊎_elim}
+use Rattle.std.specs.Prelude.{Bool, true, false, Option, Some, None, unwrap_or, is_some, IsSome}
+use Rattle.std.proofs.lemmas.Bool.{cases_eq, eq-eqb, ne_eqb}
+use Rattle.rt_ids.specs.declared.order.Outcome.{Outcome}
+use Rattle.rt_ids.specs.declared.order.Order.{Order}
+use Rattle.rt_ids.specs.declared.note.Note.TheVariants.{Shut}
+use Rattle.rt_ids.specs.declared.order.Mode.{Mode}
+use Rattle.rt_ids.specs.declared.order.Mode.TheVariants.{Finish, Return}
+use Rattle.rt_ids.specs.Journal.{Journal, EachNote, or_else}
+use Rattle.rt_ids.specs.Closing.{closes, core_mode, final_count}
+use Rattle.rt_jobs.specs.Steps.{Owed}
+use Rattle.rt_link.specs.declared.ends.Inward.{Inward}
+use Rattle.rt_link.specs.Ends.{SoundIn}
+use Rattle.rt_link.specs.Calls.{final_of}
+use Rattle.rt_journal_notes.specs.Journals.{JournalView}
+use Rattle.rt_journal.specs.Recorded.{RecordedView, IsRecorded, desk_of, sum_upto, given_count}
+use Rattle.rt_journal.specs.Ends.{IsInOf, IsSameSeat, KeepsIn}
+use Rattle.rt_journal_desk.specs.Ends.{KeepsOuts, name_of}
+use Rattle.rt_ring_mesh.specs.Ends.{EndsView, in_at}
+use Rattle.rt_ring_mesh.proofs.Using.{ends_same}
+use Rattle.rt_ids.specs.Outcomes.{outcome_note}
+use Rattle.rt_journal.specs.Steps.{ClosesItself}
+use Rattle.rt_runtime_worker.specs.Linked.{LinkedView, IsLinked, StaysLinked}
+use Rattle.rt_runtime_worker.specs.Queues.{opening_of}
+use Rattle.rt_runtime_worker.specs.Steps.{ShutsGate}
+use Rattle.rt_runtime_worker.specs.Gates.{WritesShut, WritesReturn, IsShutWithin, LeavesShut, LeavesReturning, ShutsFirst}
+use Rattle.rt_runtime_worker.specs.Rooms.{last_through, least_free, MayAct, ActsAsItMay, HasSpare, IsShort, IsEnding}
+use Rattle.rt_runtime_worker.proofs.Along.{stays_along, stays_same}
+use Rattle.rt_runtime_worker.proofs.Stepping.{sends_kept}
+use Rattle.rt_runtime_worker.proofs.Spare.{sums_within, places_more}
+use Rattle.std.proofs.lemmas.List.{length-map}
+
+-- a core that `Return` doesn't change is in that mode
+pub was_returning : (mode : Option Mode) → closes mode Return ≡ false → mode ≡ Some Return
+was_returning None changes = cc
+was_returning (Some Finish) changes = cc
+was_returning (Some Return) changes = refl
+
+module _ {T : Type 0} where
+  -- a note that shuts one gate shuts no other
+  other_gate : (sender other count : ℕ) (before : Journal T) → other ≢ sender → final_count other (Shut sender count ∷ before) ≡ final_count other before
+  other_gate sender other count before away = ap (λ test. or_else (cond test (Some count) None) (final_count other before)) (ne_eqb other sender away)
+
+  -- the gate of another sender is as it was
+  gate_elsewhere : (sender other : ℕ) (old new : JournalView T) → WritesShut sender old new → other ≢ sender → final_count other new.notes ≡ final_count other old.notes
+  gate_elsewhere sender other old new (inl same) away = ap (λ journal. final_count other journal.notes) same
+  gate_elsewhere sender other old new (inr wrote) away = ap (λ journal. final_count other journal.notes) wrote.1 ∙ other_gate sender other wrote.0 old.notes away
+
+  -- no outcome is given by it
+  given_same : (sender other : ℕ) (old new : JournalView T) → WritesShut sender old new → given_count new.notes other ≡ given_count old.notes other
+  given_same sender other old new (inl same) = ap (λ journal. given_count journal.notes other) same
+  given_same sender other old new (inr wrote) = ap (λ journal. given_count journal.notes other) wrote.1
+
+  mode_same : (sender : ℕ) (old new : JournalView T) → WritesShut sender old new → core_mode new.notes ≡ core_mode old.notes
+  mode_same sender old new (inl same) = ap (λ journal. core_mode journal.notes) same
+  mode_same sender old new (inr wrote) = ap (λ journal. core_mode journal.notes) wrote.1
+
+  one_longer : (sender : ℕ) (old new : JournalView T) → WritesShut sender old new → length new.notes ≤ length old.notes + 1
+  one_longer sender old new (inl same) = let now : length new.notes ≡ length old.notes = ap (λ journal. length journal.notes) same in omega (arith, now)
+  one_longer sender old new (inr wrote) = let now : length new.notes ≡ suc (length old.notes) = ap (λ journal. length journal.notes) wrote.1 in omega (arith, now)
+
+  shut_acts : (sender least room : ℕ) (old new : JournalView T) → WritesShut sender old new → EachNote (MayAct least room) old.notes → EachNote (MayAct least room) new.notes
+  shut_acts sender least room old new (inl same) each = subst (λ journal. EachNote (MayAct least room) journal.notes) (sym same) each
+  shut_acts sender least room old new (inr wrote) each = subst (λ journal. EachNote (MayAct least room) journal.notes) (sym wrote.1) (tt, each)
+
+module _ {J T : Type 0} where
+  -- what an end with a shut gate tells: as many orders came through as have an outcome, and a link holds more
+  pub shut_within : (sender : ℕ) (view : RecordedView J T) (inward : Inward J T) → IsInOf sender view inward → SoundIn inward → IsSome (final_count sender view.journal.notes) → IsShutWithin sender view
+  shut_within sender view inward is sound some = record {
+    gate = some;
+    within =
+        let now : last_through view.journal.notes sender ≡ unwrap_or (final_of inward inward.shut) 0 = ap (λ count. unwrap_or count 0) is.gate in
+        let low : unwrap_or (final_of inward inward.shut) 0 ≤ length inward.seen = by_final inward.shut in
+        let given : given_count view.journal.notes sender ≡ length inward.given = ap length is.given ∙ length-map inward.given (λ outcome. (name_of sender view.core.core outcome.0, outcome_note outcome.1)) in
+        omega (arith, now, low, given, sound.room, is.capacity);
+  }
+    where
+      by_final : (shut : Bool) → unwrap_or (final_of inward shut) 0 ≤ length inward.seen
+      by_final true = omega (arith, is.base)
+      by_final false = omega arith
+
+  -- none is shut yet
+  pub shuts_none : (old : LinkedView J T) → ShutsFirst 0 old old
+  shuts_none old = record {
+    shut = λ sender low. absurd (omega (arith, low));
+    mode = refl;
+    longer = omega arith;
+    acts = λ least each. each;
+    stays = stays_same old;
+  }
+
+  -- the next one is shut
+  pub shuts_more : (count : ℕ) (old middle new : LinkedView J T) → ShutsFirst count old middle → LeavesShut count middle new → ShutsFirst (count + 1) old new
+  shuts_more count old middle new first next = record {
+    shut = λ sender low. ⊎_elim
+        (λ (is : sender ≡ count). subst (λ one. IsShutWithin one new.recorded) (sym is) next.shut)
+        (λ (away : sender ≢ count).
+        let before = first.shut sender (omega (arith, low, away)) in
+        let gate : final_count sender new.recorded.journal.notes ≡ final_count sender middle.recorded.journal.notes = gate_elsewhere count sender middle.recorded.journal new.recorded.journal next.wrote away in
+        let through : last_through new.recorded.journal.notes sender ≡ last_through middle.recorded.journal.notes sender = ap (λ count. unwrap_or count 0) gate in
+        let given = given_same count sender middle.recorded.journal new.recorded.journal next.wrote in
+        record {
+          gate = subst (λ count. IsSome count) (sym gate) before.gate;
+          within = omega (arith, through, given, before.within, next.stays.seat.cap);
+        })
+        (cases_eq sender count);
+    mode = mode_same count middle.recorded.journal new.recorded.journal next.wrote ∙ first.mode;
+    longer = omega (arith, first.longer, one_longer count middle.recorded.journal new.recorded.journal next.wrote);
+    acts = λ least each. shut_acts count least old.recorded.journal.room middle.recorded.journal new.recorded.journal next.wrote (first.acts least each);
+    stays = stays_along old middle new first.stays next.stays;
+  }
+
+  module _ {same : J → J → Type 0} {made : J → ℕ} {polls : Owed J T} {fits : Order J → Outcome J T → Type 0} (old middle new : LinkedView J T) (linked : IsLinked same made polls fits old) (spare : HasSpare old.recorded)
+      (returns : LeavesReturning old middle) (shuts : ShutsFirst (middle.recorded.core.cores + 1) middle new) where
+    returns_longer : (old new : JournalView T) → WritesReturn old new → length new.notes ≤ length old.notes + 1
+    returns_longer old new (inl same) = let now : length new.notes ≡ length old.notes = ap (λ journal. length journal.notes) same in omega (arith, now)
+    returns_longer old new (inr wrote) = let now : length new.notes ≡ suc (length old.notes) = ap (λ journal. length journal.notes) wrote in omega (arith, now)
+
+    pub returned_room : length middle.recorded.journal.notes ≤ length old.recorded.journal.notes + 1
+    returned_room = returns_longer old.recorded.journal middle.recorded.journal returns.wrote
+
+    all_within : sum_upto (last_through new.recorded.journal.notes) new.recorded.core.cores
+        ≤ sum_upto (given_count new.recorded.journal.notes) new.recorded.core.cores + (new.recorded.core.cores + 1) * new.recorded.cap
+    all_within =
+        sums_within (last_through new.recorded.journal.notes) (given_count new.recorded.journal.notes) new.recorded.cap new.recorded.core.cores
+        (λ sender known. (shuts.shut sender (omega (arith, known, shuts.stays.seat.cores))).within)
+
+    -- what is left has its room
+    pub ending_now : IsEnding new.recorded
+    ending_now = record {
+      returning = shuts.mode ∙ returns.returning;
+      gates = λ sender known. (shuts.shut sender (omega (arith, known, shuts.stays.seat.cores))).gate;
+      room =
+          let cores : new.recorded.core.cores ≡ old.recorded.core.cores = shuts.stays.seat.cores ∙ returns.stays.seat.cores in
+          let cap : new.recorded.cap ≡ old.recorded.cap = shuts.stays.seat.cap ∙ returns.stays.seat.cap in
+          let room : new.recorded.journal.room ≡ old.recorded.journal.room = shuts.stays.seat.room ∙ returns.stays.seat.room in
+          let places = places_more old.recorded.core.cores old.recorded.cap in
+          let same_places : (new.recorded.core.cores + 1) * new.recorded.cap ≡ (old.recorded.core.cores + 1) * old.recorded.cap = ap (λ cores. (cores + 1) * new.recorded.cap) cores ∙ ap (λ cap. (old.recorded.core.cores + 1) * cap) cap in
+          omega (arith, all_within, same_places, places, spare, returned_room, shuts.longer, returns.stays.seat.cores, cores, room, linked.recorded.kept.is_core);
+    }
+
+    pub ending_acts : IsShort old.recorded → ActsAsItMay old.recorded.core.cores old.recorded.cap old.recorded.journal →
+        ActsAsItMay new.recorded.core.cores new.recorded.cap new.recorded.journal
+    ending_acts short each =
+        let cores : new.recorded.core.cores ≡ old.recorded.core.cores = shuts.stays.seat.cores ∙ returns.stays.seat.cores in
+        let cap : new.recorded.cap ≡ old.recorded.cap = shuts.stays.seat.cap ∙ returns.stays.seat.cap in
+        let room : new.recorded.journal.room ≡ middle.recorded.journal.room = shuts.stays.seat.room in
+        subst (λ least. EachNote (MayAct least new.recorded.journal.room) new.recorded.journal.notes)
+        (sym (ap (λ cores. least_free cores new.recorded.cap) cores ∙ ap (λ cap. least_free old.recorded.core.cores cap) cap))
+        (subst (λ room. EachNote (MayAct (least_free old.recorded.core.cores old.recorded.cap) room) new.recorded.journal.notes) (sym room)
+        (shuts.acts (least_free old.recorded.core.cores old.recorded.cap)
+        (subst (λ room. EachNote (MayAct (least_free old.recorded.core.cores old.recorded.cap) room) middle.recorded.journal.notes) (sym returns.stays.seat.room)
+        (by_return middle.recorded.journal returns.wrote))))
+      where
+        by_return : (now : JournalView T) → WritesReturn old.recorded.journal now → EachNote (MayAct (least_free old.recorded.core.cores old.recorded.cap) old.recorded.journal.room) now.notes
+        by_return now (inl same) = subst (λ journal. EachNote (MayAct (least_free old.recorded.core.cores old.recorded.cap) old.recorded.journal.room) journal.notes) (sym same) each
+        by_return now (inr wrote) =
+            subst (λ journal. EachNote (MayAct (least_free old.recorded.core.cores old.recorded.cap) old.recorded.journal.room) journal.notes) (sym wrote) (inr (refl, short), each)
+
+  -- a core that closed by itself is linked as before
+  pub returned_linked : {same : J → J → Type 0} {made : J → ℕ} {polls : Owed J T} {fits : Order J → Outcome J T → Type 0} (old new : RecordedView J T) (ends : EndsView J T) → IsLinked same made polls fits (record { recorded = old; ends = ends }) →
+      (did : Bool) → ClosesItself old Return did new → ((sender : ℕ) → KeepsIn sender old new) → KeepsOuts (desk_of old) (desk_of new) → new.lanes ≡ old.lanes → IsSameSeat old new → IsRecorded same made polls new →
+      IsLinked same made polls fits (record { recorded = new; ends = ends })
+  returned_linked old new ends linked did closes ins outs lanes seat sound = record {
+    recorded = sound;
+    at_rest = still did closes;
+    beside = record {
+      number = linked.beside.number ∙ sym seat.number;
+      ins_are = linked.beside.ins_are ∙ ap (λ cores. cores + 1) (sym seat.cores);
+      outs = sends_kept old new ends outs lanes seat linked.beside.outs;
+      ins = λ sender known. (ins sender).each _ (linked.beside.ins sender (omega (arith, known, seat.cores)));
+    };
+  }
+    where
+      still : (did : Bool) → ClosesItself old Return did new → new.core.out ≡ None
+      still true closes = closes.2 ∙ linked.at_rest
+      still false closes = ap (λ view. view.core.out) closes.1 ∙ linked.at_rest
+
+  -- it noted that it closed in that mode, or it was in it before
+  pub returned_leaves : (old new : RecordedView J T) (ends : EndsView J T) (did : Bool) → ClosesItself old Return did new → IsSameSeat old new → LeavesReturning (record { recorded = old; ends = ends }) (record { recorded = new; ends = ends })
+  returned_leaves old new ends true closes seat = record {
+    wrote = inr closes.1;
+    returning = ap (λ journal. core_mode journal.notes) closes.1;
+    stays = record { seat = seat; ends = ends_same ends; opening = ap (λ journal. opening_of journal.notes) closes.1 };
+  }
+  returned_leaves old new ends false closes seat = record {
+    wrote = inl (ap (λ view. view.journal) closes.1);
+    returning = ap (λ view. core_mode view.journal.notes) closes.1 ∙ was_returning (core_mode old.journal.notes) closes.0;
+    stays = record { seat = seat; ends = ends_same ends; opening = ap (λ view. opening_of view.journal.notes) closes.1 };
+  }
+
+  -- a gate that was shut just now
+  pub shut_now : (sender : ℕ) (old new : LinkedView J T) → ShutsGate sender old new → WritesShut sender old.recorded.journal new.recorded.journal × IsSome (final_count sender new.recorded.journal.notes)
+  shut_now sender old new did = (
+    inr (did.count, did.tells.journal),
+    ap (λ journal. is_some (final_count sender journal.notes)) did.tells.journal
+        ∙ ap (λ test. is_some (or_else (cond test (Some did.count) None) (final_count sender old.recorded.journal.notes))) (eq-eqb sender sender refl),
+  )
+
+  -- the gate is shut, whether it was so before or not
+  pub leaves_shut : {same : J → J → Type 0} {made : J → ℕ} {polls : Owed J T} {fits : Order J → Outcome J T → Type 0} (sender : ℕ) (old new : LinkedView J T) → WritesShut sender old.recorded.journal new.recorded.journal → StaysLinked old new →
+      IsSome (final_count sender new.recorded.journal.notes) → sender ≤ old.recorded.core.cores → IsLinked same made polls fits new → SoundIn (in_at sender new.ends).inward → LeavesShut sender old new
+  leaves_shut sender old new wrote stays some known linked sound = record {
+    wrote = wrote;
+    shut = shut_within sender new.recorded (in_at sender new.ends).inward (linked.beside.ins sender (omega (arith, known, stays.seat.cores))) sound some;
+    stays = stays;
+  }
+
+  module _ {same : J → J → Type 0} {made : J → ℕ} {polls : Owed J T} {fits : Order J → Outcome J T → Type 0} (sender : ℕ) (old new inside : LinkedView J T) (seen : inside ≡ new) (known : sender ≤ old.recorded.core.cores)
+      (linked : IsLinked same made polls fits inside) (sound : SoundIn (in_at sender inside.ends).inward) where
+    leaves_here : WritesShut sender old.recorded.journal new.recorded.journal → StaysLinked old new → IsSome (final_count sender new.recorded.journal.notes) → LeavesShut sender old new
+    leaves_here wrote stays some =
+        leaves_shut sender old new wrote stays some known (subst (IsLinked same made polls fits) seen linked) (subst (λ (view : LinkedView J T). SoundIn (in_at sender view.ends).inward) seen sound)
+
+    -- it was shut just now
+    pub leaves_then : (did : LinkedView J T) → new ≡ did → ShutsGate sender old did → LeavesShut sender old new
+    leaves_then did is shuts =
+        let now = shut_now sender old new (subst (ShutsGate sender old) (sym is) shuts) in
+        leaves_here now.0 (subst (ShutsGate sender old) (sym is) shuts).stays now.1
+
+    -- it was shut before
+    pub leaves_else : new ≡ old → IsSome (final_count sender old.recorded.journal.notes) → LeavesShut sender old new
+    leaves_else is some =
+        leaves_here (inl (ap (λ view. view.recorded.journal) is)) (subst (StaysLinked old) (sym is) (stays_same old)) (subst (λ (view : LinkedView J T). IsSome (final_count sender view.recorded.journal.notes)) (sym is) some)

@@ -1,0 +1,134 @@
+-- No step of a worker changes what was created at the opening.
+use Rattle.std.proofs.Common.{◌≡◌, ℕ, ◌+◌, ◌==◌, Bool, true, false, if◌then◌else◌, List, [], ◌∷◌, ◌++◌, refl, sym, ◌∙◌, ap, subst}
+use Rattle.std.specs.Prelude.{Option, Some, None, unwrap_or}
+use Rattle.rt_ids.specs.declared.names.JobId.{JobId}
+use Rattle.rt_ids.specs.declared.note.Note.{Note}
+use Rattle.rt_ids.specs.declared.note.Note.TheVariants as writes
+use Rattle.rt_ids.specs.declared.order.Order.{Order}
+use Rattle.rt_ids.specs.declared.order.Order.TheVariants.{Job, Create, SetShares, Close, CloseCore}
+use Rattle.rt_ids.specs.declared.order.Outcome.{Outcome}
+use Rattle.rt_ids.specs.declared.order.Reason.{Reason}
+use Rattle.rt_ids.specs.declared.order.Answer.{Answer}
+use Rattle.rt_ids.specs.declared.order.Answer.TheVariants as answers
+use Rattle.rt_ids.specs.Journal.{Journal}
+use Rattle.rt_ids.specs.Commands.{created_count, refusal, effect_note}
+use Rattle.rt_jobs.specs.declared.job.Step.{Step}
+use Rattle.rt_jobs.specs.declared.job.Step.TheVariants as step
+use Rattle.rt_jobs.specs.Steps.{AfterPoll, Owed}
+use Rattle.rt_core.specs.declared.turn.Settled.{Settled}
+use Rattle.rt_link.specs.declared.ends.Inward.{Inward}
+use Rattle.rt_journal_notes.specs.Journals.{JournalView}
+use Rattle.rt_ring.specs.declared.ring_out.Sending.{Sending}
+use Rattle.rt_journal.specs.Deliveries.{IsDelivery, entry_note, with_effect}
+use Rattle.rt_journal.specs.Polls.{poll_note, settle_note}
+use Rattle.rt_journal_desk.specs.Posts.{ArePosts, HasPosted}
+use Rattle.rt_journal.specs.Recorded.{RecordedView}
+use Rattle.rt_journal.specs.Steps.{Delivers, TellsShut}
+use Rattle.rt_journal_desk.specs.Submissions.{DeskView}
+use Rattle.rt_journal_desk.specs.Tickets.{AreCollected}
+use Rattle.rt_journal.specs.Turns.{IsPick, IsHandBack, Settles}
+use Rattle.rt_journal.specs.Whole.{post_of}
+use Rattle.rt_runtime_config.specs.Configs.{Entry}
+use Rattle.rt_runtime_worker.specs.Linked.{LinkedView}
+use Rattle.rt_runtime_worker.specs.Queues.{behind_entry, behind_entries, creations, is_opening, opening_of}
+use Rattle.rt_runtime_worker.specs.Steps.{PollsOne}
+
+module _ {T : Type 0} where
+  -- a journal of creations alone
+  pub opening_all : (notes : Journal T) → is_opening notes ≡ true → opening_of notes ≡ notes
+  opening_all [] is = refl
+  opening_all (note ∷ before) is = ap (λ (test : Bool). if test then note ∷ before else opening_of before) is
+
+  creation_behind : (core : ℕ) (entry : Entry) (before : Journal T) → is_opening before ≡ true → is_opening (behind_entry core entry before) ≡ true
+  creation_behind core entry before is = by_test (entry.0 == core)
+    where
+      by_test : (test : Bool) → is_opening (if test then writes.Created (created_count before + 1) entry.1 ∷ before else before) ≡ true
+      by_test true = is
+      by_test false = is
+
+  creations_behind : (core : ℕ) (entries : List Entry) (before : Journal T) → is_opening before ≡ true → is_opening (behind_entries core entries before) ≡ true
+  creations_behind core [] before is = is
+  creations_behind core (entry ∷ entries) before is = creations_behind core entries (behind_entry core entry before) (creation_behind core entry before is)
+
+  -- the journal of a core that was just opened is its opening
+  pub opening_creations : (core : ℕ) (entries : List Entry) → opening_of {T = T} (creations core entries) ≡ creations core entries
+  opening_creations core entries = opening_all (creations core entries) (creations_behind core entries [] refl)
+
+  -- what a poll submits, redeems and detaches
+  opening_posted : (notes : List (Note T)) (before : Journal T) → ArePosts notes → opening_of (notes ++ before) ≡ opening_of before
+  opening_posted [] before are = refl
+  opening_posted (writes.Sent name order ∷ notes) before are = opening_posted notes before are
+  opening_posted (writes.Redeemed name outcome ∷ notes) before are = opening_posted notes before are
+  opening_posted (writes.Detached name ∷ notes) before are = opening_posted notes before are
+  opening_posted (_ ∷ notes) before are = absurd are
+
+  -- what is collected
+  pub opening_collected : (core : ℕ) (notes : List (Note T)) (before : Journal T) → AreCollected core notes → opening_of (notes ++ before) ≡ opening_of before
+  opening_collected core [] before are = refl
+  opening_collected core (writes.Collected name outcome ∷ notes) before are = opening_collected core notes before are.1
+  opening_collected core (_ ∷ notes) before are = absurd are
+
+module _ {T : Type 0} (name : JobId) (before : Journal T) where
+  effects_open : (order : Order (Unit {0})) (answer : Answer) → opening_of (with_effect (effect_note order answer) (writes.Answered name answer ∷ []) ++ before) ≡ opening_of before
+  effects_open (Create weight) (answers.Created queue) = refl
+  effects_open (SetShares queue weight) answers.SharesSet = refl
+  effects_open (Close queue mode) answers.Closed = refl
+  effects_open (CloseCore mode) answers.Closed = refl
+  effects_open _ _ = refl
+
+  module _ {J : Type 0} where
+    opening_delivery : (order : Order J) (notes : List (Note T)) → IsDelivery name order before notes → opening_of (notes ++ before) ≡ opening_of before
+    opening_delivery (Job queue job) notes is = subst (λ notes. opening_of (notes ++ before) ≡ opening_of before) (sym is) (by_refusal (refusal queue before))
+      where
+        by_refusal : (why : Option Reason) → opening_of (entry_note name queue why ∷ before) ≡ opening_of before
+        by_refusal None = refl
+        by_refusal (Some reason) = refl
+    opening_delivery (Create weight) notes is = subst (λ notes. opening_of (notes ++ before) ≡ opening_of before) (sym is.2) (effects_open (Create weight) is.0)
+    opening_delivery (SetShares queue weight) notes is = subst (λ notes. opening_of (notes ++ before) ≡ opening_of before) (sym is.2) (effects_open (SetShares queue weight) is.0)
+    opening_delivery (Close queue mode) notes is = subst (λ notes. opening_of (notes ++ before) ≡ opening_of before) (sym is.2) (effects_open (Close queue mode) is.0)
+    opening_delivery (CloseCore mode) notes is = subst (λ notes. opening_of (notes ++ before) ≡ opening_of before) (sym is.2) (effects_open (CloseCore mode) is.0)
+
+module _ {J T : Type 0} where
+  -- a delivery
+  pub opening_delivers : (old new : RecordedView J T) (before after : Inward J T) (found : Bool) → Delivers old before new after found → opening_of new.journal.notes ≡ opening_of old.journal.notes
+  opening_delivers old new before after true does =
+      ap (λ (journal : JournalView T). opening_of journal.notes) does.2.journal ∙ opening_delivery does.0.name old.journal.notes does.0.order does.2.notes does.2.delivery
+  opening_delivers old new before after false does = ap (λ (view : RecordedView J T). opening_of view.journal.notes) does.1
+
+  -- a gate that is shut
+  pub opening_shut : (old new : RecordedView J T) (sender count : ℕ) → TellsShut old sender count new → opening_of new.journal.notes ≡ opening_of old.journal.notes
+  opening_shut old new sender count tells = ap (λ (journal : JournalView T). opening_of journal.notes) tells.journal
+
+  -- a pick that takes a job out, and one that hands a job back
+  pub opening_picked : (old new : RecordedView J T) (name : JobId) (queue : ℕ) (started : Bool) (job : J) → IsPick old name queue started job new → opening_of new.journal.notes ≡ opening_of old.journal.notes
+  opening_picked old new name queue started job is = ap (λ (journal : JournalView T). opening_of journal.notes) is.journal ∙ by_start started
+    where
+      by_start : (test : Bool) → opening_of (poll_note name test ∷ writes.Pick queue is.runtime ∷ old.journal.notes) ≡ opening_of old.journal.notes
+      by_start true = refl
+      by_start false = refl
+
+  pub opening_returned : (same : J → J → Type 0) (old new : RecordedView J T) (name : JobId) (reason : Reason) (order : Order J) → IsHandBack same old name reason order new →
+      opening_of new.journal.notes ≡ opening_of old.journal.notes
+  opening_returned same old new name reason order did = ap (λ (journal : JournalView T). opening_of journal.notes) did.journal
+
+  -- a poll with its post
+  pub opening_posts : (old new : RecordedView J T) (ends later : List (Sending J T)) → HasPosted (λ (end : Sending J T). end.out) (λ (end : Sending J T). end.link) (post_of old ends) (post_of new later) →
+      opening_of new.journal.notes ≡ opening_of old.journal.notes
+  opening_posts old new ends later posted = ap (λ (desk : DeskView J T). opening_of desk.journal.notes) posted.desk ∙ opening_posted posted.notes old.journal.notes posted.posts
+
+  module _ {made : J → ℕ} {polls : Owed J T} {answers : J → T → Type 0} where
+    -- a poll that is settled
+    pub opening_settled : (old new : RecordedView J T) (ran : AfterPoll J T) (spent : ℕ) (settled : Settled T) → Settles made polls answers old ran spent settled new →
+        opening_of new.journal.notes ≡ opening_of old.journal.notes
+    opening_settled old new ran spent settled did = ap (λ (journal : JournalView T). opening_of journal.notes) did.journal ∙ by_step ran.step
+      where
+        by_step : (came : Step T) → opening_of (settle_note did.out.name (unwrap_or ran.told spent) came ∷ old.journal.notes) ≡ opening_of old.journal.notes
+        by_step step.Yield = refl
+        by_step (step.Done out) = refl
+
+    pub opening_polled : {fits : Order J → Outcome J T → Type 0} {tells : ℕ → Type 0} (old new : LinkedView J T) → PollsOne made polls answers fits tells old new →
+        opening_of new.recorded.journal.notes ≡ opening_of old.recorded.journal.notes
+    opening_polled old new did =
+        opening_settled did.left new.recorded did.ran did.spent did.settled did.settles
+        ∙ (opening_posts did.picked did.left old.ends.outs new.ends.outs did.posted
+        ∙ opening_picked old.recorded did.picked did.name did.queue did.was_started did.ran.before did.picks)

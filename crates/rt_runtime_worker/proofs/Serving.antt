@@ -1,0 +1,230 @@
+-- Each step of a worker leaves it room for the next.
+use Rattle.std.proofs.Common.{◌≡◌, inr, ℕ, suc, ◌+◌, ◌*◌, ◌≤◌, ◌∷◌, ◌++◌, length, sym, ◌∙◌, ap, subst, arith}
+use Rattle.std.specs.Prelude.{◌==◌, Bool, true, false, Some, unwrap_or, IsSome}
+use Rattle.std.proofs.lemmas.List.{length-append}
+use Rattle.rt_ids.specs.declared.order.Outcome.{Outcome}
+use Rattle.rt_ids.specs.declared.order.Order.{Order}
+use Rattle.rt_ids.specs.declared.note.Note.TheVariants as writes
+use Rattle.rt_ids.specs.declared.order.Mode.TheVariants.{Return}
+use Rattle.rt_ids.specs.Filters.{given_outcomes}
+use Rattle.rt_ids.specs.Work.{number_if}
+use Rattle.rt_ids.specs.Journal.{EachNote}
+use Rattle.rt_ids.specs.Closing.{core_mode, final_count}
+use Rattle.rt_ids.specs.Lawful.{MayStand}
+use Rattle.rt_ids.proofs.Returning.{has_reason}
+use Rattle.rt_jobs.specs.Steps.{Owed}
+use Rattle.rt_journal.specs.Polls.{poll_note, settle_note}
+use Rattle.rt_journal.specs.Recorded.{RecordedView, terms_at, sum_upto, given_count}
+use Rattle.rt_journal.specs.Ends.{IsSameSeat}
+use Rattle.rt_journal.specs.Steps.{Delivers, Receives}
+use Rattle.rt_journal.proofs.Sums.{sum_upto-same, sum_upto-one_more}
+use Rattle.rt_ring_mesh.specs.Ends.{in_at}
+use Rattle.rt_runtime_worker.specs.Linked.{LinkedView, IsLinked}
+use Rattle.rt_runtime_worker.specs.Steps.{DeliversFrom, CollectsOf, MakesTurn, PollsOne, HandsBack}
+use Rattle.rt_runtime_worker.specs.Gates.{ShutsFirst}
+use Rattle.rt_runtime_worker.specs.Ended.{IsServed}
+use Rattle.rt_runtime_worker.specs.Rooms.{least_free, last_through, IsPolling, MayAct, ActsAsItMay, HasSpare, IsEnding, IsProvided, IsReady}
+use Rattle.rt_runtime_worker.specs.declared.turn.Made.{Made}
+use Rattle.rt_runtime_worker.specs.declared.turn.Made.TheVariants as came
+use Rattle.rt_runtime_worker.proofs.Acting.{begins_poll, collects_act, picks_act, posts_act, settles_act}
+use Rattle.rt_runtime_worker.proofs.Noted.{more_from, delivery_short, delivery_acts, delivery_gives}
+use Rattle.rt_runtime_worker.proofs.Spare.{stays_returning, places_some, places_more, places_few, posts_few}
+
+module _ {J T : Type 0} where
+  -- what a core may do by the old numbers it may do by the new ones
+  pub acts_here : (old new : RecordedView J T) → IsSameSeat old new → EachNote (MayAct (least_free old.core.cores old.cap) old.journal.room) new.journal.notes →
+      ActsAsItMay new.core.cores new.cap new.journal
+  acts_here old new seat each =
+      subst (λ least. EachNote (MayAct least new.journal.room) new.journal.notes)
+      (sym (ap (λ cores. least_free cores new.cap) seat.cores ∙ ap (λ cap. least_free old.core.cores cap) seat.cap))
+      (subst (λ room. EachNote (MayAct (least_free old.core.cores old.cap) room) new.journal.notes) (sym seat.room) each)
+
+  -- who is ready for a step is provided
+  pub ready_provided : (ending : Bool) (view : RecordedView J T) → IsReady ending view → IsProvided ending view
+  ready_provided false view ready = omega (arith, ready, places_some view.core.cores view.cap)
+  ready_provided true view ready = ready
+
+  -- a step with at most so many notes leaves room for the end
+  spare_after : (old new : RecordedView J T) (count : ℕ) → IsSameSeat old new → IsReady false old → length new.journal.notes ≤ length old.journal.notes + count → count ≤ 4 * ((old.core.cores + 1) * (old.cap + 1)) → HasSpare new
+  spare_after old new count seat ready longer few =
+      let same_places : (new.core.cores + 1) * (new.cap + 1) ≡ (old.core.cores + 1) * (old.cap + 1) = ap (λ cores. (cores + 1) * (new.cap + 1)) seat.cores ∙ ap (λ cap. (old.core.cores + 1) * (cap + 1)) seat.cap in
+      omega (arith, ready, longer, few, same_places, seat.room)
+
+  -- at its end a worker writes at most two notes for an outcome
+  record AnswersOne (old new : RecordedView J T) : Type 0 where
+    seat : IsSameSeat old new
+    from : ℕ
+    known : from ≤ old.core.cores
+    longer : length new.journal.notes ≤ length old.journal.notes + 2
+    gates : (sender : ℕ) → final_count sender new.journal.notes ≡ final_count sender old.journal.notes
+    gives : (sender : ℕ) → given_count new.journal.notes sender ≡ given_count old.journal.notes sender + number_if (from == sender)
+    returning : core_mode new.journal.notes ≡ Some Return
+
+  ending_after : (old new : RecordedView J T) → AnswersOne old new → IsEnding old → IsEnding new
+  ending_after old new did ending = record {
+    returning = did.returning;
+    gates = λ sender known. subst (λ count. IsSome count) (sym (did.gates sender)) (ending.gates sender (omega (arith, known, did.seat.cores)));
+    room =
+        let given : sum_upto (given_count new.journal.notes) old.core.cores ≡ sum_upto (given_count old.journal.notes) old.core.cores + 1 =
+        sum_upto-one_more (given_count old.journal.notes) (given_count new.journal.notes) did.from did.gives old.core.cores did.known in
+        let through : sum_upto (last_through new.journal.notes) old.core.cores ≡ sum_upto (last_through old.journal.notes) old.core.cores =
+        sum_upto-same (last_through new.journal.notes) (last_through old.journal.notes) old.core.cores (λ sender. ap (λ count. unwrap_or count 0) (did.gates sender)) in
+        let given_here : sum_upto (given_count new.journal.notes) new.core.cores ≡ sum_upto (given_count new.journal.notes) old.core.cores = ap (sum_upto (given_count new.journal.notes)) did.seat.cores in
+        let through_here : sum_upto (last_through new.journal.notes) new.core.cores ≡ sum_upto (last_through new.journal.notes) old.core.cores = ap (sum_upto (last_through new.journal.notes)) did.seat.cores in
+        omega (arith, given, through, given_here, through_here, did.longer, did.seat.room, ending.room);
+  }
+
+  module _ {same : J → J → Type 0} {made : J → ℕ} {polls : Owed J T} {fits : Order J → Outcome J T → Type 0} where
+    -- the same core is as well served as before
+    pub unmoved : (ending : Bool) (old new : LinkedView J T) → IsLinked same made polls fits new → IsReady ending old.recorded → new.recorded ≡ old.recorded →
+        ActsAsItMay old.recorded.core.cores old.recorded.cap old.recorded.journal → IsServed same made polls fits (record { linked = new; ending = ending })
+    unmoved ending old new linked ready is acts = record {
+      linked = linked;
+      provided = subst (IsProvided ending) (sym is) (ready_provided ending old.recorded ready);
+      acts = subst (λ (view : RecordedView J T). ActsAsItMay view.core.cores view.cap view.journal) (sym is) acts;
+    }
+
+    module _ (sender : ℕ) (old new : LinkedView J T) (was : IsLinked same made polls fits old) (now : IsLinked same made polls fits new) (known : sender ≤ old.recorded.core.cores) (seat : IsSameSeat old.recorded new.recorded)
+        (does : Delivers old.recorded (in_at sender old.ends).inward new.recorded (in_at sender new.ends).inward true) where
+      abbrev received : Receives old.recorded does.0 new.recorded
+      received = does.2
+
+      notes_now : new.recorded.journal.notes ≡ received.notes ++ old.recorded.journal.notes
+      notes_now = ap (λ journal. journal.notes) received.journal
+
+      delivered_longer : length new.recorded.journal.notes ≤ length old.recorded.journal.notes + 2
+      delivered_longer =
+          let short = delivery_short does.0.name old.recorded.journal.notes does.0.order received.notes received.delivery in
+          let longer : length new.recorded.journal.notes ≡ length received.notes + length old.recorded.journal.notes = ap length notes_now ∙ length-append received.notes old.recorded.journal.notes in
+          omega (arith, short, longer)
+
+      delivered_one : core_mode old.recorded.journal.notes ≡ Some Return → AnswersOne old.recorded new.recorded
+      delivered_one returning = record {
+        seat = seat;
+        from = does.0.name.from;
+        known =
+            let from : does.0.name.from ≡ sender = ap (λ name. name.from) does.1.2.2 ∙ (was.beside.ins sender known).from in
+            omega (arith, known, from);
+        longer = delivered_longer;
+        gates = received.lists.gates;
+        gives = λ other. ap (λ notes. given_count notes other) notes_now ∙ delivery_gives does.0.name old.recorded.journal.notes does.0.order received.notes received.delivery returning other;
+        returning =
+            ap core_mode notes_now
+            ∙ stays_returning (terms_at new.recorded) received.notes old.recorded.journal.notes (subst (EachNote (MayStand (terms_at new.recorded))) notes_now now.recorded.kept.notes) returning;
+      }
+
+      delivered_provided : (ending : Bool) → IsReady ending old.recorded → IsProvided ending new.recorded
+      delivered_provided false ready = spare_after old.recorded new.recorded 2 seat ready delivered_longer (omega (arith, places_some old.recorded.core.cores old.recorded.cap))
+      delivered_provided true ready = ending_after old.recorded new.recorded (delivered_one ready.returning) ready
+
+      pub delivered_served : (ending : Bool) → IsReady ending old.recorded → ActsAsItMay old.recorded.core.cores old.recorded.cap old.recorded.journal →
+          IsServed same made polls fits (record { linked = new; ending = ending })
+      delivered_served ending ready acts = record {
+        linked = now;
+        provided = delivered_provided ending ready;
+        acts = acts_here old.recorded new.recorded seat
+            (subst (EachNote (MayAct (least_free old.recorded.core.cores old.recorded.cap) old.recorded.journal.room)) (sym notes_now)
+            (delivery_acts does.0.name old.recorded.journal.notes (least_free old.recorded.core.cores old.recorded.cap) old.recorded.journal.room does.0.order received.notes received.delivery acts));
+      }
+
+    -- whether an order was delivered or not
+    pub delivers_served : (sender : ℕ) (found ending : Bool) (old new : LinkedView J T) → IsLinked same made polls fits old → IsLinked same made polls fits new → sender ≤ old.recorded.core.cores →
+        DeliversFrom sender old found new → IsReady ending old.recorded → ActsAsItMay old.recorded.core.cores old.recorded.cap old.recorded.journal →
+        IsServed same made polls fits (record { linked = new; ending = ending })
+    delivers_served sender true ending old new was now known does ready acts = delivered_served sender old new was now known does.stays.seat does.delivers ending ready acts
+    delivers_served sender false ending old new was now known does ready acts = unmoved ending old new now ready does.delivers.1 acts
+
+    -- gates that are shut in a core that was closed by an order
+    pub shuts_served : (old new : LinkedView J T) → IsLinked same made polls fits new → ShutsFirst (old.recorded.core.cores + 1) old new → IsReady false old.recorded →
+        ActsAsItMay old.recorded.core.cores old.recorded.cap old.recorded.journal → IsServed same made polls fits (record { linked = new; ending = false })
+    shuts_served old new now shuts ready acts = record {
+      linked = now;
+      provided = spare_after old.recorded new.recorded (old.recorded.core.cores + 1) shuts.stays.seat ready shuts.longer (omega (arith, places_more old.recorded.core.cores old.recorded.cap));
+      acts = acts_here old.recorded new.recorded shuts.stays.seat (shuts.acts (least_free old.recorded.core.cores old.recorded.cap) acts);
+    }
+
+    -- outcomes that were collected
+    pub collects_served : (core count : ℕ) (old new : LinkedView J T) → IsLinked same made polls fits new → CollectsOf core old count new → IsReady false old.recorded →
+        ActsAsItMay old.recorded.core.cores old.recorded.cap old.recorded.journal → IsServed same made polls fits (record { linked = new; ending = false })
+    collects_served core count old new now did ready acts =
+        let notes_now : new.recorded.journal.notes ≡ did.collects.0 ++ old.recorded.journal.notes = ap (λ journal. journal.notes) did.collects.3 in
+        let longer : length new.recorded.journal.notes ≡ length did.collects.0 + length old.recorded.journal.notes = ap length notes_now ∙ length-append did.collects.0 old.recorded.journal.notes in
+        record {
+          linked = now;
+          provided = spare_after old.recorded new.recorded old.recorded.cap did.stays.seat ready (omega (arith, longer, did.collects.2, did.few)) (places_few old.recorded.core.cores old.recorded.cap);
+          acts = acts_here old.recorded new.recorded did.stays.seat
+              (subst (EachNote (MayAct (least_free old.recorded.core.cores old.recorded.cap) old.recorded.journal.room)) (sym notes_now)
+              (collects_act _ _ core did.collects.0 old.recorded.journal.notes did.collects.1 acts));
+        }
+
+    module _ (old new : LinkedView J T) (was : IsLinked same made polls fits old) (now : IsLinked same made polls fits new) (seat : IsSameSeat old.recorded new.recorded) where
+      -- a poll
+      module _ {answers : J → T → Type 0} {tells : ℕ → Type 0} (did : PollsOne made polls answers fits tells old new) where
+        picked_notes : did.picked.journal.notes ≡ poll_note did.name did.was_started ∷ writes.Pick did.queue did.picks.runtime ∷ old.recorded.journal.notes
+        picked_notes = ap (λ journal. journal.notes) did.picks.journal
+
+        posted_notes : did.left.journal.notes ≡ did.posted.notes ++ did.picked.journal.notes
+        posted_notes = ap (λ desk. desk.journal.notes) did.posted.desk
+
+        settled_notes : new.recorded.journal.notes ≡ settle_note did.settles.out.name (unwrap_or did.ran.told did.spent) did.ran.step ∷ did.left.journal.notes
+        settled_notes = ap (λ journal. journal.notes) did.settles.journal
+
+        polled_acts : EachNote (MayAct (least_free old.recorded.core.cores old.recorded.cap) old.recorded.journal.room) old.recorded.journal.notes →
+            EachNote (MayAct (least_free old.recorded.core.cores old.recorded.cap) old.recorded.journal.room) new.recorded.journal.notes
+        polled_acts acts =
+            subst (EachNote (MayAct (least_free old.recorded.core.cores old.recorded.cap) old.recorded.journal.room)) (sym settled_notes)
+            (settles_act _ _ _ _ did.ran.step did.left.journal.notes
+            (subst (EachNote (MayAct (least_free old.recorded.core.cores old.recorded.cap) old.recorded.journal.room)) (sym posted_notes)
+            (posts_act _ _ did.posted.notes did.picked.journal.notes did.posted.posts (subst IsPolling (sym picked_notes) (begins_poll did.name did.was_started (writes.Pick did.queue did.picks.runtime ∷ old.recorded.journal.notes)))
+            (subst (EachNote (MayAct (least_free old.recorded.core.cores old.recorded.cap) old.recorded.journal.room)) (sym picked_notes)
+            (picks_act _ _ did.name did.was_started did.queue did.picks.runtime old.recorded.journal.notes acts)))))
+
+        polled_provided : (ending : Bool) → IsReady ending old.recorded → IsProvided ending new.recorded
+        polled_provided false ready = spare_after old.recorded new.recorded (old.recorded.core.cores * (3 * old.recorded.cap) + 3) seat ready (omega (arith, did.few)) (posts_few old.recorded.core.cores old.recorded.cap)
+        polled_provided true ready = absurd (has_reason did.queue old.recorded.journal.notes (inr ready.returning) did.picks.kept)
+
+        polled_served : (ending : Bool) → IsReady ending old.recorded → ActsAsItMay old.recorded.core.cores old.recorded.cap old.recorded.journal → IsServed same made polls fits (record { linked = new; ending = ending })
+        polled_served ending ready acts = record {
+          linked = now;
+          provided = polled_provided ending ready;
+          acts = acts_here old.recorded new.recorded seat (polled_acts acts);
+        }
+
+      -- a job that is handed back
+      module _ (did : HandsBack same old.recorded new.recorded) where
+        returned_notes : new.recorded.journal.notes ≡ writes.Returned did.name did.reason ∷ writes.Pick did.did.queue did.did.runtime ∷ old.recorded.journal.notes
+        returned_notes = ap (λ journal. journal.notes) did.did.journal
+
+        returned_longer : length new.recorded.journal.notes ≤ length old.recorded.journal.notes + 2
+        returned_longer = let now : length new.recorded.journal.notes ≡ suc (suc (length old.recorded.journal.notes)) = ap length returned_notes in omega (arith, now)
+
+        returned_provided : (ending : Bool) → IsReady ending old.recorded → IsProvided ending new.recorded
+        returned_provided false ready = spare_after old.recorded new.recorded 2 seat ready returned_longer (omega (arith, places_some old.recorded.core.cores old.recorded.cap))
+        returned_provided true ready =
+            ending_after old.recorded new.recorded
+            (record {
+              seat = seat;
+              from = did.name.from;
+              known = (was.recorded.taken did.name _ did.did.task).sender;
+              longer = returned_longer;
+              gates = λ sender. ap (final_count sender) returned_notes;
+              gives = λ sender. ap (λ notes. given_count notes sender) returned_notes ∙ more_from (given_outcomes sender old.recorded.journal.notes) sender did.name _;
+              returning = ap core_mode returned_notes ∙ ready.returning;
+            })
+            ready
+
+        returned_served : (ending : Bool) → IsReady ending old.recorded → ActsAsItMay old.recorded.core.cores old.recorded.cap old.recorded.journal → IsServed same made polls fits (record { linked = new; ending = ending })
+        returned_served ending ready acts = record {
+          linked = now;
+          provided = returned_provided ending ready;
+          acts = acts_here old.recorded new.recorded seat
+              (subst (EachNote (MayAct (least_free old.recorded.core.cores old.recorded.cap) old.recorded.journal.room)) (sym returned_notes) (tt, (tt, acts)));
+        }
+
+      -- whatever a turn came to
+      pub turned_served : (answers : J → T → Type 0) (tells : ℕ → Type 0) (came_to : Made) (ending : Bool) → MakesTurn same made polls answers fits tells old came_to new → IsReady ending old.recorded →
+          ActsAsItMay old.recorded.core.cores old.recorded.cap old.recorded.journal → IsServed same made polls fits (record { linked = new; ending = ending })
+      turned_served answers tells came.Polled ending did ready acts = polled_served did ending ready acts
+      turned_served answers tells came.Returned ending did ready acts = returned_served did ending ready acts
+      turned_served answers tells came.Idle ending did ready acts = unmoved ending old new now ready did.1 acts
+      turned_served answers tells came.Spent ending did ready acts = unmoved ending old new now ready did.2 acts

@@ -1,0 +1,21 @@
+use Rattle.std.proofs.Common.{◌∙◌, ap}
+use Rattle.rt_runtime_worker.proofs.Stepping.{owing_here, owing_end, given_beside, given_ends}
+use Rattle.rt_runtime_worker.proofs.handing.give_on.Goals as goal
+
+pub give_back-requires-clause-owed : goal.give_back-requires-clause-owed
+give_back-requires-clause-owed g c =
+    owing_end c.args.name.from _ c.args.recorded.now c.args.ends.now c.name.inside.0.0.0 _ (record { number = ap (λ name. name.from) c.name.view_is; seen = c.ends.view_is }) c.requires.owing c.requires.known c.index_mut.result.now c.index_mut.ensures.value
+
+pub returns-clause-linked : goal.returns-clause-linked
+returns-clause-linked g c = record {
+  recorded = c.requires.sound;
+  at_rest = c.requires.rest;
+  beside =
+      given_beside c.args.name.from _ c.args.recorded.now c.args.ends.now c.name.inside.0.0.0 _ (record { number = ap (λ name. name.from) c.name.view_is; seen = c.ends.view_is }) c.requires.owing c.requires.known c.give_back.new.end c.give_back.ensures.beside
+      (c.give_back.ensures.untouched ∙ ap (λ end. end.link) (owing_here c.args.name.from _ c.args.recorded.now c.args.ends.now c.name.inside.0.0.0 _ (record { number = ap (λ name. name.from) c.name.view_is; seen = c.ends.view_is }) c.requires.owing c.requires.known c.index_mut.result.now c.index_mut.ensures.value));
+}
+
+pub returns-clause-ends : goal.returns-clause-ends
+returns-clause-ends g c =
+    given_ends c.args.name.from _ c.args.recorded.now c.args.ends.now c.name.inside.0.0.0 _ (record { number = ap (λ name. name.from) c.name.view_is; seen = c.ends.view_is }) c.requires.owing c.requires.known c.give_back.new.end c.give_back.ensures.beside
+    (c.give_back.ensures.untouched ∙ ap (λ end. end.link) (owing_here c.args.name.from _ c.args.recorded.now c.args.ends.now c.name.inside.0.0.0 _ (record { number = ap (λ name. name.from) c.name.view_is; seen = c.ends.view_is }) c.requires.owing c.requires.known c.index_mut.result.now c.index_mut.ensures.value))

@@ -1,0 +1,15 @@
+use Rattle.std.proofs.Common.{◌∙◌, sym, subst}
+use Rattle.rt_runtime_worker.specs.Gates.{LeavesReturning}
+use Rattle.rt_runtime_worker.proofs.Gated.{returned_leaves, returned_linked}
+use Rattle.rt_runtime_worker.proofs.linked.Linked.close_returning.Goals as goal
+
+pub invariant_of-self : goal.invariant_of-self
+invariant_of-self g c = (
+  returned_linked c.self.inside.recorded c.close.new.self c.self.inside.ends c.self.invariant.0 c.close.result c.close.ensures.closes c.close.ensures.ins c.close.ensures.outs c.close.ensures.lanes c.close.ensures.seat c.close.ensures.sound,
+  c.self.invariant.1 ∙ sym c.close.ensures.seat.cores,
+)
+
+pub returns : goal.returns
+returns g c =
+    subst (λ old. LeavesReturning old (record { recorded = c.close.new.self; ends = c.self.inside.ends })) c.self.view_is
+    (returned_leaves c.self.inside.recorded c.close.new.self c.self.inside.ends c.close.result c.close.ensures.closes c.close.ensures.seat)

@@ -1,0 +1,22 @@
+use Rattle.std.proofs.Common.{sym, subst}
+use Rattle.rt_link.specs.Fits.{Fits}
+use Rattle.rt_runtime_worker.specs.Linked.{AreBeside}
+use Rattle.rt_runtime_worker.proofs.Posted.{posted_ends}
+use Rattle.rt_runtime_worker.proofs.InPlace.{turn_owing, turn_polls}
+use Rattle.rt_runtime_worker.proofs.posting.post_turn.Goals as goal
+
+pub turn_posting-requires-clause-outs : goal.turn_posting-requires-clause-outs
+turn_posting-requires-clause-outs g c =
+    (subst (AreBeside (Fits g.J.Task.SameTask g.J.Task.Answers) c.args.recorded.now) (sym c.ends.view_is) c.requires.beside).outs
+
+pub returns-clause-polls : goal.returns-clause-polls
+returns-clause-polls g c =
+    turn_polls c.args.recorded.now c.turn_posting.new.self c.args.ends.now _ c.ends.view_is c.turn_posting.new.ends.items _ _ _ c.turn_posting.result c.turn_posting.ensures.turns c.turn_posting.ensures.few
+
+pub returns-clause-owing : goal.returns-clause-owing
+returns-clause-owing g c =
+    turn_owing c.args.recorded.now c.turn_posting.new.self c.args.ends.now _ c.ends.view_is c.turn_posting.new.ends.items _ _ c.requires.beside c.requires.known c.turn_posting.ensures.owes c.turn_posting.ensures.seat c.turn_posting.ensures.outs
+
+pub returns-clause-ends : goal.returns-clause-ends
+returns-clause-ends g c =
+    posted_ends c.turn_posting.ensures.turns.picked c.turn_posting.ensures.turns.left c.args.ends.now _ c.ends.view_is c.turn_posting.new.ends.items c.turn_posting.ensures.turns.posted

@@ -1,0 +1,51 @@
+-- A core beside its journal, with its actor's ends of the links.
+use Rattle.std.specs.Prelude.{◌≡◌, ◌≢◌, ℕ, ◌+◌, ◌≤◌, Option, None, length}
+use Rattle.rt_ids.specs.declared.names.JobId.{JobId}
+use Rattle.rt_ids.specs.declared.order.Order.{Order}
+use Rattle.rt_ids.specs.declared.order.Outcome.{Outcome}
+use Rattle.rt_ids.specs.declared.note.OutcomeNote.{OutcomeNote}
+use Rattle.rt_jobs.specs.Steps.{Owed}
+use Rattle.rt_journal.specs.Recorded.{RecordedView, IsRecorded, desk_of}
+use Rattle.rt_journal.specs.Ends.{IsInOf, IsInOwing, IsSameSeat}
+use Rattle.rt_journal_desk.specs.Posts.{AreOutsOf}
+use Rattle.rt_ring_mesh.specs.Ends.{EndsView, in_at, SameEnds}
+use Rattle.rt_runtime_worker.specs.Queues.{opening_of}
+
+-- the core and its journal, and the ends
+pub record LinkedView (J T : Type 0) : Type 0 where
+  pub recorded : RecordedView J T
+  pub ends : EndsView J T
+
+module _ {J T : Type 0} (fits : Order J → Outcome J T → Type 0) where
+  -- on these ends the actor sends: one to each core, and each of them is what the journal and the lane of its core say
+  abbrev pub SendsOn : RecordedView J T → EndsView J T → Type 0
+  SendsOn recorded ends = AreOutsOf fits (λ end. end.out) (λ end. end.credited) (desk_of recorded) ends.outs
+
+  -- the actor has an end to each core and an end from each actor, and each of them is what the journal says of it
+  pub record AreBeside (recorded : RecordedView J T) (ends : EndsView J T) : Type 0 where
+    pub number : ends.number ≡ recorded.core.core
+    pub ins_are : length ends.ins ≡ recorded.core.cores + 1
+    pub outs : SendsOn recorded ends
+    pub ins : (sender : ℕ) → sender ≤ recorded.core.cores → IsInOf sender recorded (in_at sender ends).inward
+
+  -- the same, but this outcome, if there is one, is owed to this sender
+  pub record AreOwing (from : ℕ) (owing : Option (JobId × OutcomeNote T)) (recorded : RecordedView J T) (ends : EndsView J T) : Type 0 where
+    pub number : ends.number ≡ recorded.core.core
+    pub ins_are : length ends.ins ≡ recorded.core.cores + 1
+    pub outs : SendsOn recorded ends
+    pub owed : IsInOwing from owing recorded (in_at from ends).inward
+    pub ins : (sender : ℕ) → sender ≤ recorded.core.cores → sender ≢ from → IsInOf sender recorded (in_at sender ends).inward
+
+module _ {J T : Type 0} where
+  -- what no step changes: whose core it is, which links its ends are of, and what was created at its opening
+  pub record StaysLinked (old new : LinkedView J T) : Type 0 where
+    pub seat : IsSameSeat old.recorded new.recorded
+    pub ends : SameEnds old.ends new.ends
+    pub opening : opening_of new.recorded.journal.notes ≡ opening_of old.recorded.journal.notes
+
+module _ {J T : Type 0} (same : J → J → Type 0) (made : J → ℕ) (polls : Owed J T) (fits : Order J → Outcome J T → Type 0) where
+  -- the core is recorded and no job is out, and the ends are beside it
+  pub record IsLinked (view : LinkedView J T) : Type 0 where
+    pub recorded : IsRecorded same made polls view.recorded
+    pub at_rest : view.recorded.core.out ≡ None
+    pub beside : AreBeside fits view.recorded view.ends

@@ -1,0 +1,72 @@
+-- How many notes a worker keeps free, and what it does where few are free.
+use Rattle.std.specs.Prelude.{◌≡◌, ◌≢◌, ◌⊎◌, ℕ, ◌+◌, ◌-◌, ◌*◌, ◌<◌, ◌≤◌, Bool, true, false, Some, [], length, unwrap_or, IsSome}
+use Rattle.rt_ids.specs.declared.note.Note.{Note}
+use Rattle.rt_ids.specs.declared.note.Note.TheVariants.{CoreClosed, Sent, Redeemed, Detached}
+use Rattle.rt_ids.specs.declared.order.Mode.TheVariants.{Return}
+use Rattle.rt_ids.specs.Journal.{Journal, EachNote}
+use Rattle.rt_ids.specs.Closing.{core_mode, final_count}
+use Rattle.rt_ids.specs.Commands.{effect_awaited}
+use Rattle.rt_ids.specs.Lines.{jobs_out}
+use Rattle.rt_journal_notes.specs.Journals.{JournalView, free_notes}
+use Rattle.rt_journal.specs.Recorded.{RecordedView, given_count, sum_upto}
+
+-- a journal with fewer notes free than this is short
+abbrev pub least_free : ℕ → ℕ → ℕ
+least_free cores cap = 8 * ((cores + 1) * (cap + 1))
+
+module _ {T : Type 0} where
+  -- the number of the last order that comes through the gate of a sender, once it is shut
+  abbrev pub last_through : Journal T → ℕ → ℕ
+  last_through notes sender = unwrap_or (final_count sender notes) 0
+
+  -- a job of the core is being polled
+  abbrev pub IsPolling : Journal T → Type 0
+  IsPolling before = jobs_out before ≢ []
+
+  -- The core closes where a command to close it was just answered, or by itself in mode `Return` where the journal is short. It sends, redeems and
+  -- lets go only while one of its jobs is being polled.
+  abbrev pub MayAct : ℕ → ℕ → Note T → Journal T → Type 0
+  MayAct least room (CoreClosed mode) before = IsSome (effect_awaited before) ⊎ ((mode ≡ Return) × (room - length before < least))
+  MayAct least room (Sent name order) before = IsPolling before
+  MayAct least room (Redeemed name outcome) before = IsPolling before
+  MayAct least room (Detached name) before = IsPolling before
+  MayAct least room _ before = Unit {0}
+
+  -- each note of the journal is one that the core may write there
+  abbrev pub ActsAsItMay : ℕ → ℕ → JournalView T → Type 0
+  ActsAsItMay cores cap journal = EachNote (MayAct (least_free cores cap) journal.room) journal.notes
+
+module _ {J T : Type 0} where
+  -- the journal is short
+  abbrev pub IsShort : RecordedView J T → Type 0
+  IsShort view = free_notes view.journal < least_free view.core.cores view.cap
+
+  -- there is room for a step, and behind it for all notes of the end
+  abbrev pub HasSpare : RecordedView J T → Type 0
+  HasSpare view = length view.journal.notes + 4 * ((view.core.cores + 1) * (view.cap + 1)) ≤ view.journal.room
+
+  -- there is room for a poll: three notes for each place of each link, which it may post, and three for its pick and its settling
+  abbrev pub HasPollRoom : RecordedView J T → Type 0
+  HasPollRoom view = length view.journal.notes + view.core.cores * (3 * view.cap) + 3 ≤ view.journal.room
+
+  -- there is room for a turn: a core that hands back takes two notes and polls nothing
+  pub record HasTurnRoom (view : RecordedView J T) : Type 0 where
+    pub back : length view.journal.notes + 2 ≤ view.journal.room
+    pub poll : core_mode view.journal.notes ≢ Some Return → HasPollRoom view
+
+  -- The core hands back what is inside, and each gate is shut. There is room for three notes, and for two more for each order that has no outcome yet.
+  pub record IsEnding (view : RecordedView J T) : Type 0 where
+    pub returning : core_mode view.journal.notes ≡ Some Return
+    pub gates : (sender : ℕ) → sender ≤ view.core.cores → IsSome (final_count sender view.journal.notes)
+    pub room : length view.journal.notes + 3 + 2 * sum_upto (last_through view.journal.notes) view.core.cores
+        ≤ view.journal.room + 2 * sum_upto (given_count view.journal.notes) view.core.cores
+
+  -- a worker has room for its next step, also at its end
+  abbrev pub IsProvided : Bool → RecordedView J T → Type 0
+  IsProvided false view = HasSpare view
+  IsProvided true view = IsEnding view
+
+  -- right before a step: the journal isn't short, or the worker is at its end
+  abbrev pub IsReady : Bool → RecordedView J T → Type 0
+  IsReady false view = least_free view.core.cores view.cap ≤ free_notes view.journal
+  IsReady true view = IsEnding view

@@ -1,0 +1,77 @@
+-- What the steps of a worker do: a gate is shut, an order is delivered, a turn is made, outcomes are collected.
+use Rattle.std.specs.Prelude.{◌≡◌, ℕ, ◌+◌, ◌*◌, ◌-◌, ◌^◌, ◌≤◌, Bool, true, false, length}
+use Rattle.rt_ids.specs.declared.names.JobId.{JobId}
+use Rattle.rt_ids.specs.declared.order.Order.{Order}
+use Rattle.rt_ids.specs.declared.order.Outcome.{Outcome}
+use Rattle.rt_ids.specs.declared.order.Reason.{Reason}
+use Rattle.rt_ids.specs.Picks.{turns}
+use Rattle.rt_ids.specs.Work.{has_work}
+use Rattle.rt_jobs.specs.Steps.{AfterPoll, Owed, OwesAt}
+use Rattle.rt_core.specs.declared.turn.Settled.{Settled}
+use Rattle.rt_link.specs.Calls.{Shuts}
+use Rattle.rt_journal.specs.Recorded.{RecordedView, desk_of}
+use Rattle.rt_journal.specs.Steps.{Delivers, TellsShut}
+use Rattle.rt_journal_desk.specs.Posts.{HasPosted}
+use Rattle.rt_journal_desk.specs.Calls.{Does}
+use Rattle.rt_journal.specs.Whole.{post_of}
+use Rattle.rt_journal_desk.specs.Tickets.{CollectsFrom, GetsAll}
+use Rattle.rt_journal.specs.Turns.{IsPick, IsHandBack, Settles}
+use Rattle.rt_ring_mesh.specs.Ends.{in_at, out_at}
+use Rattle.rt_runtime_worker.specs.Linked.{LinkedView, StaysLinked}
+use Rattle.rt_runtime_worker.specs.declared.turn.Made.{Made}
+use Rattle.rt_runtime_worker.specs.declared.turn.Made.TheVariants.{Polled, Returned, Idle, Spent}
+
+module _ {J T : Type 0} where
+  -- the gate of this sender is shut, and its count is told
+  pub record ShutsGate (sender : ℕ) (old new : LinkedView J T) : Type 0 where
+    pub count : ℕ
+    pub tells : TellsShut old.recorded sender count new.recorded
+    pub shuts : Shuts (in_at sender old.ends).inward (in_at sender new.ends).inward count
+    pub stays : StaysLinked old new
+
+  -- the next order of this sender is delivered, or none shows
+  pub record DeliversFrom (sender : ℕ) (old : LinkedView J T) (found : Bool) (new : LinkedView J T) : Type 0 where
+    pub delivers : Delivers old.recorded (in_at sender old.ends).inward new.recorded (in_at sender new.ends).inward found
+    pub stays : StaysLinked old new
+
+  -- all outcomes that the end to this core shows are collected, at most as many as the link has places
+  pub record CollectsOf (core : ℕ) (old : LinkedView J T) (count : ℕ) (new : LinkedView J T) : Type 0 where
+    pub collects : CollectsFrom core (desk_of old.recorded) count (desk_of new.recorded)
+    pub all : GetsAll (out_at core old.ends).out (out_at core new.ends).out
+    pub few : count ≤ old.recorded.cap
+    pub rest : new.recorded ≡ record old.recorded { journal = new.recorded.journal; lanes = new.recorded.lanes }
+    pub stays : StaysLinked old new
+
+module _ {J T : Type 0} (same : J → J → Type 0) where
+  -- the first job of the right pick is handed back
+  pub record HandsBack (old new : RecordedView J T) : Type 0 where
+    pub name : JobId
+    pub reason : Reason
+    pub order : Order J
+    pub did : IsHandBack same old name reason order new
+
+module _ {J T : Type 0} (made : J → ℕ) (polls : Owed J T) (answers : J → T → Type 0) (fits : Order J → Outcome J T → Type 0) (tells : ℕ → Type 0) where
+  -- the first job of the right pick is polled once, its post is this actor's desk over its own ends, and its poll is settled, with a time that may be told
+  pub record PollsOne (old new : LinkedView J T) : Type 0 where
+    pub name : JobId
+    pub queue : ℕ
+    pub was_started : Bool
+    pub picked : RecordedView J T
+    pub left : RecordedView J T
+    pub ran : AfterPoll J T
+    pub spent : ℕ
+    pub settled : Settled T
+    pub picks : IsPick old.recorded name queue was_started ran.before picked
+    pub owed : OwesAt polls (Does fits (λ end. end.out) (λ end. end.credited) (λ end. end.link)) ran.before (made ran.before) (post_of picked old.ends.outs) (post_of left new.ends.outs) ran.step ran.told
+    pub posted : HasPosted (λ end. end.out) (λ end. end.link) (post_of picked old.ends.outs) (post_of left new.ends.outs)
+    pub told : tells spent
+    pub settles : Settles made polls answers left ran spent settled new.recorded
+    pub few : length new.recorded.journal.notes ≤ length old.recorded.journal.notes + old.recorded.core.cores * (3 * old.recorded.cap) + 3
+
+module _ {J T : Type 0} (same : J → J → Type 0) (made : J → ℕ) (polls : Owed J T) (answers : J → T → Type 0) (fits : Order J → Outcome J T → Type 0) (tells : ℕ → Type 0) where
+  -- what a turn came to: a poll, a job that is handed back, no work, or no turn that is left
+  abbrev pub MakesTurn : LinkedView J T → Made → LinkedView J T → Type 0
+  MakesTurn old Polled new = PollsOne made polls answers fits tells old new
+  MakesTurn old Returned new = HandsBack same old.recorded new.recorded
+  MakesTurn old Idle new = ((queue : ℕ) → has_work queue old.recorded.journal.notes ≡ false) × (new.recorded ≡ old.recorded)
+  MakesTurn old Spent new = (turns old.recorded.journal.notes ≡ 2 ^ 64 - 1) × ((queue : ℕ) × (has_work queue old.recorded.journal.notes ≡ true)) × (new.recorded ≡ old.recorded)

@@ -1,0 +1,61 @@
+-- All workers that have ended and the outside actor, together in one house.
+use Rattle.std.specs.Prelude.{◌≡◌, ℕ, ◌<◌, List, [], ◌∷◌, ◌++◌, length, map, slice_index_or}
+use Rattle.rt_ids.specs.declared.order.Order.{Order}
+use Rattle.rt_ids.specs.declared.order.Outcome.{Outcome}
+use Rattle.rt_ids.specs.Assembly.{Assembly, journal_of}
+use Rattle.rt_ids.specs.Closing.{IsDrained}
+use Rattle.rt_ids.specs.Joining.{AreJoined}
+use Rattle.rt_jobs.specs.Steps.{Owed}
+use Rattle.rt_journal_desk.specs.Submissions.{DeskView, IsWritten, terms_of_desk}
+use Rattle.rt_journal.specs.Recorded.{desk_of, terms_at}
+use Rattle.rt_journal_desk.specs.Ends.{IsOutOf}
+use Rattle.rt_journal.specs.Steps.{opened_beside}
+use Rattle.rt_journal.specs.Together.{IsAssemblyOf}
+use Rattle.rt_ring_mesh.specs.Ends.{EndsView, out_at}
+use Rattle.rt_ring_mesh.specs.Grid.{AreReunited, no_ends}
+use Rattle.rt_runtime_worker.specs.Linked.{LinkedView}
+use Rattle.rt_runtime_worker.specs.Ended.{HasEnded}
+
+-- the outside actor: its journal and its ends
+pub record OutsideView (J T : Type 0) : Type 0 where
+  pub desk : DeskView J T
+  pub ends : EndsView J T
+
+module _ {J T : Type 0} where
+  abbrev pub no_linked : LinkedView J T
+  no_linked = record { recorded = opened_beside 0 0 0 0; ends = no_ends }
+
+  -- the worker of a core
+  abbrev pub worker_at : ℕ → List (LinkedView J T) → LinkedView J T
+  worker_at core workers = slice_index_or workers core no_linked
+
+  -- what an actor says of its submissions: the last one is the outside actor
+  abbrev pub desk_among : List (LinkedView J T) → OutsideView J T → ℕ → DeskView J T
+  desk_among workers outside actor = slice_index_or (map (λ worker. desk_of worker.recorded) workers ++ outside.desk ∷ []) actor outside.desk
+
+  -- the ends of all actors
+  abbrev pub all_ends : List (LinkedView J T) → OutsideView J T → List (EndsView J T)
+  all_ends workers outside = map (λ worker. worker.ends) workers ++ outside.ends ∷ []
+
+  -- the outside actor's journal is written by the rules, and it sends on an end to each core
+  pub record IsOutside (view : OutsideView J T) : Type 0 where
+    pub outs_are : length view.ends.outs ≡ view.desk.cores
+    pub written : IsWritten (terms_of_desk view.desk) view.desk.journal.notes
+    pub outs : (core : ℕ) → core < view.desk.cores → IsOutOf core view.desk (out_at core view.ends).out (out_at core view.ends).credited
+
+module _ {J T : Type 0} (same : J → J → Type 0) (made : J → ℕ) (polls : Owed J T) (fits : Order J → Outcome J T → Type 0) where
+  -- each worker of the house has ended, the outside actor is there, and the links are reunited
+  pub record HaveEnded (cores cap : ℕ) (workers : List (LinkedView J T)) (outside : OutsideView J T) : Type 0 where
+    pub count : length workers ≡ cores
+    pub seats : (core : ℕ) → core < cores → terms_at (worker_at core workers).recorded ≡ record { actor = core; cores = cores; cap = cap }
+    pub ended : (core : ℕ) → core < cores → HasEnded same made polls fits (worker_at core workers)
+    pub outside_terms : terms_of_desk outside.desk ≡ record { actor = cores; cores = cores; cap = cap }
+    pub outside_is : IsOutside outside
+    pub reunited : AreReunited fits cores (all_ends workers outside)
+
+  -- their journals are joined, so they are sound; each core is drained
+  abbrev pub EndedAreJoined : Type 0
+  EndedAreJoined =
+      (cores cap : ℕ) (workers : List (LinkedView J T)) (outside : OutsideView J T) (assembly : Assembly T) →
+      HaveEnded cores cap workers outside → IsAssemblyOf cores cap (desk_among workers outside) assembly →
+      AreJoined assembly × ((core : ℕ) → core < cores → IsDrained cores (journal_of core assembly))

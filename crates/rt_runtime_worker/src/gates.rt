@@ -1,0 +1,74 @@
+//! How a core closes by itself, and how all its gates are shut.
+
+ghost use Rattle.std.specs.Prelude.{◌≡◌, ◌+◌, ◌<◌, ◌≤◌, IsSome, length};
+ghost use Rattle.rt_ids.specs.Closing.{core_mode};
+ghost use Rattle.rt_link.specs.Fits.{Fits};
+ghost use Rattle.rt_runtime_worker.specs.Linked.{IsLinked, StaysLinked};
+ghost use Rattle.rt_runtime_worker.specs.Gates.{LeavesShut, LeavesReturning, ShutsFirst};
+ghost use Rattle.rt_runtime_worker.specs.Rooms.{ActsAsItMay, HasSpare, IsEnding, IsShort};
+
+use crate::lent::look_at;
+use crate::linked::Linked;
+use rt_ids::{ActorNo, Mode};
+use rt_jobs::Task;
+
+impl<J: Task<Out = u64>> Linked<J> {
+    /// Shuts the gate of this sender in a closed core, if it is open. Whether it was.
+    fn shut_if_open(&mut self, sender: ActorNo) -> bool
+        requires known { sender ≤ self.old.recorded.core.cores }
+        requires closed { IsSome (core_mode self.old.recorded.journal.notes) }
+        requires room { length self.old.recorded.journal.notes < self.old.recorded.journal.room }
+        ensures leaves { LeavesShut sender self.old self.new }
+        ensures linked { IsLinked J.SameTask J.made J.Polls (Fits J.SameTask J.Answers) self.new }
+    {
+        let shut = self.is_shut(sender);
+        if !shut {
+            self.shut_one(sender);
+        }
+        // The end tells how many orders may be without an outcome.
+        look_at(&self.ends, sender);
+        !shut
+    }
+
+    /// Shuts each gate that is open, in a closed core. Whether there was one.
+    pub(crate) fn shut_gates(&mut self) -> bool
+        requires closed { IsSome (core_mode self.old.recorded.journal.notes) }
+        requires room { length self.old.recorded.journal.notes + self.old.recorded.core.cores + 1 ≤ self.old.recorded.journal.room }
+        ensures shuts { ShutsFirst (self.old.recorded.core.cores + 1) self.old self.new }
+        ensures linked { IsLinked J.SameTask J.made J.Polls (Fits J.SameTask J.Answers) self.new }
+    {
+        let mut some = false;
+        for sender in 0..self.cores as usize + 1 {
+            if self.shut_if_open(ActorNo(sender as u8)) {
+                some = true;
+            }
+        }
+        some
+    }
+
+    /// Closes the core in mode `Return`.
+    fn close_returning(&mut self)
+        requires { length self.old.recorded.journal.notes < self.old.recorded.journal.room }
+        ensures { LeavesReturning self.old self.new }
+    {
+        self.recorded.close(Mode::Return);
+    }
+
+    /// Closes the core in mode `Return` and shuts each gate, where the journal is short.
+    ///
+    /// Once in a worker's life: it stands apart, so that the look at the room before each step stays short.
+    #[cold]
+    pub(crate) fn end(&mut self)
+        requires spare { HasSpare self.old.recorded }
+        requires short { IsShort self.old.recorded }
+        requires acts { ActsAsItMay self.old.recorded.core.cores self.old.recorded.cap self.old.recorded.journal }
+        ensures ending { IsEnding self.new.recorded }
+        ensures acts { ActsAsItMay self.new.recorded.core.cores self.new.recorded.cap self.new.recorded.journal }
+        ensures stays { StaysLinked self.old self.new }
+        ensures linked { IsLinked J.SameTask J.made J.Polls (Fits J.SameTask J.Answers) self.new }
+    {
+        let _cores = self.cores;
+        self.close_returning();
+        self.shut_gates();
+    }
+}

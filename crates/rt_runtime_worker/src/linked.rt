@@ -1,0 +1,136 @@
+//! A core beside its journal, with its actor's ends of the links.
+
+ghost use Rattle.std.specs.Prelude.{◌≡◌, ◌+◌, ◌<◌, ◌≤◌, ◌↔◌, IsSome, IsTrue, None, length, is_some};
+ghost use Rattle.rt_ids.specs.Closing.{IsDrained, core_mode, final_count};
+ghost use Rattle.rt_link.specs.Fits.{Fits};
+ghost use Rattle.rt_runtime_worker.specs.Linked.{IsLinked};
+ghost use Rattle.rt_runtime_worker.specs.Rooms.{IsShort};
+ghost use Rattle.rt_runtime_worker.specs.Steps.{ShutsGate, DeliversFrom, CollectsOf};
+
+use crate::lent::{collect_on, deliver_on, shut_on};
+use rt_ids::{ActorNo, CoreNo};
+use rt_jobs::Task;
+use rt_journal::Recorded;
+use rt_ring_mesh::Ends;
+use std::marker::Model;
+
+/// A core, its journal, and its actor's ends of the links. No job of it is out.
+#[derive(Drop)]
+pub struct Linked<J: Task<Out = u64>> {
+    pub(crate) cores: u8,
+    pub(crate) recorded: Recorded<J>,
+    pub(crate) ends: Ends<J>,
+}
+
+impl<J: Task<Out = u64>> Model for Linked<J> {
+    ghost use Rattle.std.specs.Prelude.{ℕ};
+    ghost use Rattle.rt_runtime_worker.specs.Linked.{LinkedView};
+
+    ghost Value = { LinkedView J ℕ };
+
+    ghost use Rattle.std.specs.Prelude.{◌≡◌};
+    ghost use Rattle.rt_link.specs.Fits.{Fits};
+    ghost use Rattle.rt_runtime_worker.specs.Linked.{IsLinked};
+
+    ghost view = { λ l. record { recorded = l.recorded; ends = l.ends } };
+
+    ghost invariant = { λ l. IsLinked J.SameTask J.made J.Polls (Fits J.SameTask J.Answers) (record { recorded = l.recorded; ends = l.ends }) × (l.cores ≡ l.recorded.core.cores) };
+}
+
+impl<J: Task<Out = u64>> Linked<J> {
+    /// A core beside its ends. There are so many cores in its house.
+    pub fn of(cores: u8, recorded: Recorded<J>, ends: Ends<J>) -> Self
+        requires linked { IsLinked J.SameTask J.made J.Polls (Fits J.SameTask J.Answers) (record { recorded = recorded; ends = ends }) }
+        requires cores { cores ≡ recorded.core.cores }
+        ensures { result ≡ record { recorded = recorded; ends = ends } }
+    {
+        Linked {
+            cores,
+            recorded,
+            ends,
+        }
+    }
+
+    /// The core beside its journal, and the ends.
+    pub fn into_parts(self) -> (Recorded<J>, Ends<J>)
+        ensures recorded { result.0 ≡ self.recorded }
+        ensures ends { result.1 ≡ self.ends }
+        ensures linked { IsLinked J.SameTask J.made J.Polls (Fits J.SameTask J.Answers) self }
+    {
+        let Linked { recorded, ends, .. } = self;
+        (recorded, ends)
+    }
+
+    /// Writes to the memory of all notes that there may be. Nothing is noted.
+    pub(crate) fn prefault(&mut self)
+        ensures { self.new ≡ self.old }
+    {
+        self.recorded.prefault();
+    }
+
+    /// Whether the core is closed, in either mode.
+    pub fn is_closed(&self) -> bool
+        ensures { result ≡ is_some (core_mode self.now.recorded.journal.notes) }
+    {
+        self.recorded.is_closed()
+    }
+
+    /// Whether the gate of this sender is shut.
+    pub fn is_shut(&self, sender: ActorNo) -> bool
+        requires { sender ≤ self.now.recorded.core.cores }
+        ensures { result ≡ is_some (final_count sender self.now.recorded.journal.notes) }
+    {
+        self.recorded.gate(sender).is_some()
+    }
+
+    /// Whether every gate is shut, all behind it was delivered, and no queue has work.
+    pub fn is_drained(&self) -> bool
+        ensures { IsTrue result ↔ IsDrained self.now.recorded.core.cores self.now.recorded.journal.notes }
+    {
+        self.recorded.is_drained()
+    }
+
+    /// Whether a link shows an order or an outcome that wasn't seen yet: one load for each link. No clause says that the answer is right.
+    pub(crate) fn shows(&self) -> bool {
+        self.ends.ins.iter().any(|end| end.shows()) || self.ends.outs.iter().any(|end| end.shows())
+    }
+
+    /// Whether fewer notes are free than a worker keeps for its end.
+    pub fn is_short(&self) -> bool
+        ensures { IsTrue result ↔ IsShort self.now.recorded }
+    {
+        let places = (self.cores as usize + 1) * (self.recorded.cap() as usize + 1);
+        (self.recorded.journal().free() as usize) < 8 * places
+    }
+
+    /// Shuts the gate of this sender in a closed core.
+    pub fn shut_one(&mut self, sender: ActorNo)
+        requires known { sender ≤ self.old.recorded.core.cores }
+        requires closed { IsSome (core_mode self.old.recorded.journal.notes) }
+        requires untold { final_count sender self.old.recorded.journal.notes ≡ None }
+        requires room { length self.old.recorded.journal.notes < self.old.recorded.journal.room }
+        ensures { ShutsGate sender self.old self.new }
+    {
+        shut_on(&mut self.recorded, &mut self.ends, sender);
+    }
+
+    /// Delivers the next order of this sender, if one shows. Whether there was one.
+    pub fn deliver_from(&mut self, sender: ActorNo) -> bool
+        requires known { sender ≤ self.old.recorded.core.cores }
+        requires room { length self.old.recorded.journal.notes + 2 ≤ self.old.recorded.journal.room }
+        ensures delivers { DeliversFrom sender self.old result self.new }
+        ensures linked { IsLinked J.SameTask J.made J.Polls (Fits J.SameTask J.Answers) self.new }
+    {
+        deliver_on(&mut self.recorded, &mut self.ends, sender)
+    }
+
+    /// Collects all outcomes that the link to this core shows. How many there were.
+    pub fn collect_from(&mut self, core: CoreNo) -> usize
+        requires known { core < self.old.recorded.core.cores }
+        requires room { length self.old.recorded.journal.notes + self.old.recorded.cap ≤ self.old.recorded.journal.room }
+        ensures collects { CollectsOf core self.old result self.new }
+        ensures linked { IsLinked J.SameTask J.made J.Polls (Fits J.SameTask J.Answers) self.new }
+    {
+        collect_on(&mut self.recorded, &mut self.ends, core)
+    }
+}

@@ -1,0 +1,125 @@
+//! How a worker is opened over the ends of its actor.
+
+ghost use Rattle.std.specs.Prelude.{◌≡◌, ◌+◌, ◌<◌, ◌≤◌, ◌∷◌, IfOk, OnOk, length};
+ghost use Rattle.rt_ids.specs.declared.note.Note.TheVariants.{Created};
+ghost use Rattle.rt_ids.specs.Commands.{IsOpening, created_count};
+ghost use Rattle.rt_runtime_config.specs.Configs.{least_room, queues_of};
+ghost use Rattle.rt_journal.specs.Recorded.{IsRecorded};
+ghost use Rattle.rt_journal.specs.Steps.{opened_beside};
+ghost use Rattle.rt_runtime_worker.specs.Opening.{AreEndsOf, CreatesSince, IsOpenedOver};
+ghost use Rattle.rt_runtime_worker.specs.Queues.{behind_entries, creations};
+
+use crate::bell::Bell;
+use crate::linked::Linked;
+use crate::served::Served;
+use crate::worker::Worker;
+use rt_ids::CoreNo;
+use rt_jobs::Task;
+use rt_journal::Recorded;
+use rt_ring_mesh::Ends;
+use rt_runtime_config::Config;
+use rt_shares::Shares;
+use std::alloc::{AllocError, Global};
+
+/// Makes the next queue, before anything else is done.
+fn create_one<J: Task<Out = u64>>(
+    recorded: &mut Recorded<J>,
+    shares: Shares,
+) -> Result<(), AllocError>
+    requires opening { IsOpening recorded.old.journal.notes }
+    requires room { length recorded.old.journal.notes < recorded.old.journal.room }
+    ensures since { OnOk result (CreatesSince J.SameTask J.made J.Polls 1 recorded.old recorded.new) }
+    ensures noted { OnOk result (recorded.new.journal.notes ≡ Created (created_count recorded.old.journal.notes + 1) shares ∷ recorded.old.journal.notes) }
+{
+    match recorded.create(shares) {
+        Ok(_) => Ok(()),
+        Err(_) => Err(AllocError),
+    }
+}
+
+/// Makes the queues that are named for this core, in their order.
+fn create_all<J: Task<Out = u64>>(
+    recorded: &mut Recorded<J>,
+    core: u8,
+    queues: &[(CoreNo, Shares)],
+) -> Result<(), AllocError>
+    requires opening { IsOpening recorded.old.journal.notes }
+    requires sound { IsRecorded J.SameTask J.made J.Polls recorded.old }
+    requires room { length recorded.old.journal.notes + queues_of core queues.now ≤ recorded.old.journal.room }
+    ensures since { OnOk result (CreatesSince J.SameTask J.made J.Polls (queues_of core queues.now) recorded.old recorded.new) }
+    ensures noted { OnOk result (recorded.new.journal.notes ≡ behind_entries core queues.now recorded.old.journal.notes) }
+{
+    for index in 0..queues.len() {
+        let (of, shares) = queues[index];
+        if of.0 == core {
+            create_one(recorded, shares)?;
+        }
+    }
+    Ok(())
+}
+
+/// Opens a core with its queues.
+fn open_core<J: Task<Out = u64>>(
+    alloc: Global,
+    core: u8,
+    cores: u8,
+    cap: u16,
+    room: u32,
+    queues: &[(CoreNo, Shares)],
+) -> Result<Recorded<J>, AllocError>
+    requires known { core < cores }
+    requires room { queues_of core queues.now ≤ room }
+    ensures since { IfOk result (λ recorded. CreatesSince J.SameTask J.made J.Polls (queues_of core queues.now) (opened_beside core cores cap room) recorded) }
+    ensures noted { IfOk result (λ recorded. recorded.journal.notes ≡ creations core queues.now) }
+{
+    let mut recorded = Recorded::open(alloc, alloc, CoreNo(core), cores, cap, room)?;
+    create_all(&mut recorded, core, queues)?;
+    Ok(recorded)
+}
+
+/// A core that was just opened, over its ends.
+fn serve_core<J: Task<Out = u64>>(
+    alloc: Global,
+    config: &Config,
+    ends: Ends<J>,
+) -> Result<Served<J>, AllocError>
+    requires ends { AreEndsOf config.now.cores config.now.cap ends }
+    requires room { least_room config.now.cores config.now.cap + queues_of ends.number config.now.queues.items ≤ config.now.room }
+    ensures over { IfOk result (λ served. IsOpenedOver config.now.cores config.now.cap config.now.room ends served.linked) }
+    ensures queues { IfOk result (λ served. served.linked.recorded.journal.notes ≡ creations ends.number config.now.queues.items) }
+{
+    let number = ends.number;
+    let recorded = open_core(
+        alloc,
+        number.0,
+        config.cores,
+        config.cap,
+        config.room,
+        &config.queues,
+    )?;
+    Ok(Served::of(Linked::of(config.cores, recorded, ends)))
+}
+
+impl<J: Task<Out = u64>, C: Drop, G: Drop> Worker<J, C, G> {
+    /// Opens the worker of the core that has these ends, with the queues that the configuration names for it.
+    ///
+    /// # Errors
+    ///
+    /// If there is no memory.
+    pub fn open(
+        alloc: Global,
+        config: &Config,
+        ends: Ends<J>,
+        clock: C,
+        gate: G,
+        bell: Bell,
+    ) -> Result<Self, AllocError>
+        requires ends { AreEndsOf config.now.cores config.now.cap ends }
+        requires room { least_room config.now.cores config.now.cap + queues_of ends.number config.now.queues.items ≤ config.now.room }
+        ensures over { IfOk result (λ worker. IsOpenedOver config.now.cores config.now.cap config.now.room ends worker) }
+        ensures queues { IfOk result (λ worker. worker.recorded.journal.notes ≡ creations ends.number config.now.queues.items) }
+    {
+        let served = serve_core(alloc, config, ends)?;
+        Ok(Worker::of(alloc, served, clock, gate, bell))
+    }
+}

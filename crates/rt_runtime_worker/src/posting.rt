@@ -1,0 +1,85 @@
+//! The turn of the job that is told ahead, with the job in its place. It may submit, redeem and detach on the ends of its core.
+
+ghost use Rattle.std.specs.Prelude.{◌≡◌, ◌≤◌, None};
+ghost use Rattle.std.specs.Option.{option_map};
+ghost use Rattle.rt_ids.specs.Outcomes.{outcome_note};
+ghost use Rattle.rt_core.specs.Whole.{IsAhead};
+ghost use Rattle.rt_link.specs.Fits.{Fits};
+ghost use Rattle.rt_journal.specs.Recorded.{IsRecorded};
+ghost use Rattle.rt_journal.specs.Ends.{told_under, IsSameSeat};
+ghost use Rattle.rt_journal.specs.Owed.{outcome_settled};
+ghost use Rattle.rt_journal.specs.Whole.{MayAnswer};
+ghost use Rattle.rt_ring_mesh.specs.Ends.{SameEnds};
+ghost use Rattle.rt_runtime_worker.specs.Linked.{AreBeside, AreOwing, IsLinked, StaysLinked};
+ghost use Rattle.rt_runtime_worker.specs.Rooms.{HasPollRoom};
+ghost use Rattle.rt_runtime_worker.specs.Steps.{PollsOne};
+
+use rt_core::{Next, Settled};
+use rt_ids::JobId;
+use rt_jobs::{Job, Task};
+use rt_journal::Recorded;
+use rt_ring_mesh::Ends;
+use rt_taskqueue::Meter;
+use std::alloc::Global;
+
+// Makes the turn. What it owes to the job's sender isn't given yet.
+fn post_turn<J: Job + Task<Out = u64>, M: Meter>(
+    alloc: Global,
+    recorded: &mut Recorded<J>,
+    ends: &mut Ends<J>,
+    next: &Next,
+    meter: &mut M,
+) -> Settled<u64>
+    requires ahead { IsAhead recorded.old.core next.now.queue next.now.vr next.now.name next.now.started }
+    requires known { next.now.name.from ≤ recorded.old.core.cores }
+    requires beside { AreBeside (Fits J.SameTask J.Answers) recorded.old ends.old }
+    requires room { HasPollRoom recorded.old }
+    ensures polls { PollsOne J.made J.Polls J.Answers (Fits J.SameTask J.Answers) (M.Tells meter.old) (record { recorded = recorded.old; ends = ends.old }) (record { recorded = recorded.new; ends = ends.new }) }
+    ensures owing { AreOwing (Fits J.SameTask J.Answers) next.now.name.from (told_under next.now.name (option_map outcome_note (outcome_settled {J = J} result)) next.now.name.from) recorded.new ends.new }
+    ensures may_answer { MayAnswer J.Answers recorded.new.took next.now.name result }
+    ensures rest { recorded.new.core.out ≡ None }
+    ensures seat { IsSameSeat recorded.old recorded.new }
+    ensures ends { SameEnds ends.old ends.new }
+    ensures sound { IsRecorded J.SameTask J.made J.Polls recorded.new }
+{
+    recorded.turn_posting(alloc, &mut ends.outs, next, meter)
+}
+
+// Gives the outcome of a turn on the end of the job's sender, if the job is done.
+fn done_on<J: Job + Task<Out = u64>>(
+    recorded: &Recorded<J>,
+    ends: &mut Ends<J>,
+    name: JobId,
+    settled: &Settled<u64>,
+)
+    requires known { name.from ≤ recorded.now.core.cores }
+    requires rest { recorded.now.core.out ≡ None }
+    requires sound { IsRecorded J.SameTask J.made J.Polls recorded.now }
+    requires may_answer { MayAnswer J.Answers recorded.now.took name settled.now }
+    requires owing { AreOwing (Fits J.SameTask J.Answers) name.from (told_under name (option_map outcome_note (outcome_settled {J = J} settled.now)) name.from) recorded.now ends.old }
+    ensures linked { IsLinked J.SameTask J.made J.Polls (Fits J.SameTask J.Answers) (record { recorded = recorded.now; ends = ends.new }) }
+    ensures outs { ends.new.outs ≡ ends.old.outs }
+    ensures ends { SameEnds ends.old ends.new }
+{
+    recorded.give_done(&mut ends.ins[name.from.0 as usize], name, settled);
+}
+
+// Makes the turn of the job that was told ahead.
+pub(crate) fn turn_on<J: Job + Task<Out = u64>, M: Meter>(
+    alloc: Global,
+    recorded: &mut Recorded<J>,
+    ends: &mut Ends<J>,
+    next: &Next,
+    meter: &mut M,
+)
+    requires ahead { IsAhead recorded.old.core next.now.queue next.now.vr next.now.name next.now.started }
+    requires known { next.now.name.from ≤ recorded.old.core.cores }
+    requires beside { AreBeside (Fits J.SameTask J.Answers) recorded.old ends.old }
+    requires room { HasPollRoom recorded.old }
+    ensures polls { PollsOne J.made J.Polls J.Answers (Fits J.SameTask J.Answers) (M.Tells meter.old) (record { recorded = recorded.old; ends = ends.old }) (record { recorded = recorded.new; ends = ends.new }) }
+    ensures linked { IsLinked J.SameTask J.made J.Polls (Fits J.SameTask J.Answers) (record { recorded = recorded.new; ends = ends.new }) }
+    ensures stays { StaysLinked (record { recorded = recorded.old; ends = ends.old }) (record { recorded = recorded.new; ends = ends.new }) }
+{
+    let settled = post_turn(alloc, recorded, ends, next, meter);
+    done_on(recorded, ends, next.name, &settled);
+}

@@ -1,0 +1,194 @@
+//! A linked core that keeps room for its end: each of its steps is one of a worker's round.
+
+ghost use Rattle.std.specs.Prelude.{◌≡◌, ◌<◌, ◌≤◌, ◌↔◌, IsTrue, false};
+ghost use Rattle.rt_ids.specs.Closing.{IsDrained};
+ghost use Rattle.rt_link.specs.Fits.{Fits};
+ghost use Rattle.rt_runtime_worker.specs.Ended.{HasEnded};
+ghost use Rattle.rt_runtime_worker.specs.Linked.{StaysLinked};
+ghost use Rattle.rt_runtime_worker.specs.Rooms.{ActsAsItMay, HasSpare, IsReady};
+
+use crate::ended::Ended;
+use crate::linked::Linked;
+use crate::turn::Made;
+use rt_ids::{ActorNo, CoreNo};
+use rt_jobs::{Job, Task};
+use rt_journal_notes::Journal;
+use rt_runtime_config::Gate;
+use rt_taskqueue::Meter;
+use std::alloc::Global;
+use std::marker::Model;
+
+/// A linked core, and whether its worker is at its end: then each gate is shut, and nothing is polled any more.
+#[derive(Drop)]
+pub struct Served<J: Task<Out = u64>> {
+    linked: Linked<J>,
+    ending: bool,
+}
+
+impl<J: Task<Out = u64>> Model for Served<J> {
+    ghost use Rattle.std.specs.Prelude.{ℕ};
+    ghost use Rattle.rt_runtime_worker.specs.Ended.{ServedView};
+
+    ghost Value = { ServedView J ℕ };
+
+    ghost use Rattle.rt_link.specs.Fits.{Fits};
+    ghost use Rattle.rt_runtime_worker.specs.Ended.{IsServed};
+
+    ghost view = { λ s. record { linked = s.linked; ending = s.ending } };
+
+    ghost invariant = { λ s. IsServed J.SameTask J.made J.Polls (Fits J.SameTask J.Answers) (record { linked = s.linked; ending = s.ending }) };
+}
+
+impl<J: Task<Out = u64>> Served<J> {
+    /// A linked core that has room for its end, and no more.
+    pub fn of(linked: Linked<J>) -> Self
+        requires spare { HasSpare linked.recorded }
+        requires acts { ActsAsItMay linked.recorded.core.cores linked.recorded.cap linked.recorded.journal }
+        ensures { result ≡ record { linked = linked; ending = false } }
+    {
+        let _recorded = &linked.recorded;
+        Served {
+            linked,
+            ending: false,
+        }
+    }
+
+    /// Whether every gate is shut, all behind it was delivered, and no queue has work.
+    pub(crate) fn is_drained(&self) -> bool
+        ensures { IsTrue result ↔ IsDrained self.now.linked.recorded.core.cores self.now.linked.recorded.journal.notes }
+    {
+        self.linked.is_drained()
+    }
+
+    /// Writes to the memory of all notes that there may be. Nothing is noted.
+    pub(crate) fn prefault(&mut self)
+        ensures { self.new ≡ self.old }
+    {
+        self.linked.prefault();
+    }
+
+    /// What a drained core leaves.
+    pub(crate) fn into_ended(self) -> Ended<J>
+        requires { IsDrained self.linked.recorded.core.cores self.linked.recorded.journal.notes }
+        ensures { result ≡ self.linked }
+    {
+        let Served { linked, .. } = self;
+        Ended::of(linked)
+    }
+
+    /// Looks at the room before a step: a journal that is short is at its end.
+    fn look(&mut self)
+        ensures stays { StaysLinked self.old.linked self.new.linked }
+        ensures ready { IsReady self.new.ending self.new.linked.recorded }
+    {
+        if !self.ending && self.linked.is_short() {
+            self.linked.end();
+            self.ending = true;
+        }
+    }
+
+    /// Delivers the next order of this sender, if one shows. Whether there was one.
+    fn deliver_one(&mut self, sender: ActorNo) -> bool
+        requires { sender ≤ self.old.linked.recorded.core.cores }
+        ensures { StaysLinked self.old.linked self.new.linked }
+    {
+        self.look();
+        self.linked.deliver_from(sender)
+    }
+
+    /// Delivers at most as many orders of this sender as its link holds. Whether there was one.
+    fn deliver_some(&mut self, sender: ActorNo) -> bool
+        requires { sender ≤ self.old.linked.recorded.core.cores }
+        ensures { StaysLinked self.old.linked self.new.linked }
+    {
+        for count in 0..self.linked.recorded.cap() {
+            if !self.deliver_one(sender) {
+                return count > 0;
+            }
+        }
+        true
+    }
+
+    /// Delivers what shows of each sender. Whether there was anything.
+    pub(crate) fn deliver_all(&mut self) -> bool
+        ensures { StaysLinked self.old.linked self.new.linked }
+    {
+        let mut some = false;
+        for sender in 0..self.linked.cores as usize + 1 {
+            if self.deliver_some(ActorNo(sender as u8)) {
+                some = true;
+            }
+        }
+        some
+    }
+
+    /// Collects what the link to this core shows. Whether there was anything. A worker at its end leaves it.
+    fn collect_one(&mut self, core: CoreNo) -> bool
+        requires { core < self.old.linked.recorded.core.cores }
+        ensures { StaysLinked self.old.linked self.new.linked }
+    {
+        self.look();
+        if self.ending {
+            return false;
+        }
+        self.linked.collect_from(core) > 0
+    }
+
+    /// Collects what the links to all cores show. Whether there was anything.
+    pub(crate) fn collect_all(&mut self) -> bool
+        ensures { StaysLinked self.old.linked self.new.linked }
+    {
+        let mut some = false;
+        for core in 0..self.linked.cores {
+            if self.collect_one(CoreNo(core)) {
+                some = true;
+            }
+        }
+        some
+    }
+
+    /// Whether a link shows what wasn't seen yet. No clause says that the answer is right.
+    pub(crate) fn shows(&self) -> bool {
+        self.linked.shows()
+    }
+
+    /// The notes of this worker.
+    pub(crate) fn journal(&self) -> &Journal<u64>
+        ensures { result.now ≡ self.now.linked.recorded.journal }
+    {
+        self.linked.recorded.journal()
+    }
+
+    /// Shuts the open gates of a core that was closed. Whether there was one.
+    pub(crate) fn close_gates(&mut self) -> bool
+        ensures { StaysLinked self.old.linked self.new.linked }
+    {
+        self.look();
+        // At its end each gate is shut already.
+        if self.ending {
+            return false;
+        }
+        if !self.linked.is_closed() {
+            return false;
+        }
+        self.linked.shut_gates()
+    }
+}
+
+impl<J: Job + Task<Out = u64>> Served<J> {
+    /// Makes one turn. Whether there was work.
+    pub(crate) fn take_turn<M: Meter, G: Gate>(
+        &mut self,
+        alloc: Global,
+        meter: &mut M,
+        gate: &mut G,
+    ) -> bool
+        ensures { StaysLinked self.old.linked self.new.linked }
+    {
+        self.look();
+        match self.linked.turn(alloc, meter, gate) {
+            Made::Polled | Made::Returned => true,
+            Made::Idle | Made::Spent => false,
+        }
+    }
+}

@@ -1,0 +1,62 @@
+//! One turn of a core: a poll of its next job, or a job that is handed back.
+
+ghost use Rattle.rt_link.specs.Fits.{Fits};
+ghost use Rattle.rt_runtime_worker.specs.Linked.{IsLinked, StaysLinked};
+ghost use Rattle.rt_runtime_worker.specs.Rooms.{HasTurnRoom};
+ghost use Rattle.rt_runtime_worker.specs.Steps.{MakesTurn};
+
+use crate::handing::hand_back;
+use crate::linked::Linked;
+use crate::posting::turn_on;
+use rt_core::{Ahead, PickError};
+use rt_ids::JobId;
+use rt_jobs::{Job, Task};
+use rt_runtime_config::Gate;
+use rt_taskqueue::Meter;
+use std::alloc::Global;
+
+/// What a turn came to.
+#[derive(Clone, Copy)]
+pub enum Made {
+    /// A job was polled.
+    Polled,
+    /// A job was handed back.
+    Returned,
+    /// No queue has work.
+    Idle,
+    /// All turns are used, and a queue has work.
+    Spent,
+}
+
+// Asks the gate, just before a poll.
+fn ask<G: Gate>(gate: &mut G, name: &JobId) {
+    gate.before_poll(name.to, *name);
+}
+
+impl<J: Job + Task<Out = u64>> Linked<J> {
+    /// Makes one turn: the first job of the right pick is polled once, or handed back. What is to be done is told ahead of the pick.
+    ///
+    /// A job that is polled may submit, redeem and detach as this core. The gate is asked just before the poll, and the meter is told that
+    /// the poll begins, and asked how long it took. `alloc` gives no memory: what is lent leaves an empty list of it behind.
+    pub fn turn<M: Meter, G: Gate>(&mut self, alloc: Global, meter: &mut M, gate: &mut G) -> Made
+        requires room { HasTurnRoom self.old.recorded }
+        ensures makes { MakesTurn J.SameTask J.made J.Polls J.Answers (Fits J.SameTask J.Answers) (M.Tells meter.old) self.old result self.new }
+        ensures stays { StaysLinked self.old self.new }
+        ensures linked { IsLinked J.SameTask J.made J.Polls (Fits J.SameTask J.Answers) self.new }
+    {
+        match self.recorded.ahead() {
+            Ok(Ahead::Job(next)) => {
+                ask(gate, &next.name);
+                turn_on(alloc, &mut self.recorded, &mut self.ends, &next, meter);
+                Made::Polled
+            }
+            Ok(Ahead::Back) => {
+                hand_back(&mut self.recorded, &mut self.ends);
+                Made::Returned
+            }
+            Ok(Ahead::Idle) => Made::Idle,
+            Err(PickError::Spent) => Made::Spent,
+            Err(PickError::Busy) => unreachable!(),
+        }
+    }
+}

@@ -1,5 +1,0 @@
-use Rattle.rt_script.proofs.LimitLemmas.{none_named}
-use Rattle.rt_script.proofs.counts.CoreCounts.new.Goals as goal
-
-pub returns : goal.returns
-returns c = λ core. none_named 256 core

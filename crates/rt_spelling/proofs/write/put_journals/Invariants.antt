@@ -1,7 +1,0 @@
--- The journals of the actors so far are put.
-use Rattle.rt_spelling.specs.Pages.{Puts}
-use Rattle.rt_spelling.proofs.LineLemmas.{front_journals}
-use Rattle.rt_spelling.proofs.write.put_journals.Given as goal
-
-abbrev pub invariant-loop-actor : goal.invariant-loop-actor
-invariant-loop-actor g l = Puts l.initial.page.items l.page.items (g.W.Write.contents l.initial.sink) (g.W.Write.contents l.sink) (front_journals l.assembly.journals l.actor)

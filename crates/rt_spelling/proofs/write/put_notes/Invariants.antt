@@ -1,7 +1,0 @@
--- The notes so far are put.
-use Rattle.rt_spelling.specs.Pages.{Puts}
-use Rattle.rt_spelling.proofs.LineLemmas.{front_text}
-use Rattle.rt_spelling.proofs.write.put_notes.Given as goal
-
-abbrev pub invariant-loop-note : goal.invariant-loop-note
-invariant-loop-note g l = Puts l.initial.page.items l.page.items (g.W.Write.contents l.initial.sink) (g.W.Write.contents l.sink) (front_text l.actor l.note-items l.note-index)

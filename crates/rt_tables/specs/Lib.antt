@@ -1,6 +1,0 @@
-pub mod Names
-pub mod Told
-pub mod Jobs
-pub mod Past
-pub mod Histories
-pub mod Faults

@@ -1,8 +1,0 @@
-use Rattle.rt_ids.specs.declared.order.Mode.TheVariants.{Finish}
-use Rattle.rt_ids.specs.declared.order.Order.TheVariants.{CloseCore}
-use Rattle.rt_threads.proofs.Sending.{offered}
-use Rattle.rt_threads.proofs.calls.close.Goals as goal
-use Rattle.std.proofs.Common.{arith}
-
-pub returns : goal.returns
-returns c = offered 0 c.args.core (CloseCore Finish) c.args.house.now c.close_core-answer.result c.close_core-answer.new.self (omega arith) c.requires.there c.requires.place c.close_core-answer.ensures

@@ -1,9 +1,0 @@
--- Why a script's runtime doesn't start.
-use Rattle.rt_threads_script.specs.declared.fault.ThreadsFault.{ThreadsFault}
-use Rattle.rt_threads_script.specs.declared.fault.ThreadsFault.TheVariants.{Memory, Thread}
-
--- want of memory, or of a thread
-abbrev pub IsOfStart : ThreadsFault → Type 0
-IsOfStart Memory = Unit {0}
-IsOfStart Thread = Unit {0}
-IsOfStart _ = ⊥

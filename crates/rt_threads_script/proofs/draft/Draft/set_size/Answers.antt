@@ -1,6 +1,0 @@
-use Rattle.rt_threads_script.proofs.LimitLemmas.{size_known}
-use Rattle.rt_threads_script.proofs.draft.Draft.set_size.Goals as goal
-
-pub invariant_of-self : goal.invariant_of-self
-invariant_of-self c =
-    (size_known (record { size = c.self.inside.size; queues = c.self.inside.queues.items; orders = c.self.inside.orders.items }) (c.args.cores, c.args.cap) c.self.invariant.0 (rw (← c.self.view_is) at c.requires.first) c.requires.size, c.self.invariant.1, c.self.invariant.2, c.self.invariant.3)

@@ -1,5 +1,0 @@
-pub mod Bounds
-pub mod IdleSteps
-pub mod PickLines
-pub mod PickSteps
-pub mod RightPicks

@@ -1,6 +1,0 @@
-//! The fifth rule of an audit: each pick takes the least pair of virtual runtime and number among the queues that have work.
-#![tactic(auto)]
-
-mod picks;
-
-pub use picks::picks_fault;

@@ -1,7 +1,0 @@
-use Rattle.std.proofs.Common.{subst}
-use Rattle.rt_link.specs.Fits.{Fits}
-use Rattle.rt_worker.specs.Ended.{HasEnded}
-use Rattle.rt_worker.proofs.ended.Ended.into_linked.Goals as goal
-
-pub returns-clause-ended : goal.returns-clause-ended
-returns-clause-ended g c = subst (HasEnded g.J.Task.SameTask g.J.Task.made g.J.Task.Polls (Fits g.J.Task.SameTask g.J.Task.Answers)) c.self.view_is c.self.invariant

@@ -1,8 +1,0 @@
-use Rattle.rt_worker.proofs.served.Served.look.Goals as goal
-
-pub invariant_of-self : goal.invariant_of-self
-invariant_of-self g c = record {
-  linked = c.end.ensures.linked;
-  provided = c.end.ensures.ending;
-  acts = c.end.ensures.acts;
-}

@@ -1,4 +1,0 @@
-use Rattle.rt_worker.proofs.stopwatch.StopwatchMeter.start.Goals as goal
-
-pub returns : goal.returns
-returns g c spent ends = (c.now-self.result, c.now-self.new.self, c.now-self.ensures, ends)

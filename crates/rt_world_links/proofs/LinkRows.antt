@@ -1,0 +1,73 @@
+-- Rows of links, of which one link changes.
+use Rattle.rt_world_links.proofs.Words.{◌≡◌, ◌≢◌, ℕ, ◌<◌, List, [], length, get_or, set, map, refl, sym, ap, ◌∙◌, arith, length-map, length-set, map-set}
+use Rattle.rt_world_links.proofs.Words.{get_or-set_same, get_or-set_other, set-get_or, Order, Whole, no_link, row_of, link_at, ChangesLink}
+use Rattle.std.proofs.lemmas.List.{get_or-map}
+use Rattle.rt_journal_desk.proofs.NumberedOrders as by_place
+use Rattle.rt_world_links.proofs.Places.{by_place}
+pub use Rattle.rt_world_links.specs.Links.{with_link}
+
+module _ {J T : Type 0} (links : List (List (Whole J T))) (s d : ℕ) (link : Whole J T) where
+  abbrev now : List (List (Whole J T))
+  now = with_link links s d link
+
+  row_of-with_link : s < length links → row_of s now ≡ set (row_of s links) d link
+  row_of-with_link in_rows = get_or-set_same links s (set (row_of s links) d link) [] in_rows
+
+  row_of-with_link_other : (other : ℕ) → other ≢ s → row_of other now ≡ row_of other links
+  row_of-with_link_other other differs = get_or-set_other links s other (set (row_of s links) d link) [] differs
+
+  link_at-with_link_other : s < length links → (r e : ℕ) → (r ≡ s → e ≡ d → ⊥) → link_at r e now ≡ link_at r e links
+  link_at-with_link_other in_rows r e =
+      by_place (λ n. (n ≡ s → e ≡ d → ⊥) → link_at n e now ≡ link_at n e links) s
+      (λ differs. ap (λ row. get_or row e (no_link s e)) (row_of-with_link in_rows) ∙ get_or-set_other (row_of s links) d e link (no_link s e) (differs refl))
+      (λ n other differs. ap (λ row. get_or row e (no_link n e)) (row_of-with_link_other n other)) r
+
+  pub ChangesLink-with_link : s < length links → d < length (row_of s links) → ChangesLink links now s d link
+  ChangesLink-with_link in_rows in_row =
+      record {
+        changed = ap (λ row. get_or row d (no_link s d)) (row_of-with_link in_rows) ∙ get_or-set_same (row_of s links) d link (no_link s d) in_row;
+        others = link_at-with_link_other in_rows;
+        same_rows = length-set links s (set (row_of s links) d link);
+        same_cores =
+            by_place (λ n. length (row_of n now) ≡ length (row_of n links)) s (ap length (row_of-with_link in_rows) ∙ length-set (row_of s links) d link)
+            (λ n other. ap length (row_of-with_link_other n other));
+      }
+
+  abbrev sent_lists : List (List (Whole J T)) → List (List (List (Order J)))
+  sent_lists = map (map (λ link. link.sent))
+
+  -- the lists of what was sent, of which the one of this link changed
+  pub sent-with_link : sent_lists now ≡ set (sent_lists links) s (set (get_or (sent_lists links) s []) d link.sent)
+  sent-with_link =
+      map-set (map (λ link. link.sent)) links s (set (row_of s links) d link)
+      ∙ ap (set (sent_lists links) s)
+      (
+      map-set (λ link. link.sent) (row_of s links) d link
+      ∙ ap (λ row. set row d link.sent) (sym (by_place.get_or-map (map (λ link. link.sent)) links s []))
+      )
+
+  -- a link that has sent what it had sent leaves all lists as they were
+  pub same_sent : link.sent ≡ (link_at s d links).sent → sent_lists now ≡ sent_lists links
+  same_sent same =
+      sent-with_link
+      ∙ (
+      ap (set (sent_lists links) s)
+      (
+      ap (set (get_or (sent_lists links) s []) d)
+      (
+      same
+      ∙ (sym (by_place.get_or-map (λ link. link.sent) (row_of s links) d (no_link s d))
+      ∙ ap (λ row. get_or row d []) (sym (by_place.get_or-map (map (λ link. link.sent)) links s [])))
+      )
+      ∙ set-get_or (get_or (sent_lists links) s []) d []
+      )
+      ∙ set-get_or (sent_lists links) s []
+      )
+
+-- the rows that a value holds, and one that a call borrows
+module _ {J T V : Type 0} (items : V → List (Whole J T)) (rows : List V) (links : List (List (Whole J T))) (are : map items rows ≡ links) (s : ℕ) (in_rows : s < length links) where
+  pub row_there : s < length rows
+  row_there = omega (arith, ap length are, length-map rows items, in_rows)
+
+  pub row_lent : (row : V) → row ≡ get_or rows s row → items row ≡ row_of s links
+  row_lent row row_is = ap items row_is ∙ (sym (get_or-map items rows s row [] row_there) ∙ ap (row_of s) are)

@@ -1,0 +1,148 @@
+-- A pick and the poll that it begins are one turn of a core.
+use Rattle.rt_world_links.proofs.Words.{ℕ, same_Some, set, Err, CreatesQueue, ◌≡◌, ◌+◌, ◌≤◌, Bool, true, false, List, ◌∷◌, refl, sym, ◌∙◌, ap, subst, Result}
+use Rattle.rt_world_links.proofs.Words.{Ok, Option, Some, None, JobId, Order, Whole, inward_of, Journal, Owed, RecordedView, IsRecorded, link_at}
+use Rattle.rt_world_links.proofs.Words.{OutcomeNote, Job, Reason, polls_made, poll_note, order_taken, IsInOwing, told_under, owed_back, GivesOnOne}
+use Rattle.rt_world_links.proofs.Words.{none_owed, IsBesideAll, IsKeptBeside}
+use Rattle.std.proofs.Common.{add-zero}
+use Rattle.rt_ids.specs.declared.note.Note.TheVariants as writes
+use Rattle.rt_ids.specs.declared.note.OutcomeNote.TheVariants as outcomes
+use Rattle.rt_core.specs.declared.turn.Turn.{Turn}
+use Rattle.rt_core.specs.declared.turn.Turn.TheVariants.{Back}
+use Rattle.rt_core.specs.declared.turn.PickError.{PickError}
+use Rattle.rt_core.specs.declared.turn.Settled.{Settled}
+use Rattle.rt_taskqueue.specs.declared.queues.CreateError.{CreateError}
+use Rattle.rt_taskqueue.specs.declared.queues.CreateError.TheVariants.{TooMany, Memory}
+use Rattle.rt_journal.specs.Turns.{IsHandBack, Picks}
+use Rattle.rt_journal.specs.Owed.{IsSentUnder}
+use Rattle.rt_journal.proofs.SentNotes.{all_posted}
+use Rattle.rt_world_links.specs.OneTurn.{StaysBeside, HandsOneBack, TurnsOwing, PollsOne}
+use Rattle.rt_world_links.proofs.LentLinks.{no_gift}
+
+-- so each end is beside the core, except for what is owed
+pub beside_then : {J T : Type 0} {same : J → J → Type 0} {made : J → ℕ} {polls : Owed J T} {owed : ℕ → Option (JobId × OutcomeNote T)} {old new : RecordedView J T} →
+    IsKeptBeside same made polls owed old new → (number : ℕ) (links : List (List (Whole J T))) → IsBesideAll number none_owed old links → IsBesideAll number owed new links
+beside_then {old = old} {new = new} kept number links before = record {
+  rows = λ sender there. before.rows sender (its sender there);
+  cores = λ sender there. before.cores sender (its sender there);
+  ins = λ sender there. (kept.ins sender).each _ (before.ins sender (its sender there));
+}
+  where
+    its : (sender : ℕ) → sender ≤ new.core.cores → sender ≤ old.core.cores
+    its sender there = subst (λ cores. sender ≤ cores) kept.seat.cores there
+
+-- what is owed, said otherwise
+pub owed_as : {J T : Type 0} (owed other : ℕ → Option (JobId × OutcomeNote T)) → ((sender : ℕ) → owed sender ≡ other sender) →
+    (number : ℕ) (view : RecordedView J T) (links : List (List (Whole J T))) → IsBesideAll number owed view links → IsBesideAll number other view links
+owed_as owed other same number view links is = record {
+  rows = is.rows;
+  cores = is.cores;
+  ins = λ sender there. subst (λ what. IsInOwing sender what view (inward_of (link_at sender number links))) (same sender) (is.ins sender there);
+}
+
+-- the notes of a pick settle no poll
+pub polls_made-picked : {T : Type 0} (name which : JobId) (queue runtime : ℕ) (was_started : Bool) (notes : Journal T) →
+    polls_made which (poll_note name was_started ∷ writes.Pick queue runtime ∷ notes) ≡ polls_made which notes
+polls_made-picked name which queue runtime false notes = add-zero (polls_made which notes + 0) ∙ add-zero (polls_made which notes)
+polls_made-picked name which queue runtime true notes = add-zero (polls_made which notes + 0) ∙ add-zero (polls_made which notes)
+
+module _ {J : Type 0} {same : J → J → Type 0} {made : J → ℕ} {polls : Owed J ℕ} (old : RecordedView J ℕ) (number : ℕ) (links : List (List (Whole J ℕ))) (before : IsBesideAll number none_owed old links) where
+  -- where no turn is made, nothing changes
+  pub no_turn : IsRecorded same made polls old → old.core.out ≡ None → StaysBeside same made polls number old old links links
+  no_turn recorded free = record {
+    recorded = recorded;
+    at_rest = free;
+    seat = record { number = refl; cores = refl; cap = refl; room = refl };
+    outs = λ core. record { each = λ out credited is. is };
+    lanes = refl;
+    links = no_gift number links;
+    ins = before;
+  }
+
+  -- where a job is handed back, its outcome is owed to its sender, who is there
+  module _ (picked : Result (Turn J) PickError) (middle : RecordedView J ℕ) (picks : Picks same old picked middle) (kept : IsKeptBeside same made polls (owed_back picked) old middle)
+      (name : JobId) (reason : Reason) (order : Order J) (is_back : picked ≡ Ok (Back name reason order)) where
+    back : IsHandBack same old name reason order middle
+    back = subst (λ answer. Picks same old answer middle) is_back picks
+
+    task_now : order_taken middle.took name ≡ Some (Job back.queue back.sent)
+    task_now = ap (λ took. order_taken took name) back.took ∙ back.task
+
+    pub back_known : name.from ≤ middle.core.cores
+    back_known = (kept.sound.taken name _ task_now).sender
+
+    pub back_sent : IsSentUnder same middle.took name order
+    back_sent = record { queue = back.queue; sent = back.sent; task = task_now; job = back.job; back = back.back; same_task = back.same_task }
+
+    pub back_owed : IsBesideAll number (told_under name (Some (outcomes.Returned reason))) middle links
+    back_owed = owed_as (owed_back picked) (told_under name (Some (outcomes.Returned reason))) (λ sender. ap (λ answer. owed_back {T = ℕ} answer sender) is_back) number middle links (beside_then kept number links before)
+
+    pub back_turns : (links_now : List (List (Whole J ℕ))) → GivesOnOne number links links_now → IsBesideAll number none_owed middle links_now →
+        HandsOneBack same old middle × StaysBeside same made polls number old middle links links_now
+    back_turns links_now gives then = (
+      record { name = name; reason = reason; order = order; did = back },
+      record { recorded = kept.sound; at_rest = back.out; seat = kept.seat; outs = kept.outs; lanes = kept.lanes; links = gives; ins = then },
+    )
+
+-- the sender of the job that made a turn is there
+pub turn_known : {J : Type 0} {same : J → J → Type 0} {made : J → ℕ} {polls : Owed J ℕ} {answers : J → ℕ → Type 0} {number spent : ℕ} {name : JobId} {queue : ℕ} {started : Bool} {settled : Settled ℕ} {old new : RecordedView J ℕ}
+    {before after : List (List (Whole J ℕ))} → TurnsOwing same made polls answers number spent name queue started settled old new before after → name.from ≤ new.core.cores
+turn_known {name = name} did =
+    let turn = did.turn in
+    let task = turn.sound.out _ turn.picks.out in
+    subst (λ cores. name.from ≤ cores) (sym (turn.stays_settled.seat.cores ∙ ap (λ view. view.core.cores) turn.rest)) (turn.sound.taken name _ task.task).sender
+
+-- a creation leaves the core at rest
+pub created_stays : {J T : Type 0} {same : J → J → Type 0} {made : J → ℕ} {polls : Owed J T} {old now : RecordedView J T} {number : ℕ} {links : List (List (Whole J T))} →
+    IsBesideAll number none_owed old links → old.core.out ≡ None → (weight : ℕ) (told : Result ℕ CreateError) → CreatesQueue weight old told now →
+    IsKeptBeside same made polls none_owed old now → StaysBeside same made polls number old now links links
+created_stays {old = old} {now = now} {number = number} {links = links} beside free weight told did kept = record {
+  recorded = kept.sound;
+  at_rest = by_told told did ∙ free;
+  seat = kept.seat;
+  outs = kept.outs;
+  lanes = kept.lanes;
+  links = no_gift number links;
+  ins = beside_then kept number links beside;
+}
+  where
+    by_told : (told : Result ℕ CreateError) → CreatesQueue weight old told now → now.core.out ≡ old.core.out
+    by_told (Ok queue) did = did.3
+    by_told (Err TooMany) did = ap (λ view. view.core.out) did.1
+    by_told (Err Memory) did = ap (λ view. view.core.out) did.1
+
+-- a turn whose job was polled, and whose outcome was given
+module _ {J : Type 0} {same : J → J → Type 0} {made : J → ℕ} {polls : Owed J ℕ} {answers : J → ℕ → Type 0} {number spent : ℕ} {view new : RecordedView J ℕ}
+    {before after : List (List (Whole J ℕ))} (did : PollsOne same made polls answers number spent view new before after) where
+  pub settled_stays : StaysBeside same made polls number did.turn.left new (set before number did.row) after
+  settled_stays = record {
+    recorded = did.recorded;
+    at_rest = did.turn.settles.out_now;
+    seat = did.turn.stays_settled.seat;
+    outs = did.turn.stays_settled.outs;
+    lanes = did.turn.stays_settled.lanes;
+    links = did.links;
+    ins = did.ins;
+  }
+
+  -- the job that is settled is the one that was picked
+  pub out_is : did.turn.settles.out ≡ record { name = did.name; queue = did.queue; job = did.turn.ran.before }
+  out_is = same_Some _ _ (sym did.turn.settles.was_out ∙ (ap (λ view. view.core.out) did.turn.rest ∙ did.turn.picks.out))
+
+  counted : polls_made did.turn.settles.out.name did.turn.left.journal.notes ≡ polls_made did.name view.journal.notes
+  counted =
+      ap (λ out. polls_made out.name did.turn.left.journal.notes) out_is
+      ∙ (ap (λ desk. polls_made did.name desk.journal.notes) did.turn.posted.desk
+      ∙ ((all_posted did.turn.posted.notes did.turn.picked.journal.notes did.turn.posted.posts).polls did.name
+      ∙ (ap (λ journal. polls_made did.name journal.notes) did.turn.picks.journal
+      ∙ polls_made-picked did.name did.name did.queue did.turn.picks.runtime did.started view.journal.notes)))
+
+  -- what the poll owed of the job that was in the core, it owes of the one that was sent
+  pub poll_owed : polls did.turn.settles.sent (made did.turn.settles.sent + polls_made did.name view.journal.notes) did.turn.owed.calls did.turn.ran.step did.turn.ran.told
+  poll_owed =
+      subst (λ count. polls did.turn.settles.sent (made did.turn.settles.sent + count) did.turn.owed.calls did.turn.ran.step did.turn.ran.told) counted
+      (did.turn.settles.owed did.turn.owed.calls did.turn.owed.owed)
+
+  pub poll_task : order_taken view.took did.name ≡ Some (Job did.queue did.turn.settles.sent)
+  poll_task =
+      ap (λ took. order_taken took did.name) (sym (ap (λ view. view.took) did.turn.rest ∙ did.turn.picks.took))
+      ∙ (ap (λ out. order_taken did.turn.left.took out.name) (sym out_is) ∙ (did.turn.settles.task ∙ ap (λ out. Some (Job out.queue did.turn.settles.sent)) out_is))

@@ -1,0 +1,56 @@
+-- What a core and the links around it are to each other, at a turn.
+use Rattle.std.specs.Prelude.{◌≡◌, ℕ, ◌<◌, ◌≤◌, Option, None, List, length}
+use Rattle.std.specs.Option.{option_map}
+use Rattle.rt_ids.specs.declared.names.JobId.{JobId}
+use Rattle.rt_ids.specs.declared.note.OutcomeNote.{OutcomeNote}
+use Rattle.rt_ids.specs.declared.order.Order.{Order}
+use Rattle.rt_ids.specs.declared.order.Outcome.{Outcome}
+use Rattle.rt_ids.specs.Outcomes.{outcome_note}
+use Rattle.rt_jobs.specs.Steps.{Owed}
+use Rattle.rt_core.specs.declared.turn.Settled.{Settled}
+use Rattle.rt_journal_desk.specs.Posts.{AreOutsOf}
+use Rattle.rt_journal.specs.Recorded.{RecordedView, IsRecorded, desk_of}
+use Rattle.rt_journal.specs.Ends.{IsInOwing, LeavesOwed, IsSameSeat, told_under}
+use Rattle.rt_journal_desk.specs.Ends.{KeepsOuts}
+use Rattle.rt_journal.specs.Owed.{outcome_settled}
+use Rattle.rt_link.specs.declared.plain.Whole.{Whole}
+use Rattle.rt_link.specs.Whole.{out_of, inward_of}
+use Rattle.rt_world_links.specs.Links.{row_of, link_at, GivesOnOne}
+
+-- no outcome is owed to any sender
+abbrev pub none_owed : {T : Type 0} → ℕ → Option (JobId × OutcomeNote T)
+none_owed sender = None
+
+-- the outcome of a settled poll is owed to the job's sender, if the job is done
+abbrev pub owed_settled : {T : Type 0} → Type 0 → JobId → Settled T → ℕ → Option (JobId × OutcomeNote T)
+owed_settled J name settled = told_under name (option_map outcome_note (outcome_settled {J = J} settled))
+
+module _ {J T : Type 0} where
+  -- there is a link from each sender to this core, and each end is beside the core, where these outcomes are owed
+  pub record IsBesideAll (number : ℕ) (owed : ℕ → Option (JobId × OutcomeNote T)) (view : RecordedView J T) (links : List (List (Whole J T))) : Type 0 where
+    pub rows : (sender : ℕ) → sender ≤ view.core.cores → sender < length links
+    pub cores : (sender : ℕ) → sender ≤ view.core.cores → number < length (row_of sender links)
+    pub ins : (sender : ℕ) → sender ≤ view.core.cores → IsInOwing sender (owed sender) view (inward_of (link_at sender number links))
+
+-- there is a link from this core to each core, beside its desk
+abbrev pub HasOuts : {J T : Type 0} → (Order J → Outcome J T → Type 0) → ℕ → RecordedView J T → List (List (Whole J T)) → Type 0
+HasOuts fits number view links = AreOutsOf fits out_of (λ link. link.credited) (desk_of view) (row_of number links)
+
+module _ {J T : Type 0} (same : J → J → Type 0) (made : J → ℕ) (polls : Owed J T) where
+  -- a call of a core that sends nothing: it is recorded at the same seat, and the ends are beside it, except for these outcomes, which are owed then
+  pub record IsKeptBeside (owed : ℕ → Option (JobId × OutcomeNote T)) (old new : RecordedView J T) : Type 0 where
+    pub sound : IsRecorded same made polls new
+    pub seat : IsSameSeat old new
+    pub ins : (sender : ℕ) → LeavesOwed sender (owed sender) old new
+    pub outs : KeepsOuts (desk_of old) (desk_of new)
+    pub lanes : new.lanes ≡ old.lanes
+
+  -- the core is recorded and has no job out, its seat is the same, and the ends of its links are beside it: the outcome of the turn, if there is one, was given
+  pub record StaysBeside (number : ℕ) (old new : RecordedView J T) (before after : List (List (Whole J T))) : Type 0 where
+    pub recorded : IsRecorded same made polls new
+    pub at_rest : new.core.out ≡ None
+    pub seat : IsSameSeat old new
+    pub outs : KeepsOuts (desk_of old) (desk_of new)
+    pub lanes : new.lanes ≡ old.lanes
+    pub links : GivesOnOne number before after
+    pub ins : IsBesideAll number none_owed new after

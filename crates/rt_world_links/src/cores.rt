@@ -1,0 +1,27 @@
+//! Cores beside their journals, just opened.
+
+ghost use Rattle.std.specs.Prelude.{IfOk};
+ghost use Rattle.rt_world_links.specs.Cores.{AreOpened};
+
+use rt_ids::CoreNo;
+use rt_jobs::Task;
+use rt_journal::Recorded;
+use std::alloc::{AllocError, Allocator, Global};
+
+/// A core of each number, for links of this capacity and with a journal of `room` notes. Cores take their memory from `core_alloc`.
+pub fn open_cores<J: Task<Out = u64>, A: Allocator + Clone>(
+    alloc: Global,
+    core_alloc: A,
+    cores: u8,
+    cap: u16,
+    room: u32,
+) -> Result<Vec<Recorded<J, A>>, AllocError>
+    ensures { IfOk result (λ inside. AreOpened cores cap room inside.items) }
+{
+    let mut inside = Vec::with_capacity(alloc, cores as usize)?;
+    for core in 0..cores {
+        let opened = Recorded::open(alloc, core_alloc.clone()?, CoreNo(core), cores, cap, room)?;
+        inside.push_reserved(opened);
+    }
+    Ok(inside)
+}
