@@ -247,7 +247,7 @@ def by_compiler(copy, edit):
 
 def try_crate(crate, kinds, each_alone, room):
     """Tries the edits of a crate, and answers them."""
-    edits = edits_of(crate, *kinds)
+    edits = [it for it in edits_of(crate, *kinds) if not it.tests]
     folder = ROOT / "crates" / crate
     for edit in edits:
         why = edit.apply(folder, {})
@@ -300,7 +300,7 @@ def main(words):
             stop(f"tests/edits: no crate {name}")
     if is_look:
         return look(names or here)
-    crates = names or [it for it in here if edits_of(it, *kinds)]
+    crates = names or [it for it in here if any(not edit.tests for edit in edits_of(it, *kinds))]
     with tempfile.TemporaryDirectory() as room, ThreadPoolExecutor(jobs) as pool:
         tried = [edit for it in pool.map(lambda crate: try_crate(crate, kinds, each_alone, Path(room)), crates) for edit in it]
     refused = sum(it.said.startswith("refused") for it in tried)
