@@ -31,7 +31,7 @@ answering_meaning {J} {T} done answers =
     }
 
 -- a plain job keeps the laws
-pub plain_laws : {J T : Type 0} (done : J → Bool) → IsMeaning (plain_meaning {J} {T} done)
+pub plain_laws : {J T : Type 0} (done : J → Bool) → IsMeaning (plain_meaning {J = J} {T = T} done)
 plain_laws done =
     record {
       same_task = record { itself = λ a. tt; back = λ a b one. tt; along = λ a b c one two. tt };
