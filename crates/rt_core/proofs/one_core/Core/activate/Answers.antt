@@ -53,7 +53,7 @@ invariant_of-self g c =
       listed = IsListed-activates _ _ _ (record { vr = c.placed-vr.result; queue = c.args.queue }) tally c.args.name c.args.job c.admit.ensures.joins.queues refl
           (ap (λ at. slice_set inside.tallies.items at tally) c.place.ensures) within refl idle core.listed;
       slipped = KeepsSlips-inserted _ _ _ (record { vr = c.placed-vr.result; queue = c.args.queue }) (omega (arith, exists, joins.queues.same_count)) lacks (KeepsSlips-same _ _ _ _ _ joins.queues.same_count joins.slips core.slipped);
-      pollable = IsPollable-pushed _ _ _ _ c.args.queue c.args.name false c.args.job c.admit.ensures.joins.queues c.requires.ready core.pollable;
+      pollable = IsPollable-pushed _ _ _ c.args.queue c.args.name false c.args.job c.admit.ensures.joins.queues c.requires.ready core.pollable;
       turns = record { tallies = All-set (FitsTurns inside.turns polls) inside.tallies.items c.place.result tally fits core.turns.tallies; floor = core.turns.floor };
     })
 

@@ -17,7 +17,7 @@ pub invariant_of-self : goal.invariant_of-self
 invariant_of-self g c =
     let inside = c.self.inside in
     let old = core_view inside.core inside.cores (queues_alone inside.queues) inside.tallies.items inside.floor inside.turns (job_out inside.out) inside.senders inside.mode in
-    IsCore-closed _ _ old inside.senders.gates (Some c.args.mode) _ _ _ _ _ c.self.invariant
+    IsCore-closed _ old inside.senders.gates (Some c.args.mode) _ _ _ _ _ c.self.invariant
 
 pub returns-clause-closes : goal.returns-clause-closes
 returns-clause-closes g c = rw (← c.self.view_is) (sym c.closes.ensures ∙ c.if-not-closes.false, refl, c.one_note.ensures)

@@ -51,7 +51,7 @@ invariant_of-self g c =
       counted = KeepsCounts-closes old _ _ _ _ c.args.queue c.args.mode closed.queues c.close.ensures.limits refl refl refl refl core.counted;
       listed = IsListed-same old _ _ closed.queues.same_lines refl (λ queue. refl) core.listed;
       slipped = KeepsSlips-same _ _ _ _ _ closed.queues.same_count closed.slips core.slipped;
-      pollable = IsPollable-same _ _ old _ closed.queues.same_lines core.pollable;
+      pollable = IsPollable-same _ old _ closed.queues.same_lines core.pollable;
       turns = record { tallies = core.turns.tallies; floor = core.turns.floor };
     }
 

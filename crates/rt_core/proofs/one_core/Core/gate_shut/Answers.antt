@@ -11,7 +11,7 @@ pub invariant_of-self : goal.invariant_of-self
 invariant_of-self g c =
     let inside = c.self.inside in
     let old = core_view inside.core inside.cores (queues_alone inside.queues) inside.tallies.items inside.floor inside.turns (job_out inside.out) inside.senders inside.mode in
-    rw c.shut.ensures (IsCore-closed _ _ old _ inside.mode _ _ _ _ _ c.self.invariant)
+    rw c.shut.ensures (IsCore-closed _ old _ inside.mode _ _ _ _ _ c.self.invariant)
 
 pub returns-clause-bounded : goal.returns-clause-bounded
 returns-clause-bounded g c =

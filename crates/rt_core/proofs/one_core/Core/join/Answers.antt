@@ -21,7 +21,7 @@ invariant_of-self g c =
       counted = KeepsCounts-enters _ _ _ _ _ c.args.queue c.args.name c.args.job joins.queues c.admit.ensures.limits space refl refl refl (length-set _ _ _) old.counted;
       listed = IsListed-joins _ _ _ c.args.queue c.args.name c.args.job joins.queues refl refl work old.listed;
       slipped = KeepsSlips-same _ _ _ _ _ joins.queues.same_count joins.slips old.slipped;
-      pollable = IsPollable-pushed _ _ _ _ c.args.queue c.args.name false c.args.job joins.queues c.requires.ready old.pollable;
+      pollable = IsPollable-pushed _ _ _ c.args.queue c.args.name false c.args.job joins.queues c.requires.ready old.pollable;
       turns = record { tallies = old.turns.tallies; floor = old.turns.floor };
     })
 
