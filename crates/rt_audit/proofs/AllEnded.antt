@@ -17,7 +17,7 @@ use Rattle.rt_ids.proofs.NameLemmas.{one_name}
 use Rattle.rt_journal_facts.specs.Names.{value_under}
 use Rattle.rt_journal_facts.specs.Told.{order_told}
 use Rattle.rt_journal_facts.proofs.FirstUnder.{first_under-with_last, under-order}
-use Rattle.rt_audit_rules.proofs.LinkTables.{no_journal}
+use Rattle.rt_journal_notes.proofs.Given.{no_journal}
 use Rattle.rt_audit.specs.Ends.{HasEnded, EndedUnder, EndedIfSent}
 
 -- what is not missing is there

@@ -38,21 +38,7 @@ fn is_idle(accounts: &Accounts) -> bool
     ensures right { (before : Notes ℕ) → KnowsAccounts accounts.now before → IsTrue result → (queue : ℕ) → IsTrue (has_work queue before) → ⊥ }
     ensures only { (before : Notes ℕ) → KnowsAccounts accounts.now before → ((queue : ℕ) → IsTrue (has_work queue before) → ⊥) → IsTrue result }
 {
-    are_idle(&accounts.queues)
-}
-
-/// Whether none of the queues has work.
-fn are_idle(accounts: &[Account]) -> bool
-    ensures right { IsTrue result → (queue : ℕ) → has_jobs (get_or accounts.now queue fresh_account) ≡ false }
-    ensures only { ((queue : ℕ) → IsTrue (has_jobs (get_or accounts.now queue fresh_account)) → ⊥) → IsTrue result }
-{
-    for queue in 0..accounts.len() {
-        let account = accounts[queue];
-        if account.has_jobs() {
-            return false;
-        }
-    }
-    true
+    accounts.are_idle()
 }
 
 /// The accounts of a core's queues at the end of its journal.

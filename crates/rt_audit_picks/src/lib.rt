@@ -4,5 +4,4 @@
 mod least;
 mod picks;
 
-pub use least::Least;
 pub use picks::picks_fault;

@@ -13,10 +13,10 @@ ghost use Rattle.rt_audit_picks.specs.Winners.{IsTree};
 ghost use Rattle.rt_audit_picks.specs.PickFaults.{IsPickFault, IsLineOf};
 ghost use Rattle.rt_audit_picks.specs.Picks.{KnowsTurns, FitsOut, Follows, out_after, IsAt, IsBelowAll, IsPlaced, AreBelow, runtime_waiting, key_waiting};
 
-use crate::Least;
+use crate::least::Least;
 use rt_ids::{JobId, Key, Note, QueueNo};
 use rt_journal_facts::{Account, Accounts, Fact, History, note_at, queue_touched};
-use rt_journal_notes::Journal;
+use rt_journal_notes::{Journal, same_name};
 
 /// The queues, the job that is out, and the queue of the pick that was just made.
 #[derive(Drop)]
@@ -25,13 +25,6 @@ struct Turns {
     least: Least,
     out: Option<JobId>,
     picked: Option<QueueNo>,
-}
-
-fn is_same(one: &JobId, other: &JobId) -> bool
-    ensures right { IsTrue result → one.now ≡ other.now }
-    ensures only { one.now ≡ other.now → IsTrue result }
-{
-    one.from.0 == other.from.0 && one.to.0 == other.to.0 && one.number == other.number
 }
 
 /// Whether the first pair of virtual runtime and number stands before the second one, or is it.
@@ -68,7 +61,7 @@ fn key_waiting(accounts: &Accounts, queue: Option<QueueNo>) -> Option<Key>
 {
     match queue {
         Some(queue) => {
-            let account = account_of(accounts, queue);
+            let account = accounts.of(queue);
             let vr = runtime_waiting(&account);
             Some(Key { vr, queue })
         }
@@ -106,7 +99,7 @@ fn is_out(out: Option<JobId>, name: &JobId) -> bool
     ensures only { out ≡ Some name.now → IsTrue result }
 {
     match out {
-        Some(out) => is_same(&out, name),
+        Some(out) => same_name(&out, name),
         None => false,
     }
 }
@@ -190,13 +183,6 @@ fn is_followed(turns: &Turns, fact: &Fact, note: &Note<u64>) -> bool
     }
 }
 
-/// The account of a queue.
-fn account_of(accounts: &Accounts, queue: QueueNo) -> Account
-    ensures { result ≡ get_or accounts.now.queues queue fresh_account }
-{
-    accounts.queues[queue.0 as usize]
-}
-
 /// Whether the queue of this account may be picked at this virtual runtime.
 fn is_at(account: &Account, runtime: u128) -> bool
     ensures right { IsTrue result → IsAt account.now runtime }
@@ -210,7 +196,7 @@ fn may_pick(turns: &Turns, queue: QueueNo, runtime: u128) -> bool
     ensures right { IsTrue result → (turns.now.out ≡ None) × IsAt (get_or turns.now.accounts.queues queue fresh_account) runtime }
     ensures only { turns.now.out ≡ None → IsAt (get_or turns.now.accounts.queues queue fresh_account) runtime → IsTrue result }
 {
-    let account = account_of(&turns.accounts, queue);
+    let account = turns.accounts.of(queue);
     turns.out.is_none() && is_at(&account, runtime)
 }
 

@@ -17,13 +17,24 @@ known_in (Some entries) name = known entries name
 abbrev pub under : {V : Type 0} → List (Entries V) → ℕ → JobId → Option V
 under tables place name = known_in (slice_get tables place) name
 
+-- the order that was first sent under a name, and the outcome that was first given, in one journal
+abbrev pub order_in : {T : Type 0} → JobId → Journal T → Option (Order (Unit {0}))
+order_in name journal = first_under name (accepted_orders name.to journal)
+
+abbrev pub outcome_in : {T : Type 0} → JobId → Journal T → Option (OutcomeNote T)
+outcome_in name journal = first_under name (given_outcomes name.from journal)
+
+-- the table has under each name what the journal says
+abbrev pub HasSaid : {T V : Type 0} → (JobId → Journal T → Option V) → Entries V → Journal T → Type 0
+HasSaid says entries journal = (name : JobId) → known entries name ≡ says name journal
+
 -- the table has the orders that a journal's actor sent
 abbrev pub KnowsOrdersOf : {T : Type 0} → Entries (Order (Unit {0})) → Journal T → Type 0
-KnowsOrdersOf entries journal = (name : JobId) → known entries name ≡ first_under name (accepted_orders name.to journal)
+KnowsOrdersOf = HasSaid order_in
 
 -- the table has the outcomes that a journal's actor gave
 abbrev pub KnowsOutcomesOf : {T : Type 0} → Entries (OutcomeNote T) → Journal T → Type 0
-KnowsOutcomesOf entries journal = (name : JobId) → known entries name ≡ first_under name (given_outcomes name.from journal)
+KnowsOutcomesOf = HasSaid outcome_in
 
 -- the orders that are known are those that were accepted
 abbrev pub KnowsOrders : {T : Type 0} → List (Entries (Order (Unit {0}))) → Assembly T → Type 0
@@ -33,12 +44,7 @@ KnowsOrders tables assembly = (name : JobId) → under tables name.from name ≡
 abbrev pub KnowsOutcomes : {T : Type 0} → List (Entries (OutcomeNote T)) → Assembly T → Type 0
 KnowsOutcomes tables assembly = (name : JobId) → under tables name.to name ≡ outcome_of name assembly
 
--- the first tables, as many as said, are those of the first actors
-pub record AreOrdersOf {T : Type 0} (tables : List (Entries (Order (Unit {0})))) (assembly : Assembly T) (count : ℕ) : Type 0 where
+-- the first tables, as many as said, have what the journals of the first actors say
+pub record AreTablesOf {T V : Type 0} (says : JobId → Journal T → Option V) (tables : List (Entries V)) (assembly : Assembly T) (count : ℕ) : Type 0 where
   pub counted : length tables ≡ count
-  pub each : (actor : ℕ) (entries : Entries (Order (Unit {0}))) → slice_get tables actor ≡ Some entries → KnowsOrdersOf entries (journal_of actor assembly)
-
--- the first tables, as many as said, are those of the first actors
-pub record AreOutcomesOf {T : Type 0} (tables : List (Entries (OutcomeNote T))) (assembly : Assembly T) (count : ℕ) : Type 0 where
-  pub counted : length tables ≡ count
-  pub each : (actor : ℕ) (entries : Entries (OutcomeNote T)) → slice_get tables actor ≡ Some entries → KnowsOutcomesOf entries (journal_of actor assembly)
+  pub each : (actor : ℕ) (entries : Entries V) → slice_get tables actor ≡ Some entries → HasSaid says entries (journal_of actor assembly)

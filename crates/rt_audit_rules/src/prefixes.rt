@@ -9,14 +9,7 @@ ghost use Rattle.rt_audit_rules.specs.Sides.{name_told, IsNext, Advances, TurnsO
 use crate::sides::{Side, name_told};
 use rt_ids::{ActorNo, CoreNo, JobId, Note};
 use rt_journal_facts::note_at;
-use rt_journal_notes::Journal;
-
-fn is_same(one: &JobId, other: &JobId) -> bool
-    ensures right { IsTrue result → one.now ≡ other.now }
-    ensures only { one.now ≡ other.now → IsTrue result }
-{
-    one.from.0 == other.from.0 && one.to.0 == other.to.0 && one.number == other.number
-}
+use rt_journal_notes::{Journal, same_name};
 
 /// The next name of a list at this place or behind it, and the place behind its note.
 fn next_told(side: &Side, journal: &Journal<u64>, from: usize) -> Option<(JobId, usize)>
@@ -51,7 +44,7 @@ fn advance(
     let Some((next, found)) = next_told(whole, other, behind) else {
         return None;
     };
-    if is_same(&next, &name) {
+    if same_name(&next, &name) {
         Some(found)
     } else {
         None

@@ -1,6 +1,6 @@
 //! What is known of the queues of one journal.
 
-ghost use Rattle.std.specs.Prelude.{◌≡◌, ◌<◌, ◌∷◌, ℕ, [], length};
+ghost use Rattle.std.specs.Prelude.{◌≡◌, ◌↔◌, ◌<◌, ◌∷◌, ℕ, IsTrue, [], get_or, length};
 ghost use Rattle.rt_ids.specs.Journal.{Journal};
 ghost use Rattle.rt_ids.specs.Runtimes.{runtime_picked};
 ghost use Rattle.rt_journal_facts.specs.Accounts as spec;
@@ -111,6 +111,18 @@ fn runtime_picked(note: &Note<u64>) -> u128
     }
 }
 
+/// Whether none of these queues has work.
+fn have_no_jobs(accounts: &[Account; 256]) -> bool
+    ensures { IsTrue result ↔ ((queue : ℕ) → IsTrue (has_jobs (get_or accounts.now queue fresh_account)) → ⊥) }
+{
+    for queue in 0..accounts.len() {
+        if accounts[queue].has_jobs() {
+            return false;
+        }
+    }
+    true
+}
+
 /// Of the notes that were read: the account of each queue, and the floor.
 #[derive(Drop)]
 pub struct Accounts {
@@ -127,6 +139,20 @@ impl Accounts {
             queues: [Account::new(); 256],
             floor: 0,
         }
+    }
+
+    /// The account of a queue.
+    pub fn of(&self, queue: QueueNo) -> Account
+        ensures { result ≡ get_or self.now.queues queue fresh_account }
+    {
+        self.queues[queue.0 as usize]
+    }
+
+    /// Whether no queue has work.
+    pub fn are_idle(&self) -> bool
+        ensures { IsTrue result ↔ ((queue : ℕ) → IsTrue (has_jobs (get_or self.now.queues queue fresh_account)) → ⊥) }
+    {
+        have_no_jobs(&self.queues)
     }
 
     /// Reads the next note, which changes the account of this queue, if there is one.

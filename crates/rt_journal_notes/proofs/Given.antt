@@ -1,14 +1,18 @@
--- What a journal gives first under a name, and who has no journal.
-use Rattle.std.proofs.Common.{◌≡◌, ℕ, ◌+◌, ◌<◌, ◌≤◌, ◌⊎◌, inl, inr, List, [], ◌∷◌, ◌++◌, length, take, drop, reverse, get_or, sym, ap, ◌∙◌, subst, arith}
+-- What a journal gives first under a name, who has no journal, and who gives nothing.
+use Rattle.std.proofs.Common.{◌≡◌, ℕ, ◌+◌, ◌<◌, ◌≤◌, ◌⊎◌, inl, inr, List, [], ◌∷◌, ◌++◌, length, take, drop, reverse, get_or, refl, sym, ap, ◌∙◌, subst, arith}
 use Rattle.std.specs.Prelude.{Option, Some, None, slice_get, unwrap_or}
+use Rattle.std.proofs.lemmas.Bool.{cases_lt}
 use Rattle.std.proofs.lemmas.List.{reverse-append, reverse-reverse, take-append-drop, take_more}
 use Rattle.std.proofs.lemmas.Option.{slice_get_cases}
 use Rattle.rt_ids.specs.declared.names.JobId.{JobId}
 use Rattle.rt_ids.specs.declared.note.Note.{Note}
+use Rattle.rt_ids.specs.declared.note.Note.TheVariants.{Back, Answered, Done, Returned}
 use Rattle.rt_ids.specs.declared.note.OutcomeNote.{OutcomeNote}
-use Rattle.rt_ids.specs.Assembly.{Assembly, first_under, journal_of}
+use Rattle.rt_ids.specs.Assembly.{Assembly, first_under, journal_of, outcome_of}
 use Rattle.rt_ids.specs.Filters.{given_outcomes, outcome_given}
 use Rattle.rt_ids.specs.Journal.{Journal, with_last}
+use Rattle.rt_ids.specs.Spelled.{AreSpelledNotes, IsSpelled, IsSpelledNote}
+use Rattle.rt_ids.specs.Terms.{Terms, terms_of}
 use Rattle.rt_ids.proofs.Under.{first_under-last, first_under-stays}
 
 -- who has no journal has no notes
@@ -21,6 +25,29 @@ no_journal {T} assembly actor past = by_place (slice_get_cases assembly.journals
         journal_of actor assembly ≡ []
     by_place (inl found) = absurd (omega (arith, found.1, past))
     by_place (inr beyond) = ap (λ there. unwrap_or there []) beyond.1
+
+-- the outside actor receives nothing, and so gives nothing
+module _ {T : Type 0} (terms : Terms) (outside : terms.cores ≤ terms.actor) (sender : ℕ) where
+  note_gives_nothing : (note : Note T) → IsSpelledNote terms note → outcome_given sender note ≡ None
+  note_gives_nothing (Done name time value) received = absurd (omega (arith, received.0.receiver, received.1, outside))
+  note_gives_nothing (Back name reason) received = absurd (omega (arith, received.0.0.receiver, received.0.1, outside))
+  note_gives_nothing (Returned name reason) received = absurd (omega (arith, received.0.0.receiver, received.0.1, outside))
+  note_gives_nothing (Answered name answer) received = absurd (omega (arith, received.0.0.receiver, received.0.1, outside))
+  note_gives_nothing _ spelled = refl
+
+  pub outside_gives_nothing : (journal : Journal T) → AreSpelledNotes terms journal → given_outcomes sender journal ≡ []
+  outside_gives_nothing [] spelled = refl
+  outside_gives_nothing (note ∷ before) spelled = rw (outside_gives_nothing before spelled.1, note_gives_nothing note spelled.0)
+
+-- of spelled journals only a core gives outcomes
+pub only_cores_give : {T : Type 0} (name : JobId) (assembly : Assembly T) → IsSpelled assembly → assembly.cores ≤ name.to → outcome_of name assembly ≡ None
+only_cores_give {T} name assembly spelled no_core = by_receiver (cases_lt assembly.cores name.to)
+  where
+    by_receiver : (assembly.cores < name.to) ⊎ (name.to ≤ assembly.cores) → outcome_of name assembly ≡ None
+    by_receiver (inl beyond) =
+        ap (λ (journal : Journal T). first_under name (given_outcomes name.from journal)) (no_journal assembly name.to (omega (arith, spelled.journals)))
+    by_receiver (inr within) =
+        ap (first_under name) (outside_gives_nothing (terms_of name.to assembly) no_core name.from (journal_of name.to assembly) (spelled.notes name.to within))
 
 module _ {T : Type 0} (name : JobId) where
   -- where nothing was given, one more note gives what it gives alone

@@ -1,9 +1,10 @@
 //! The outcome that was first given under a name.
 
-ghost use Rattle.std.specs.Prelude.{◌≡◌, ◌<◌, Some, None, [], ◌∷◌, if◌then◌else◌};
+ghost use Rattle.std.specs.Prelude.{◌≡◌, ◌<◌, ◌≤◌, Some, None, [], ◌∷◌, if◌then◌else◌};
 ghost use Rattle.rt_ids.specs.Assembly.{first_under, outcome_of};
 ghost use Rattle.rt_ids.specs.Filters.{given_outcomes};
 ghost use Rattle.rt_ids.specs.Names as spec;
+ghost use Rattle.rt_ids.specs.Spelled.{IsSpelled};
 
 use crate::assembly::Assembly;
 use crate::journal::Journal;
@@ -18,12 +19,21 @@ impl Assembly {
     pub fn outcome(&self, name: JobId) -> Option<OutcomeNote<u64>>
         ensures value { result ≡ outcome_of name self.now }
         ensures nobody { self.now.cores < name.to → result ≡ None }
+        ensures outside { IsSpelled self.now → self.now.cores ≤ name.to → result ≡ None }
     {
-        if name.to.0 > self.cores() {
-            return None;
-        }
-        first_given(self.journal(ActorNo(name.to.0)), &name)
+        first_outcome(self, &name)
     }
+}
+
+/// The outcome that the notes of its receiver first give under a name. None if there is no such actor.
+fn first_outcome(assembly: &Assembly, name: &JobId) -> Option<OutcomeNote<u64>>
+    ensures value { result ≡ outcome_of name.now assembly.now }
+    ensures nobody { assembly.now.cores < name.now.to → result ≡ None }
+{
+    if name.to.0 > assembly.cores() {
+        return None;
+    }
+    first_given(assembly.journal(ActorNo(name.to.0)), name)
 }
 
 /// The outcome that a journal first gives under a name.

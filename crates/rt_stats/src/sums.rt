@@ -10,7 +10,7 @@ ghost use Rattle.rt_stats.specs.Sums.{charges};
 ghost use Rattle.rt_stats.specs.Walks.{KnowsSums, inside_below};
 
 use crate::gates::{Gates, all_done};
-use crate::tally::{Tallies, account_of, queue_noted, queue_touched};
+use crate::tally::{Tallies, queue_noted, queue_touched};
 use rt_ids::{CoreStats, Note, QueueNo, QueueStats};
 use rt_journal_facts::told::queue_told;
 use rt_journal_facts::{Account, Accounts, NameTable, note_at};
@@ -35,18 +35,6 @@ impl Model for Sums {
     ghost Value = { SumsView };
 
     ghost view = { λ sums. record { queues = sums.queues; accounts = sums.accounts; tallies = sums.tallies; gates = sums.gates } };
-}
-
-/// Whether no queue has work.
-fn is_idle(accounts: &[Account; 256]) -> bool
-    ensures { IsTrue result ↔ ((queue : ℕ) → IsTrue (has_jobs (get_or accounts.now queue fresh_account)) → ⊥) }
-{
-    for queue in 0..accounts.len() {
-        if accounts[queue].has_jobs() {
-            return false;
-        }
-    }
-    true
 }
 
 /// The jobs inside all queues, of which so many were created behind queue 0.
@@ -131,7 +119,7 @@ impl Sums {
     fn stats_of(&self, queue: QueueNo) -> QueueStats
         ensures { (journal : Notes ℕ) → KnowsSums self.now journal → result ≡ spec.stats_of queue journal }
     {
-        let account = account_of(&self.accounts, queue);
+        let account = self.accounts.of(queue);
         let tally = self.tallies.of(queue);
         let inside = account.entered.saturating_sub(account.left);
         QueueStats {
@@ -154,7 +142,7 @@ impl Sums {
             turns: self.gates.turns,
             floor: self.accounts.floor,
             held: held(&self.accounts.queues, self.gates.created),
-            drained: all_done(&self.gates.senders, cores) && is_idle(&self.accounts.queues),
+            drained: all_done(&self.gates.senders, cores) && self.accounts.are_idle(),
         }
     }
 

@@ -122,13 +122,6 @@ fn cost_told(note: &Note<u64>, shares: &Shares) -> u64
     }
 }
 
-/// The account of a queue.
-pub fn account_of(accounts: &Accounts, queue: QueueNo) -> Account
-    ensures { result ≡ get_or accounts.now.queues queue fresh_account }
-{
-    accounts.queues[queue.0 as usize]
-}
-
 /// Of the notes that were read: the tally of each queue.
 #[derive(Drop)]
 pub struct Tallies {
@@ -157,7 +150,7 @@ impl Tallies {
         ensures { (before : Notes ℕ) → queue.now ≡ spec.queue_noted note.now before → length before < greatest_count → KnowsAccounts accounts.now before → KnowsTallies self.old before → KnowsTallies self.new (note.now ∷ before) }
     {
         if let Some(queue) = *queue {
-            let account = account_of(accounts, queue);
+            let account = accounts.of(queue);
             let cost = cost_told(note, &account.shares);
             let mut tally = self.of(queue);
             tally.add(note, cost);

@@ -1,26 +1,27 @@
-use Rattle.std.proofs.Common.{◌≡◌, ℕ, ◌+◌, subst, ◌∙◌, ap, arith}
+use Rattle.std.proofs.Common.{◌≡◌, ℕ, ◌+◌, refl, subst, ◌∙◌, ap, arith}
 use Rattle.rt_ids.specs.Assembly.{journal_of}
 use Rattle.rt_ids.specs.Journal.{Journal}
-use Rattle.rt_audit_rules.specs.Links.{KnowsOrdersOf}
-use Rattle.rt_audit_rules.proofs.LinkTables.{next_orders, all_orders}
+use Rattle.rt_audit_rules.specs.Links.{order_in, KnowsOrdersOf}
+use Rattle.rt_audit_rules.proofs.LinkTables.{next_table, all_known}
 use Rattle.rt_audit_rules.proofs.links.orders_sent.Goals as goal
 
 pub loop-actor-preserved : goal.loop-actor-preserved
 loop-actor-preserved c =
     rw c.in_ok-push.ensures.items
     (
-    next_orders c.args.assembly.now _ c.in_ok-orders_of.field-0 c.loop-actor.actor c.loop-actor.invariant
+    next_table order_in c.args.assembly.now _ c.in_ok-orders_of.field-0 c.loop-actor.actor c.loop-actor.invariant
     (subst (λ (journal : Journal ℕ). KnowsOrdersOf c.in_ok-orders_of.field-0 journal) c.journal.ensures c.in_ok-orders_of.ensures)
     )
 
 pub returns : goal.returns
 returns c =
     let last : c.cores-outside.result ≡ c.loop-actor.actor = omega arith in
-    all_orders c.args.assembly.now c.push-2.new.self.items (c.loop-actor.actor + 1)
+    λ name.
+    all_known order_in c.args.assembly.now c.push-2.new.self.items (c.loop-actor.actor + 1)
     (
     rw c.in_ok-push-2.ensures.items
     (
-    next_orders c.args.assembly.now c.loop-actor.orders.items c.in_ok-orders_of-2.field-0 c.loop-actor.actor c.loop-actor.invariant
+    next_table order_in c.args.assembly.now c.loop-actor.orders.items c.in_ok-orders_of-2.field-0 c.loop-actor.actor c.loop-actor.invariant
     (
     subst (λ (journal : Journal ℕ). KnowsOrdersOf c.in_ok-orders_of-2.field-0 journal)
     (c.journal-2.ensures ∙ ap (λ (actor : ℕ). journal_of actor c.args.assembly.now) last) c.in_ok-orders_of-2.ensures
@@ -28,3 +29,4 @@ returns c =
     )
     )
     (omega (arith, c.cores-outside.ensures.journals, c.cores-outside.ensures.value, last))
+    (λ other. refl) name.from name

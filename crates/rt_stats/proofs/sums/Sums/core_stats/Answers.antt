@@ -8,14 +8,14 @@ pub returns-then-all_done-clause-core : goal.returns-then-all_done-clause-core
 returns-then-all_done-clause-core c =
     λ journal knows.
     let known = subst (λ (view : SumsView). KnowsSums {T = ℕ} view journal) (sym c.self.view_is) knows in
-    core_known _ journal known c.held.result c.is_idle.result c.held.ensures
+    core_known _ journal known c.held.result c.are_idle.result c.held.ensures
 
 pub returns-then-all_done-clause-drained : goal.returns-then-all_done-clause-drained
 returns-then-all_done-clause-drained c =
     λ journal knows.
     let known = subst (λ (view : SumsView). KnowsSums {T = ℕ} view journal) (sym c.self.view_is) knows in (
-      λ idle. drained_known _ journal known c.args.cores (c.all_done.ensures.0 c.if-all_done.true) (c.is_idle.ensures.0 idle),
-      λ drained. c.is_idle.ensures.1 (idle_known _ journal known c.args.cores drained),
+      λ idle. drained_known _ journal known c.args.cores (c.all_done.ensures.0 c.if-all_done.true) (c.are_idle.ensures.0 idle),
+      λ drained. c.are_idle.ensures.1 (idle_known _ journal known c.args.cores drained),
     )
 
 pub returns-else-all_done-clause-core : goal.returns-else-all_done-clause-core

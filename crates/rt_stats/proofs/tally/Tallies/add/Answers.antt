@@ -11,9 +11,9 @@ pub returns-in-Some : goal.returns-in-Some
 returns-in-Some c =
     λ before noted short accounts knows.
     let index = c.queue.inside.0 in
-    let weight : c.account_of-account.result.shares ≡ shares index before =
+    let weight : c.of-account.result.shares ≡ shares index before =
     ap (λ (account : Account). account.shares)
-    (c.account_of-account.ensures ∙ ap (λ at. get_or c.args.accounts.now.queues at fresh_account) (sym c.queue.view_is)) ∙
+    (c.of-account.ensures ∙ ap (λ at. get_or c.args.accounts.now.queues at fresh_account) (sym c.queue.view_is)) ∙
     (accounts.each index).shares in
     tallies_after_one c.args.note.now before c.args.self.now.queues knows index c.cost_told-cost.result c.add.new.self (omega arith) short
     c.cost_told-cost.ensures.bounded (sym noted ∙ (c.in-Some.is ∙ ap Some (sym c.queue.view_is)))

@@ -1,6 +1,0 @@
-use Rattle.std.proofs.Common.{◌≡◌, ℕ, ◌<◌, false, get_or}
-use Rattle.rt_journal_facts.specs.Accounts.{has_jobs, fresh_account}
-use Rattle.rt_audit.proofs.lost.are_idle.Given as goal
-
-abbrev pub invariant-loop-queue : goal.invariant-loop-queue
-invariant-loop-queue l = (queue : ℕ) → queue < l.queue → has_jobs (get_or l.accounts queue fresh_account) ≡ false
