@@ -7,6 +7,7 @@ use Rattle.rt_text.specs.declared.fault.Cause.{Cause}
 use Rattle.rt_text.specs.declared.fault.Cause.TheVariants.{TooManyLines, LineTooLong, TooManyQueues}
 use Rattle.rt_words.specs.Words.{words}
 use Rattle.fairexec_script.specs.Lines.{first_line, later_line}
+use Rattle.fairexec_script.specs.TextLimits.{most_lines, longest_line}
 
 -- cores and capacity, once a line told them; the `queue` lines by core and shares; the events; all in order
 pub record Drafted : Type 0 where
@@ -54,6 +55,6 @@ with_text draft line =
 -- a line, by its number from 1
 abbrev pub judged : Drafted → ℕ → List ℕ → Result Drafted Cause
 judged draft number line =
-    if nat_lt 4096 number then Err TooManyLines
-    else (if nat_lt 2048 (length line) then Err LineTooLong
+    if nat_lt most_lines number then Err TooManyLines
+    else (if nat_lt longest_line (length line) then Err LineTooLong
     else with_text draft line)

@@ -2,12 +2,11 @@ pub mod Keywords
 pub mod Polls
 pub mod EventLines
 pub mod Lines
+pub mod TextLimits
 pub mod Drafts
 pub mod Limits
 pub mod Counts
-pub mod Feeds
 pub mod Scripts
 pub mod ScriptFaults
 pub mod Whole
-pub mod Telling
 pub mod Taking

@@ -1,20 +1,10 @@
 -- A script's text: its lines, judged one after another.
-use Rattle.std.specs.Prelude.{◌≡◌, ℕ, ◌+◌, ◌-◌, ◌*◌, ◌==◌, ◌++◌, List, [], ◌∷◌, length, Option, Some, None, Result, Ok, Err}
-use Rattle.std.specs.List.{slice_split}
+use Rattle.std.specs.Prelude.{ℕ, ◌+◌, ◌<◌, ◌≤◌, List, [], ◌∷◌, length, Option, Some, None, Result, Ok, Err}
+use Rattle.rt_lines.specs.Texts.{Judge, go_on, text_judged}
 use Rattle.rt_text.specs.declared.fault.Cause.{Cause}
 use Rattle.rt_text.specs.declared.fault.Cause.TheVariants.{CoresLineExpected}
+use Rattle.fairexec_script.specs.TextLimits.{most_lines, longest_line}
 use Rattle.fairexec_script.specs.Drafts.{Drafted, empty_draft, judged}
-
--- what is left of a text's parts, where nothing behind the last line feed is no line
-abbrev pub ended_lines : List (List ℕ) → List (List ℕ)
-ended_lines [] = []
-ended_lines ([] ∷ []) = []
-ended_lines ([] ∷ next ∷ rest) = [] ∷ ended_lines (next ∷ rest)
-ended_lines ((byte ∷ line) ∷ rest) = (byte ∷ line) ∷ ended_lines rest
-
--- the lines of a text: each ends with a line feed, the last one perhaps with the text
-abbrev pub text_lines : List ℕ → List (List ℕ)
-text_lines text = ended_lines (slice_split (λ byte. byte == 10) text)
 
 -- what a faulty line is told by: its number from 1 and the cause
 abbrev pub Fault : Type 0
@@ -25,43 +15,20 @@ abbrev pub whole : ℕ → Drafted → Option (ℕ × ℕ) → Result Drafted Fa
 whole number draft None = Err (number, CoresLineExpected)
 whole number draft (Some size) = Ok draft
 
--- what comes of a line, and then of those after it
-abbrev pub go_on : ℕ → Result Drafted Cause → (Drafted → Result Drafted Fault) → Result Drafted Fault
-go_on number (Ok draft) others = others draft
-go_on number (Err cause) others = Err (number, cause)
+-- the last line may have no line feed
+abbrev pub at_end : Drafted → ℕ → List ℕ → Result Drafted Fault
+at_end draft number [] = whole number draft draft.size
+at_end draft number (byte ∷ bytes) = go_on number (judged draft number (byte ∷ bytes)) (λ last. whole (number + 1) last last.size)
 
--- the lines from this number on: the script, or the first faulty line
-abbrev pub judged_from : ℕ → Drafted → List (List ℕ) → Result Drafted Fault
-judged_from number draft [] = whole number draft draft.size
-judged_from number draft (line ∷ rest) = go_on number (judged draft number line) (λ next. judged_from (number + 1) next rest)
+abbrev pub judge : Judge Drafted Cause
+judge = record { longest = longest_line; judged = judged; at_end = at_end }
 
 -- the script that a text writes, or its first faulty line
 abbrev pub script_of : List ℕ → Result Drafted Fault
-script_of text = judged_from 1 empty_draft (text_lines text)
+script_of text = text_judged judge empty_draft text
 
--- a text in the middle: the lines so far, the number of the line that begins now, and as much as is read of it
-pub record Reading : Type 0 where
-  pub draft : Drafted
-  pub number : ℕ
-  pub line : List ℕ
-
-abbrev pub start_of_text : Reading
-start_of_text = record { draft = empty_draft; number = 1; line = [] }
-
--- what comes of a text whose rest is this
-abbrev pub script_from : Reading → List ℕ → Result Drafted Fault
-script_from reading rest = judged_from reading.number reading.draft (text_lines (reading.line ++ rest))
-
--- how many bytes may follow at most before a line is too long or one too many
-abbrev pub room_left : Reading → ℕ
-room_left reading = (4098 - reading.number) * 2049 - length reading.line
-
--- the line that is begun was taken, and the next one begins
-pub record IsTaken (old new : Reading) : Type 0 where
-  pub draft : judged old.draft old.number old.line ≡ Ok new.draft
-  pub number : new.number ≡ old.number + 1
-  pub line : new.line ≡ []
-
--- the line that is begun is faulty
-abbrev pub IsRefused : Reading → Fault → Type 0
-IsRefused old fault = (fault.0 ≡ old.number) × (judged old.draft old.number old.line ≡ Err fault.1)
+-- a draft before the line of this number: each line before told one event at most
+pub record IsBefore (number : ℕ) (draft : Drafted) : Type 0 where
+  pub some : 1 ≤ number
+  pub few : number ≤ most_lines + 1
+  pub short : length draft.events < number

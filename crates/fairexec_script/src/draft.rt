@@ -5,15 +5,16 @@ ghost use Rattle.fairexec_script.specs.Whole.{drafted};
 ghost use Rattle.rt_words.specs.Words.{words};
 ghost use Rattle.fairexec_script.specs.Drafts as spec;
 ghost use Rattle.fairexec_script.specs.Limits.{MayFollow};
-ghost use Rattle.fairexec_script.specs.ScriptFaults.{IfFaulty};
+ghost use Rattle.rt_lines.specs.Faults.{IfCause};
 
 use crate::counts::CoreCounts;
 use crate::event::ScriptEvent;
 use crate::line::{Line, first_line, later_line};
 use crate::script::Script;
 use rt_ids::CoreNo;
+use rt_lines::Stop;
 use rt_shares::Shares;
-use rt_text::{Cause, EngineFault};
+use rt_text::Cause;
 use std::alloc::Global;
 use std::marker::Model;
 
@@ -22,7 +23,7 @@ const MOST_QUEUE_LINES: usize = 255;
 
 /// A script as far as its lines are judged.
 #[derive(Drop)]
-pub struct Draft {
+pub(crate) struct Draft {
     size: Option<(u8, u16)>,
     queues: Vec<(CoreNo, Shares)>,
     // How many `queue` lines each core has.
@@ -44,7 +45,7 @@ impl Model for Draft {
 
 impl Draft {
     /// Before the first line.
-    pub fn new(alloc: Global) -> Draft
+    pub(crate) fn new(alloc: Global) -> Draft
         ensures { result ≡ spec.empty_draft }
     {
         Draft {
@@ -56,7 +57,7 @@ impl Draft {
     }
 
     /// The whole script, where the lines end here; None where none told the size.
-    pub fn finish(self) -> Option<Script>
+    pub(crate) fn finish_script(self) -> Option<Script>
         requires { length self.events ≤ 4096 }
         ensures whole { IfSome result (λ script. self ≡ drafted script) }
         ensures none { IsNone result ↔ (self.size ≡ None) }
@@ -76,11 +77,10 @@ impl Draft {
         })
     }
 
-    /// Takes one line that isn't too long, by its number from 1.
-    pub fn take(&mut self, number: u32, text: &[u8]) -> Result<(), EngineFault>
+    /// Takes one line that isn't too long.
+    pub(crate) fn take_text(&mut self, text: &[u8]) -> Result<(), Stop<Cause>>
         ensures ok { OnOk result (spec.with_text self.old text.now ≡ Ok self.new) }
-        ensures faulty { IfErr result (IfFaulty (λ fault.
-            (fault.0 ≡ number) × (spec.with_text self.old text.now ≡ Err fault.1))) }
+        ensures faulty { IfErr result (IfCause (λ cause. spec.with_text self.old text.now ≡ Err cause)) }
         ensures one_more { OnOk result (length self.new.events ≤ length self.old.events + 1) }
         ensures err { OnErr result (self.new ≡ self.old) }
     {
@@ -88,11 +88,8 @@ impl Draft {
             return Ok(());
         }
         match self.line_at(text) {
-            Ok(line) => self.add(number, line),
-            Err(cause) => Err(EngineFault::Text {
-                line: number,
-                cause,
-            }),
+            Ok(line) => self.add(line),
+            Err(cause) => Err(Stop::Cause(cause)),
         }
     }
 
@@ -108,12 +105,11 @@ impl Draft {
         }
     }
 
-    /// Takes what a line says, by its number.
-    fn add(&mut self, number: u32, line: Line) -> Result<(), EngineFault>
+    /// Takes what a line says.
+    fn add(&mut self, line: Line) -> Result<(), Stop<Cause>>
         requires { MayFollow self.old.size line }
         ensures ok { OnOk result (spec.with_line self.old line ≡ Ok self.new) }
-        ensures faulty { IfErr result (IfFaulty (λ fault.
-            (fault.0 ≡ number) × (spec.with_line self.old line ≡ Err fault.1))) }
+        ensures faulty { IfErr result (IfCause (λ cause. spec.with_line self.old line ≡ Err cause)) }
         ensures one_more { OnOk result (length self.new.events ≤ length self.old.events + 1) }
         ensures err { OnErr result (self.new ≡ self.old) }
     {
@@ -121,10 +117,7 @@ impl Draft {
             Line::Size(cores, cap) => self.size = Some((cores, cap)),
             Line::Queue(core, shares) => {
                 if self.counts.of(core) >= MOST_QUEUE_LINES {
-                    return Err(EngineFault::Text {
-                        line: number,
-                        cause: Cause::TooManyQueues,
-                    });
+                    return Err(Stop::Cause(Cause::TooManyQueues));
                 }
                 self.queues.push((core, shares))?;
                 self.counts.add(core);

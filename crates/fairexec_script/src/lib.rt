@@ -2,13 +2,14 @@
 #![tactic(auto)]
 
 pub mod counts;
-pub mod draft;
+mod draft;
 pub mod event;
 mod event_line;
 pub mod keyword;
+pub mod limits;
 pub mod line;
 pub mod polls;
-pub mod reader;
+mod reader;
 pub mod script;
 pub mod source;
 

@@ -3,19 +3,16 @@
 ghost use Rattle.std.specs.Prelude.{◌≡◌, ◌≢◌, Ok, Err, IfOk, IfErr, IfSome};
 ghost use Rattle.rt_text.specs.declared.fault.EngineFault.TheVariants.{Write};
 ghost use Rattle.fairexec_script.specs.Scripts.{script_of};
-ghost use Rattle.fairexec_script.specs.ScriptFaults.{IfText};
+ghost use Rattle.fairexec_script.specs.ScriptFaults.{IfText, fault_of};
 ghost use Rattle.fairexec_script.specs.Taking.{IsPrompt};
 ghost use Rattle.fairexec_script.specs.Whole.{drafted};
 
-use crate::reader::ScriptReader;
+use crate::draft::Draft;
 use crate::script::Script;
-use rt_text::EngineFault;
-use rt_text::steady::read_some;
+use rt_lines::{LineFault, read_lines};
+use rt_text::{Cause, EngineFault};
 use std::alloc::Global;
 use std::io::Read;
-
-/// The most bytes that are read at once.
-const CHUNK: usize = 8192;
 
 /// The script that the source tells, read and judged to its end. Each line is judged before the next read.
 pub fn read_script<R: Read>(alloc: Global, source: &mut R) -> Result<Script, EngineFault>
@@ -26,15 +23,19 @@ pub fn read_script<R: Read>(alloc: Global, source: &mut R) -> Result<Script, Eng
     ensures device { IfErr result (λ fault. fault ≢ Write) }
     ensures prompt { IfErr result (IsPrompt (R.remaining source.old) (R.remaining source.new)) }
 {
-    let mut chunk = [0u8; CHUNK];
-    let mut reader = ScriptReader::new(alloc);
-    loop {
-        let Ok(count) = read_some(source, &mut chunk) else {
-            return Err(EngineFault::Read);
-        };
-        if count == 0 {
-            return reader.finish();
-        }
-        reader.feed(&chunk[..count])?;
+    match read_lines(Draft::new(alloc), source) {
+        Ok(script) => Ok(script),
+        Err(fault) => Err(fault_of(fault)),
+    }
+}
+
+/// The fault that a reader of lines tells.
+fn fault_of(fault: LineFault<Cause>) -> EngineFault
+    ensures { result ≡ fault_of fault }
+{
+    match fault {
+        LineFault::Text { line, cause } => EngineFault::Text { line, cause },
+        LineFault::Read => EngineFault::Read,
+        LineFault::Memory => EngineFault::Memory,
     }
 }

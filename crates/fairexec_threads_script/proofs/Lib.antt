@@ -1,3 +1,1 @@
 pub mod LimitLemmas
-pub mod ReaderLemmas
-pub mod TakingLemmas

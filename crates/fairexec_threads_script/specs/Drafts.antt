@@ -8,6 +8,7 @@ use Rattle.fairexec_script.specs.declared.event.ScriptEvent.TheVariants.{Send}
 use Rattle.fairexec_script.specs.declared.line.Line.{Line}
 use Rattle.fairexec_script.specs.declared.line.Line.TheVariants.{Size, Queue, Step}
 use Rattle.fairexec_script.specs.Drafts.{queue_lines, is_skipped}
+use Rattle.fairexec_script.specs.TextLimits.{most_lines, longest_line}
 use Rattle.rt_text.specs.declared.fault.Cause.TheVariants.{TooManyLines, LineTooLong, TooManyQueues}
 use Rattle.rt_words.specs.Words.{words}
 use Rattle.fairexec_threads_script.specs.declared.fault.ThreadsCause.{ThreadsCause}
@@ -97,6 +98,6 @@ with_text draft line =
 -- a line, by its number from 1
 abbrev pub judged : Drafted → ℕ → List ℕ → Result Drafted ThreadsCause
 judged draft number line =
-    if nat_lt 4096 number then Err (why.Line TooManyLines)
-    else (if nat_lt 2048 (length line) then Err (why.Line LineTooLong)
+    if nat_lt most_lines number then Err (why.Line TooManyLines)
+    else (if nat_lt longest_line (length line) then Err (why.Line LineTooLong)
     else with_text draft line)

@@ -4,6 +4,5 @@ pub mod Drafts
 pub mod Limits
 pub mod Scripts
 pub mod ScriptFaults
-pub mod Telling
 pub mod Whole
 pub mod Taking

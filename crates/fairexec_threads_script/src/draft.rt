@@ -4,13 +4,13 @@ ghost use Rattle.std.specs.Prelude.{◌≡◌, Ok, Err, IfOk, IfErr, IfSome, IsN
 ghost use Rattle.rt_words.specs.Words.{words};
 ghost use Rattle.fairexec_script.specs.Drafts.{is_skipped};
 ghost use Rattle.fairexec_script.specs.Limits.{IsCoreOf, IsSize, MayFollow, IsEventFor};
-ghost use Rattle.fairexec_threads_script.specs.declared.fault.ThreadsFault.TheVariants.{Memory};
+ghost use Rattle.rt_lines.specs.Faults.{IfCause};
+ghost use Rattle.rt_lines.specs.declared.fault.Stop.TheVariants.{Memory};
 ghost use Rattle.fairexec_threads_script.specs.Drafts as spec;
 ghost use Rattle.fairexec_threads_script.specs.Limits.{IsToldFor};
-ghost use Rattle.fairexec_threads_script.specs.ScriptFaults.{IfFaulty};
 ghost use Rattle.fairexec_threads_script.specs.Whole.{drafted};
 
-use crate::fault::{ThreadsCause, ThreadsFault};
+use crate::fault::ThreadsCause;
 use crate::line::{line_told, size_told};
 use crate::script::ThreadsScript;
 use fairexec_script::ScriptEvent;
@@ -18,6 +18,7 @@ use fairexec_script::counts::CoreCounts;
 use fairexec_script::line::Line;
 use rt_ids::{CoreNo, Order};
 use rt_jobs::ScriptJob;
+use rt_lines::Stop;
 use rt_shares::Shares;
 use rt_text::Cause;
 use std::alloc::Global;
@@ -74,7 +75,7 @@ impl Draft {
     }
 
     /// The whole script, if the lines end here; None if none told the size.
-    pub(crate) fn finish(self) -> Option<ThreadsScript>
+    pub(crate) fn finish_script(self) -> Option<ThreadsScript>
         requires { length self.orders ≤ 4096 }
         ensures whole { IfSome result (λ script. self ≡ drafted script) }
         ensures none { IsNone result ↔ (self.size ≡ None) }
@@ -96,11 +97,10 @@ impl Draft {
         })
     }
 
-    /// Takes one line that isn't too long, by its number from 1.
-    pub(crate) fn take(&mut self, number: u32, text: &[u8]) -> Result<(), ThreadsFault>
+    /// Takes one line that isn't too long.
+    pub(crate) fn take_text(&mut self, text: &[u8]) -> Result<(), Stop<ThreadsCause>>
         ensures ok { OnOk result (spec.with_text self.old text.now ≡ Ok self.new) }
-        ensures faulty { IfErr result (IfFaulty (λ fault.
-            (fault.0 ≡ number) × (spec.with_text self.old text.now ≡ Err fault.1))) }
+        ensures faulty { IfErr result (IfCause (λ cause. spec.with_text self.old text.now ≡ Err cause)) }
         ensures one_more { OnOk result (length self.new.orders ≤ length self.old.orders + 1) }
         ensures err { OnErr result (self.new ≡ self.old) }
     {
@@ -108,11 +108,8 @@ impl Draft {
             return Ok(());
         }
         match self.line_at(text) {
-            Ok(line) => self.add(number, line),
-            Err(cause) => Err(ThreadsFault::Text {
-                line: number,
-                cause,
-            }),
+            Ok(line) => self.add(line),
+            Err(cause) => Err(Stop::Cause(cause)),
         }
     }
 
@@ -128,12 +125,11 @@ impl Draft {
         }
     }
 
-    /// Takes what a line says, by its number.
-    fn add(&mut self, number: u32, line: Line) -> Result<(), ThreadsFault>
+    /// Takes what a line says.
+    fn add(&mut self, line: Line) -> Result<(), Stop<ThreadsCause>>
         requires { MayFollow self.old.size line }
         ensures ok { OnOk result (spec.with_line self.old line ≡ Ok self.new) }
-        ensures faulty { IfErr result (IfFaulty (λ fault.
-            (fault.0 ≡ number) × (spec.with_line self.old line ≡ Err fault.1))) }
+        ensures faulty { IfErr result (IfCause (λ cause. spec.with_line self.old line ≡ Err cause)) }
         ensures one_more { OnOk result (length self.new.orders ≤ length self.old.orders + 1) }
         ensures err { OnErr result (self.new ≡ self.old) }
     {
@@ -142,8 +138,8 @@ impl Draft {
                 self.set_size(cores, cap);
                 Ok(())
             }
-            Line::Queue(core, shares) => self.add_queue(number, core, shares),
-            Line::Step(event) => self.add_event(number, event),
+            Line::Queue(core, shares) => self.add_queue(core, shares),
+            Line::Step(event) => self.add_event(event),
         }
     }
 
@@ -157,19 +153,15 @@ impl Draft {
     }
 
     /// Takes a `queue` line.
-    fn add_queue(&mut self, number: u32, core: CoreNo, shares: Shares) -> Result<(), ThreadsFault>
+    fn add_queue(&mut self, core: CoreNo, shares: Shares) -> Result<(), Stop<ThreadsCause>>
         requires { IsCoreOf self.old.size core }
         ensures ok { OnOk result (spec.with_queue self.old core shares ≡ Ok self.new) }
-        ensures faulty { IfErr result (IfFaulty (λ fault.
-            (fault.0 ≡ number) × (spec.with_queue self.old core shares ≡ Err fault.1))) }
+        ensures faulty { IfErr result (IfCause (λ cause. spec.with_queue self.old core shares ≡ Err cause)) }
         ensures one_more { OnOk result (length self.new.orders ≤ length self.old.orders + 1) }
         ensures err { OnErr result (self.new ≡ self.old) }
     {
         if self.lines.of(core) >= MOST_QUEUE_LINES {
-            return Err(ThreadsFault::Text {
-                line: number,
-                cause: ThreadsCause::Line(Cause::TooManyQueues),
-            });
+            return Err(Stop::Cause(ThreadsCause::Line(Cause::TooManyQueues)));
         }
         self.queues.push((core, shares))?;
         self.lines.add(core);
@@ -177,43 +169,34 @@ impl Draft {
     }
 
     /// Takes a line that lets something happen.
-    fn add_event(&mut self, number: u32, event: ScriptEvent) -> Result<(), ThreadsFault>
+    fn add_event(&mut self, event: ScriptEvent) -> Result<(), Stop<ThreadsCause>>
         requires { IsEventFor self.old.size event }
         ensures ok { OnOk result (spec.with_event self.old event ≡ Ok self.new) }
-        ensures faulty { IfErr result (IfFaulty (λ fault.
-            (fault.0 ≡ number) × (spec.with_event self.old event ≡ Err fault.1))) }
+        ensures faulty { IfErr result (IfCause (λ cause. spec.with_event self.old event ≡ Err cause)) }
         ensures one_more { OnOk result (length self.new.orders ≤ length self.old.orders + 1) }
         ensures err { OnErr result (self.new ≡ self.old) }
     {
         match event {
-            ScriptEvent::Send(_, core, order) => self.add_order(number, core, order),
-            _ => Err(ThreadsFault::Text {
-                line: number,
-                cause: ThreadsCause::NotForThreads,
-            }),
+            ScriptEvent::Send(_, core, order) => self.add_order(core, order),
+            _ => Err(Stop::Cause(ThreadsCause::NotForThreads)),
         }
     }
 
     /// Takes an order to a core.
     fn add_order(
         &mut self,
-        number: u32,
         core: CoreNo,
         order: Order<ScriptJob>,
-    ) -> Result<(), ThreadsFault>
+    ) -> Result<(), Stop<ThreadsCause>>
         requires { IsToldFor self.old.size (core, order) }
         ensures ok { OnOk result (spec.with_order self.old (core, order) ≡ Ok self.new) }
-        ensures faulty { IfErr result (IfFaulty (λ fault.
-            (fault.0 ≡ number) × (spec.with_order self.old (core, order) ≡ Err fault.1))) }
+        ensures faulty { IfErr result (IfCause (λ cause. spec.with_order self.old (core, order) ≡ Err cause)) }
         ensures one_more { OnOk result (length self.new.orders ≤ length self.old.orders + 1) }
         ensures err { OnErr result (self.new ≡ self.old) }
     {
         let polls = polls_of(&order);
         match self.refuses(core, polls) {
-            Some(cause) => Err(ThreadsFault::Text {
-                line: number,
-                cause,
-            }),
+            Some(cause) => Err(Stop::Cause(cause)),
             None => self.push_order(core, order, polls),
         }
     }
@@ -224,14 +207,14 @@ impl Draft {
         core: CoreNo,
         order: Order<ScriptJob>,
         polls: u32,
-    ) -> Result<(), ThreadsFault>
+    ) -> Result<(), Stop<ThreadsCause>>
         requires told { IsToldFor self.old.size (core, order) }
         requires polls { polls ≡ spec.polls_of order }
         requires few { spec.polls_in self.old.orders + polls ≤ 4096 }
         requires room { spec.orders_to core self.old.orders + 1 < spec.cap_of self.old.size }
         ensures ok { OnOk result (self.new
             ≡ record self.old { orders = self.old.orders ++ (core, order) ∷ [] }) }
-        ensures fault { IfErr result (λ fault. fault ≡ Memory) }
+        ensures stop { IfErr result (λ stop. stop ≡ Memory) }
         ensures err { OnErr result (self.new ≡ self.old) }
     {
         self.orders.push((core, order))?;

@@ -2,19 +2,16 @@
 
 ghost use Rattle.std.specs.Prelude.{◌≡◌, Ok, Err, IfOk, IfErr, IfSome};
 ghost use Rattle.fairexec_threads_script.specs.Scripts.{threads_script_of};
-ghost use Rattle.fairexec_threads_script.specs.ScriptFaults.{IfText, IsOfReading};
+ghost use Rattle.fairexec_threads_script.specs.ScriptFaults.{IfText, IsOfReading, fault_of};
 ghost use Rattle.fairexec_threads_script.specs.Taking.{IsPrompt};
 ghost use Rattle.fairexec_threads_script.specs.Whole.{drafted};
 
-use crate::fault::ThreadsFault;
-use crate::reader::ThreadsReader;
+use crate::draft::Draft;
+use crate::fault::{ThreadsCause, ThreadsFault};
 use crate::script::ThreadsScript;
-use rt_text::steady::read_some;
+use rt_lines::{LineFault, read_lines};
 use std::alloc::Global;
 use std::io::Read;
-
-/// The most bytes that are read at once.
-const CHUNK: usize = 8192;
 
 /// The script for threads that the source tells, read and judged to its end. Each line is judged before the next read.
 ///
@@ -32,15 +29,19 @@ pub fn read_threads_script<R: Read>(
     ensures device { IfErr result IsOfReading }
     ensures prompt { IfErr result (IsPrompt (R.remaining source.old) (R.remaining source.new)) }
 {
-    let mut chunk = [0u8; CHUNK];
-    let mut reader = ThreadsReader::new(alloc);
-    loop {
-        let Ok(count) = read_some(source, &mut chunk) else {
-            return Err(ThreadsFault::Read);
-        };
-        if count == 0 {
-            return reader.finish();
-        }
-        reader.feed(&chunk[..count])?;
+    match read_lines(Draft::new(alloc), source) {
+        Ok(script) => Ok(script),
+        Err(fault) => Err(fault_of(fault)),
+    }
+}
+
+/// The fault that a reader of lines tells.
+fn fault_of(fault: LineFault<ThreadsCause>) -> ThreadsFault
+    ensures { result ≡ fault_of fault }
+{
+    match fault {
+        LineFault::Text { line, cause } => ThreadsFault::Text { line, cause },
+        LineFault::Read => ThreadsFault::Read,
+        LineFault::Memory => ThreadsFault::Memory,
     }
 }

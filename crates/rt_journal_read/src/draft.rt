@@ -4,14 +4,15 @@ ghost use Rattle.std.specs.Prelude.{◌≡◌, ◌≤◌, ◌<◌, ◌+◌, ◌+
 ghost use Rattle.rt_ids.specs.Limits.{most_cores};
 ghost use Rattle.rt_words.specs.Words.{words};
 ghost use Rattle.rt_journal_read.specs.Drafts as spec;
-ghost use Rattle.rt_journal_read.specs.Faults.{IfFaulty};
+ghost use Rattle.rt_lines.specs.Faults.{IfCause};
 
-use crate::fault::{JournalCause, ReadError};
+use crate::fault::JournalCause;
 use rt_ids::{MOST_CAPACITY, MOST_CORES, MOST_NOTES, Note};
 use rt_journal_lines::field::number_in;
 use rt_journal_lines::note_of;
 use rt_journal_lines::phrase::last;
 use rt_journal_notes::{Assembly, Journal};
+use rt_lines::Stop;
 use rt_words::Words;
 use rt_words::field::is_word;
 use std::alloc::Global;
@@ -33,7 +34,7 @@ pub enum Part {
 
 /// The journals of a text as far as its lines are judged.
 #[derive(Drop)]
-pub struct Draft {
+pub(crate) struct Draft {
     part: Part,
     cores: u8,
     cap: u16,
@@ -67,7 +68,7 @@ impl Model for Draft {
 
 impl Draft {
     /// Before the first line.
-    pub fn new(alloc: Global) -> Draft
+    pub(crate) fn new(alloc: Global) -> Draft
         ensures { result ≡ spec.empty_draft }
     {
         Draft {
@@ -81,51 +82,42 @@ impl Draft {
     }
 
     /// What comes next.
-    pub fn part(&self) -> Part
+    pub(crate) fn part(&self) -> Part
         ensures { result ≡ self.now.part }
     {
         self.part
     }
 
-    /// Takes one line that isn't too long and has ended, by its number from 1.
-    pub fn take(&mut self, number: u32, line: &[u8]) -> Result<(), ReadError>
+    /// Takes one line that isn't too long and has ended.
+    pub(crate) fn take_text(&mut self, line: &[u8]) -> Result<(), Stop<JournalCause>>
         ensures ok { OnOk result (spec.with_text self.old.part self.old line.now ≡ Ok self.new) }
-        ensures faulty { IfErr result (IfFaulty (λ fault.
-            (fault.0 ≡ number) × (spec.with_text self.old.part self.old line.now ≡ Err fault.1))) }
+        ensures faulty { IfErr result (IfCause (λ cause. spec.with_text self.old.part self.old line.now ≡ Err cause)) }
         ensures fewer { OnOk result (spec.lines_left self.new + 1 ≤ spec.lines_left self.old) }
     {
         match self.part {
-            Part::Form => self.take_form(number, line),
-            Part::Size => self.take_size(number, line),
-            Part::Notes => self.take_note_line(number, line),
-            Part::After => Err(ReadError::Text {
-                line: number,
-                cause: JournalCause::AfterEnd,
-            }),
+            Part::Form => self.take_form(line),
+            Part::Size => self.take_size(line),
+            Part::Notes => self.take_note_line(line),
+            Part::After => Err(Stop::Cause(JournalCause::AfterEnd)),
         }
     }
 
-    fn take_form(&mut self, number: u32, line: &[u8]) -> Result<(), ReadError>
+    fn take_form(&mut self, line: &[u8]) -> Result<(), Stop<JournalCause>>
         requires { self.old.part ≡ Part.Form }
         ensures ok { OnOk result (spec.with_form self.old line.now ≡ Ok self.new) }
-        ensures faulty { IfErr result (IfFaulty (λ fault.
-            (fault.0 ≡ number) × (spec.with_form self.old line.now ≡ Err fault.1))) }
+        ensures faulty { IfErr result (IfCause (λ cause. spec.with_form self.old line.now ≡ Err cause)) }
     {
         if is_word(line, "journal 1") {
             self.part = Part::Size;
             return Ok(());
         }
-        Err(ReadError::Text {
-            line: number,
-            cause: JournalCause::Header,
-        })
+        Err(Stop::Cause(JournalCause::Header))
     }
 
-    fn take_size(&mut self, number: u32, line: &[u8]) -> Result<(), ReadError>
+    fn take_size(&mut self, line: &[u8]) -> Result<(), Stop<JournalCause>>
         requires { self.old.part ≡ Part.Size }
         ensures ok { OnOk result (spec.with_size self.old (spec.size_of (words line.now)) ≡ Ok self.new) }
-        ensures faulty { IfErr result (IfFaulty (λ fault.
-            (fault.0 ≡ number) × (spec.with_size self.old (spec.size_of (words line.now)) ≡ Err fault.1))) }
+        ensures faulty { IfErr result (IfCause (λ cause. spec.with_size self.old (spec.size_of (words line.now)) ≡ Err cause)) }
     {
         match size_of(&mut Words::of(line)) {
             Some((cores, cap)) => {
@@ -134,17 +126,13 @@ impl Draft {
                 self.cap = cap;
                 Ok(())
             }
-            None => Err(ReadError::Text {
-                line: number,
-                cause: JournalCause::Cores,
-            }),
+            None => Err(Stop::Cause(JournalCause::Cores)),
         }
     }
 
-    fn take_note_line(&mut self, number: u32, line: &[u8]) -> Result<(), ReadError>
+    fn take_note_line(&mut self, line: &[u8]) -> Result<(), Stop<JournalCause>>
         ensures ok { OnOk result (spec.with_note_line self.old line.now ≡ Ok self.new) }
-        ensures faulty { IfErr result (IfFaulty (λ fault.
-            (fault.0 ≡ number) × (spec.with_note_line self.old line.now ≡ Err fault.1))) }
+        ensures faulty { IfErr result (IfCause (λ cause. spec.with_note_line self.old line.now ≡ Err cause)) }
     {
         if is_word(line, "end") {
             self.part = Part::After;
@@ -157,20 +145,16 @@ impl Draft {
                 let actor = actor as u8;
                 self.raise_to(actor)?;
                 let cores = self.cores;
-                self.take_note(number, note_of(&mut fields, actor, cores))
+                self.take_note(note_of(&mut fields, actor, cores))
             }
-            None => Err(ReadError::Text {
-                line: number,
-                cause: JournalCause::Actor,
-            }),
+            None => Err(Stop::Cause(JournalCause::Actor)),
         }
     }
 
     /// Takes what was read of a note of the actor.
-    fn take_note(&mut self, number: u32, note: Option<Note<u64>>) -> Result<(), ReadError>
+    fn take_note(&mut self, note: Option<Note<u64>>) -> Result<(), Stop<JournalCause>>
         ensures ok { OnOk result (spec.with_note self.old note ≡ Ok self.new) }
-        ensures faulty { IfErr result (IfFaulty (λ fault.
-            (fault.0 ≡ number) × (spec.with_note self.old note ≡ Err fault.1))) }
+        ensures faulty { IfErr result (IfCause (λ cause. spec.with_note self.old note ≡ Err cause)) }
     {
         let cause = match note {
             None => JournalCause::Note,
@@ -182,17 +166,14 @@ impl Draft {
                 JournalCause::TooMany
             }
         };
-        Err(ReadError::Text {
-            line: number,
-            cause,
-        })
+        Err(Stop::Cause(cause))
     }
 
     /// Goes on to this actor. The journals of those before it are whole.
-    fn raise_to(&mut self, actor: u8) -> Result<(), ReadError>
+    fn raise_to(&mut self, actor: u8) -> Result<(), Stop<JournalCause>>
         requires { actor ≤ self.old.cores }
         ensures ok { OnOk result (self.new ≡ spec.raised_to actor self.old) }
-        ensures faulty { IfErr result (IfFaulty (λ fault. ⊥)) }
+        ensures faulty { IfErr result (IfCause (λ cause. ⊥)) }
     {
         for _i in self.earlier.len()..usize::from(actor) {
             self.next_actor()?;
@@ -201,10 +182,10 @@ impl Draft {
     }
 
     /// The journal of the actor is whole.
-    fn next_actor(&mut self) -> Result<(), ReadError>
+    fn next_actor(&mut self) -> Result<(), Stop<JournalCause>>
         requires { length self.old.earlier < self.old.cores }
         ensures ok { OnOk result (self.new ≡ spec.next_actor self.old) }
-        ensures faulty { IfErr result (IfFaulty (λ fault. ⊥)) }
+        ensures faulty { IfErr result (IfCause (λ cause. ⊥)) }
     {
         let notes = replace(&mut self.notes, Journal::of(Vec::new(self.alloc)));
         self.earlier.push(notes)?;
@@ -212,9 +193,9 @@ impl Draft {
     }
 
     /// The journals of all actors, where the lines end here.
-    pub fn finish(mut self) -> Result<Assembly, ReadError>
+    pub(crate) fn into_assembly(mut self) -> Result<Assembly, Stop<JournalCause>>
         ensures ok { IfOk result (λ assembly. assembly ≡ spec.assembly_of self) }
-        ensures faulty { IfErr result (IfFaulty (λ fault. ⊥)) }
+        ensures faulty { IfErr result (IfCause (λ cause. ⊥)) }
     {
         let end = self.cores;
         self.raise_to(end)?;

@@ -1,9 +1,0 @@
--- A reader of a script for threads in the middle of a text.
-use Rattle.std.specs.Prelude.{◌≡◌, ℕ, List, Option, None, Some}
-use Rattle.fairexec_threads_script.specs.Scripts.{Reading, threads_script_of, script_from}
-
--- what comes of the text is what comes of the rest from here on, where the source tells its bytes
-abbrev pub GoesOn : Option (List ℕ) → Option (List ℕ) → Reading → Type 0
-GoesOn None rest reading = Unit {0}
-GoesOn (Some text) None reading = ⊥
-GoesOn (Some text) (Some rest) reading = threads_script_of text ≡ script_from reading rest

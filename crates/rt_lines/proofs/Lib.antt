@@ -1,0 +1,5 @@
+pub mod FaultLemmas
+pub mod TextLemmas
+pub mod TakingLemmas
+pub mod RoomLemmas
+pub mod SourceLemmas

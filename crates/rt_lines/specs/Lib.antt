@@ -1,0 +1,5 @@
+pub mod Feeds
+pub mod Texts
+pub mod Faults
+pub mod Readings
+pub mod Taking
