@@ -1,3 +1,4 @@
 pub mod AuditLemmas
+pub mod ReportLemmas
 pub mod StatLemmas
 pub mod TextLemmas
