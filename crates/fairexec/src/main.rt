@@ -109,12 +109,7 @@ fn run<R: Files + Input + Print + AllocGlobal>(
 }
 
 /// Runs the script of the file, or of standard input, on threads.
-fn threads<R>(
-    rt: &R,
-    journal: bool,
-    stats: bool,
-    file: Option<&str>,
-) -> Result<bool, ThreadsFault>
+fn threads<R>(rt: &R, journal: bool, stats: bool, file: Option<&str>) -> Result<bool, ThreadsFault>
 where
     R: Files + Input + Print + AllocGlobal + Threads + Wait + Copy + Drop + Send + 'static,
     ensures { IfOk result (λ sound. sound ≡ true) }

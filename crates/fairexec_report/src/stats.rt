@@ -28,7 +28,13 @@ pub fn put_all_stats(
 {
     let cores = assembly.cores();
     for core in 0..cores {
-        put_stats(alloc, CoreNo(core), cores, assembly.journal(ActorNo(core)), page)?;
+        put_stats(
+            alloc,
+            CoreNo(core),
+            cores,
+            assembly.journal(ActorNo(core)),
+            page,
+        )?;
     }
     Ok(())
 }
