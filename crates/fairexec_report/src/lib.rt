@@ -3,6 +3,7 @@
 
 pub mod audit;
 pub mod fault;
+pub mod laws;
 pub mod line;
 pub mod outcome_line;
 pub mod outcome_text;

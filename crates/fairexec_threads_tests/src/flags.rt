@@ -20,20 +20,30 @@ const ROWS: [Row; 3] = [
         script: "cores 1 cap 1",
         outcomes: "1>0#1 answered closed\n",
         head: "journal 1\ncores 1 cap 1\n",
-        stats: "core 0 turns 0 floor 0 held 0 drained yes\nstat 0 q0 shares 1000 selected 0 runtime 0 vr 0 waiting 0 finished 0 returned 0\n",
+        stats: "\
+            core 0 turns 0 floor 0 held 0 drained yes\n\
+            stat 0 q0 shares 1000 selected 0 runtime 0 vr 0 waiting 0 finished 0 returned 0\n",
     },
     Row {
         script: "cores 2 cap 8\nqueue 1 500\nsubmit 2 0 0 y10 d10=4\nsubmit 2 1 1 d20=5\n",
         outcomes: "2>0#1 finished 4\n2>0#2 answered closed\n2>1#1 finished 5\n2>1#2 answered closed\n",
         head: "journal 1\ncores 2 cap 8\n",
-        stats: "core 0 turns 2 floor 10 held 0 drained yes\nstat 0 q0 shares 1000 selected 2 runtime 20 vr 20 waiting 0 finished 1 returned 0\ncore 1 turns 1 floor 0 held 0 drained yes\nstat 1 q0 shares 1000 selected 0 runtime 0 vr 0 waiting 0 finished 0 returned 0\nstat 1 q1 shares 500 selected 1 runtime 20 vr 40 waiting 0 finished 1 returned 0\n",
+        stats: "\
+            core 0 turns 2 floor 10 held 0 drained yes\n\
+            stat 0 q0 shares 1000 selected 2 runtime 20 vr 20 waiting 0 finished 1 returned 0\n\
+            core 1 turns 1 floor 0 held 0 drained yes\n\
+            stat 1 q0 shares 1000 selected 0 runtime 0 vr 0 waiting 0 finished 0 returned 0\n\
+            stat 1 q1 shares 500 selected 1 runtime 20 vr 40 waiting 0 finished 1 returned 0\n",
     },
     // The first command makes queue 1, and the second one gives it other shares.
     Row {
         script: "cores 1 cap 8\ncreate 1 0 250\nshares 1 0 1 2000\nsubmit 1 0 1 y7 d13=3\nsubmit 1 0 9 d1=0\n",
         outcomes: "1>0#1 answered created q1\n1>0#2 answered sharesset\n1>0#3 finished 3\n1>0#4 returned noqueue\n1>0#5 answered closed\n",
         head: "journal 1\ncores 1 cap 8\n",
-        stats: "core 0 turns 2 floor 4 held 0 drained yes\nstat 0 q0 shares 1000 selected 0 runtime 0 vr 0 waiting 0 finished 0 returned 0\nstat 0 q1 shares 2000 selected 2 runtime 20 vr 11 waiting 0 finished 1 returned 0\n",
+        stats: "\
+            core 0 turns 2 floor 4 held 0 drained yes\n\
+            stat 0 q0 shares 1000 selected 0 runtime 0 vr 0 waiting 0 finished 0 returned 0\n\
+            stat 0 q1 shares 2000 selected 2 runtime 20 vr 11 waiting 0 finished 1 returned 0\n",
     },
 ];
 
