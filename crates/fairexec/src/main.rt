@@ -68,7 +68,7 @@ where
 {
     match what {
         What::Run { journal, stats } => ended(rt, run(rt, journal, stats, file)),
-        What::Threads => ran(rt, threads(rt, file)),
+        What::Threads { journal, stats } => ran(rt, threads(rt, journal, stats, file)),
         What::Audit => judged(rt, audit(rt, file)),
     }
 }
@@ -109,7 +109,7 @@ fn run<R: Files + Input + Print + AllocGlobal>(
 }
 
 /// Runs the script of the file, or of standard input, on threads.
-fn threads<R>(rt: &R, file: Option<&str>) -> Result<bool, ThreadsFault>
+fn threads<R>(rt: &R, journal: bool, stats: bool, file: Option<&str>) -> Result<bool, ThreadsFault>
 where
     R: Files + Input + Print + AllocGlobal + Threads + Wait + Copy + Drop + Send + 'static,
     ensures { IfOk result (λ sound. sound ≡ true) }
@@ -117,9 +117,9 @@ where
     let alloc = rt.alloc();
     let mut sink = io::writer(rt);
     match file {
-        None => threads_script(*rt, alloc, &mut rt.reader(), &mut sink),
+        None => threads_script(*rt, alloc, journal, stats, &mut rt.reader(), &mut sink),
         Some(path) => match fs::open(rt, path) {
-            Ok(mut source) => threads_script(*rt, alloc, &mut source, &mut sink),
+            Ok(mut source) => threads_script(*rt, alloc, journal, stats, &mut source, &mut sink),
             Err(error) => Err(not_opened(error.kind())),
         },
     }

@@ -15,6 +15,9 @@ asked_rows = record {
   dash = (refl, refl);
   named = (refl, refl);
   threads = (refl, refl);
+  threads_journal = (refl, refl);
+  threads_stats = (refl, refl);
+  threads_both = (refl, refl);
   audit = (refl, refl);
 }
 
@@ -26,7 +29,8 @@ refused_rows = record {
   two_files = (refl, refl);
   twice = (refl, refl);
   valued = (refl, refl);
-  flag_of_run = (refl, refl);
+  twice_on_threads = (refl, refl);
+  flag_of_audit = (refl, refl);
   help = (refl, refl);
   help_of_run = (refl, refl);
   version = (refl, refl);

@@ -16,7 +16,7 @@ is_given name rows = option_map_or (λ text. bytes_eq text (codes "true")) (firs
 -- what the subcommand of this name does, with these matches
 abbrev pub what_named : Text → List Row → What
 what_named name rows = if bytes_eq name (codes "audit") then Audit
-    else (if bytes_eq name (codes "threads") then Threads
+    else (if bytes_eq name (codes "threads") then Threads (is_given (codes "journal") rows) (is_given (codes "stats") rows)
     else Run (is_given (codes "journal") rows) (is_given (codes "stats") rows))
 
 -- what is to be done, and the path of the file

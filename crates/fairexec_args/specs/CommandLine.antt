@@ -19,9 +19,12 @@ run_app = with_rule (with_rule (with_rule (new_app (codes "run"))
     (flag_rule (codes "stats")))
     file_rule
 
--- `threads [FILE]`
+-- `threads [--journal] [--stats] [FILE]`
 unfoldable pub threads_app : App
-threads_app = with_rule (new_app (codes "threads")) file_rule
+threads_app = with_rule (with_rule (with_rule (new_app (codes "threads"))
+    (flag_rule (codes "journal")))
+    (flag_rule (codes "stats")))
+    file_rule
 
 -- `audit [FILE]`
 unfoldable pub audit_app : App

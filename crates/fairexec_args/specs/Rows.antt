@@ -35,7 +35,13 @@ pub record AreAsked : Type 0 where
   -- fairexec run threads: the name of a subcommand is a file here
   pub named : IsAsked (fairexec (codes "run" ∷ codes "threads" ∷ [])) (Run false false) (Some (codes "threads"))
   -- fairexec threads x
-  pub threads : IsAsked (fairexec (codes "threads" ∷ codes "x" ∷ [])) Threads (Some (codes "x"))
+  pub threads : IsAsked (fairexec (codes "threads" ∷ codes "x" ∷ [])) (Threads false false) (Some (codes "x"))
+  -- fairexec threads --journal x
+  pub threads_journal : IsAsked (fairexec (codes "threads" ∷ codes "--journal" ∷ codes "x" ∷ [])) (Threads true false) (Some (codes "x"))
+  -- fairexec threads x --stats: a flag may come behind the file here too
+  pub threads_stats : IsAsked (fairexec (codes "threads" ∷ codes "x" ∷ codes "--stats" ∷ [])) (Threads false true) (Some (codes "x"))
+  -- fairexec threads --stats --journal
+  pub threads_both : IsAsked (fairexec (codes "threads" ∷ codes "--stats" ∷ codes "--journal" ∷ [])) (Threads true true) None
   -- fairexec audit
   pub audit : IsAsked (fairexec (codes "audit" ∷ [])) Audit None
 
@@ -51,8 +57,10 @@ pub record AreRefused : Type 0 where
   pub twice : IsRefused (fairexec (codes "run" ∷ codes "--journal" ∷ codes "--journal" ∷ [])) (kind.ArgumentConflict ∷ [])
   -- fairexec run --journal=x
   pub valued : IsRefused (fairexec (codes "run" ∷ codes "--journal=x" ∷ [])) (kind.TooManyValues ∷ [])
-  -- fairexec threads --journal
-  pub flag_of_run : IsRefused (fairexec (codes "threads" ∷ codes "--journal" ∷ [])) (kind.UnknownArgument ∷ [])
+  -- fairexec threads --stats --stats
+  pub twice_on_threads : IsRefused (fairexec (codes "threads" ∷ codes "--stats" ∷ codes "--stats" ∷ [])) (kind.ArgumentConflict ∷ [])
+  -- fairexec audit --journal
+  pub flag_of_audit : IsRefused (fairexec (codes "audit" ∷ codes "--journal" ∷ [])) (kind.UnknownArgument ∷ [])
   -- fairexec --help
   pub help : IsRefused (fairexec (codes "--help" ∷ [])) (kind.DisplayHelp ∷ [])
   -- fairexec run -h

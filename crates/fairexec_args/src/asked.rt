@@ -17,8 +17,8 @@ use std::alloc::Global;
 pub enum What {
     /// Its script is run on the model. It says whether journals and statistics are printed.
     Run { journal: bool, stats: bool },
-    /// Its script is run on threads.
-    Threads,
+    /// Its script is run on threads. It says whether journals and statistics are printed behind the outcomes.
+    Threads { journal: bool, stats: bool },
     /// Its journals are judged.
     Audit,
 }
@@ -82,13 +82,12 @@ fn what_of(name: &str, found: &ArgMatches<'_>) -> What
     if name == AUDIT {
         return What::Audit;
     }
+    let journal = flag_is_given(found, JOURNAL);
+    let stats = flag_is_given(found, STATS);
     if name == THREADS {
-        return What::Threads;
+        return What::Threads { journal, stats };
     }
-    What::Run {
-        journal: flag_is_given(found, JOURNAL),
-        stats: flag_is_given(found, STATS),
-    }
+    What::Run { journal, stats }
 }
 
 /// Whether the flag of this name is given. Its text is `true` then, and `false` without it.

@@ -16,10 +16,10 @@ pub const THREADS: &str = "threads";
 /// The argument that names the file to read.
 pub const FILE: &str = "FILE";
 
-/// The flag by which a run prints its journals.
+/// The flag by which `run` and `threads` print their journals.
 pub const JOURNAL: &str = "journal";
 
-/// The flag by which a run prints its statistics.
+/// The flag by which they print their statistics.
 pub const STATS: &str = "stats";
 
 /// The version of the program, and behind it the logic of the toolchain that proved it.
@@ -34,6 +34,9 @@ Example:
 
 Each line of a script, each line that is printed, and each cause of a refusal:
   docs/SCRIPTS.md
+
+The manual page, and the completions for bash, zsh and fish:
+  docs/fairexec.1, completions/
 
 Exit status:
   0  all is done
@@ -60,6 +63,9 @@ Exit status:
 const AFTER_THREADS: &str = "\
 Example:
   fairexec threads examples/two_tenants.threads
+
+The journals of a run, judged again:
+  fairexec threads --journal examples/two_tenants.threads | sed -n '/^journal 1$/,/^end$/p' | fairexec audit
 
 Each line of a script, each line that is printed, and each cause of a refusal:
   docs/SCRIPTS.md
@@ -135,17 +141,25 @@ fn run_command<'a>(alloc: Global) -> Result<Command<'a>, AllocError>
     )
 }
 
-/// `threads [FILE]`
+/// `threads [--journal] [--stats] [FILE]`
 fn threads_command<'a>(alloc: Global) -> Result<Command<'a>, AllocError>
     ensures app { IfOk result (λ command. app_of command ≡ threads_app) }
     ensures whole { IfOk result (λ command. is_broken command ≡ false) }
 {
+    let journal = flag(alloc, JOURNAL, "Prints the journals behind the outcomes");
+    let stats = flag(
+        alloc,
+        STATS,
+        "Prints the statistics of each core and queue before the verdict",
+    );
     let file = Arg::new(alloc, FILE).help("The script; without it, standard input is read");
     Ok(
         Command::new(alloc, THREADS)
             .about(
                 "Runs a script on threads, and prints the outcome of each order and the verdict of the audit",
             )
+            .arg(journal)?
+            .arg(stats)?
             .arg(file)?
             .after_help(AFTER_THREADS),
     )

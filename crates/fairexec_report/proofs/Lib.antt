@@ -1,3 +1,5 @@
 pub mod AuditLemmas
+pub mod ReportLaws
+pub mod ReportLemmas
 pub mod StatLemmas
 pub mod TextLemmas

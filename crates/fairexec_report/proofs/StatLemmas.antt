@@ -1,6 +1,7 @@
 -- The text of statistics, one queue or core after another.
 use Rattle.std.proofs.Common.{◌≡◌, ℕ, zero, suc, ◌+◌, Bool, true, false, List, [], ◌++◌, refl, sym, ap, ◌∙◌, subst, append_assoc, append-nil, arith}
 use Rattle.std.specs.Prelude.{◌↔◌, IsTrue}
+use Rattle.rt_ids.specs.Assembly.{Assembly, journal_of}
 use Rattle.rt_ids.specs.Closing.{IsDrained}
 use Rattle.rt_ids.specs.Journal.{Journal}
 use Rattle.rt_stats.specs.Stats.{core_stats, queue_stats}
@@ -42,6 +43,27 @@ core_more core cores journals first rest so_far one = (first, rest, so_far, one,
 pub after_core : (core cores : ℕ) (journals : ℕ → Journal ℕ) (first rest : List ℕ) → IsTextBelow core cores journals first → IsCoreText core cores (journals core) rest → IsTextBelow (core + 1) cores journals (first ++ rest)
 after_core core cores journals first rest so_far one =
     subst (λ number. IsTextBelow number cores journals (first ++ rest)) (next core) (core_more core cores journals first rest so_far one)
+
+-- the statistics of the cores below this number stand behind what the page had
+abbrev pub HasStats : Assembly ℕ → ℕ → List ℕ → List ℕ → Type 0
+HasStats assembly count start page = (text : List ℕ) × IsTextBelow count assembly.cores (λ core. journal_of core assembly) text × (page ≡ start ++ text)
+
+pub no_stats : (assembly : Assembly ℕ) (page : List ℕ) → HasStats assembly 0 page page
+no_stats assembly page = ([], no_cores assembly.cores _, sym (append-nil page))
+
+-- one core more
+pub stats_more : (assembly : Assembly ℕ) (core cores : ℕ) → cores ≡ assembly.cores → (journal : Journal ℕ) → journal ≡ journal_of core assembly → (start page new : List ℕ) → HasStats assembly core start page →
+    (text : List ℕ) × IsCoreText core cores journal text × (new ≡ page ++ text) → HasStats assembly (core + 1) start new
+stats_more assembly core cores all journal same start page new (before, below, so_far) (text, one, put) =
+    let own = subst (λ notes. IsCoreText core assembly.cores notes text) same (subst (λ size. IsCoreText core size journal text) all one) in (
+      before ++ text,
+      after_core core assembly.cores (λ each. journal_of each assembly) before text below own,
+      put ∙ ap (λ bytes. bytes ++ text) so_far ∙ append_assoc start before text,
+    )
+
+-- of all cores
+pub stats_whole : (assembly : Assembly ℕ) (count : ℕ) (start page : List ℕ) → count ≡ assembly.cores → HasStats assembly count start page → HasStats assembly assembly.cores start page
+stats_whole assembly count start page all has = subst (λ size. HasStats assembly size start page) all has
 
 -- two answers to one question are the same
 same_answer : (one other : Bool) (fact : Type 0) → IsTrue one ↔ fact → IsTrue other ↔ fact → one ≡ other

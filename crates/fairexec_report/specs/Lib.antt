@@ -7,3 +7,4 @@ pub mod StatLines
 pub mod StatTexts
 pub mod VerdictTexts
 pub mod Writing
+pub mod Reports

@@ -1,7 +1,8 @@
 -- The text of the statistics of all cores.
-use Rattle.std.specs.Prelude.{◌≡◌, ◌↔◌, ℕ, zero, suc, Bool, IsTrue, ◌++◌, List, [], codes, Option, None, Some}
+use Rattle.std.specs.Prelude.{◌≡◌, ◌↔◌, ℕ, zero, suc, Bool, true, false, IsTrue, ◌++◌, List, [], codes, Option, None, Some}
 use Rattle.rt_ids.specs.declared.stats.CoreStats.{CoreStats}
 use Rattle.rt_ids.specs.declared.stats.QueueStats.{QueueStats}
+use Rattle.rt_ids.specs.Assembly.{Assembly, journal_of}
 use Rattle.rt_ids.specs.Closing.{IsDrained}
 use Rattle.rt_ids.specs.Journal.{Journal}
 use Rattle.rt_stats.specs.Stats.{core_stats, queue_stats}
@@ -42,3 +43,8 @@ IsTextBelow (suc core) cores journals text =
 -- the text of the statistics of all cores, by their journals
 abbrev pub IsStatsText : ℕ → (ℕ → Journal ℕ) → List ℕ → Type 0
 IsStatsText cores journals text = IsTextBelow cores cores journals text
+
+-- the same of the journals of all actors, if it is wanted
+abbrev pub IsStatsIf : Bool → Assembly ℕ → List ℕ → Type 0
+IsStatsIf true assembly text = IsStatsText assembly.cores (λ core. journal_of core assembly) text
+IsStatsIf false assembly text = text ≡ []

@@ -3,10 +3,11 @@
 
 pub mod audit;
 pub mod fault;
+pub mod laws;
 pub mod line;
 pub mod outcome_line;
 pub mod outcome_text;
-pub mod outcome_write;
+pub mod report;
 pub mod stats;
 pub mod verdict;
 
@@ -14,5 +15,5 @@ pub use audit::audit_text;
 pub use fault::AuditFault;
 pub use outcome_line::OutcomeLine;
 pub use outcome_text::put_outcomes;
-pub use outcome_write::{TellFault, write_outcomes};
-pub use stats::put_stats;
+pub use report::{TellFault, write_report};
+pub use stats::{put_all_stats, put_stats};

@@ -2,15 +2,42 @@
 
 ghost use Rattle.std.specs.Prelude.{◌≡◌, ◌++◌, ℕ, List, OnOk, string_bytes};
 ghost use Rattle.fairexec_report.specs.StatTexts as spec;
+ghost use Rattle.rt_ids.specs.Assembly.{journal_of};
 ghost use Rattle.rt_ids.specs.Journal.{Journal as Notes};
 ghost use Rattle.rt_stats.specs.Stats.{queue_stats};
 ghost use Rattle.rt_stats.specs.Walks.{KnowsSums};
 
 use crate::line::{CoreLine, QueueLine};
-use rt_ids::{CoreNo, QueueNo};
-use rt_journal_notes::Journal;
+use rt_ids::{ActorNo, CoreNo, QueueNo};
+use rt_journal_notes::{Assembly, Journal};
 use rt_stats::Sums;
 use std::alloc::{AllocError, Global};
+
+/// Puts the statistics of all cores on the page, by number.
+///
+/// # Errors
+///
+/// `AllocError` for want of memory. A first part of the lines may then stand on the page.
+pub fn put_all_stats(
+    alloc: Global,
+    assembly: &Assembly,
+    page: &mut String,
+) -> Result<(), AllocError>
+    ensures { OnOk result ((text : List ℕ) × spec.IsStatsText assembly.now.cores (λ core. journal_of core assembly.now) text
+        × (string_bytes page.new ≡ string_bytes page.old ++ text)) }
+{
+    let cores = assembly.cores();
+    for core in 0..cores {
+        put_stats(
+            alloc,
+            CoreNo(core),
+            cores,
+            assembly.journal(ActorNo(core)),
+            page,
+        )?;
+    }
+    Ok(())
+}
 
 /// Puts the line of a core on the page, and then a line for each of its queues, by number. `cores` is how many cores there are in all.
 ///

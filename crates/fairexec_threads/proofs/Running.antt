@@ -20,5 +20,6 @@ tells_run None script assembly told runs = tt
 tells_run (Some text) script assembly told runs = (drafted script, told, ((script.cores, script.cap), refl, runs))
 
 -- sound journals are told as sound
-pub told_sound : (cores cap : ℕ) (queues : List Entry) (orders : List Told) (assembly : Assembly ℕ) (old new : Option (List ℕ)) (answer : Bool) → RunsOrders cores cap queues orders assembly → IsTold assembly old new answer → answer ≡ true
-told_sound cores cap queues orders assembly old new answer runs told = told.answered ∙ ap is_sound (told.judged.sound.1 runs.finishes.sound)
+pub told_sound : (cores cap : ℕ) (queues : List Entry) (orders : List Told) (assembly : Assembly ℕ) (journal stats : Bool) (old new : Option (List ℕ)) (answer : Bool) → RunsOrders cores cap queues orders assembly →
+    IsTold journal stats assembly old new answer → answer ≡ true
+told_sound cores cap queues orders assembly journal stats old new answer runs told = told.answered ∙ ap is_sound (told.report.judged.sound.1 runs.finishes.sound)

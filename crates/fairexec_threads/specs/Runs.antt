@@ -35,17 +35,18 @@ RunsScript draft assembly = (size : ℕ × ℕ) × (draft.size ≡ Some size) ×
 abbrev pub TellsRun : Option (List ℕ) → Assembly ℕ → Type 0
 TellsRun source assembly = IfSome source (λ text. (draft : Drafted) × (threads_script_of text ≡ Ok draft) × RunsScript draft assembly)
 
--- what became of the orders of such a run is written, and behind it the verdict of its journals; the answer tells whether they are sound
-pub record IsRun (source sink_old sink_new : Option (List ℕ)) (answer : Bool) : Type 0 where
+-- what became of the orders of such a run is written, its journals and statistics if they are wanted, and the verdict of its journals; the
+-- answer tells whether they are sound
+pub record IsRun (journal stats : Bool) (source sink_old sink_new : Option (List ℕ)) (answer : Bool) : Type 0 where
   pub assembly : Assembly ℕ
   pub runs : TellsRun source assembly
-  pub told : writing.IsTold assembly sink_old sink_new answer
+  pub told : writing.IsTold journal stats assembly sink_old sink_new answer
 
 -- a first part of that is written
-pub record IsCutShort (source sink_old sink_new : Option (List ℕ)) : Type 0 where
+pub record IsCutShort (journal stats : Bool) (source sink_old sink_new : Option (List ℕ)) : Type 0 where
   pub assembly : Assembly ℕ
   pub runs : TellsRun source assembly
-  pub told : writing.IsCutShort assembly sink_old sink_new
+  pub told : writing.IsCutShort journal stats assembly sink_old sink_new
 
 -- a fact of a failed write
 abbrev pub IfUnwritten : Type 0 → ThreadsFault → Type 0

@@ -10,7 +10,7 @@ ghost use Rattle.fairexec_threads.specs.Starting.{IsOfStart};
 
 use crate::calls::{close_all, offer_all};
 use crate::house::start_house;
-use fairexec_report::{TellFault, write_outcomes};
+use fairexec_report::{TellFault, write_report};
 use fairexec_threads_script::{ThreadsFault, ThreadsScript, read_threads_script};
 use rt_journal_notes::Assembly;
 use rt_runtime::FinishError;
@@ -41,7 +41,8 @@ where
     }
 }
 
-/// Reads a script, runs it on a thread for each core, and writes what became of each of its orders, and then the verdict of the journals.
+/// Reads a script, runs it on a thread for each core, and writes what became of each of its orders, and at last the verdict of the journals.
+/// Between them stand the text of the journals, with `journal`, and behind it the statistics of all cores, with `stats`.
 ///
 /// The whole script is read and judged before a thread is made. The answer is that the journals are sound.
 ///
@@ -52,22 +53,24 @@ where
 pub fn threads_script<H, R: Read, W: Write>(
     rt: H,
     alloc: Global,
+    journal: bool,
+    stats: bool,
     source: &mut R,
     sink: &mut W,
 ) -> Result<bool, ThreadsFault>
 where
     H: Threads + Wait + Copy + Drop + Send + 'static,
-    ensures done { IfOk result (IsRun (R.remaining source.old) (W.contents sink.old) (W.contents sink.new)) }
+    ensures done { IfOk result (IsRun journal stats (R.remaining source.old) (W.contents sink.old) (W.contents sink.new)) }
     ensures sound { IfOk result (λ sound. sound ≡ true) }
     ensures faulty { IfErr result (IfText (λ fault.
         IfSome (R.remaining source.old) (λ text. threads_script_of text ≡ Err fault))) }
     ensures prompt { IfErr result (IsPrompt (R.remaining source.old) (R.remaining source.new)) }
     ensures silent { IfErr result (IfUntold (Keeps (W.contents sink.old) (W.contents sink.new))) }
-    ensures unwritten { IfErr result (IfUnwritten (IsCutShort (R.remaining source.old) (W.contents sink.old) (W.contents sink.new))) }
+    ensures unwritten { IfErr result (IfUnwritten (IsCutShort journal stats (R.remaining source.old) (W.contents sink.old) (W.contents sink.new))) }
 {
     let script = read_threads_script(alloc, source)?;
     let assembly = run_orders(rt, alloc, script)?;
-    match write_outcomes(alloc, &assembly, sink) {
+    match write_report(alloc, journal, stats, &assembly, sink) {
         Ok(sound) => Ok(sound),
         Err(TellFault::Write) => Err(ThreadsFault::Write),
         Err(TellFault::Memory) => Err(ThreadsFault::Memory),

@@ -27,7 +27,7 @@ where
             continue;
         };
         let mut source = SCRIPT.as_bytes();
-        match threads_script(rt, alloc, &mut source, &mut sink) {
+        match threads_script(rt, alloc, false, false, &mut source, &mut sink) {
             Ok(sound) => return sound && sink.as_slice() == WRITTEN.as_bytes(),
             Err(ThreadsFault::Memory | ThreadsFault::Thread) if sink.is_empty() => {}
             Err(_) => return false,

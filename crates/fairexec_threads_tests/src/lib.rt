@@ -4,6 +4,8 @@
 #[cfg(test)]
 mod again;
 #[cfg(test)]
+mod flags;
+#[cfg(test)]
 mod rows;
 #[cfg(test)]
 mod runs;

@@ -39,7 +39,7 @@ where
 {
     let mut source = row.0.as_bytes();
     let mut sink = Vec::new(alloc);
-    let answer = threads_script(rt, alloc, &mut source, &mut sink);
+    let answer = threads_script(rt, alloc, false, false, &mut source, &mut sink);
     answer == Ok(true) && sink.as_slice() == row.1.as_bytes()
 }
 
@@ -81,10 +81,12 @@ impl Write for Broken {
     }
 }
 
-/// A run of a row whose call of this number to the sink fails: its answer, and what was written.
+/// A run of a row whose call of this number to the sink fails, with the journals and statistics if they are wanted: its answer, and what
+/// was written.
 fn broken_off<R>(
     rt: R,
     alloc: Global,
+    wanted: bool,
     row: &Row,
     failing: u32,
 ) -> (Result<bool, ThreadsFault>, Broken)
@@ -97,21 +99,22 @@ where
         calls: 0,
         failing,
     };
-    let answer = threads_script(rt, alloc, &mut source, &mut sink);
+    let answer = threads_script(rt, alloc, wanted, wanted, &mut source, &mut sink);
     (answer, sink)
 }
 
-/// Whether each call to the sink counts: where one fails, so does the run, and a first part is written.
-fn each_call_counts<R>(rt: R, alloc: Global, row: &Row) -> bool
+/// Whether each call to the sink counts: where one fails, so does the run, and a first part is written. The row has no order, so each run
+/// makes as many calls.
+fn each_call_counts<R>(rt: R, alloc: Global, wanted: bool, row: &Row) -> bool
 where
     R: Threads + Wait + Copy + Drop + Send + 'static,
 {
-    let (answer, whole) = broken_off(rt, alloc, row, 0);
-    let mut all = answer == Ok(true);
+    let (answer, whole) = broken_off(rt, alloc, wanted, row, 0);
+    let mut all = answer == Ok(true) && (wanted || whole.written.as_slice() == row.1.as_bytes());
     for failing in 1..=whole.calls {
-        let (answer, sink) = broken_off(rt, alloc, row, failing);
+        let (answer, sink) = broken_off(rt, alloc, wanted, row, failing);
         all = answer == Err(ThreadsFault::Write)
-            && row.1.as_bytes().starts_with(sink.written.as_slice())
+            && whole.written.starts_with(sink.written.as_slice())
             && all;
     }
     all
@@ -119,5 +122,10 @@ where
 
 #[test]
 fn each_write_of_a_run_fails(rt: HostRuntime) {
-    assert!(rt; each_call_counts(rt, rt.alloc(), &ROWS[3]));
+    assert!(rt; each_call_counts(rt, rt.alloc(), false, &ROWS[3]));
+}
+
+#[test]
+fn each_write_of_journals_and_statistics_fails(rt: HostRuntime) {
+    assert!(rt; each_call_counts(rt, rt.alloc(), true, &ROWS[3]));
 }

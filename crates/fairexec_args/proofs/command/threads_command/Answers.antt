@@ -9,5 +9,8 @@ use Rattle.fairexec_args.proofs.command.threads_command.Goals as goal
 pub returns-clause-app : goal.returns-clause-app
 unfolding threads_app
 returns-clause-app c = ap app_of_fields c.after_help.ensures
-    ∙ arg_added _ _ _ _ _ c.in_ok-arg.ensures (ap (λ (arg : Arg). arg.global) c.help-file.ensures ∙ c.new.ensures.optional.1)
-    (ap app_of_fields c.about.ensures ∙ c.new-2.ensures.app) (ap rule_of c.help-file.ensures ∙ c.new.ensures.rule)
+    ∙ arg_added _ _ _ _ _ c.in_ok-arg-3.ensures (ap (λ (arg : Arg). arg.global) c.help-file.ensures ∙ c.new.ensures.optional.1)
+    (arg_added _ _ _ _ _ c.in_ok-arg-2.ensures c.flag-stats.ensures.local
+    (arg_added _ _ _ _ _ c.in_ok-arg.ensures c.flag-journal.ensures.local (ap app_of_fields c.about.ensures ∙ c.new-2.ensures.app) c.flag-journal.ensures.rule)
+    c.flag-stats.ensures.rule)
+    (ap rule_of c.help-file.ensures ∙ c.new.ensures.rule)
