@@ -16,4 +16,3 @@ returns-in-Ok-clause-done g c =
       answered = c.is_sound.ensures;
       appends = c.in-Ok.ensures.ok;
     }
-
