@@ -1,5 +1,5 @@
 -- What is told of a run has one text, and no part of it may be missing or too much.
-use Rattle.std.proofs.Common.{◌≡◌, ◌≤◌, ◌+◌, ℕ, zero, suc, List, [], ◌++◌, Bool, true, false, length, refl, sym, ap, ap₂, ◌∙◌, subst, arith, codes, length-append}
+use Rattle.std.proofs.Common.{◌≡◌, ◌≤◌, ℕ, zero, suc, List, ◌++◌, Bool, true, false, length, sym, ap, ap₂, ◌∙◌, arith, codes, length-append}
 use Rattle.rt_ids.specs.Assembly.{Assembly, journal_of}
 use Rattle.rt_ids.specs.Journal.{Journal}
 use Rattle.rt_audit.specs.declared.judge.Verdict.{Verdict}

@@ -6,7 +6,7 @@ use std::alloc::Global;
 use std::sync::Wait;
 use std::thread::Threads;
 
-/// A script, its outcomes, how its journals begin, and its statistics. No core gets more than one job, so the statistics are the same
+/// A script, its outcomes, how its journals begin, and its statistics. No core runs more than one job, so the statistics are the same
 /// whatever the threads do. The order of the notes isn't.
 struct Row {
     script: &'static str,

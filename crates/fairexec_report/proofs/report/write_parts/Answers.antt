@@ -9,7 +9,7 @@ use Rattle.fairexec_report.proofs.report.write_parts.Goals as goal
 pub returns-in_err-write_all-clause-err : goal.returns-in_err-write_all-clause-err
 returns-in_err-write_all-clause-err g c =
     let out = c.in_err-write_all.ensures.err in
-    OnErr-any c.from_residual-in_err-write_all.result (front_before _ _ c.args.front.now (journal_if c.args.journal c.args.assembly.now ++ c.args.rear.now) (front_of_count _ _ c.args.front.now out.0 out.2))
+    OnErr-any c.from_residual.result (front_before _ _ c.args.front.now (journal_if c.args.journal c.args.assembly.now ++ c.args.rear.now) (front_of_count _ _ c.args.front.now out.0 out.2))
 
 pub returns-in_err-write_journal_if-clause-err : goal.returns-in_err-write_journal_if-clause-err
 returns-in_err-write_journal_if-clause-err g c =
