@@ -7,7 +7,7 @@ use Rattle.rt_journal.proofs.Names.{RecordedView, IsRecorded, desk_of, LeavesOwe
 use Rattle.rt_journal.proofs.Names.{option_map, ◌*◌, ◌≤◌, same_Some, outcome_note, Call, Doing, Makes, IsMeaning}
 use Rattle.rt_journal.proofs.Names.{JobOut, TurnsWhole, settled_of, IsSameSeat, told_under, OwesSettled}
 use Rattle.rt_journal.proofs.Names.{outcome_settled, PostView, HasPosted, lends, Does, IsPolled, Settles, post_of}
-use Rattle.rt_journal.proofs.Names.{IsPostingTurn, MayAnswer, TurnsNoted, CorePicks, posted_rest}
+use Rattle.rt_journal.proofs.Names.{Fits, IsPostingTurn, MayAnswer, TurnsNoted, CorePicks, posted_rest}
 use Rattle.rt_journal.proofs.Ahead.{picked_did}
 use Rattle.rt_journal.proofs.QuietSteps.{nobody, everyone, HasDone, view_of, quiet_invariant, quiet_now, given_settled}
 use Rattle.rt_journal.proofs.QuietSteps.{HasStepped, MayNote, quiet_noted}

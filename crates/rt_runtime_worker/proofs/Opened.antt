@@ -11,6 +11,7 @@ use Rattle.rt_jobs.specs.Meanings.{Meaning}
 use Rattle.rt_desk.specs.Lanes.{IsLaneOf, IsUnused}
 use Rattle.rt_desk.proofs.Cores.{IsUnused-fresh}
 use Rattle.rt_ring.specs.declared.ring_out.Sending.{Sending}
+use Rattle.rt_link.specs.Fits.{Fits}
 use Rattle.rt_link.specs.Whole.{fresh, out_of, inward_of}
 use Rattle.rt_journal.specs.Recorded.{RecordedView, IsRecorded, desk_of, terms_at}
 use Rattle.rt_journal.specs.Ends.{IsInOf, IsSameSeat, KeepsIn}
