@@ -15,6 +15,13 @@ IfFaulty-weaker P Q Memory each h = tt
 pub IfErr_faulty : {T C : Type 0} (r : Result T (LineFault C)) (P Q : ℕ × C → Type 0) → ((told : ℕ × C) → P told → Q told) → IfErr r (IfFaulty P) → IfErr r (IfFaulty Q)
 IfErr_faulty r P Q each h = IfErr-weaker r (IfFaulty P) (IfFaulty Q) (λ fault. IfFaulty-weaker P Q fault each) h
 
+pub IfErr_cause : {T C : Type 0} (r : Result T (Stop C)) (P Q : C → Type 0) → ((cause : C) → P cause → Q cause) → IfErr r (IfCause P) → IfErr r (IfCause Q)
+IfErr_cause {T} {C} r P Q each h = IfErr-weaker r (IfCause P) (IfCause Q) each_stop h
+  where
+    each_stop : (why : Stop C) → IfCause P why → IfCause Q why
+    each_stop (stop.Cause cause) h = each cause h
+    each_stop stop.Memory h = tt
+
 -- the fault of a draft that stops
 pub stopped_faulty : {C : Type 0} (line : ℕ) (why : Stop C) (P : C → Type 0) (Q : ℕ × C → Type 0) → ((cause : C) → P cause → Q (line, cause)) → IfCause P why → IfFaulty Q (stopped line why)
 stopped_faulty line (stop.Cause cause) P Q each h = each cause h

@@ -55,7 +55,7 @@ returns-then-count-eq0-clause-faulty g c =
     let end = c.in-Ok.ensures.end c.if-count-eq0.true (omega (arith, c.loop-count.invariant.room)) in
     IfErr-weaker c.finish.result _ _
     (λ fault. told_of (λ told. text_from judge here [] ≡ Err told) (λ told. IfSome source (λ text. text_judged judge c.args.draft text ≡ Err told)) fault
-        (λ told is. told_at_end judge c.args.draft _ _ _ seen.0 here _ seen.1 none end seen.2 is))
+    (λ told is. told_at_end judge c.args.draft _ _ _ seen.0 here _ seen.1 none end seen.2 is))
     c.finish.ensures.faulty
 
 pub returns-then-count-eq0-clause-prompt : goal.returns-then-count-eq0-clause-prompt
@@ -65,7 +65,7 @@ returns-then-count-eq0-clause-prompt g c =
     let seen = c.loop-count.invariant.seen in
     IfErr-weaker c.finish.result _ _
     (λ fault. fault_is_prompt judge c.args.draft _ _ _ seen.0 _ here (λ told. text_from judge here [] ≡ Err told) fault seen.1 c.in-Ok.ensures.bytes
-        (omega (arith, length-take c.in-Ok.count c.read_some.new.room)) seen.2)
+    (omega (arith, length-take c.in-Ok.count c.read_some.new.room)) seen.2)
     c.finish.ensures.faulty
 
 pub returns-in-Err-clause-faulty : goal.returns-in-Err-clause-faulty

@@ -3,7 +3,7 @@ use Rattle.std.proofs.lemmas.List.{length-map, map-append}
 use Rattle.rt_journal_notes.specs.declared.journal.Journal.{Journal}
 use Rattle.rt_journal_read.specs.Drafts.{Drafted, IsDraft, raised_to}
 use Rattle.rt_journal_read.proofs.DraftLemmas.{assembled, passed_count, raised_is}
-use Rattle.rt_journal_read.proofs.draft.Draft.finish.Goals as goal
+use Rattle.rt_journal_read.proofs.draft.Draft.into_assembly.Goals as goal
 
 pub of-requires : goal.of-requires
 of-requires c =

@@ -2,7 +2,7 @@ use Rattle.std.proofs.Common.{ap, sym, ◌∙◌, subst}
 use Rattle.std.proofs.lemmas.Result.{on_ok_weaker}
 use Rattle.rt_journal_read.specs.Drafts.{Drafted, IsDraft}
 use Rattle.rt_journal_read.proofs.DraftLemmas.{fewer_line}
-use Rattle.rt_journal_read.proofs.draft.Draft.take.Goals as goal
+use Rattle.rt_journal_read.proofs.draft.Draft.take_text.Goals as goal
 
 pub returns-in-Notes-clause-fewer : goal.returns-in-Notes-clause-fewer
 returns-in-Notes-clause-fewer c =
