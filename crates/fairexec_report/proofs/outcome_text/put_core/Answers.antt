@@ -3,7 +3,7 @@ use Rattle.rt_ids.specs.Journal.{Journal, at_place}
 use Rattle.rt_journal_facts.proofs.Walks.{at_start, whole_walk}
 use Rattle.fairexec_report.specs.Outcomes.{lines_told, line_told}
 use Rattle.fairexec_report.proofs.TextLemmas.{before_notes, after_note}
-use Rattle.fairexec_report.proofs.text.put_core.Goals as goal
+use Rattle.fairexec_report.proofs.outcome_text.put_core.Goals as goal
 
 pub loop-place-init : goal.loop-place-init
 loop-place-init c = λ assembly knows. rw (at_start c.args.sent.now.notes) (before_notes assembly c.args.core (string_bytes c.args.page.now))

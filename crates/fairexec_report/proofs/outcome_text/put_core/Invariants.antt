@@ -4,7 +4,7 @@ use Rattle.rt_ids.specs.Assembly.{Assembly}
 use Rattle.rt_ids.specs.Journal.{at_place}
 use Rattle.rt_audit_rules.specs.Links.{KnowsOutcomes}
 use Rattle.fairexec_report.specs.Outcomes.{lines_told}
-use Rattle.fairexec_report.proofs.text.put_core.Given as goal
+use Rattle.fairexec_report.proofs.outcome_text.put_core.Given as goal
 
 abbrev pub invariant-loop-place : goal.invariant-loop-place
 invariant-loop-place l =

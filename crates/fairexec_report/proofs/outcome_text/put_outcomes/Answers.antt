@@ -3,7 +3,7 @@ use Rattle.rt_ids.specs.Assembly.{journal_of}
 use Rattle.rt_ids.specs.Journal.{Journal}
 use Rattle.fairexec_report.specs.Outcomes.{lines_told}
 use Rattle.fairexec_report.proofs.TextLemmas.{before_cores, after_core}
-use Rattle.fairexec_report.proofs.text.put_outcomes.Goals as goal
+use Rattle.fairexec_report.proofs.outcome_text.put_outcomes.Goals as goal
 
 pub loop-core-init : goal.loop-core-init
 loop-core-init c = before_cores c.args.assembly.now (string_bytes c.args.page.now)

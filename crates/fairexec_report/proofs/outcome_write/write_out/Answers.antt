@@ -1,7 +1,7 @@
 use Rattle.fairexec_report.proofs.AuditLemmas.{OnOk-any, front_of_count, front_of_all}
 use Rattle.rt_journal_write.proofs.PageLemmas.{OnErr-any}
 use Rattle.rt_text.proofs.KnownLemmas.{Appends-more_kept}
-use Rattle.fairexec_report.proofs.write.write_out.Goals as goal
+use Rattle.fairexec_report.proofs.outcome_write.write_out.Goals as goal
 
 pub returns-in_err-write_all-clause-err : goal.returns-in_err-write_all-clause-err
 returns-in_err-write_all-clause-err g c =

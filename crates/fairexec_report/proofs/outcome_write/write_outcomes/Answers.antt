@@ -2,7 +2,7 @@ use Rattle.std.proofs.Common.{◌++◌, ◌∙◌, ap, subst}
 use Rattle.std.specs.Io.KnownBytes.{Appends}
 use Rattle.fairexec_report.specs.VerdictTexts.{verdict_text}
 use Rattle.fairexec_report.specs.Outcomes.{outcomes_text}
-use Rattle.fairexec_report.proofs.write.write_outcomes.Goals as goal
+use Rattle.fairexec_report.proofs.outcome_write.write_outcomes.Goals as goal
 
 pub returns-in-Ok-clause-done : goal.returns-in-Ok-clause-done
 returns-in-Ok-clause-done g c =
