@@ -3,7 +3,7 @@ use Rattle.std.proofs.Common.{◌≡◌, ℕ, List, [], length}
 use Rattle.std.specs.Io.KnownBytes.{Consumes}
 use Rattle.rt_lines.specs.Readings.{at, IsReady, room_left}
 use Rattle.rt_lines.specs.Taking.{TakesAll}
-use Rattle.rt_lines.proofs.source.read_lines.Given as goal
+use Rattle.rt_lines.proofs.lines.read_lines.Given as goal
 
 abbrev pub invariant-loop-count : goal.invariant-loop-count
 invariant-loop-count g l =
@@ -11,7 +11,7 @@ invariant-loop-count g l =
     record {
       room : length l.page ≡ 8192;
       ready : IsReady g.D.LineDraft.judge.longest g.D.LineDraft.fits g.D.LineDraft.lines_left here;
-      seen : (text : List ℕ) × Consumes (g.R.Read.remaining l.initial.source) (g.R.Read.remaining l.source) text × TakesAll g.D.LineDraft.judge text (at l.fn.draft 1 []) here;
+      seen : (text : List ℕ) × Consumes (g.S.Source.remaining l.initial.source) (g.S.Source.remaining l.source) text × TakesAll g.D.LineDraft.judge text (at l.fn.draft 1 []) here;
     }
 
 abbrev pub decreases-loop-count : goal.decreases-loop-count
