@@ -18,3 +18,10 @@ IfText fact (Text line cause) = fact (line, cause)
 IfText fact Read = Unit {0}
 IfText fact Write = Unit {0}
 IfText fact Memory = Unit {0}
+
+-- a fact of a failed read
+abbrev pub IfRead : Type 0 → EngineFault → Type 0
+IfRead fact (Text line cause) = Unit {0}
+IfRead fact Read = fact
+IfRead fact Write = Unit {0}
+IfRead fact Memory = Unit {0}

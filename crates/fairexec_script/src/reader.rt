@@ -6,8 +6,8 @@ ghost use Rattle.fairexec_script.specs.Scripts as spec;
 ghost use Rattle.fairexec_script.specs.Whole.{drafted};
 
 use crate::draft::Draft;
-use crate::script::Script;
 use crate::limits::{LONGEST_LINE, MOST_LINES};
+use crate::script::Script;
 use rt_lines::fault::stopped;
 use rt_lines::{LineDraft, LineFault, Stop};
 use rt_text::Cause;

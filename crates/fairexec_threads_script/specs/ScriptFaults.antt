@@ -22,3 +22,8 @@ abbrev pub IsOfReading : ThreadsFault → Type 0
 IsOfReading Write = ⊥
 IsOfReading Thread = ⊥
 IsOfReading _ = Unit {0}
+
+-- a fact of a failed read
+abbrev pub IfRead : Type 0 → ThreadsFault → Type 0
+IfRead fact Read = fact
+IfRead fact _ = Unit {0}

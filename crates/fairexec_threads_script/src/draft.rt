@@ -183,11 +183,7 @@ impl Draft {
     }
 
     /// Takes an order to a core.
-    fn add_order(
-        &mut self,
-        core: CoreNo,
-        order: Order<ScriptJob>,
-    ) -> Result<(), Stop<ThreadsCause>>
+    fn add_order(&mut self, core: CoreNo, order: Order<ScriptJob>) -> Result<(), Stop<ThreadsCause>>
         requires { IsToldFor self.old.size (core, order) }
         ensures ok { OnOk result (spec.with_order self.old (core, order) ≡ Ok self.new) }
         ensures faulty { IfErr result (IfCause (λ cause. spec.with_order self.old (core, order) ≡ Err cause)) }

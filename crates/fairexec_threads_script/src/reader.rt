@@ -50,7 +50,11 @@ impl LineDraft for Draft {
         }
     }
 
-    fn finish(mut self, number: u32, rest: &[u8]) -> Result<ThreadsScript, LineFault<ThreadsCause>> {
+    fn finish(
+        mut self,
+        number: u32,
+        rest: &[u8],
+    ) -> Result<ThreadsScript, LineFault<ThreadsCause>> {
         if rest.is_empty() {
             return end(self, number);
         }

@@ -1,10 +1,7 @@
 pub mod DraftLemmas
-pub mod TextLemmas
-pub mod ReaderLemmas
 pub mod SoFar
 pub mod ReadTexts
 pub mod OnlyTexts
 pub mod Raising
 pub mod HeadLines
 pub mod ReadBack
-pub mod TakingLemmas

@@ -26,7 +26,8 @@ use Rattle.rt_journal_write.specs.Texts.{end_line, actor_lines, journal_lines, a
 use Rattle.rt_journal_read.specs.declared.draft.Part.TheVariants as part
 use Rattle.rt_journal_read.specs.declared.fault.JournalCause.TheVariants as cause
 use Rattle.rt_journal_read.specs.Drafts.{Drafted, empty_draft, with_text, judged, assembly_of}
-use Rattle.rt_journal_read.specs.JournalTexts.{whole, go_on, judged_from}
+use Rattle.rt_lines.specs.Texts.{go_on, judged_from}
+use Rattle.rt_journal_read.specs.JournalTexts.{whole, judge}
 use Rattle.rt_journal_read.specs.Laws.{TextIsReadBack}
 use Rattle.rt_journal_read.proofs.DraftLemmas.{line_read}
 use Rattle.rt_journal_read.proofs.HeadLines.{judged_short, size_taken, head_feedless}
@@ -44,13 +45,13 @@ takes_then draft middle final [] two first rest = subst (λ d. Takes d two final
 takes_then draft middle final (line ∷ one) two first rest = (first.0, first.1, takes_then first.0 middle final one two first.2 rest)
 
 -- lines that are taken, up to the end of the text
-takes_judged : (number : ℕ) (draft final : Drafted) (lines : List (List ℕ)) → final.part ≡ part.After → Takes draft lines final → judged_from number draft (lines ++ [] ∷ []) ≡ Ok final
+takes_judged : (number : ℕ) (draft final : Drafted) (lines : List (List ℕ)) → final.part ≡ part.After → Takes draft lines final → judged_from judge number draft (lines ++ [] ∷ []) ≡ Ok final
 takes_judged number draft final [] after takes = ap (λ d. whole number d d.part) takes ∙ ap (whole number final) after
 takes_judged number draft final (line ∷ []) after takes =
-    ap (λ r. go_on number r (λ taken. judged_from (number + 1) taken ([] ∷ []))) takes.1
+    ap (λ r. go_on number r (λ taken. judged_from judge (number + 1) taken ([] ∷ []))) takes.1
     ∙ takes_judged (number + 1) takes.0 final [] after takes.2
 takes_judged number draft final (line ∷ next ∷ lines) after takes =
-    ap (λ r. go_on number r (λ taken. judged_from (number + 1) taken (next ∷ (lines ++ [] ∷ [])))) takes.1
+    ap (λ r. go_on number r (λ taken. judged_from judge (number + 1) taken (next ∷ (lines ++ [] ∷ [])))) takes.1
     ∙ takes_judged (number + 1) takes.0 final (next ∷ lines) after takes.2
 
 -- no line has a line feed
@@ -213,6 +214,6 @@ read_back assembly spelled tellable =
     let feedless : AreFeedless (assembly_lines assembly) =
     (heads.0, (heads.1, feedless_then (journal_lines 0 journals) (end_line ∷ []) (feedless_journals 0 cores places journals some few (omega (arith, count)) each) (whole_word 10 (omega arith) end_line refl, tt))) in (
       final,
-      ap (judged_from 1 empty_draft) (split_lines (assembly_lines assembly) feedless) ∙ takes_judged 1 empty_draft final (assembly_lines assembly) refl takes,
+      ap (judged_from judge 1 empty_draft) (split_lines (assembly_lines assembly) feedless) ∙ takes_judged 1 empty_draft final (assembly_lines assembly) refl takes,
       same_parts (assembly_of final) assembly (stands_cores body.2) (stands_cap body.2) (stands_whole cores places journals body.0 count body.2),
     )

@@ -19,7 +19,8 @@ use Rattle.rt_journal_read.specs.declared.draft.Part.TheVariants as part
 use Rattle.rt_journal_read.specs.declared.fault.JournalCause.{JournalCause}
 use Rattle.rt_journal_read.specs.declared.fault.JournalCause.TheVariants as cause
 use Rattle.rt_journal_read.specs.Drafts.{Drafted, empty_draft, raised_to, with_form, with_size, size_of, with_note, with_note_line, with_text, judged, too_long}
-use Rattle.rt_journal_read.specs.JournalTexts.{Fault, whole, at_end, go_on, judged_from}
+use Rattle.rt_lines.specs.Texts.{go_on, judged_from}
+use Rattle.rt_journal_read.specs.JournalTexts.{Fault, whole, at_end, judge}
 use Rattle.rt_journal_read.proofs.DraftLemmas.{chosen_ok, raised_is, note_taken, actor_taken}
 use Rattle.rt_journal_read.proofs.SoFar.{terms_at, IsFair, body_lines, raised_fair, noted, noted_fair}
 
@@ -167,7 +168,7 @@ went_on number (Err c) next final is = cc
 short_enough : (draft taken : Drafted) (line : List ℕ) → judged draft line ≡ Ok taken → with_text draft.part draft line ≡ Ok taken
 short_enough draft taken line is = either (chosen_ok (ltb 128 (length line)) (Err (too_long draft.part)) (with_text draft.part draft line) taken is) (λ h. cc) (λ h. h.1)
 
-pub read_from : (number : ℕ) (draft final : Drafted) (parts : List (List ℕ)) → Stands draft.part draft → judged_from number draft parts ≡ Ok final →
+pub read_from : (number : ℕ) (draft final : Drafted) (parts : List (List ℕ)) → Stands draft.part draft → judged_from judge number draft parts ≡ Ok final →
     IsFair final × (text_of (so_far part.After final) ≡ text_of (so_far draft.part draft) ++ join_with_byte 10 parts)
 read_from number draft final [] stands is =
     let end = ended number draft final stands is in
@@ -177,7 +178,7 @@ read_from number draft final (rest ∷ []) stands is =
     let end = ended number draft final stands cut.1 in
     (end.0, ap text_of end.1 ∙ sym (append-nil (text_of (so_far draft.part draft))) ∙ ap (λ r. text_of (so_far draft.part draft) ++ r) (sym cut.0))
 read_from number draft final (line ∷ next ∷ others) stands is =
-    let one = went_on number (judged draft line) (λ taken. judged_from (number + 1) taken (next ∷ others)) final is in
+    let one = went_on number (judged draft line) (λ taken. judged_from judge (number + 1) taken (next ∷ others)) final is in
     let step = line_step draft one.0 line stands (short_enough draft one.0 line one.1) in
     let rest = read_from (number + 1) one.0 final (next ∷ others) step.0 one.2 in
     let before = so_far draft.part draft in (

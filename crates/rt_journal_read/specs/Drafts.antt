@@ -62,9 +62,13 @@ with_text part.Size draft line = with_size draft (size_of (words line))
 with_text part.Notes draft line = with_note_line draft line
 with_text part.After draft line = Err cause.AfterEnd
 
+-- the most bytes of a line before its line feed
+abbrev pub longest_line : ℕ
+longest_line = 128
+
 -- a line that ends with a line feed
 abbrev pub judged : Drafted → List ℕ → Result Drafted JournalCause
-judged draft line = if nat_lt 128 (length line) then Err (too_long draft.part) else with_text draft.part draft line
+judged draft line = if nat_lt longest_line (length line) then Err (too_long draft.part) else with_text draft.part draft line
 
 -- how many lines may still come at most
 abbrev pub lines_left_of : Part → Drafted → ℕ

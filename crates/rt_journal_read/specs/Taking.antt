@@ -1,44 +1,18 @@
--- A text of journals so far, as long as nothing in it is faulty.
-use Rattle.std.specs.Prelude.{◌≡◌, ◌≢◌, ◌⊎◌, ℕ, ◌<◌, ◌≤◌, ◌++◌, List, [], ◌∷◌, length, Option}
-use Rattle.std.specs.Io.KnownBytes.{Consumes}
+-- When a reader of journals tells what is wrong.
+use Rattle.std.specs.Prelude.{ℕ, List, Option}
+use Rattle.rt_lines.specs.Taking as lines
 use Rattle.rt_journal_read.specs.declared.fault.ReadError.{ReadError}
 use Rattle.rt_journal_read.specs.declared.fault.ReadError.TheVariants.{Text, Read, Memory}
-use Rattle.rt_journal_read.specs.JournalTexts.{Reading, start_of_text, IsTaken}
-
--- a byte goes on with a line that has room for it
-pub record IsLonger (byte : ℕ) (old new : Reading) : Type 0 where
-  pub room : length old.line < 128
-  pub draft : new.draft ≡ old.draft
-  pub number : new.number ≡ old.number
-  pub line : new.line ≡ old.line ++ byte ∷ []
-
--- a line feed ends a line that is taken; any other byte goes on with its line
-abbrev pub TakesByte : ℕ → Reading → Reading → Type 0
-TakesByte byte old new = ((byte ≡ 10) × IsTaken old new) ⊎ ((byte ≢ 10) × IsLonger byte old new)
-
--- these bytes are taken, one after another: no line that ends in them is faulty, and none is too long
-abbrev pub TakesAll : List ℕ → Reading → Reading → Type 0
-TakesAll [] old new = new ≡ old
-TakesAll (byte ∷ bytes) old new = (between : Reading) × TakesByte byte old between × TakesAll bytes between new
-
--- a text that begins so may still tell journals, as far as its lines ended
-pub record IsFaultless (text : List ℕ) : Type 0 where
-  pub reading : Reading
-  pub takes : TakesAll text start_of_text reading
+use Rattle.rt_journal_read.specs.Drafts.{empty_draft}
+use Rattle.rt_journal_read.specs.JournalTexts.{judge}
 
 -- what was read is faultless, except perhaps the last bytes, at most a page of 8192
-pub record IsToldAtOnce (old new : Option (List ℕ)) : Type 0 where
-  pub before : List ℕ
-  pub last : List ℕ
-  pub consumed : Consumes old new (before ++ last)
-  pub short : length last ≤ 8192
-  pub faultless : IsFaultless before
+abbrev pub IsToldAtOnce : Option (List ℕ) → Option (List ℕ) → Type 0
+IsToldAtOnce old new = lines.IsToldAtOnce judge empty_draft old new
 
 -- all that was read is faultless
-pub record IsReadSoFar (old new : Option (List ℕ)) : Type 0 where
-  pub before : List ℕ
-  pub consumed : Consumes old new before
-  pub faultless : IsFaultless before
+abbrev pub IsReadSoFar : Option (List ℕ) → Option (List ℕ) → Type 0
+IsReadSoFar old new = lines.IsReadSoFar judge empty_draft old new
 
 -- a faulty line is told before more is read than the page that it ends in; a failed read is told only behind faultless text
 abbrev pub IsPrompt : Option (List ℕ) → Option (List ℕ) → ReadError → Type 0

@@ -1,10 +1,10 @@
 //! Reads the text of journals, and judges it line by line.
 #![tactic(auto)]
 
-pub mod draft;
+mod draft;
 pub mod fault;
 pub mod laws;
-pub mod reader;
+mod reader;
 pub mod source;
 
 pub use fault::{JournalCause, ReadError};

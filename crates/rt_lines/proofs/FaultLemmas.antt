@@ -1,11 +1,12 @@
 -- Facts of a fault.
-use Rattle.std.proofs.Common.{ℕ, Result, Ok, Err, IfErr, OnOk}
+use Rattle.std.proofs.Common.{ℕ, Result, Ok, Err, IfErr, OnOk, inl, inr}
 use Rattle.std.proofs.lemmas.Result.{IfErr-weaker}
 use Rattle.rt_lines.specs.declared.fault.LineFault.{LineFault}
 use Rattle.rt_lines.specs.declared.fault.LineFault.TheVariants.{Text, Read, Memory}
 use Rattle.rt_lines.specs.declared.fault.Stop.{Stop}
 use Rattle.rt_lines.specs.declared.fault.Stop.TheVariants as stop
-use Rattle.rt_lines.specs.Faults.{IfCause, IfFaulty, IfText, stopped}
+use Rattle.rt_lines.specs.Faults.{IfCause, IfFaulty, IfRead, IfText, stopped}
+use Rattle.rt_lines.specs.Sources.{AreInterrupted, HasFailed}
 
 pub IfFaulty-weaker : {C : Type 0} (P Q : ℕ × C → Type 0) (fault : LineFault C) → ((told : ℕ × C) → P told → Q told) → IfFaulty P fault → IfFaulty Q fault
 IfFaulty-weaker P Q (Text line cause) each h = each (line, cause) h
@@ -14,6 +15,13 @@ IfFaulty-weaker P Q Memory each h = tt
 
 pub IfErr_faulty : {T C : Type 0} (r : Result T (LineFault C)) (P Q : ℕ × C → Type 0) → ((told : ℕ × C) → P told → Q told) → IfErr r (IfFaulty P) → IfErr r (IfFaulty Q)
 IfErr_faulty r P Q each h = IfErr-weaker r (IfFaulty P) (IfFaulty Q) (λ fault. IfFaulty-weaker P Q fault each) h
+
+pub IfErr_cause : {T C : Type 0} (r : Result T (Stop C)) (P Q : C → Type 0) → ((cause : C) → P cause → Q cause) → IfErr r (IfCause P) → IfErr r (IfCause Q)
+IfErr_cause {T} {C} r P Q each h = IfErr-weaker r (IfCause P) (IfCause Q) each_stop h
+  where
+    each_stop : (why : Stop C) → IfCause P why → IfCause Q why
+    each_stop (stop.Cause cause) h = each cause h
+    each_stop stop.Memory h = tt
 
 -- the fault of a draft that stops
 pub stopped_faulty : {C : Type 0} (line : ℕ) (why : Stop C) (P : C → Type 0) (Q : ℕ × C → Type 0) → ((cause : C) → P cause → Q (line, cause)) → IfCause P why → IfFaulty Q (stopped line why)
@@ -29,3 +37,21 @@ pub told_of : {C : Type 0} (P Q : ℕ × C → Type 0) (fault : LineFault C) →
 told_of P Q (Text line cause) each h = each (line, cause) h
 told_of P Q Read each h = tt
 told_of P Q Memory each h = tt
+
+pub not_read : {C : Type 0} (P : ℕ × C → Type 0) (Q : Type 0) (fault : LineFault C) → IfFaulty P fault → IfRead Q fault
+not_read P Q (Text line cause) h = tt
+not_read P Q Read h = absurd h
+not_read P Q Memory h = tt
+
+-- a read that can't fail
+never_interrupted : {S : Type 0} (old new : S) → AreInterrupted (λ (a b : S). ⊥) 1000 old new → ⊥
+never_interrupted old new (between, before, nothing) = nothing
+
+pub never_failed : {S : Type 0} (old new : S) → HasFailed (λ (a b : S). ⊥) (λ (a b : S). ⊥) old new → ⊥
+never_failed old new (inl failed) = failed.failed
+never_failed old new (inr interrupted) = never_interrupted old new interrupted
+
+pub never_read : {C S : Type 0} (new : S) (fault : LineFault C) → IfRead ((from : S) × HasFailed (λ (a b : S). ⊥) (λ (a b : S). ⊥) from new) fault → IfRead ⊥ fault
+never_read new (Text line cause) h = tt
+never_read new Read h = never_failed h.0 new h.1
+never_read new Memory h = tt

@@ -21,7 +21,13 @@ IfText fact (Text line cause) = fact (line, cause)
 IfText fact Read = Unit {0}
 IfText fact Memory = Unit {0}
 
--- the same of a judge, who reads nothing
+-- a fact of a failed read
+abbrev pub IfRead : {C : Type 0} → Type 0 → LineFault C → Type 0
+IfRead fact (Text line cause) = Unit {0}
+IfRead fact Read = fact
+IfRead fact Memory = Unit {0}
+
+-- a fact of the faulty line and its cause; a judge reads nothing
 abbrev pub IfFaulty : {C : Type 0} → (ℕ × C → Type 0) → LineFault C → Type 0
 IfFaulty fact (Text line cause) = fact (line, cause)
 IfFaulty fact Read = ⊥

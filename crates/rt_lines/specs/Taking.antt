@@ -5,6 +5,7 @@ use Rattle.rt_lines.specs.declared.fault.LineFault.{LineFault}
 use Rattle.rt_lines.specs.declared.fault.LineFault.TheVariants.{Text, Read, Memory}
 use Rattle.rt_lines.specs.Texts.{Judge, Reading}
 use Rattle.rt_lines.specs.Readings.{at}
+use Rattle.rt_lines.specs.Sources.{ReadsSome}
 
 -- the line that is begun was taken, and the next one begins
 pub record IsTaken {D C : Type 0} (judge : Judge D C) (old new : Reading D) : Type 0 where
@@ -43,6 +44,15 @@ pub record IsToldAtOnce {D C : Type 0} (judge : Judge D C) (draft : D) (old new 
   pub last : List ℕ
   pub consumed : Consumes old new (before ++ last)
   pub short : length last ≤ 8192
+  pub faultless : IsFaultless judge draft before
+
+-- what was read before the last read is faultless: nothing was read on
+pub record IsToldByRead {D C S : Type 0} (judge : Judge D C) (draft : D) (remaining : S → Option (List ℕ)) (reads : S → List ℕ → S → Type 0) (interrupts : S → S → Type 0) (old new : S) : Type 0 where
+  pub between : S
+  pub before : List ℕ
+  pub last : List ℕ
+  pub consumed : Consumes (remaining old) (remaining between) before
+  pub reads_last : ReadsSome reads interrupts between last new
   pub faultless : IsFaultless judge draft before
 
 -- all that was read is faultless

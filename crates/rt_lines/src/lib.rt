@@ -3,9 +3,11 @@
 
 pub mod draft;
 pub mod fault;
+pub mod lines;
 mod reader;
 pub mod source;
 
 pub use draft::LineDraft;
 pub use fault::{LineFault, Stop};
-pub use source::read_lines;
+pub use lines::{read_lines, read_text};
+pub use source::{Once, Source, TextSource};

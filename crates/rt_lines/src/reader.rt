@@ -37,7 +37,11 @@ impl LineReader {
     }
 
     /// Takes the next bytes of the text. Each line is judged as soon as it has ended or is too long.
-    pub(crate) fn feed<D: LineDraft>(&mut self, draft: &mut D, bytes: &[u8]) -> Result<(), LineFault<D::Cause>>
+    pub(crate) fn feed<D: LineDraft>(
+        &mut self,
+        draft: &mut D,
+        bytes: &[u8],
+    ) -> Result<(), LineFault<D::Cause>>
         requires longest { IsLongest D.judge.longest D.LONGEST }
         requires ready { IsReady D.judge.longest D.fits D.lines_left (at draft.old self.old.number self.old.line.items) }
         ensures ready { OnOk result (IsReady D.judge.longest D.fits D.lines_left (at draft.new self.new.number self.new.line.items)) }
@@ -59,7 +63,11 @@ impl LineReader {
     }
 
     /// Takes one byte of the text.
-    fn take_byte<D: LineDraft>(&mut self, draft: &mut D, byte: u8) -> Result<(), LineFault<D::Cause>>
+    fn take_byte<D: LineDraft>(
+        &mut self,
+        draft: &mut D,
+        byte: u8,
+    ) -> Result<(), LineFault<D::Cause>>
         requires longest { IsLongest D.judge.longest D.LONGEST }
         requires ready { IsReady D.judge.longest D.fits D.lines_left (at draft.old self.old.number self.old.line.items) }
         ensures ready { OnOk result (IsReady D.judge.longest D.fits D.lines_left (at draft.new self.new.number self.new.line.items)) }

@@ -1,49 +1,131 @@
-//! Reads a whole text.
+//! What a text is read from.
 
-ghost use Rattle.std.specs.Prelude.{ℕ, List, ◌≡◌, ◌+◌, ◌<◌, ◌^◌, Ok, Err, IfOk, IfErr, IfSome};
-ghost use Rattle.rt_lines.specs.Faults.{IfText};
-ghost use Rattle.rt_lines.specs.Readings.{IsLongest};
-ghost use Rattle.rt_lines.specs.Taking.{IsPrompt};
-ghost use Rattle.rt_lines.specs.Texts.{text_judged};
+ghost use Rattle.std.specs.Prelude.{ℕ, List, Option, ◌≡◌, ◌≤◌, ◌<◌, IfOk, OnErr, length, take};
+ghost use Rattle.std.specs.Io.KnownBytes.{Consumes, Keeps, IsAtEnd};
+ghost use Rattle.rt_lines.specs.Sources.{IfCount, IfNoCount, IfInterrupted, IfFailed, ReadsSome, HasFailed};
 
-use crate::draft::LineDraft;
-use crate::fault::LineFault;
-use crate::reader::LineReader;
-use rt_text::steady::read_some;
-use std::io::Read;
+use rt_text::steady::DeviceFault;
+use std::io::{ErrorKind, Read};
 
-/// The most bytes that are read at once.
-const PAGE: usize = 8192;
+/// This many interruptions in a row are a fault.
+const MOST_INTERRUPTIONS: u32 = 1000;
 
-/// What the text becomes that the source tells. Each line is judged as soon as it has ended or is too long, before the next read.
+/// What became of one read.
+#[derive(Clone, Copy)]
+pub enum Once {
+    /// It gave so many bytes. None are the end of the input.
+    Count(usize),
+    /// A signal interrupted it.
+    Interrupted,
+    /// It failed.
+    Failed,
+}
+
+/// What a text is read from. A contract sees the bytes that are left, if they are known, and what one read may do.
 ///
-/// # Errors
-///
-/// The first faulty line and its cause (`Text`), a failed read (`Read`), want of memory (`Memory`).
-pub fn read_lines<D: LineDraft, R: Read>(
-    mut draft: D,
-    source: &mut R,
-) -> Result<D::Whole, LineFault<D::Cause>>
-    requires longest { IsLongest D.judge.longest D.LONGEST }
-    requires fits { D.fits 1 draft }
-    requires few { 1 + D.lines_left 1 draft < 2 ^ 32 }
-    ensures ok { IfOk result (λ whole. IfSome (R.remaining source.old) (λ text.
-        (last : D) × (text_judged D.judge draft text ≡ Ok last) × D.makes whole last)) }
-    ensures faulty { IfErr result (IfText (λ fault.
-        IfSome (R.remaining source.old) (λ text. text_judged D.judge draft text ≡ Err fault))) }
-    ensures prompt { IfErr result (IsPrompt D.judge draft (R.remaining source.old) (R.remaining source.new)) }
-{
-    let mut page = [0u8; PAGE];
-    let mut reader = LineReader::new();
-    loop {
-        let Ok(count) = read_some(source, &mut page) else {
-            return Err(LineFault::Read);
-        };
-        if count == 0 {
-            return reader.finish(draft);
-        }
-        if let Err(fault) = reader.feed(&mut draft, &page[..count]) {
-            return Err(fault);
+/// `reads` says that a read that gives these bytes leads from one state to another. `interrupts` and `fails` say the same of a read that is
+/// interrupted, and of one that fails.
+pub trait Source {
+    ghost remaining: { Self → Option (List ℕ) };
+
+    ghost reads: { Self → List ℕ → Self → Type 0 };
+
+    ghost interrupts: { Self → Self → Type 0 };
+
+    ghost fails: { Self → Self → Type 0 };
+
+    /// One read of what comes next, at most as much as there is room for.
+    fn read_once(&mut self, room: &mut [u8]) -> Once
+        ensures room { length room.new ≡ length room.old }
+        ensures within { IfCount result (λ count. count ≤ length room.new) }
+        ensures bytes { IfCount result (λ count.
+            Consumes (remaining self.old) (remaining self.new) (take count room.new)) }
+        ensures end { IfCount result (λ count.
+            count ≡ 0 → 0 < length room.old → IsAtEnd (remaining self.new)) }
+        ensures kept { IfNoCount result (Keeps (remaining self.old) (remaining self.new)) }
+        ensures gives { IfCount result (λ count. reads self.old (take count room.new) self.new) }
+        ensures interrupted { IfInterrupted result (interrupts self.old self.new) }
+        ensures failed { IfFailed result (fails self.old self.new) };
+}
+
+/// Any reader. What its reads may do is not known.
+impl<R: Read> Source for R {
+    ghost remaining = { R.remaining };
+
+    ghost reads = { λ old bytes new. Unit {0} };
+
+    ghost interrupts = { λ old new. Unit {0} };
+
+    ghost fails = { λ old new. Unit {0} };
+
+    fn read_once(&mut self, room: &mut [u8]) -> Once {
+        match self.read(room) {
+            Ok(count) => Once::Count(count),
+            Err(error) => {
+                if error.kind() == ErrorKind::Interrupted {
+                    Once::Interrupted
+                } else {
+                    Once::Failed
+                }
+            }
         }
     }
+}
+
+/// A text in memory. No read of it is interrupted, and none fails.
+#[derive(Drop)]
+pub struct TextSource<'a> {
+    left: &'a [u8],
+}
+
+impl<'a> TextSource<'a> {
+    /// Before its first byte.
+    pub fn of(text: &'a [u8]) -> TextSource<'a>
+        ensures { result.left.now ≡ text.now }
+    {
+        TextSource { left: text }
+    }
+}
+
+impl<'a> Source for TextSource<'a> {
+    ghost use Rattle.std.specs.Prelude.{◌≡◌, ◌++◌, Some};
+
+    ghost remaining = { λ source. Some source.left.now };
+
+    ghost reads = { λ old bytes new. old.left.now ≡ bytes ++ new.left.now };
+
+    ghost interrupts = { λ old new. ⊥ };
+
+    ghost fails = { λ old new. ⊥ };
+
+    fn read_once(&mut self, room: &mut [u8]) -> Once {
+        let count = self.left.len().min(room.len());
+        let (now, later) = self.left.split_at(count);
+        room[..count].copy_from_slice(now);
+        self.left = later;
+        Once::Count(count)
+    }
+}
+
+/// Reads what comes next, and goes on where a signal interrupts it. At the end of the input it answers 0.
+pub(crate) fn read_some<S: Source>(source: &mut S, room: &mut [u8]) -> Result<usize, DeviceFault>
+    ensures room { length room.new ≡ length room.old }
+    ensures within { IfOk result (λ count. count ≤ length room.new) }
+    ensures bytes { IfOk result (λ count.
+        Consumes (S.remaining source.old) (S.remaining source.new) (take count room.new)) }
+    ensures end { IfOk result (λ count.
+        count ≡ 0 → 0 < length room.old → IsAtEnd (S.remaining source.new)) }
+    ensures gives { IfOk result (λ count.
+        ReadsSome S.reads S.interrupts source.old (take count room.new) source.new) }
+    ensures kept { OnErr result (Keeps (S.remaining source.old) (S.remaining source.new)) }
+    ensures failed { OnErr result (HasFailed S.interrupts S.fails source.old source.new) }
+{
+    for _i in 0..MOST_INTERRUPTIONS {
+        match source.read_once(room) {
+            Once::Count(count) => return Ok(count),
+            Once::Failed => return Err(DeviceFault),
+            Once::Interrupted => {}
+        }
+    }
+    Err(DeviceFault)
 }

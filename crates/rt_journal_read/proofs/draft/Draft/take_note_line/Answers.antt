@@ -8,7 +8,7 @@ use Rattle.rt_journal_lines.specs.NoteWords.{note_of}
 use Rattle.rt_journal_read.specs.declared.fault.JournalCause.{JournalCause}
 use Rattle.rt_journal_read.specs.Drafts.{Drafted, with_note, with_note_line}
 use Rattle.rt_journal_read.proofs.DraftLemmas.{line_read, raised_is}
-use Rattle.rt_journal_read.proofs.ReaderLemmas.{IfErr_faulty}
+use Rattle.rt_lines.proofs.FaultLemmas.{IfErr_cause}
 use Rattle.rt_journal_read.proofs.draft.Draft.take_note_line.Goals as goal
 
 pub returns-in_ok-raise_to-in-Some-clause-ok : goal.returns-in_ok-raise_to-in-Some-clause-ok
@@ -35,7 +35,7 @@ returns-in_ok-raise_to-in-Some-clause-faulty c =
     let passed = c.in_ok-raise_to-in-Some.ensures.ok in
     let kept = raised_is (c.in-Some.actor - length draft.earlier) draft in
     let read : c.note_of.result ≡ note_of c.in-Some.actor draft.cores (others (words line)) = cc (c.note_of.ensures, c.next_word.ensures.others, c.of-fields.ensures, ap (λ (d : Drafted). d.cores) c.self-in-Some.view_is, ap (λ (d : Drafted). d.cores) passed, kept.cores) in
-    IfErr_faulty c.take_note.result
-    (λ (fault : ℕ × JournalCause). (fault.0 ≡ c.args.number) × (with_note c.raise_to.new.self c.note_of.result ≡ Err fault.1))
-    (λ (fault : ℕ × JournalCause). (fault.0 ≡ c.args.number) × (with_note_line draft line ≡ Err fault.1))
-    (λ fault h. (h.0, line_read draft c.raise_to.new.self line c.in-Some.actor c.note_of.result other number passed read ∙ h.1)) c.take_note.ensures.faulty
+    IfErr_cause c.take_note.result
+    (λ (cause : JournalCause). with_note c.raise_to.new.self c.note_of.result ≡ Err cause)
+    (λ (cause : JournalCause). with_note_line draft line ≡ Err cause)
+    (λ cause h. line_read draft c.raise_to.new.self line c.in-Some.actor c.note_of.result other number passed read ∙ h) c.take_note.ensures.faulty

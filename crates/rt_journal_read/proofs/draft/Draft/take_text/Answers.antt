@@ -1,0 +1,11 @@
+use Rattle.std.proofs.Common.{ap, sym, ◌∙◌, subst}
+use Rattle.std.proofs.lemmas.Result.{on_ok_weaker}
+use Rattle.rt_journal_read.specs.Drafts.{Drafted, IsDraft}
+use Rattle.rt_journal_read.proofs.DraftLemmas.{fewer_line}
+use Rattle.rt_journal_read.proofs.draft.Draft.take_text.Goals as goal
+
+pub returns-in-Notes-clause-fewer : goal.returns-in-Notes-clause-fewer
+returns-in-Notes-clause-fewer c =
+    on_ok_weaker c.take_note_line.result
+    (fewer_line c.args.self.now c.take_note_line.new.self c.args.line.now (sym (ap (λ (d : Drafted). d.part) c.self.view_is) ∙ c.in-Notes.is) (subst IsDraft c.self.view_is c.self.invariant))
+    c.take_note_line.ensures.ok
