@@ -1,5 +1,5 @@
 -- The outside actor's journal has room for each note that is due of its submissions.
-use Rattle.std.proofs.Common.{◌≡◌, ℕ, zero, suc, ◌+◌, ◌*◌, ◌<◌, ◌≤◌, List, [], ◌∷◌, length, Some, refl, sym, ◌∙◌, ap, subst, arith, set, get_or}
+use Rattle.std.proofs.Common.{◌≡◌, ℕ, zero, suc, ◌+◌, ◌*◌, ◌<◌, ◌≤◌, List, [], ◌∷◌, length, Some, refl, sym, ap, arith, get_or}
 use Rattle.std.specs.Prelude.{IfOk, IsSome, Result, Ok, Err, slice_get, sum_by}
 use Rattle.std.proofs.lemmas.List.Sums.{get_or-le-sum_by, sum_by-cons, sum_by-set}
 use Rattle.std.proofs.lemmas.Option.{slice_get_within, get_or_from_slice_get}
@@ -14,11 +14,11 @@ use Rattle.rt_ids.specs.Journal.{Journal}
 use Rattle.rt_ids.specs.Outstanding.{outstanding_count}
 use Rattle.rt_journal_notes.specs.Journals.{free_notes}
 use Rattle.rt_desk.specs.Held.{at, count_of}
-use Rattle.rt_desk.specs.Lanes.{Lane, IsLaneOf}
+use Rattle.rt_desk.specs.Lanes.{Lane}
 use Rattle.rt_desk.specs.declared.entry.Entry.{Entry}
 use Rattle.rt_journal_desk.specs.Submissions.{DeskView, Submits}
 use Rattle.rt_journal_desk.specs.Spending.{HoldsSome, Spends, booked, due_of}
-use Rattle.rt_journal_desk.specs.Tickets.{DetachesTicket, HasLane, RedeemsTicket}
+use Rattle.rt_journal_desk.specs.Tickets.{DetachesTicket, RedeemsTicket}
 use Rattle.rt_journal_desk.proofs.Spending.{all_three}
 use Rattle.rt_ring.proofs.SeatViews.{true-not_false}
 use Rattle.rt_ring_mesh.specs.Ends.{out_at}

@@ -1,11 +1,10 @@
 -- A runtime after a ticket was redeemed or detached.
-use Rattle.std.proofs.Common.{◌≡◌, ℕ, ◌+◌, ◌-◌, ◌<◌, Some, length, set, refl, sym, ap, subst, arith}
+use Rattle.std.proofs.Common.{◌≡◌, ◌-◌, ◌<◌, Some, length, set, subst, arith}
 use Rattle.std.specs.Prelude.{IfOk, IfSome, Result, Ok, Err, slice_get}
 use Rattle.rt_ids.specs.declared.names.JobId.{JobId}
 use Rattle.rt_ids.specs.declared.names.TicketError.{TicketError}
 use Rattle.rt_ids.specs.declared.order.Order.{Order}
 use Rattle.rt_ids.specs.declared.order.Outcome.{Outcome}
-use Rattle.rt_link.specs.declared.ends.Outward.{Outward}
 use Rattle.rt_ring.specs.declared.ring_out.Sending.{Sending}
 use Rattle.rt_ring.proofs.Fronts.{slice_get-there}
 use Rattle.rt_desk.specs.Lanes.{FitsSent, IsGot}
@@ -13,7 +12,7 @@ use Rattle.rt_desk.proofs.Taken.{taken-get}
 use Rattle.rt_journal_desk.specs.Submissions.{DeskView}
 use Rattle.rt_journal_desk.specs.Tickets.{DetachesTicket, RedeemsTicket, StaysBeside}
 use Rattle.rt_ring_mesh.specs.Ends.{EndsView, out_at}
-use Rattle.rt_runtime.specs.State.{RuntimeView, IsRuntime, submitted}
+use Rattle.rt_runtime.specs.State.{RuntimeView, IsRuntime, is_told_shut, submitted}
 use Rattle.rt_runtime.specs.Tickets.{DetachesHere, FitsSubmitted, RedeemsHere}
 use Rattle.rt_runtime.proofs.Sent.{nothing_on}
 
@@ -34,7 +33,8 @@ module _ {J T : Type 0} {fits : Order J → Outcome J T → Type 0} where
 
   module _ (inside view : RuntimeView J T) (seen : inside ≡ view) (is : IsRuntime fits inside) (name : JobId) (low : name.to < inside.desk.cores) (desk : DeskView J T) (later : Sending J T)
       (stays : StaysBeside fits name.to inside.desk desk later.out later.credited) (link : later.link ≡ (out_at name.to inside.ends).link) (ends : EndsView J T)
-      (is_put : ends ≡ record inside.ends { outs = set inside.ends.outs name.to later }) (sent : later.out.sent ≡ submitted name.to inside) where
+      (is_put : ends ≡ record inside.ends { outs = set inside.ends.outs name.to later }) (sent : later.out.sent ≡ submitted name.to inside)
+      (gate : later.out.closed ≡ is_told_shut name.to inside) where
     abbrev new : RuntimeView J T
     new = record { desk = desk; ends = ends; closing = inside.closing; workers = inside.workers; room = inside.room }
 
@@ -42,9 +42,9 @@ module _ {J T : Type 0} {fits : Order J → Outcome J T → Type 0} where
         IfOk answer (FitsSent fits (out_at name.to inside.ends).out name.number) → RedeemsHere fits name view answer new
     redeemed_here answer redeems got fit =
         subst (λ view. RedeemsHere fits name view answer new) seen
-        (record { redeems = redeems; fitting = fits_submitted inside is name low answer got fit; nothing = nothing_on inside is name.to low desk later stays link ends is_put sent })
+        (record { redeems = redeems; fitting = fits_submitted inside is name low answer got fit; nothing = nothing_on inside is name.to low desk later stays link ends is_put sent gate })
 
     pub detached_here : (answer : Result (Unit {0}) TicketError) → DetachesTicket name inside.desk answer desk → DetachesHere name view answer new
     detached_here answer detaches =
         subst (λ view. DetachesHere name view answer new) seen
-        (record { detaches = detaches; nothing = nothing_on inside is name.to low desk later stays link ends is_put sent })
+        (record { detaches = detaches; nothing = nothing_on inside is name.to low desk later stays link ends is_put sent gate })

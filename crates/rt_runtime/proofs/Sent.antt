@@ -28,7 +28,7 @@ use Rattle.rt_runtime_worker.proofs.Ending.{before_last, at_last}
 use Rattle.rt_ids.specs.Journal.{Journal}
 use Rattle.rt_ids.specs.Outstanding.{outstanding_count}
 use Rattle.rt_runtime.specs.Sends.{accepted, outstanding_upto}
-use Rattle.rt_runtime.specs.State.{RuntimeView, IsRuntime, IsStored, SubmitsNothing, submitted}
+use Rattle.rt_runtime.specs.State.{RuntimeView, IsRuntime, IsStored, SubmitsNothing, is_told_shut, submitted}
 
 module _ {J T : Type 0} where
   -- the same links, where one actor's ends are of the same links as before
@@ -149,13 +149,17 @@ module _ {J T : Type 0} where
       room_journals = stored.room_journals;
     }
 
-    -- nothing was submitted, where this end has sent what it had sent
-    pub nothing_on : (ends : EndsView J T) → ends ≡ put → later.out.sent ≡ submitted core view →
+    -- nothing was submitted, where this end has sent what it had sent and heard of no gate
+    pub nothing_on : (ends : EndsView J T) → ends ≡ put → later.out.sent ≡ submitted core view → later.out.closed ≡ is_told_shut core view →
         SubmitsNothing view (record { desk = desk; ends = ends; closing = view.closing; workers = view.workers; room = view.room })
-    nothing_on ends is_put sent = record {
+    nothing_on ends is_put sent gate = record {
       orders = λ to. ⊎_elim
           (λ (same : to ≡ core). rw same (ap (λ ends. (out_at core ends).out.sent) is_put ∙ (ap (λ (end : Sending J T). end.out.sent) put_is ∙ sent)))
           (λ (away : to ≢ core). ap (λ ends. (out_at to ends).out.sent) is_put ∙ ap (λ (end : Sending J T). end.out.sent) (put_other to away))
+          (cases_eq to core);
+      gates = λ to. ⊎_elim
+          (λ (same : to ≡ core). rw same (ap (λ ends. (out_at core ends).out.closed) is_put ∙ (ap (λ (end : Sending J T). end.out.closed) put_is ∙ gate)))
+          (λ (away : to ≢ core). ap (λ ends. (out_at to ends).out.closed) is_put ∙ ap (λ (end : Sending J T). end.out.closed) (put_other to away))
           (cases_eq to core);
       closing = refl;
       stays = record { desk = stays.rest; workers = refl; room = refl };

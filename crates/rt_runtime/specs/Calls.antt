@@ -1,5 +1,5 @@
 -- How a runtime starts and finishes.
-use Rattle.std.specs.Prelude.{◌≡◌, ℕ, ◌<◌, true, false, List, [], replicate, Result, Ok, Err}
+use Rattle.std.specs.Prelude.{◌≡◌, ℕ, ◌<◌, true, false, List, [], length, replicate, Result, Ok, Err}
 use Rattle.rt_ids.specs.Assembly.{Assembly, journal_of}
 use Rattle.rt_ids.specs.Closing.{IsDrained}
 use Rattle.rt_ids.specs.Journal.{EachNote}
@@ -9,6 +9,7 @@ use Rattle.rt_ids.specs.Spelled.{IsSpelled}
 use Rattle.rt_ids.specs.declared.order.Order.{Order}
 use Rattle.rt_ids.specs.declared.order.Outcome.{Outcome}
 use Rattle.rt_journal_desk.specs.Submissions.{opened_desk}
+use Rattle.rt_ring_mesh.specs.Ends.{AreFresh}
 use Rattle.rt_runtime_worker.specs.Queues.{opening_of}
 use Rattle.rt_runtime_worker.specs.Rooms.{MayAct, least_free}
 use Rattle.rt_runtime_worker.specs.Together.{worker_at}
@@ -22,11 +23,15 @@ use Rattle.rt_runtime.specs.Starting.{HaveQueues}
 use Rattle.rt_runtime.specs.State.{RuntimeView, closing_at, submitted}
 
 module _ {J T : Type 0} where
-  -- A runtime that was just started. Each core has the queues that the configuration names for it, in their order.
+  -- A runtime that was just started. There is a worker for each core, and the outside actor has a fresh end to each. Each core has the queues that
+  -- the configuration names for it, in their order.
   pub record IsStarted (cores cap room : ℕ) (queues : List Entry) (view : RuntimeView J T) : Type 0 where
     pub desk : view.desk ≡ opened_desk cores cores cap room
     pub closing : view.closing ≡ replicate cores false
     pub room_is : view.room ≡ room
+    pub count : length view.workers ≡ cores
+    pub ends : length view.ends.outs ≡ cores
+    pub fresh : AreFresh cap cores view.ends
     pub none : (core : ℕ) → core < cores → submitted core view ≡ []
     pub have_queues : HaveQueues cores queues view.workers
 

@@ -1,13 +1,17 @@
 -- Laws over the definitions alone.
-use Rattle.std.specs.Prelude.{◌≡◌, ℕ, ◌<◌, Some}
+use Rattle.std.specs.Prelude.{◌≡◌, ℕ, ◌<◌, true, Some, Result, Ok, Err}
 use Rattle.rt_ids.specs.declared.names.JobId.{JobId}
 use Rattle.rt_ids.specs.declared.note.OutcomeNote.TheVariants.{Finished}
+use Rattle.rt_ids.specs.declared.order.Order.{Order}
 use Rattle.rt_ids.specs.declared.order.Order.TheVariants.{Job}
+use Rattle.rt_ids.specs.declared.order.SendError.{SendError}
+use Rattle.rt_ids.specs.declared.order.SendError.TheVariants.{Closed}
 use Rattle.rt_ids.specs.Assembly.{Assembly, outcome_of}
 use Rattle.rt_jobs.specs.Meanings.{Meaning}
 use Rattle.rt_link.specs.Fits.{Fits}
 use Rattle.rt_runtime.specs.Calls.{HasFinished}
-use Rattle.rt_runtime.specs.State.{RuntimeView, submitted_under}
+use Rattle.rt_runtime.specs.Sends.{SendsTo}
+use Rattle.rt_runtime.specs.State.{RuntimeView, is_told_shut, submitted_under}
 
 module _ {J : Type 0} where
   -- the caller submitted this job under this name, and the journals tell that it is done with this answer
@@ -23,3 +27,15 @@ module _ {J : Type 0} where
   WrongAnswersAreRefused meaning =
       (view : RuntimeView J ℕ) (assembly : Assembly ℕ) (name : JobId) (job : J) (answer : ℕ) →
       TellsAnswer view assembly name job answer → (meaning.answers job answer → ⊥) → HasFinished (Fits meaning) view assembly → ⊥
+
+  -- the answer is that the core is closed
+  abbrev pub IsClosed : Result JobId (SendError J) → Type 0
+  IsClosed (Ok name) = ⊥
+  IsClosed (Err (Closed back final)) = Unit {0}
+  IsClosed (Err _) = ⊥
+
+-- a send that is answered `Closed` found the gate shut, and each send behind one that found it shut is answered so
+abbrev pub ClosedStaysClosed : Type 0 → Type 0
+ClosedStaysClosed J =
+    (core : ℕ) (order : Order J) (old : RuntimeView J ℕ) (answer : Result JobId (SendError J)) (new : RuntimeView J ℕ) → SendsTo core order old answer new →
+    (IsClosed answer → is_told_shut core new ≡ true) × (is_told_shut core old ≡ true → IsClosed answer × (is_told_shut core new ≡ true))

@@ -7,11 +7,13 @@ use Rattle.rt_ids.specs.declared.order.SendError.{SendError}
 use Rattle.rt_ids.specs.declared.order.SendError.TheVariants.{Closed, NoCore}
 use Rattle.rt_ids.specs.Journal.{Journal}
 use Rattle.rt_ids.specs.Outstanding.{outstanding_count}
+use Rattle.rt_link.specs.Calls as link
 use Rattle.rt_journal_notes.specs.Journals.{free_notes}
-use Rattle.rt_journal_desk.specs.Submissions.{Submits}
+use Rattle.rt_journal_desk.specs.Submissions.{Submits, numbered}
+use Rattle.rt_ring_mesh.specs.Ends.{out_at}
 use Rattle.rt_runtime.specs.declared.error.SubmitError.{SubmitError}
 use Rattle.rt_runtime.specs.declared.error.SubmitError.TheVariants.{JournalFull, Send}
-use Rattle.rt_runtime.specs.State.{RuntimeView, StaysRunning, closing_at, submitted, submitted_under}
+use Rattle.rt_runtime.specs.State.{RuntimeView, StaysRunning, closing_at, is_told_shut, submitted, submitted_under}
 
 -- how many submissions are outstanding on the links to the first cores
 abbrev pub outstanding_upto : {T : Type 0} → Journal T → ℕ → ℕ
@@ -40,13 +42,16 @@ module _ {J T : Type 0} where
   abbrev pub room_left : ℕ → RuntimeView J T → ℕ
   room_left each view = 3 * (outstanding_upto view.desk.journal.notes view.desk.cores + 1) + each * view.desk.cores
 
-  -- A send to a core that there is: its link answers. An order that was accepted stands under its name, and what the caller knows of the core's
-  -- closing goes on.
+  -- A send to a core that there is: its link answers. So `Closed` comes only from a gate that was found shut, and then at each later send; `Full`
+  -- and an acceptance come only where no send found it shut. An order that was accepted stands under its name, and what the caller knows of the
+  -- core's closing goes on.
   pub record SendsTo (core : ℕ) (order : Order J) (old : RuntimeView J T) (answer : Result JobId (SendError J)) (new : RuntimeView J T) : Type 0 where
     pub submits : Submits core order old.desk answer new.desk
+    pub link : link.Sends (out_at core old.ends).out (out_at core old.ends).credited order (out_at core new.ends).out (numbered answer)
     pub closing : new.closing ≡ slice_set old.closing core (closing_at core old || tells_closing (is_closing order) answer)
     pub orders : submitted core new ≡ submitted core old ++ accepted order answer
     pub others : (other : ℕ) → other ≢ core → submitted other new ≡ submitted other old
+    pub gates : (other : ℕ) → other ≢ core → is_told_shut other new ≡ is_told_shut other old
     pub named : IfOk answer (λ name. submitted_under name new ≡ Some order)
     pub stays : StaysRunning old new
 

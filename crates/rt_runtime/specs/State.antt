@@ -35,6 +35,10 @@ module _ {J T : Type 0} where
   abbrev pub submitted : ℕ → RuntimeView J T → List (Order J)
   submitted core view = (out_at core view.ends).out.sent
 
+  -- whether a send to this core found the gate of the outside actor shut
+  abbrev pub is_told_shut : ℕ → RuntimeView J T → Bool
+  is_told_shut core view = (out_at core view.ends).out.closed
+
   -- the order that was submitted under a name
   abbrev pub submitted_under : JobId → RuntimeView J T → Option (Order J)
   submitted_under name view = slice_get (submitted name.to view) (name.number - 1)
@@ -45,9 +49,10 @@ module _ {J T : Type 0} where
     pub workers : new.workers ≡ old.workers
     pub room : new.room ≡ old.room
 
-  -- nothing was submitted
+  -- nothing was submitted, and nothing was heard of a gate
   pub record SubmitsNothing (old new : RuntimeView J T) : Type 0 where
     pub orders : (core : ℕ) → submitted core new ≡ submitted core old
+    pub gates : (core : ℕ) → is_told_shut core new ≡ is_told_shut core old
     pub closing : new.closing ≡ old.closing
     pub stays : StaysRunning old new
 

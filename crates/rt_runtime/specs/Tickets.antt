@@ -1,18 +1,23 @@
 -- What the outside actor's calls on outcomes and tickets do.
-use Rattle.std.specs.Prelude.{◌≡◌, ℕ, ◌<◌, ◌≤◌, Some, Result, Ok, IfOk}
+use Rattle.std.specs.Prelude.{◌≡◌, ℕ, ◌+◌, ◌<◌, ◌≤◌, Some, Result, IfOk}
 use Rattle.rt_ids.specs.declared.names.JobId.{JobId}
 use Rattle.rt_ids.specs.declared.names.TicketError.{TicketError}
 use Rattle.rt_ids.specs.declared.order.Order.{Order}
 use Rattle.rt_ids.specs.declared.order.Outcome.{Outcome}
+use Rattle.rt_ids.specs.Filters.{collected_outcomes}
 use Rattle.rt_ring_mesh.specs.Ends.{out_at}
+use Rattle.rt_journal_desk.specs.Ends.{named_outcomes}
 use Rattle.rt_journal_desk.specs.Tickets.{CollectsFrom, DetachesTicket, GetsAll, RedeemsTicket}
 use Rattle.rt_runtime.specs.State.{RuntimeView, SubmitsNothing, submitted_under}
 
 module _ {J T : Type 0} where
-  -- so many outcomes of a core that there is are collected, all that its link shows, and each is noted
+  -- So many outcomes of a core that there is are collected, all that its link shows, and each is noted. What the journal tells as collected is then
+  -- what the link shows: each outcome under its name, in their order.
   pub record CollectsHere (core : ℕ) (old : RuntimeView J T) (count : ℕ) (new : RuntimeView J T) : Type 0 where
     pub collects : CollectsFrom core old.desk count new.desk
     pub shown : GetsAll (out_at core old.ends).out (out_at core new.ends).out
+    pub told : collected_outcomes core new.desk.journal.notes ≡ named_outcomes new.desk.actor core (out_at core new.ends).out.seen
+    pub counted : (out_at core old.ends).out.got + count ≡ (out_at core new.ends).out.got
     pub nothing : SubmitsNothing old new
 
   -- the same, or there is no such core

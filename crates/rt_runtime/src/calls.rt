@@ -5,9 +5,10 @@ ghost use Rattle.rt_journal_notes.specs.Journals.{free_notes};
 ghost use Rattle.rt_jobs.specs.Ready.{HasReadyJob};
 ghost use Rattle.rt_ids.specs.declared.order.Order.TheVariants.{CloseCore};
 ghost use Rattle.rt_ids.specs.Outstanding.{outstanding_count};
+ghost use Rattle.rt_link.specs.Calls as link;
 ghost use Rattle.rt_link.specs.Fits.{Fits};
 ghost use Rattle.rt_journal_desk.specs.Ends.{IsOutOf};
-ghost use Rattle.rt_journal_desk.specs.Submissions.{Submits};
+ghost use Rattle.rt_journal_desk.specs.Submissions.{Submits, numbered};
 ghost use Rattle.rt_journal_desk.specs.Tickets.{HasLane, StaysBeside};
 ghost use Rattle.rt_journal_desk.specs.Spending.{Spends, booked};
 ghost use Rattle.rt_ring_mesh.specs.Ends.{out_at};
@@ -65,6 +66,7 @@ fn send_on<J: Task<Out = u64>>(
     requires room { length desk.old.journal.notes < desk.old.journal.room }
     requires ready { HasReadyJob J.meaning order }
     ensures submits { Submits to order desk.old result desk.new }
+    ensures answers { link.Sends (out_at to ends.old).out (out_at to ends.old).credited order (out_at to ends.new).out (numbered result) }
     ensures orders { (out_at to ends.new).out.sent ≡ (out_at to ends.old).out.sent ++ accepted order result }
     ensures named { IfOk result (λ name. slice_get (out_at to ends.new).out.sent (name.number - 1) ≡ Some order) }
     ensures spends { IfOk result (λ _. Spends to 3 desk.old desk.new) }

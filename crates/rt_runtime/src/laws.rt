@@ -1,10 +1,15 @@
 //! Laws over the definitions alone. Their bodies are empty: each contract is the law.
 
-ghost use Rattle.rt_runtime.specs.Laws.{WrongAnswersAreRefused};
+ghost use Rattle.rt_runtime.specs.Laws.{ClosedStaysClosed, WrongAnswersAreRefused};
 
 use rt_jobs::Task;
 
 /// No finish tells of a submitted job an answer that isn't one of its task, also if nobody redeems it.
 pub fn wrong_answers_are_refused<J: Task<Out = u64>>()
     ensures { WrongAnswersAreRefused J.meaning }
+{}
+
+/// A send is answered `Closed` only where the gate was found shut, and from then on each send to that core is.
+pub fn closed_stays_closed<J: Task<Out = u64>>()
+    ensures { ClosedStaysClosed J }
 {}

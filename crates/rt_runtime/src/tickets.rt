@@ -3,7 +3,8 @@
 ghost use Rattle.std.specs.Prelude.{◌≡◌, ◌+◌, ◌<◌, ◌≤◌, IfOk, length, slice_set};
 ghost use Rattle.rt_link.specs.Fits.{Fits};
 ghost use Rattle.rt_desk.specs.Lanes.{FitsSent, IsGot};
-ghost use Rattle.rt_journal_desk.specs.Ends.{IsOutOf};
+ghost use Rattle.rt_ids.specs.Filters.{collected_outcomes};
+ghost use Rattle.rt_journal_desk.specs.Ends.{IsOutOf, named_outcomes};
 ghost use Rattle.rt_journal_desk.specs.Spending.{HoldsSome, Spends, booked};
 ghost use Rattle.rt_journal_desk.specs.Tickets.{CollectsFrom, DetachesTicket, GetsAll, HasLane, RedeemsTicket, StaysBeside};
 ghost use Rattle.rt_ring_mesh.specs.Ends.{out_at};
@@ -26,6 +27,8 @@ fn collect_on<J: Task<Out = u64>>(
     requires lane { HasLane (Fits J.meaning) core desk.old (out_at core ends.old).out (out_at core ends.old).credited }
     requires room { length desk.old.journal.notes + length (out_at core ends.old).out.sent ≤ desk.old.journal.room + (out_at core ends.old).out.got }
     ensures collects { CollectsFrom core desk.old result desk.new }
+    ensures told { collected_outcomes core desk.new.journal.notes ≡ named_outcomes desk.new.actor core (out_at core ends.new).out.seen }
+    ensures counted { (out_at core ends.old).out.got + result ≡ (out_at core ends.new).out.got }
     ensures shown { GetsAll (out_at core ends.old).out (out_at core ends.new).out }
     ensures books { booked desk.new ≡ booked desk.old }
     ensures stays { StaysBeside (Fits J.meaning) core desk.old desk.new (out_at core ends.new).out (out_at core ends.new).credited }

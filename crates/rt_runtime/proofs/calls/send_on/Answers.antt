@@ -1,7 +1,9 @@
 use Rattle.std.proofs.Common.{◌≡◌, ◌-◌, ◌++◌, ◌∙◌, Some, sym, subst, ap, set}
 use Rattle.std.specs.Prelude.{IfOk, slice_get}
+use Rattle.rt_link.specs.Calls.{Sends}
 use Rattle.rt_link.specs.Fits.{Fits}
 use Rattle.rt_journal_desk.specs.Ends.{IsOutOf}
+use Rattle.rt_journal_desk.specs.Submissions.{numbered}
 use Rattle.rt_journal_desk.specs.Tickets.{HasLane, StaysBeside}
 use Rattle.rt_ring_mesh.specs.Ends.{out_at}
 use Rattle.rt_runtime.specs.Sends.{accepted}
@@ -46,3 +48,10 @@ returns-clause-named g c =
     subst (λ end. IfOk c.submit.result (λ name. slice_get end.out.sent (name.number - 1) ≡ Some c.args.order))
     (sym (put_at c.args.to c.args.ends.now c.requires.there c.to.inside.0 _ c.to.view_is c.ends.view_is c.submit.new.end))
     (sent_named _ _ _ c.args.order c.submit.result c.submit.ensures.sends (ap (λ end. end.out.base) lent ∙ c.requires.beside.base))
+
+pub returns-clause-answers : goal.returns-clause-answers
+returns-clause-answers g c =
+    let put = put_at c.args.to c.args.ends.now c.requires.there c.to.inside.0 _ c.to.view_is c.ends.view_is c.submit.new.end in
+    let lent = lent_out c.args.to c.args.ends.now c.requires.there c.to.inside.0 _ c.to.view_is c.ends.view_is c.index_mut.result.now c.index_mut.ensures.value in
+    subst (λ end. Sends (out_at c.args.to c.args.ends.now).out (out_at c.args.to c.args.ends.now).credited c.args.order end.out (numbered c.submit.result)) (sym put)
+    (subst (λ end. Sends end.out end.credited c.args.order c.submit.new.end.out (numbered c.submit.result)) lent c.submit.ensures.sends)

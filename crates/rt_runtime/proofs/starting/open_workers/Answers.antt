@@ -1,4 +1,4 @@
-use Rattle.std.proofs.Common.{◌∙◌, ap, sym, subst, length, arith}
+use Rattle.std.proofs.Common.{◌∙◌, sym, subst, arith}
 use Rattle.std.specs.Vec.Iter.{into_iter_items, into_iter_len}
 use Rattle.rt_runtime_team.proofs.Lists.{IsMade, made_all, made_first, made_more}
 use Rattle.rt_runtime.specs.Starting.{AreOpening, IsOpenedWith}

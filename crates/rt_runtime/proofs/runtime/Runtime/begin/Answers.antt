@@ -1,4 +1,4 @@
-use Rattle.std.proofs.Common.{rules, refl, ap, sym, subst, arith}
+use Rattle.std.proofs.Common.{rules, refl, ◌∙◌, ap, sym, subst, arith, length}
 use denote.Param.{param}
 use denote.Param.Send.{IsSend, arg_send, param_send}
 use denote.Exit.{no}
@@ -50,6 +50,9 @@ returns-in-Ok-start g c = record {
   desk = c.in-Ok-open_outside.ensures.desk;
   closing = c.in-Ok-open_outside.ensures.closing;
   room_is = refl;
+  count = ap length c.in-Ok-start.ensures.ok ∙ c.in-Ok.ensures.house.count;
+  ends = c.in-Ok.ensures.house.outs;
+  fresh = c.in-Ok.ensures.house.fresh;
   none = none_submitted c.args.config.now.cores c.args.config.now.cap c.args.config.now.room c.args.config.now.queues.items c.in-Ok.workers.items c.in-Ok.ends c.in-Ok.ensures.house;
   have_queues = subst (HaveQueues c.args.config.now.cores c.args.config.now.queues.items) (sym c.in-Ok-start.ensures.ok) c.in-Ok.ensures.house.have_queues;
 }

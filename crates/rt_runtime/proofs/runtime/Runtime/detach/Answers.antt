@@ -1,4 +1,4 @@
-use Rattle.std.proofs.Common.{◌<◌, ◌∙◌, ap, arith}
+use Rattle.std.proofs.Common.{◌<◌, ap, arith}
 use Rattle.rt_ring_mesh.specs.Ends.{out_at}
 use Rattle.rt_runtime.proofs.Booked.{books_detached, room_held}
 use Rattle.rt_runtime.proofs.Redeemed.{detached_here}
@@ -24,5 +24,5 @@ pub returns : goal.returns
 returns g c =
     let did = c.detach_on.ensures in
     let low : c.args.ticket.to < c.self.inside.desk.cores = (c.knows.ensures.knows.0 c.if-not-knows.false).1 in
-    detached_here _ c.args.self.now c.self.view_is c.self.invariant.0 c.args.ticket low c.detach_on.new.desk (out_at c.args.ticket.to c.detach_on.new.ends) did.stays did.link c.detach_on.new.ends did.ends (ap (λ out. out.sent) did.out)
+    detached_here _ c.args.self.now c.self.view_is c.self.invariant.0 c.args.ticket low c.detach_on.new.desk (out_at c.args.ticket.to c.detach_on.new.ends) did.stays did.link c.detach_on.new.ends did.ends (ap (λ out. out.sent) did.out) (ap (λ out. out.closed) did.out)
     c.detach_on.result did.detaches

@@ -1,8 +1,8 @@
-use Rattle.std.proofs.Common.{◌≡◌, ◌+◌, ◌*◌, ◌≤◌, ◌∙◌, ap, subst, arith}
+use Rattle.std.proofs.Common.{◌+◌, ◌*◌, ◌≤◌, ◌∙◌, ap, subst, arith}
 use Rattle.std.proofs.lemmas.Bool.{ltb-false}
 use Rattle.rt_journal_notes.specs.Journals.{free_notes}
 use Rattle.rt_journal_desk.specs.Spending.{booked}
-use Rattle.rt_runtime.specs.Sends.{outstanding_upto, room_left}
+use Rattle.rt_runtime.specs.Sends.{room_left}
 use Rattle.rt_runtime.proofs.Booked.{room_to_send}
 use Rattle.rt_runtime.proofs.runtime.Runtime.is_full.Goals as goal
 

@@ -1,4 +1,4 @@
-use Rattle.std.proofs.Common.{◌<◌, ◌∙◌, ap, arith}
+use Rattle.std.proofs.Common.{◌<◌, ap, arith}
 use Rattle.rt_ring_mesh.specs.Ends.{out_at}
 use Rattle.rt_runtime.proofs.Booked.{books_redeemed, room_held}
 use Rattle.rt_runtime.proofs.Redeemed.{redeemed_here}
@@ -24,5 +24,5 @@ pub returns : goal.returns
 returns g c =
     let did = c.redeem_on.ensures in
     let low : c.args.ticket.to < c.self.inside.desk.cores = (c.knows.ensures.knows.0 c.if-not-knows.false).1 in
-    redeemed_here _ c.args.self.now c.self.view_is c.self.invariant.0 c.args.ticket low c.redeem_on.new.desk (out_at c.args.ticket.to c.redeem_on.new.ends) did.stays did.link c.redeem_on.new.ends did.ends (ap (λ out. out.sent) did.out)
+    redeemed_here _ c.args.self.now c.self.view_is c.self.invariant.0 c.args.ticket low c.redeem_on.new.desk (out_at c.args.ticket.to c.redeem_on.new.ends) did.stays did.link c.redeem_on.new.ends did.ends (ap (λ out. out.sent) did.out) (ap (λ out. out.closed) did.out)
     c.redeem_on.result did.redeems did.given did.fits
